@@ -1,4 +1,5 @@
 mod Bridge
+mod Calls
 mod HeadlineLemmas
 mod Lists
 mod Power

@@ -2,7 +2,7 @@
 use Rattle.std.proofs.Common.{◌≡◌, ◌⊎◌, inl, inr, ℕ, suc, List, [], ◌∷◌, ◌++◌, true, false, length, Option, subst, arith, bytes_eq, sym, ◌≢◌, ⊎_elim, Bool, ap, ◌∙◌, Contains, ◌≤◌, zero, map, map-id, not, ◌+◌, None, Some}
 use mathlib.Core.Logic.{⊎_map}
 use Rattle.std.specs.List.{list_any, AllByRecursion, filter}
-use Rattle.std.proofs.lemmas.Bool.{both_ways, cases_Bool, or_left, or_right, false_from_ne_true, or_from, cond_both}
+use Rattle.std.proofs.lemmas.Bool.{both_ways, cases_Bool, or_left, or_right, false_from_ne_true, or_cases, or_from, cond_both}
 use Rattle.fetch_rules.specs.Record.{Row, is_delivered, Intent, has_row, marked}
 use Rattle.fetch_rules.specs.RecordGrowth.{OneRecord}
 use Rattle.fetch_session.specs.Record.{KeepsRows}
@@ -19,11 +19,11 @@ use Rattle.run_law.specs.Runs.{World, State, Event, Between, TakenAway, after_ev
 use Rattle.fetch_runs.proofs.HeadlineLemmas.{held_some, left_or_none, some_held, sound_after, LeaveParts, held_is, takings_leave_parts}
 use Rattle.mail_terms.specs.UniqueId.{has_id, is_legal_id}
 use Rattle.fetch_session.specs.Session.{AccountFiles}
-use Rattle.std.proofs.lemmas.List.Elements.{Contains-append_cases, Contains-append_left, Contains-append_right, All-from_recursion, All-map, recursion_from_All}
+use Rattle.std.proofs.lemmas.List.Elements.{Contains-append_cases, Contains-append_left, Contains-append_right, recursion_from_All}
 use mathlib.Core.List.{map-map}
 use Rattle.pop3_wire.specs.World.{Message, IsMessage}
-use Rattle.run_law.specs.Mails.{WorldsShrink, is_selected, messages_after, selected, texts_of, without, ids_of as uids_of}
-use Rattle.fetch_runs.proofs.Lists.{all_ids_at, bytes_same, bytes_self, has_texts, all_both, all_filter, all_front, all_map, filter-swap, is_some, same_rows, all_append}
+use Rattle.run_law.specs.Mails.{WorldsShrink, is_selected, messages_after, selected, without}
+use Rattle.fetch_runs.proofs.Lists.{all_ids_at, bytes_same, bytes_self, all_both, all_filter, all_map, filter-swap, is_some, same_rows, all_append}
 use Rattle.std.proofs.lemmas.Map.Views.{any-filter_same}
 use Rattle.fetch_rules.specs.RecordFile.{Version, Two, Line, RowLine, IsLine, GroupLine}
 use Rattle.fetch_rules.specs.RecordMeaning.{Ends, Fails, Judged, InBase, InGroup, Means, Progress, Rows, Stands, after_intent, after_line, counted, judged, may_take, taken, BetweenGroups}
@@ -82,10 +82,10 @@ all_on_disk one disk files device f world state stays same = record {
 -- ---- lists
 
 pub contains_part : (fs left : List File) (g : File) → IsPart fs left → Contains left g → Contains fs g
-contains_part [] left g is there = rw is at there
-contains_part (f ∷ fs) left g (inl is) there = Contains-append_right (f ∷ []) fs g (contains_part fs left g is there)
-contains_part (f ∷ fs) left g (inr (rest, e, is)) there =
-    ⊎_elim (Contains-append_left (f ∷ []) fs g) (λ later. Contains-append_right (f ∷ []) fs g (contains_part fs rest g is later)) (Contains-append_cases (f ∷ []) rest g (rw e at there))
+contains_part fs left g ([], e) there = rw e at there
+contains_part fs left g (f ∷ gone, (front, back, e, is)) there = rw e (⊎_elim (Contains-append_left front (f ∷ back) g)
+    (λ behind. Contains-append_right front (f ∷ back) g (Contains-append_right (f ∷ []) back g behind))
+    (Contains-append_cases front back g (contains_part (front ++ back) left g (gone, is) there)))
 
 -- two files of a stem that only one has are the same
 pub two_in : (front : List ℕ) (fs : List File) (f g : File) → Contains fs f → bytes_eq front (stem f.name) ≡ true → Contains fs g → bytes_eq front (stem g.name) ≡ true → length (copies fs front) ≤ 1 → f ≡ g
@@ -143,15 +143,9 @@ module _ (one : OneRecord) {D F : Type 0} (disk : DiskGhosts D) (files : FileGho
 
   -- what is recorded has a file that stays, or was taken away
   pub recorded_sure : (id : List ℕ) → is_delivered is.0 id ≡ true → (is_legal_id id ≡ true) × IsSureOrTaken disk was world state id
-  recorded_sure id delivered = (legal, ⊎_elim held (λ taken. inr taken.0) (is.2.holds id legal))
-    where
-      legal : is_legal_id id ≡ true
-      legal = all_ids_at (λ x. is_legal_id x ≡ true) (uids_of is.2.done) id (recursion_from_All (λ x. is_legal_id x ≡ true) (uids_of is.2.done) (All-map (λ x. is_legal_id x ≡ true) (λ (m : Message). m.uid) is.2.done
-          (All-from_recursion _ is.2.done (all_front (λ (m : Message). is_legal_id m.uid ≡ true) is.2.done is.2.rest (rw is.2.prefix at all_legal))))) (is.2.recorded id delivered)
-
-      held : contents_of world state.account id ≡ texts_of is.2.done id → IsSureOrTaken disk was world state id
-      held same = ⊎_elim (λ safe. safe) (λ lastly. absurd (lastly.unrecorded (is.0, is.1, delivered)))
-          (can.stay id legal (held_is (stem_of account id) state.account.maildir.files ∙ ap is_some same ∙ sym (has_texts is.2.done id) ∙ is.2.recorded id delivered))
+  recorded_sure id delivered =
+      let (legal, safe) = is.2.once.recorded id delivered in
+      (legal, ⊎_elim (λ held. ⊎_elim (λ sure. sure) (λ lastly. absurd (lastly.unrecorded (is.0, is.1, delivered))) (can.stay id legal held)) inr (or_cases _ _ safe))
 
   -- a message is held where its files hold what they held
   same_held : (after : AccountFiles) (id : List ℕ) → contents_of world after id ≡ contents_of world state.account id → is_held account after.maildir id ≡ is_held account state.account.maildir id

@@ -1,5 +1,5 @@
 -- What a loss of power may leave after a session is an event of a run.
-use Rattle.std.proofs.Common.{◌≡◌, ◌⊎◌, inl, inr, ℕ, suc, List, [], ◌∷◌, ◌++◌, true, false, length, Option, subst, arith, bytes_eq, sym, ⊎_elim, Bool, ap, ◌∙◌, Contains, ◌≤◌, zero, not, ◌+◌, None, Some, ◌||◌, length-append, Result, Ok, Err, refl, All, ◌-◌, ◌%◌, ◌==◌, take, ◌&&◌}
+use Rattle.std.proofs.Common.{◌≡◌, ◌⊎◌, inl, inr, ℕ, suc, List, [], ◌∷◌, ◌++◌, true, false, length, Option, subst, arith, bytes_eq, sym, ⊎_elim, Bool, ap, ◌∙◌, Contains, ◌≤◌, zero, ◌+◌, None, Some, ◌||◌, length-append, Result, Ok, Err, refl, All, ◌-◌, ◌%◌, ◌==◌, take, ◌&&◌}
 use mathlib.Core.Logic.{⊎_map}
 use Rattle.std.specs.List.{AllByRecursion, list_all}
 use Rattle.std.proofs.lemmas.Bool.{both_ways, cases_Bool, false_from_ne_true, or_from, and_parts, or_cases}
@@ -47,7 +47,7 @@ use Rattle.run_law.specs.Power.{OneMoreIsLast}
 use Rattle.fetch_runs.proofs.Talk.{both_none}
 use Rattle.fetch_runs.proofs.StateLaw.{unready_files}
 use Rattle.fetch_runs.specs.Steps.{SessionIsAStep}
-use Rattle.run_law.specs.Sessions.{LinksAreVisits}
+use Rattle.run_law.specs.Sessions.{SessionsAreServed}
 use Rattle.fetch_rules.specs.RecordTorn.{IsPartOf, TornIsIgnoredOrSeen, ends_at_zero}
 use Rattle.fetch_rules.specs.declared.seen.SeenFault.TheVariants.{BadRow}
 use Rattle.mail_store.specs.Settling.{MayBeLeft, block_size, is_lost}
@@ -58,7 +58,7 @@ use Rattle.fetch_runs.proofs.Power.{can_after, held_sure, kept_legal, named_in, 
 pub record PowerLaws : Type 0 where
   pub headline : Headline
   pub steps : SessionIsAStep
-  pub visits : LinksAreVisits
+  pub served : SessionsAreServed
   pub one : OneRecord
   pub meaning : OneMeaning
   pub counts : AppendedCounts
@@ -181,10 +181,11 @@ module _ (laws : PowerLaws) {D F : Type 0} (disk : DiskGhosts D) (files : FileGh
         (omega (arith, rw (copies_more id, length-append, named) at ((laws.headline world after [] sound (kept_after maildir (is_session maildir is.session)) tt).0.once id legal)))
 
     other_copies : (other : List ℕ) → is_legal_id other ≡ true → bytes_eq other id ≡ false → copies maildir.files (stem_of account other) ≡ copies without.files (stem_of account other)
-    other_copies other l not =
-        let apart = bytes_same (stem_of account other) (stem g.name) in
-        let same = bytes_same (stem_of account id) (stem g.name) named in
-        grind (arith, copies_more other, not, apart, same, append-nil (copies without.files (stem_of account other)), laws.differ account other id l legal, (bytes_eq-Decides other id).1)
+    other_copies other l unlike = copies_more other ∙ rw apart (append-nil (copies without.files (stem_of account other)))
+      where
+        apart : bytes_eq (stem_of account other) (stem g.name) ≡ false
+        apart = false_from_ne_true _ (λ same. both_ways (bytes_eq other id) unlike ((bytes_eq-Decides other id).1
+            (laws.differ account other id l legal (bytes_same (stem_of account other) (stem g.name) same ∙ sym (bytes_same (stem_of account id) (stem g.name) named)))))
 
     may_go : (has_id state.taken id ≡ true) ⊎ IsLastStored world after id
     may_go = ⊎_map (λ taken. taken) (λ lastly.
@@ -240,7 +241,7 @@ module _ (laws : PowerLaws) {D F : Type 0} (disk : DiskGhosts D) (files : FileGh
       (λ id legal held. inr (rw same at held))
       (λ id legal lastly. inr (still_last laws.one disk files world sound state is_kept was from can device after back
       (λ m l neither. (rw same neither.0, neither.1)) id (λ on. list_any-append (bytes_eq id) state.gone occasion.vanished ∙ or_from _ _ on (false_from_ne_true _ (λ gone.
-      lastly.unrecorded (back id (vanished_recorded laws.steps laws.visits world state occasion sound is_kept.0 is_kept.1 is_kept.2 (is_session maildir is.session) id gone))))) lastly))
+      lastly.unrecorded (back id (vanished_recorded laws.steps laws.served laws.one world state occasion is_kept (is_session maildir is.session) id gone))))) lastly))
       (still_shown laws.one disk files world sound state is_kept was from can device after (λ rows keeps. rw same_content keeps))
 
   kept_sure : maildir.files ≡ before.maildir.files → (id : List ℕ) → (one : IsSure disk was world before.maildir.files id)

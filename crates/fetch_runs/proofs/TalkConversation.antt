@@ -44,7 +44,7 @@ use Rattle.pop3_wire.specs.World.{Message}
 use Rattle.run_law.specs.Readings.{AreGranted, HonestIsGranted, Talked as IsTalked}
 use Rattle.run_law.specs.Sessions.{Served}
 use Rattle.std.proofs.lemmas.List.Folds.{flat_map-map}
-use Rattle.mail_store.specs.Maildir.{File, Maildir, with_files}
+use Rattle.mail_store.specs.Maildir.{File, Maildir}
 use Rattle.fetch_session.specs.Fault.{cut_of}
 use Rattle.fetch_session.specs.Laws.{SteadyFilesKeep}
 use Rattle.fetch_session.specs.Record.{Saves, Steady}
@@ -345,7 +345,7 @@ served_front law drop vanished link link' cut name word named worded (hello ∷ 
     front = record {
       status = Positive;
       hello = ended hello.first;
-      greets = (opened.0.rest, record { line = hello.first; is_line = opened.0.line; first = opened.0.positive; whole = refl });
+      greets = (opened.0.positive.0, (subst IsLine opened.0.positive.1 opened.0.line, ap ended opened.0.positive.1));
       commands = commands_in said;
       asked = asked_in said _ (all_append CanBeSaid (asks name word) ts (said_opening name word named worded).1 (all_front CanBeSaid ts us can)) (sym (flat_map-append turn_bytes (asks name word) ts));
       replies = flat_map reply_bytes (others ++ rs);
@@ -436,7 +436,7 @@ module _ (joins : TurnsJoin) (granted : HonestIsGranted) (settings : Settings) (
 
   module _ (front back : List Done) (next : Done) (left : AccountFiles) (split : u.dones ≡ front ++ next ∷ back) where
     abbrev maildir : List File → Maildir
-    maildir files = with_files (before.maildir.files ++ files) before.maildir
+    maildir files = record before.maildir { files = before.maildir.files ++ files }
 
     abbrev file : ℕ → Stored
     file failures = record { content = left.file.content; failures = failures }

@@ -3,27 +3,25 @@
 -- maildrop order, each once, byte for byte with lines ended by LF; an uncut session leaves out only what its
 -- limits exclude; and DELE was sent only for messages held. What a reader took away counts as held here, and
 -- what was withdrawn from the server before it was fetched isn't part of its mail.
-use Rattle.std.specs.Prelude.{◌≡◌, ◌≢◌, ◌⊎◌, ◌<◌, ◌-◌, ℕ, true, false, List, [], ◌∷◌, ◌++◌, None, Some, slice_get, bytes_eq}
+use Rattle.std.specs.Prelude.{◌≡◌, ◌≢◌, ◌⊎◌, ◌<◌, ℕ, true, false, List, [], ◌∷◌, ◌++◌, None, Some, bytes_eq}
 use Rattle.std.specs.List.{AllByRecursion}
-use Rattle.pop3_wire.specs.declared.command.Command.{Command}
-use Rattle.pop3_wire.specs.declared.command.Command.TheVariants.{Dele}
 use Rattle.pop3_wire.specs.Link.{Link}
 use Rattle.pop3_wire.specs.World.{Message, maildrop_of}
 use Rattle.mail_terms.specs.UniqueId.{is_legal_id, has_id}
 use Rattle.rc_file.specs.Settings.{IsValid}
 use Rattle.rc_file.specs.declared.settings.Settings.{Settings}
-use Rattle.fetch_rules.specs.Record.{Row, is_delivered, merged}
+use Rattle.fetch_rules.specs.Record.{Row, is_delivered}
 use Rattle.mail_store.specs.FileName.{stem_of, is_held}
-use Rattle.mail_store.specs.Held.{flags_of}
-use Rattle.mail_store.specs.Maildir.{Maildir, File, IsPart, with_files}
+use Rattle.mail_store.specs.Maildir.{File, Maildir, WereTaken}
 use Rattle.fetch_session.specs.Account.{digits_of}
 use Rattle.fetch_session.specs.Record.{KeepsRows}
 use Rattle.fetch_session.specs.Session.{AccountFiles, Session, account_files}
 use Rattle.fetch_session.specs.declared.report.Outcome.TheVariants.{Ended}
 use Rattle.fetch_session.specs.declared.report.Report.{Report}
-use Rattle.run_law.specs.Mails.{listing_of, is_selected, messages_after, selected, texts_of}
+use Rattle.run_law.specs.Mails.{is_selected, messages_after, selected, texts_of}
 use Rattle.run_law.specs.Accounts.{AccountMail, KeepsOthers, copies, files}
-use Rattle.run_law.specs.Runs.{World, IsSound, State, IsHeldOrTaken, IsNeither, Kept as IsKeptIn, HoldsExactly, HoldsWhatIsLeft, is_past_count}
+use Rattle.run_law.specs.Runs.{World, IsSound, State, IsHeldOrTaken, IsNeither, Kept as IsKeptIn, HoldsExactly, HoldsWhatIsLeft}
+use Rattle.run_law.specs.Promises.{DeletesOneOf}
 use Rattle.run_law.specs.Runs.{Event, Fetched, Between, Expired, Withdrawn, TakenAway, BroughtBack, Forgotten, PowerLost}
 use Rattle.run_law.specs.Runs.{after_event, after_events, world_after, world_left}
 use Rattle.run_law.specs.Sessions.{SendsOnly, Served}
@@ -170,28 +168,15 @@ HoldsAPrefix world state = HoldsWhatIsLeft world (by_rows [] state)
 abbrev pub IsHeldAfter : World → State AccountFiles → Occasion AccountFiles → List ℕ → Type 0
 IsHeldAfter world state occasion id = (is_held world.account occasion.after.maildir id ≡ true) ⊎ (has_id state.taken id ≡ true)
 
--- the message could be fetched, but comes after the first `max_count` that could; 0 is no limit
-abbrev pub IsPastCount : World → State AccountFiles → Occasion AccountFiles → Message → Type 0
-IsPastCount world state occasion message =
-    let listing = listing_of (maildrop_at world.all state.gone occasion) in
-    (rows : List Row) × KeepsRows state.account.file.content rows
-    × (is_past_count occasion.settings (merged rows listing (flags_of world.account state.account.maildir listing) occasion.now)
-    listing message.uid ≡ true)
+-- a session retrieved as many texts as the limit on their number says; 0 is no limit
+abbrev pub IsFull : {Account : Type 0} → Occasion Account → Type 0
+IsFull occasion = (0 < occasion.settings.max_count) × (occasion.report.retrieved ≡ occasion.settings.max_count)
 
--- after an uncut session each message of the maildrop is held, or was taken away, or is larger than the
--- limit, or is past the number that one session fetches
+-- after an uncut session that isn't full each message of the maildrop is held, or was taken away, or is larger than the limit
 abbrev pub LeavesOutOnlyBeyondLimits : World → State AccountFiles → Occasion AccountFiles → Type 0
-LeavesOutOnlyBeyondLimits world state occasion = occasion.report.outcome ≡ Ended → AllByRecursion (λ (message : Message).
-    IsHeldAfter world state occasion message.uid
-    ⊎ (is_selected world.max_size message ≡ false)
-    ⊎ IsPastCount world state occasion message)
+LeavesOutOnlyBeyondLimits world state occasion = occasion.report.outcome ≡ Ended → IsFull occasion
+    ⊎ AllByRecursion (λ (message : Message). IsHeldAfter world state occasion message.uid ⊎ (is_selected world.max_size message ≡ false))
     (maildrop_at world.all state.gone occasion)
-
--- a DELE gives the number, counted from 1, of a message of the maildrop whose id is of this kind; no other command deletes
-abbrev pub DeletesOneOf : List Message → (List ℕ → Type 0) → Command → Type 0
-DeletesOneOf maildrop Is (Dele number) = (0 < number) × (message : Message)
-    × (slice_get maildrop (number - 1) ≡ Some message) × Is message.uid
-DeletesOneOf maildrop Is _ = Unit {0}
 
 -- each DELE that a session sent, the last perhaps in part, is for such a message
 pub record DeletesOnly {Account : Type 0} (occasion : Occasion Account) (maildrop : List Message) (Is : List ℕ → Type 0) : Type 0 where
@@ -256,18 +241,18 @@ AreTakings (Between after ∷ events) = AreTakings events
 AreTakings (_ ∷ events) = ⊥
 
 -- these events take all files away but those that are left
-pub record AreTaken (world : World) (state : State AccountFiles) (left : List File)
+pub record AreTaken (world : World) (state : State AccountFiles) (left : Maildir)
     (events : List (Event Occasion AccountFiles)) : Type 0 where
   pub each : AreTakings events
   pub run : IsRun world state events
-  pub account : (after_events after_session state events).account ≡ account_files (with_files left state.account.maildir) state.account.file
+  pub account : (after_events after_session state events).account ≡ account_files left state.account.file
   pub gone : (after_events after_session state events).gone ≡ state.gone
 
 -- whichever files are taken away in a kept state, there are such events. What is taken away during a session is taken
 -- away before the names are told, and so before the session; or after that, and so after the session, which sees none of it
 abbrev pub TakingsAreEvents : Type 0
-TakingsAreEvents = (world : World) (state : State AccountFiles) (left : List File) → IsSound world → IsKept world state
-    → IsPart state.account.maildir.files left → (events : List (Event Occasion AccountFiles)) × AreTaken world state left events
+TakingsAreEvents = (world : World) (state : State AccountFiles) (left : Maildir) → IsSound world → IsKept world state
+    → WereTaken state.account.maildir left → (events : List (Event Occasion AccountFiles)) × AreTaken world state left events
 
 -- ---- from the first session on
 
@@ -302,9 +287,8 @@ HoldsExactlyAPrefix world state = HoldsExactly world (holds [] state.account.mai
 
 -- a session as the sentence has it, word for word
 pub record IsWordForWord (world : World) (state : State AccountFiles) (occasion : Occasion AccountFiles) : Type 0 where
-  pub left_out : occasion.report.outcome ≡ Ended → AllByRecursion (λ (message : Message).
-      (is_held world.account occasion.after.maildir message.uid ≡ true)
-      ⊎ (is_selected world.max_size message ≡ false) ⊎ IsPastCount world state occasion message)
+  pub left_out : occasion.report.outcome ≡ Ended → IsFull occasion ⊎ AllByRecursion (λ (message : Message).
+      (is_held world.account occasion.after.maildir message.uid ≡ true) ⊎ (is_selected world.max_size message ≡ false))
       (maildrop_at world.all state.gone occasion)
   pub deletes : DeletesOnly occasion (maildrop_at world.all state.gone occasion) (λ id. is_held world.account occasion.after.maildir id ≡ true)
 

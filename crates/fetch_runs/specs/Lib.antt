@@ -1,7 +1,7 @@
+pub mod Calls
 pub mod Conversations
 pub mod Fronts
 pub mod Headline
-pub mod MboxHeadline
+pub mod MboxCalls
 pub mod Power
-pub mod Runs
 pub mod Steps

@@ -11,7 +11,7 @@ use Rattle.mail_store.specs.declared.file.flat_file.FlatFile.{Ghosts as FileGhos
 use Rattle.mail_store.specs.declared.maildir.disk.MaildirDisk.{Ghosts as DiskGhosts}
 use Rattle.mail_store.specs.FileName.{is_held, names_id, stem_of}
 use Rattle.mail_store.specs.Loss.{MayLeave}
-use Rattle.mail_store.specs.Maildir.{File, IsPart}
+use Rattle.mail_store.specs.Maildir.{File, IsPart, Maildir, WereTaken}
 use Rattle.mail_store.specs.Power.{AllStay, KeepsMail, LeavesNoMore}
 use Rattle.mail_terms.specs.UniqueId.{has_id, is_legal_id}
 use Rattle.run_law.specs.Accounts.{copies}
@@ -182,6 +182,6 @@ AsMuchIsSure {D} {F} disk files = (world : World) (state : State AccountFiles) (
 -- a law: whichever files readers take away from a kept state, also during a session, such events lead over the same devices to the state
 -- without them
 abbrev pub TakingsRunOn : {D F : Type 0} → DiskGhosts D → FileGhosts F → Type 0
-TakingsRunOn {D} {F} disk files = (device : D) (f : F) (world : World) (state : State AccountFiles) (left : List File)
-    → IsSound world → IsKept world state → IsPart state.account.maildir.files left
+TakingsRunOn {D} {F} disk files = (device : D) (f : F) (world : World) (state : State AccountFiles) (left : Maildir)
+    → IsSound world → IsKept world state → WereTaken state.account.maildir left
     → (ons : List (EventOn D F)) × AreTaken world state left (events_of ons) × IsRunOn disk files world state device f ons

@@ -1,12 +1,12 @@
 //! Laws over what sessions sent and left, for the programs and crates above: a function here does
 //! nothing, and its contract is the law.
+ghost use Rattle.fetch_runs.specs.Calls.{CallsAreSessions, CallsKeepPromises, EmptyIsKept as EmptyAccountsAreKept};
 ghost use Rattle.fetch_runs.specs.Conversations.{MboxSessionsFollowPlans, SessionsAreConversations};
 ghost use Rattle.fetch_runs.specs.Fronts.{FrontsAreSessions, UncutSessionsDoTasks};
 ghost use Rattle.fetch_runs.specs.Headline.{EmptyIsKept, Headline, HeadlineFromEmpty, HeadlineWordForWord};
 ghost use Rattle.fetch_runs.specs.Headline.{LostRecordsAreForgotten, NewProcessesAreBetween, StaysAway};
 ghost use Rattle.fetch_runs.specs.Headline.{StopsAreRuns, TakingsAreEvents};
-ghost use Rattle.fetch_runs.specs.MboxHeadline.{MboxHeadline, MboxHeadlineFromStart, MboxStartIsKept};
-ghost use Rattle.fetch_runs.specs.MboxHeadline.{MboxStopsAreRuns, WritingsAreEvents};
+ghost use Rattle.fetch_runs.specs.MboxCalls.{MboxCallsAreSessions, MboxCallsKeepPromises};
 ghost use Rattle.fetch_runs.specs.Power.{AllMayBeOnDisk, AsMuchIsSure, EventsKeepPower, HeadlineOn};
 ghost use Rattle.fetch_runs.specs.Power.{LossesAreEvents, SessionsAndPower, TakingsRunOn};
 ghost use Rattle.fetch_runs.specs.Steps.{AnyServer, HonestSessions, MboxAnyServer, MboxHonestSessions};
@@ -17,19 +17,19 @@ use fetch_rules::{
     listed_has_row, marked_is_delivered, marked_keeps_rows, plans_fetch_wanted,
     torn_is_ignored_or_seen,
 };
-use fetch_session::{steady_files_keep, unsaved_files_keep};
+use fetch_session::{sessions_by_store, steady_files_keep, unsaved_files_keep};
 use mail_store::{
     FlatFile, MaildirDisk, entries_add_texts, flags_tell_what_is_held, names_are_bases,
     names_have_stems, stems_differ,
 };
 use pop3_client::{conversations_are_paced, turns_join};
-use pop3_wire::fronts_are_asked;
+use pop3_wire::{Wire, fronts_are_asked};
 use run_law::{
-    counted_stores, holds_exactly, holds_what_is_left, honest_is_granted,
-    honest_sessions_append_messages, honest_sessions_bring_messages, kept_states, links_are_visits,
-    mbox_counted_stores, mbox_holds_exactly, mbox_links_are_visits, mbox_sessions_are_safe,
-    mbox_starts_kept, mbox_states_are_kept, one_more_is_last, sessions_are_safe, some_are_recorded,
-    starts_kept, worlds_shrink,
+    counted_stores, events_keep_promises, holds_exactly, holds_what_is_left, honest_is_granted,
+    honest_sessions_append_messages, honest_sessions_bring_messages, kept_states,
+    mbox_counted_stores, mbox_sessions_append, mbox_sessions_are_safe, mbox_starts,
+    one_more_is_last, sessions_are_safe, sessions_are_served, starts_kept, stays_away,
+    worlds_shrink,
 };
 
 /// What a link gains in a session is one conversation that follows the plan. What was sent is the
@@ -115,8 +115,8 @@ pub fn headline()
 {
     worlds_shrink();
     session_is_a_step();
-    links_are_visits();
     kept_states();
+    stays_away();
     holds_what_is_left();
     files_stand_for_one_record();
 }
@@ -171,7 +171,7 @@ pub fn sessions_and_power<D: MaildirDisk, F: FlatFile>()
 {
     headline();
     session_is_a_step();
-    links_are_visits();
+    sessions_are_served();
     files_stand_for_one_record();
     bytes_have_one_meaning();
     appended_counts();
@@ -331,61 +331,61 @@ pub fn mbox_any_server()
     mbox_sessions_are_safe();
 }
 
-/// Where a server's unique-ids are distinct and persistent and its mail unchanged, after any list of
-/// sessions that read only what is new, each cut at any reply or refused write, an mboxrd file holds
-/// what it held before the first one, followed by the entries of exactly a prefix of the selected
-/// messages in maildrop order, each once, and by at most a prefix of the next one's entry, whose
-/// intent is then open; after an uncut session nothing of a next entry is left, and only what its
-/// limits exclude is left out; and DELE was sent only for messages whose entry is whole.
+/// Each call of `session` for an account with a Maildir is a session over accounts, once readers took some
+/// files away while it was under way.
+pub fn calls_are_sessions<W: Wire, D: MaildirDisk, F: FlatFile>()
+    ensures { CallsAreSessions W.Wire D.MaildirDisk F.FlatFile }
+{
+    sessions_by_store::<W, D, F>();
+    session_is_a_step();
+}
+
+/// The statement, for a Maildir: where a unique-id always names one text, after any list of calls of
+/// `session`, each cut at any reply or refused write, over maildrops in any order and under any limits, each
+/// message is in one file, byte for byte with lines ended by LF, or in none; an uncut call leaves out only
+/// what its own limits exclude; DELE was sent only for messages held; no file is lost; and what is recorded
+/// as delivered, or is gone from the server, is held or was taken away. If a server shows the messages of a
+/// list in their order, the first of these are held.
 ///
-/// Each session has its own settings, except for `max_message_size` and for `read_all`, which is
-/// false. Between two of them a process may start anew, and messages may be gone from the server: one
-/// that wasn't recorded is then no longer part of its mail. While no intent is open, others may write
-/// the file; what it holds then counts as what it held before the first session. What was recorded
-/// as delivered before the first session counts as entered.
-pub fn mbox_headline()
-    ensures { MboxHeadline }
+/// At any moment, also during a call, a mail reader may move files between `new` and `cur`, change their
+/// marks, and take them away. Between two calls a process may start anew, readers may put messages back, and
+/// the record may be lost or be replaced by an older one.
+pub fn calls_keep_promises<W: Wire, D: MaildirDisk, F: FlatFile>()
+    ensures { CallsKeepPromises W.Wire D.MaildirDisk F.FlatFile }
 {
-    worlds_shrink();
-    mbox_session_is_a_step();
-    mbox_links_are_visits();
-    mbox_states_are_kept();
-    mbox_holds_exactly();
-    files_stand_for_one_record();
+    calls_are_sessions::<W, D, F>();
+    events_keep_promises();
 }
 
-/// The headline for an mboxrd file may begin with any file, and with a record that has no open intent
-/// and shows exactly a prefix of the selected messages as delivered, as an empty one does.
-#[tactic(auto, using(crate::proofs::HeadlineLemmas::start_is_kept))]
-pub fn mbox_start_is_kept()
-    ensures { MboxStartIsKept }
-{
-    mbox_starts_kept();
-}
-
-/// The headline for an mboxrd file from the first session on, with such a record.
-#[tactic(auto, using(crate::proofs::HeadlineLemmas::from_start))]
-pub fn mbox_headline_from_start()
-    ensures { MboxHeadlineFromStart }
-{
-    mbox_headline();
-    mbox_start_is_kept();
-}
-
-/// With an mboxrd file: whatever others do to the file of a kept state while no intent is open is an
-/// event of a run.
-#[tactic(auto, using(crate::proofs::HeadlineLemmas::writings_are_events))]
-pub fn mbox_writings_are_events()
-    ensures { WritingsAreEvents }
-{
-    some_are_recorded();
-    files_stand_for_one_record();
-}
-
-/// With an mboxrd file: a stop of the program, which leaves what a session leaves if all its calls
-/// are refused from that moment on, is part of a run: a session that was cut, and then a new
-/// process.
-#[tactic(auto, using(crate::proofs::HeadlineLemmas::mbox_stops_are_runs))]
-pub fn mbox_stops_are_runs()
-    ensures { MboxStopsAreRuns }
+/// The statement may begin with an account without rows in its record and without a file of its own.
+#[tactic(auto, using(crate::proofs::Calls::empty_is_kept))]
+pub fn empty_accounts_are_kept()
+    ensures { EmptyAccountsAreKept }
 {}
+
+/// Each call of `session` for an account with an mboxrd file that reads only what is new is a session over
+/// accounts.
+pub fn mbox_calls_are_sessions<W: Wire, D: MaildirDisk, F: FlatFile>()
+    ensures { MboxCallsAreSessions W.Wire D.MaildirDisk F.FlatFile }
+{
+    sessions_by_store::<W, D, F>();
+    mbox_session_is_a_step();
+}
+
+/// The statement, for an mboxrd file: where a unique-id always names one text, after any list of calls of
+/// `session` that read only what is new, each cut at any reply or refused write, over maildrops in any order
+/// and under any limits, the file holds what it held before the first one, followed by the entries of
+/// messages, each once, in the order in which they were fetched, and by at most a beginning of one more
+/// entry, whose intent is then open; after an uncut call nothing of another entry is left, and only what its
+/// own limits exclude is left out; and DELE was sent only for messages whose entry is whole. If a server
+/// shows the messages of a list in their order, the first of these have entries.
+///
+/// Between two calls a process may start anew. While no intent is open afterwards, others may write the file,
+/// and the record may be lost or replaced: what there is then counts as from before the first call.
+pub fn mbox_calls_keep_promises<W: Wire, D: MaildirDisk, F: FlatFile>()
+    ensures { MboxCallsKeepPromises W.Wire D.MaildirDisk F.FlatFile }
+{
+    mbox_calls_are_sessions::<W, D, F>();
+    mbox_sessions_append();
+    mbox_starts();
+}

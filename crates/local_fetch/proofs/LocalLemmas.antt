@@ -26,7 +26,7 @@ use Rattle.pop3_server.specs.Maildrop.{Mail, there}
 use Rattle.pop3_server.specs.ServerMachine.{Machine}
 use Rattle.pop3_server.specs.HonestLoop.{IsNew, GivesHonest}
 use Rattle.pop3_server.specs.LoopLink.{Loop, Serves}
-use Rattle.local_fetch.specs.Local.{AreSessions, AreMboxSessions, AreWithout, FetchesBy, FetchesFrom, MboxFetchesFrom, loop_to, unused}
+use Rattle.local_fetch.specs.Local.{AreServed, AreSessions, AreWithout, FetchesBy, FetchesFrom, MboxFetchesFrom, loop_to, unused}
 use Rattle.run_law.specs.Plans.{step_commands, plan_commands, IsFrontOfPlan}
 use Rattle.pop3_server.specs.HonestServer.{IsOfSession, IsAsked, AreLeft}
 
@@ -139,6 +139,5 @@ pub are_sessions : {M : Type 0} (mail : M → Mail) → AreSessions mail
 are_sessions mail world state settings now come old new link report after are local drop =
     record { settings = are; session = local.session; served = served_by link drop local.served }
 
-pub are_mbox_sessions : {M : Type 0} (mail : M → Mail) → AreMboxSessions mail
-are_mbox_sessions mail world state settings now come old new link report after are local drop =
-    record { settings = are; session = local.session; served = served_by link drop local.served }
+pub are_served : {M : Type 0} (mail : M → Mail) → AreServed mail
+are_served mail settings now old new link before report after maildrop local drop = served_by link drop local.served

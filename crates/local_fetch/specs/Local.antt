@@ -11,8 +11,6 @@ use Rattle.fetch_session.specs.Account.{digits_of}
 use Rattle.fetch_session.specs.declared.report.Report.{Report}
 use Rattle.fetch_session.specs.Session.{AccountFiles, MboxAccountFiles, Session, MboxSession}
 use Rattle.fetch_runs.specs.Headline.{AreSettings, Occasion, IsSession}
-use Rattle.fetch_runs.specs.MboxHeadline.{AreSettings as AreMboxSettings, IsMboxSession}
-use Rattle.run_law.specs.MboxRuns.{MboxState, MboxWorld}
 use Rattle.run_law.specs.Runs.{State, World}
 
 -- a link that wasn't used yet
@@ -71,11 +69,9 @@ AreSessions {M} mail = (world : World) (state : State AccountFiles) (settings : 
     → there (mail old.drop).slots ≡ maildrop_of world.all come state.gone
     → IsSession world state (occasion_of settings now report link after come local.vanished)
 
--- a law: with an mboxrd file, such a session is one that the second headline is about
-abbrev pub AreMboxSessions : {M : Type 0} → (M → Mail) → Type 0
-AreMboxSessions {M} mail = (world : MboxWorld) (state : MboxState MboxAccountFiles) (settings : Settings) (now come : ℕ)
-    (old new : Machine M) (link : Link) (report : Report) (after : MboxAccountFiles)
-    → AreMboxSettings world settings
-    → (local : MboxFetchesFrom mail settings now old new link state.account report after)
-    → there (mail old.drop).slots ≡ maildrop_of world.all come state.gone
-    → IsMboxSession world state (occasion_of settings now report link after come local.vanished)
+-- a law: with an mboxrd file, what such a session's link gained came from an honest server with this maildrop
+abbrev pub AreServed : {M : Type 0} → (M → Mail) → Type 0
+AreServed {M} mail = (settings : Settings) (now : ℕ) (old new : Machine M) (link : Link) (before : MboxAccountFiles) (report : Report)
+    (after : MboxAccountFiles) (maildrop : List Message)
+    → (local : MboxFetchesFrom mail settings now old new link before report after) → there (mail old.drop).slots ≡ maildrop
+    → (sent got : List ℕ) → link.sent ≡ sent → link.got ≡ got → Served maildrop sent got local.vanished

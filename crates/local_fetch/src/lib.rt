@@ -6,5 +6,5 @@ mod laws;
 mod loop_wire;
 
 pub use fetch::fetch_local;
-pub use laws::{local_mbox_sessions_are_sessions, local_sessions_are_sessions};
+pub use laws::{local_mbox_sessions_are_served, local_sessions_are_sessions};
 pub use loop_wire::LoopWire;

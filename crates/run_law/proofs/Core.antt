@@ -17,13 +17,12 @@ use Rattle.mail_store.specs.Maildir.{File, Maildir}
 use Rattle.mail_store.specs.FileName.{is_held, mail_file}
 use Rattle.mail_terms.specs.UniqueId.{has_id, is_legal_id}
 use Rattle.run_law.specs.Mails.{ids_of, item_of, listing_of, is_selected, selected, texts_of, without, WorldsShrink}
-use Rattle.run_law.specs.Steps.{AreTexts, file_for, is_unheld, Effect, IsHonest, ids_wanted, Stores}
-use Rattle.run_law.specs.Runs.{past_limit, is_past_count, CanEnd}
-use Rattle.run_law.proofs.Ids.{filter-map, filter-swap, any-map, all_map, all_take, all_filter, Distinct, are_distinct, front_is, filter-filter, filter_all, all_both, all_passing, all_parts, distinct_is, distinct_take, distinct_filter, ids_filtered, ids_both, all_at, all_ids_at, bytes_self, members, other_id, each_text, whole_part}
+use Rattle.run_law.specs.Steps.{CanEnd, AreTexts, file_for, is_unheld, Effect, IsHonest, ids_wanted, Stores}
+use Rattle.run_law.specs.Promises.{BeginsWith, past_limit, is_past_count}
+use Rattle.run_law.proofs.Ids.{filter-map, filter-swap, any-map, all_map, all_take, all_filter, Distinct, are_distinct, front_is, filter-filter, filter_all, all_both, all_passing, all_parts, distinct_is, distinct_take, distinct_filter, ids_both, all_at, all_ids_at, bytes_self, bytes_same, members, other_id, each_text, whole_part}
 use Rattle.mail_store.specs.Held.{flags_of}
 use Rattle.run_law.specs.Accounts.{AccountMail}
-use Rattle.run_law.specs.Mboxes.{MboxMail, settled, none_held, MboxStores}
-use Rattle.run_law.specs.MboxRuns.{MboxCanEnd}
+use Rattle.run_law.specs.Mboxes.{MboxCanEnd, MboxMail, settled, none_held, MboxStores}
 
 pub has_listed : {listing : List Item} (ms : List Message) → listing ≡ listing_of ms → (id : List ℕ) → has_item listing id ≡ has_id (ids_of ms) id
 has_listed ms e id = rw e (any-map (λ (i : Item). bytes_eq id i.uid) item_of ms ∙ sym (any-map (bytes_eq id) (λ (m : Message). m.uid) ms))
@@ -134,14 +133,17 @@ begins n limit xs =
 pub past-map : {X Y : Type 0} (f : X → Y) (n : ℕ) (xs : List X) → past_limit n (map f xs) ≡ map f (past_limit n xs)
 past-map f n xs = grind (arith, drop-map f n xs)
 
+-- the ids of the second part are distinct, and none is among those of the first
+pub parts_apart : (front rest : List Message) → Distinct (ids_of (front ++ rest))
+    → Distinct (ids_of rest) × ((m : Message) → has_id (ids_of rest) m.uid ≡ true → has_id (ids_of front) m.uid ≡ false)
+parts_apart [] rest d = (d, λ m there. refl)
+parts_apart (f ∷ front) rest d = let more = parts_apart front rest d.1 in
+    (more.0, λ m there. grind (arith, there, d.0, ids_both front rest f.uid, more.1 m there, λ (e : bytes_eq m.uid f.uid ≡ true). bytes_same m.uid f.uid e))
+
 -- ---- the messages that are left
 
--- the list begins with these
-abbrev BeginsWith : List Message → List Message → Type 0
-BeginsWith front all = (more : List Message) × (all ≡ front ++ more)
-
 -- the messages that are left, which are those that fit and aren't done, are the next of those that fit
-bridge : (fit left : Message → Bool) (done ms later rest : List Message) → Distinct (ids_of ms) → filter fit ms ++ later ≡ done ++ rest
+pub bridge : (fit left : Message → Bool) (done ms later rest : List Message) → Distinct (ids_of ms) → filter fit ms ++ later ≡ done ++ rest
     → AllByRecursion (λ (m : Message). left m ≡ (fit m && not (has_id (ids_of done) m.uid))) ms → BeginsWith (filter left ms) rest
 bridge fit left done [] later rest d e h = (rest, refl)
 bridge fit left [] (m ∷ ms) later rest d e h =
@@ -191,158 +193,129 @@ pub prefix_left : (limit : ℕ) (all done rest : List Message) (ids : List (List
 prefix_left limit all done rest ids prefix stays = let stay = λ (m : Message). not (has_id ids m.uid) in filter-swap (is_selected limit) stay all
     ∙ rw (prefix, filter-append stay done rest, filter_all stay done (all_map _ (members done) (λ m is. ap not (false_from_ne_true _ (stays m.uid is)))))
 
--- ---- a session
+-- ---- a session over a maildrop
 
--- all mail, the limit on sizes, what is gone and how much has come; the settings, the merged record and what the session did;
--- which of the selected messages are done, and which aren't
-pub record Scene : Type 0 where
-  pub all : List Message
-  pub max_size : ℕ
-  pub gone : List (List ℕ)
-  pub come : ℕ
-  pub settings : Settings
-  pub rows : List Row
-  pub effect : Effect
-  pub done : List Message
-  pub rest : List Message
-
-abbrev pub here : Scene → List Message
-here s = maildrop_of s.all s.come s.gone
-
-abbrev pub is_done : Scene → List ℕ → Bool
-is_done s id = has_id (ids_of s.done) id
-
--- what is done is a prefix of the selected messages; what is gone, or is recorded, is done; the server was honest
-pub record IsScene (s : Scene) : Type 0 where
+-- no two messages of the maildrop share an id, and the server was honest
+pub record Fetch (settings : Settings) (rows : List Row) (drop' : List Message) (effect : Effect) : Type 0 where
   pub filtered : DistinctAreFiltered
-  pub mail : IsWorld s.all
-  pub same : s.settings.max_size ≡ s.max_size
-  pub prefix : selected s.max_size s.all ≡ s.done ++ s.rest
-  pub gone : AllByRecursion (λ id. is_done s id ≡ true) s.gone
-  pub known : (id : List ℕ) → is_delivered s.rows id ≡ true → is_done s id ≡ true
-  pub honest : IsHonest (wanted s.settings s.rows s.effect.listing) (here s) s.effect
+  pub distinct : Distinct (ids_of drop')
+  pub honest : IsHonest (wanted settings rows effect.listing) drop' effect
 
--- what is wanted
-abbrev pub fetched : Scene → List Message
-fetched s = wants s.settings s.rows (here s)
+-- a message that passes a test keeps its id in the filtered list
+passing_in : (p : Message → Bool) (ms : List Message) → AllByRecursion (λ (m : Message). p m ≡ true → has_id (ids_of (filter p ms)) m.uid ≡ true) ms
+passing_in p [] = tt
+passing_in p (m ∷ ms) = (λ e. rw e (or_left _ _ (bytes_self m.uid)), all_map _ (passing_in p ms) (λ x h e. grind (arith, h, e)))
 
--- the first n of them, without those that are done already
-abbrev pub added : Scene → ℕ → List Message
-added s n = filter (λ (m : Message). not (is_done s m.uid)) (take n (fetched s))
-
-abbrev pub is_done_after : Scene → ℕ → List ℕ → Bool
-is_done_after s n id = has_id (ids_of (s.done ++ added s n)) id
-
-module _ {s : Scene} (is : IsScene s) where
-  abbrev come : List Message
-  come = take s.come s.all
-
+module _ {settings : Settings} {rows : List Row} {drop' : List Message} {effect : Effect} (is : Fetch settings rows drop' effect) where
   abbrev os : List Message
-  os = offered s.settings s.rows (here s)
+  os = offered settings rows drop'
 
   abbrev ws : List Message
-  ws = fetched s
+  ws = wants settings rows drop'
 
   abbrev pub qs : List (ℕ × Message)
-  qs = wants_by_number s.settings s.rows (here s)
-
-  abbrev is_left_on_server : Message → Bool
-  is_left_on_server m = not (has_id s.gone m.uid)
-
-  distinct_come : Distinct (ids_of come)
-  distinct_come = distinct_take s.come s.all (distinct_is s.all is.mail.distinct)
-
-  distinct_here : Distinct (ids_of (here s))
-  distinct_here = distinct_filter is_left_on_server come distinct_come
+  qs = wants_by_number settings rows drop'
 
   -- what holds of all messages of the maildrop holds of those that are wanted
-  pub all_fetched : (P : Message → Type 0) → AllByRecursion P (here s) → AllByRecursion P ws
-  all_fetched P h = all_at_most P s.settings.max_count os (all_filter P (asked s.settings s.rows) (here s) h)
+  pub all_wanted : (P : Message → Type 0) → AllByRecursion P drop' → AllByRecursion P ws
+  all_wanted P h = all_at_most P settings.max_count os (all_filter P (asked settings rows) drop' h)
+
+  pub distinct_wanted : (n : ℕ) → Distinct (ids_of (take n ws))
+  distinct_wanted n = let distinct = distinct_filter (asked settings rows) drop' is.distinct in
+      distinct_take n ws (cond_both (settings.max_count == 0) os (take settings.max_count os) (λ l. Distinct (ids_of l)) (λ e. distinct) (λ e. distinct_take settings.max_count os distinct))
+
+  -- if only what is new is read, no message that is wanted is recorded
+  pub none_recorded : settings.read_all ≡ false → AllByRecursion (λ (m : Message). is_delivered rows m.uid ≡ false) ws
+  none_recorded only_new = all_at_most _ _ _ (all_map _ (all_passing (asked settings rows) drop') (λ m a. grind (arith, a, only_new)))
 
   -- ---- numbers and texts
 
-  pub wanted_is : wanted s.settings s.rows s.effect.listing ≡ map num_item qs
-  wanted_is = wanted_are s.settings s.rows is.filtered (here s) is.honest.listing distinct_here
+  pub wanted_is : wanted settings rows effect.listing ≡ map num_item qs
+  wanted_is = wanted_are settings rows is.filtered drop' is.honest.listing is.distinct
 
   pub taken_is : (n : ℕ) → map snd (take n qs) ≡ take n ws
-  taken_is n = sym (take-map snd n qs) ∙ ap (take n) (wants_snd s.settings s.rows (here s))
+  taken_is n = sym (take-map snd n qs) ∙ ap (take n) (wants_snd settings rows drop')
 
   -- the first texts, and these messages
-  pub texts_are : {n : ℕ} → n ≤ length s.effect.texts → (zip (take n (wanted s.settings s.rows s.effect.listing)) s.effect.texts ≡ map with_text (take n qs))
-      × (take n s.effect.texts ≡ map (λ (m : Message). m.text) (take n ws))
+  pub texts_are : {n : ℕ} → n ≤ length effect.texts → (zip (take n (wanted settings rows effect.listing)) effect.texts ≡ map with_text (take n qs))
+      × (take n effect.texts ≡ map (λ (m : Message). m.text) (take n ws))
   texts_are {n} l =
-      let both = first_texts (here s) qs s.effect.texts n (wants_placed s.settings s.rows (here s)) (rw wanted_is at is.honest.texts) l in
+      let both = first_texts drop' qs effect.texts n (wants_placed settings rows drop') (rw wanted_is at is.honest.texts) l in
       (rw wanted_is both.0, rw (← taken_is n) both.1)
 
-  pub wanted_ids : (n : ℕ) → ids_wanted (take n (wanted s.settings s.rows s.effect.listing)) ≡ ids_of (take n ws)
-  wanted_ids n = rw (wanted_is, ← wants_snd s.settings s.rows (here s)) (simp (take-map, map-map))
-
-  -- ---- what is added is the next
-
-  abbrev fit : Message → Bool
-  fit m = is_selected s.max_size m
-
-  abbrev undone : Message → Bool
-  undone m = not (is_done s m.uid)
-
-  abbrev behind : ℕ → List Message
-  behind n = drop n ws ++ past_limit s.settings.max_count os
-
-  pub added_begins : (n : ℕ) → BeginsWith (added s n) s.rest
-  added_begins n = (filter undone (behind n) ++ next.0, next.1 ∙ ap (λ l. filter undone l ++ next.0) (sym (begins n s.settings.max_count os)) ∙ rw (filter-append undone (take n ws) (behind n)) (append_assoc (added s n) (filter undone (behind n)) next.0))
-    where
-      next : BeginsWith (filter undone os) s.rest
-      next = simp filter-filter (bridge fit (λ (m : Message). (is_left_on_server m && asked s.settings s.rows m) && undone m) s.done come (filter fit (drop s.come s.all)) s.rest distinct_come
-          (sym (filter-append fit come (drop s.come s.all)) ∙ ap (filter fit) (take-append-drop s.come s.all) ∙ is.prefix)
-          (all_map _ (all_take _ _ _ is.mail.messages) (λ m _. grind (arith, is.same, is.known m.uid, λ (g : has_id s.gone m.uid ≡ true). all_ids_at _ _ is.gone g))))
-
-  pub prefix_after : (n : ℕ) → selected s.max_size s.all ≡ (s.done ++ added s n) ++ (added_begins n).0
-  prefix_after n = is.prefix ∙ ap (λ l. s.done ++ l) (added_begins n).1 ∙ sym (append_assoc s.done (added s n) (added_begins n).0)
-
-  -- if only what is new is read, no message that is wanted is recorded
-  pub none_recorded : s.settings.read_all ≡ false → AllByRecursion (λ (m : Message). is_delivered s.rows m.uid ≡ false) ws
-  none_recorded only_new = all_at_most _ _ _ (all_map _ (all_passing (asked s.settings s.rows) (here s)) (λ m a. grind (arith, a, only_new)))
-
-  -- and if all that is done is recorded, none is done
-  pub all_added : ((id : List ℕ) → is_delivered s.rows id ≡ is_done s id) → s.settings.read_all ≡ false → (n : ℕ) → added s n ≡ take n ws
-  all_added exact only_new n = filter_all undone (take n ws) (all_take _ _ _ (all_map _ (none_recorded only_new) (λ m k. ap not (sym (exact m.uid) ∙ k))))
-
-  pub done_more : (n : ℕ) (id : List ℕ) → is_done s id ≡ true → is_done_after s n id ≡ true
-  done_more n id e = ids_both s.done (added s n) id ∙ or_left _ _ e
-
-  pub fetched_done : (n : ℕ) (id : List ℕ) → has_id (ids_of (take n ws)) id ≡ true → is_done_after s n id ≡ true
-  fetched_done n id e = grind (arith, e, ids_both s.done (added s n) id, ids_filtered (λ x. not (is_done s x)) (take n ws) id)
-
-  -- the texts of an id that is among the first n of what is wanted are all its texts
-  pub texts_fetched : (n : ℕ) (id : List ℕ) → has_id (ids_of (take n ws)) id ≡ true → texts_of (take n ws) id ≡ texts_of s.all id
-  texts_fetched n id = let distinct = distinct_filter (asked s.settings s.rows) (here s) distinct_here in whole_part (take n ws) s.all id
-      (distinct_take n ws (cond_both (s.settings.max_count == 0) os (take s.settings.max_count os) (λ l. Distinct (ids_of l)) (λ e. distinct) (λ e. distinct_take s.settings.max_count os distinct)))
-      (all_take _ n ws (all_fetched _ (all_filter _ is_left_on_server come (all_take _ s.come s.all (each_text s.all (distinct_is s.all is.mail.distinct))))))
+  pub wanted_ids : (n : ℕ) → ids_wanted (take n (wanted settings rows effect.listing)) ≡ ids_of (take n ws)
+  wanted_ids n = rw (wanted_is, ← wants_snd settings rows drop') (simp (take-map, map-map))
 
   -- ---- what an uncut session leaves out
 
-  past_ids : ids_wanted (past_limit s.settings.max_count (candidates s.settings s.rows s.effect.listing)) ≡ ids_of (past_limit s.settings.max_count os)
-  past_ids = rw (candidates_are s.settings s.rows is.filtered (here s) is.honest.listing distinct_here, ← offered_snd s.settings s.rows (here s)) (simp (past-map, map-map))
-
-  pub left_out : (n : ℕ) → length (wanted s.settings s.rows s.effect.listing) ≤ n → AllByRecursion (λ (m : Message). (is_done_after s n m.uid ≡ true)
-      ⊎ (fit m ≡ false) ⊎ (is_past_count s.settings s.rows s.effect.listing m.uid ≡ true)) (here s)
-  left_out n l = all_map _ (passing_in (here s)) (λ m h. grind (
+  -- each message is among what was fetched, or is recorded, or too large, or past the limit on the number
+  pub left_out : (n : ℕ) → length (wanted settings rows effect.listing) ≤ n → AllByRecursion (λ (m : Message). (has_id (ids_of (take n ws)) m.uid ≡ true)
+      ⊎ (is_delivered rows m.uid ≡ true) ⊎ (is_within settings.max_size m.size ≡ false) ⊎ (is_past_count settings rows effect.listing m.uid ≡ true)) drop'
+  left_out n l = all_map _ (passing_in (asked settings rows) drop') (λ m h. grind (
     arith,
     h,
-    done_more n m.uid,
-    fetched_done n m.uid,
-    is.known m.uid,
-    is.same,
     ap (λ ids. has_id ids m.uid) past_ids,
-    ids_both ws (past_limit s.settings.max_count os) m.uid,
-    both_parts s.settings.max_count os,
-    take_all n ws (rw (← wants_snd s.settings s.rows (here s), length-map) (rw (wanted_is, length-map) at l)),
+    ids_both ws (past_limit settings.max_count os) m.uid,
+    both_parts settings.max_count os,
+    take_all n ws (rw (← wants_snd settings rows drop', length-map) (rw (wanted_is, length-map) at l)),
   ))
     where
-      -- a message that passes a test keeps its id in the filtered list
-      passing_in : (ms : List Message) → AllByRecursion (λ (m : Message). asked s.settings s.rows m ≡ true → has_id (ids_of (offered s.settings s.rows ms)) m.uid ≡ true) ms
-      passing_in [] = tt
-      passing_in (m ∷ ms) = (λ e. rw e (or_left _ _ (bytes_self m.uid)), all_map _ (passing_in ms) (λ x h e. grind (arith, h, e)))
+      past_ids : ids_wanted (past_limit settings.max_count (candidates settings rows effect.listing)) ≡ ids_of (past_limit settings.max_count os)
+      past_ids = rw (candidates_are settings rows is.filtered drop' is.honest.listing is.distinct, ← offered_snd settings rows drop') (simp (past-map, map-map))
+
+-- ---- what a session stores is the next
+
+pub distinct_here : {all : List Message} (come : ℕ) (gone : List (List ℕ)) → IsWorld all → Distinct (ids_of (maildrop_of all come gone))
+distinct_here {all} come gone mail = distinct_filter (λ (m : Message). not (has_id gone m.uid)) (take come all) (distinct_take come all (distinct_is all mail.distinct))
+
+-- what is selected and isn't done
+abbrev pub next_in : ℕ → List Message → List Message → List Message
+next_in limit done ms = filter (λ (m : Message). is_selected limit m && not (has_id (ids_of done) m.uid)) ms
+
+-- of a maildrop that keeps its order it is the first of what is left
+pub next_here : (limit : ℕ) {all : List Message} (come : ℕ) (gone : List (List ℕ)) (done rest : List Message) → IsWorld all → selected limit all ≡ done ++ rest
+    → AllByRecursion (λ id. has_id (ids_of done) id ≡ true) gone → BeginsWith (next_in limit done (maildrop_of all come gone)) rest
+next_here limit {all} come gone done rest mail prefix all_gone = simp filter-filter (bridge fit (λ (m : Message). not (has_id gone m.uid) && (fit m && not (has_id (ids_of done) m.uid))) done (take come all) (filter fit (drop come all)) rest
+    (distinct_take come all (distinct_is all mail.distinct))
+    (sym (filter-append fit (take come all) (drop come all)) ∙ ap (filter fit) (take-append-drop come all) ∙ prefix)
+    (all_map _ (all_take _ come all mail.messages) (λ m _. grind (arith, λ (g : has_id gone m.uid ≡ true). all_ids_at _ _ all_gone g))))
+  where
+    fit : Message → Bool
+    fit m = is_selected limit m
+
+module _ {settings : Settings} {rows : List Row} {drop' : List Message} {effect : Effect} (is : Fetch settings rows drop' effect) (done rest : List Message)
+    (known : AllByRecursion (λ (m : Message). is_delivered rows m.uid ≡ true → has_id (ids_of done) m.uid ≡ true) drop') (next : BeginsWith (next_in settings.max_size done drop') rest) where
+  abbrev undone : Message → Bool
+  undone m = not (has_id (ids_of done) m.uid)
+
+  -- the first n of what is wanted, without those that are done already
+  abbrev pub added : ℕ → List Message
+  added n = filter undone (take n (wants settings rows drop'))
+
+  abbrev some' : List Message
+  some' = offered settings rows drop'
+
+  abbrev behind : ℕ → List Message
+  behind n = drop n (wants settings rows drop') ++ past_limit settings.max_count some'
+
+  undone_offered : (ms : List Message) → AllByRecursion (λ (m : Message). is_delivered rows m.uid ≡ true → has_id (ids_of done) m.uid ≡ true) ms
+      → next_in settings.max_size done ms ≡ filter undone (offered settings rows ms)
+  undone_offered [] h = refl
+  undone_offered (m ∷ ms) h = grind (arith, h.0, undone_offered ms h.1)
+
+  pub added_begins : (n : ℕ) → BeginsWith (added n) rest
+  added_begins n = (
+    filter undone (behind n) ++ next.0,
+    next.1 ∙ ap (λ l. l ++ next.0) (undone_offered drop' known ∙ ap (filter undone) (sym (begins n settings.max_count some')) ∙ filter-append undone (take n (wants settings rows drop')) (behind n))
+        ∙ append_assoc (added n) (filter undone (behind n)) next.0,
+  )
+
+  pub prefix_after : {chosen : List Message} → chosen ≡ done ++ rest → (n : ℕ) → chosen ≡ (done ++ added n) ++ (added_begins n).0
+  prefix_after prefix n = prefix ∙ ap (λ l. done ++ l) (added_begins n).1 ∙ sym (append_assoc done (added n) (added_begins n).0)
+
+  -- if all that is done is recorded, and only what is new is read, none is done
+  pub all_added : ((id : List ℕ) → is_delivered rows id ≡ has_id (ids_of done) id) → settings.read_all ≡ false → (n : ℕ) → added n ≡ take n (wants settings rows drop')
+  all_added exact only_new n = filter_all undone (take n (wants settings rows drop')) (all_take _ _ _ (all_map _ (none_recorded is only_new) (λ m k. ap not (sym (exact m.uid) ∙ k))))
 
 -- ---- in every state a session can end, so the laws over runs aren't empty
 
@@ -355,33 +328,29 @@ abbrev fetch_all : ℕ → Settings → List Row → List Message → Effect
 fetch_all now settings rows drop = record { now = now; listing = listing_of drop; texts = map (λ (q : ℕ × Message). q.1.text) (wants_by_number settings rows drop); begun = []; ended = true }
 
 -- is an honest one, and retrieves as many texts
-can_fetch : DistinctAreFiltered → (all : List Message) → IsWorld all → (come : ℕ) (gone : List (List ℕ)) (now : ℕ) (settings : Settings) (rows : List Row)
-    → let effect = fetch_all now settings rows (maildrop_of all come gone) in
-    (length (wanted settings rows effect.listing) ≡ length effect.texts) × IsHonest (wanted settings rows effect.listing) (maildrop_of all come gone) effect
-can_fetch filtered all sound come gone now settings rows =
-    let drop : List Message = maildrop_of all come gone in
-    let distinct = distinct_filter (λ (m : Message). not (has_id gone m.uid)) (take come all) (distinct_take come all (distinct_is all sound.distinct)) in
+can_fetch : DistinctAreFiltered → (drop : List Message) → Distinct (ids_of drop) → (now : ℕ) (settings : Settings) (rows : List Row)
+    → let effect = fetch_all now settings rows drop in
+    (length (wanted settings rows effect.listing) ≡ length effect.texts) × IsHonest (wanted settings rows effect.listing) drop effect
+can_fetch filtered drop distinct now settings rows =
     let is : wanted settings rows (listing_of drop) ≡ map num_item (wants_by_number settings rows drop) = wanted_are settings rows filtered drop refl distinct in
     (rw is (simp length-map), record { listing = refl; texts = rw is (are_texts drop _ (wants_placed settings rows drop)) })
 
 pub can_end : DistinctAreFiltered → CanEnd
-can_end filtered world before settings come now is same =
-    let here : List Message = maildrop_of world.all come before.gone in
-    let rows : List Row = merged before.account.rows (listing_of here) (flags_of world.account before.account.maildir (listing_of here)) now in
-    let effect : Effect = fetch_all now settings rows here in
-    let can = can_fetch filtered world.all is.mail come before.gone now settings rows in
-    let after : AccountMail = record { rows = _; maildir = record before.account.maildir { files = _ } } in
-    let stores : Stores settings world.account before.account effect after =
+can_end filtered account before settings drop now distinct =
+    let rows : List Row = merged before.rows (listing_of drop) (flags_of account before.maildir (listing_of drop)) now in
+    let effect : Effect = fetch_all now settings rows drop in
+    let can = can_fetch filtered drop (distinct_is drop distinct) now settings rows in
+    let after : AccountMail = record { rows = _; maildir = record before.maildir { files = _ } } in
+    let stores : Stores settings account before effect after =
     record { stored = length effect.texts; recorded = length effect.texts; order = omega arith; fetched = omega arith; came = refl; rows = inr refl; begun = tt; ended = λ e. omega (arith, can.0) } in
-    (record { settings = settings; come = come; effect = effect; vanished = []; after = after }, record { same = same; step = inr (stores, can.1); vanished = tt }, refl, refl)
+    (effect, after, stores, can.1, refl)
 
 pub mbox_can_end : DistinctAreFiltered → MboxCanEnd
-mbox_can_end filtered world before settings come now sound same only_new =
-    let here : List Message = maildrop_of world.all come before.gone in
-    let rows : List Row = merged (settled (listing_of here) before.account).rows (listing_of here) (none_held (listing_of here)) now in
-    let effect : Effect = fetch_all now settings rows here in
-    let can = can_fetch filtered world.all sound come before.gone now settings rows in
+mbox_can_end filtered before settings drop now distinct =
+    let rows : List Row = merged (settled (listing_of drop) before).rows (listing_of drop) (none_held (listing_of drop)) now in
+    let effect : Effect = fetch_all now settings rows drop in
+    let can = can_fetch filtered drop (distinct_is drop distinct) now settings rows in
     let after : MboxMail = record { rows = _; intent = None; file = _ } in
-    let stores : MboxStores settings before.account effect after =
+    let stores : MboxStores settings before effect after =
     record { stored = length effect.texts; fetched = omega arith; rows = refl; ending = inl (record { intent = refl; file = refl }); begun = tt; ended = λ e. (omega (arith, can.0), refl) } in
-    (record { settings = settings; come = come; effect = effect; vanished = []; after = after }, record { same = same; only_new = only_new; step = inr (stores, can.1); vanished = tt }, refl, refl)
+    (effect, after, stores, can.1, refl)

@@ -3,4 +3,7 @@ mod Ids
 mod Laws
 mod Linked
 mod Listed
-mod MboxKept
+mod MboxOrder
+mod MboxPromised
+mod Order
+mod Promised

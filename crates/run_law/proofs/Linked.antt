@@ -18,7 +18,7 @@ use Rattle.mail_store.specs.Mboxrd.{entry_of}
 use Rattle.mail_terms.specs.UniqueId.{has_id}
 use Rattle.run_law.specs.Accounts.{AccountMail}
 use Rattle.run_law.specs.Steps.{Effect, Stores, file_for, is_unheld, ids_wanted, wanted_at, merged_rows, IsHonest, AreTexts}
-use Rattle.run_law.specs.Sessions.{IsBegun, SendsOnly, Reads, Served, LinksAreVisits}
+use Rattle.run_law.specs.Sessions.{SessionsAreServed, IsBegun, SendsOnly, Reads, Served}
 use Rattle.pop3_wire.specs.declared.command.Command.{Command}
 use Rattle.pop3_wire.specs.declared.command.Command.TheVariants.{Dele, User, Pass, Stat, UidlAll, ListAll, Rset}
 use Rattle.run_law.specs.Safety.{IsAmong, WasFetched, DeletesAllowed, SessionsAreSafe}
@@ -32,14 +32,14 @@ use Rattle.run_law.specs.Counted.{Adds, CountedStores}
 use Rattle.run_law.specs.MboxCounted.{bytes_at, OpensAt, MboxCountedStores}
 use Rattle.std.specs.Option.{option_map}
 use Rattle.pop3_wire.specs.World.{Message}
-use Rattle.pop3_wire.specs.Honest.{Grants, Replies, no_marks, OneListOfCommands}
+use Rattle.pop3_wire.specs.Honest.{Grants, Replies, no_marks, OneListOfCommands, UidRowsHaveFields, ScanRowsHaveFields}
 use Rattle.run_law.specs.Mails.{item_of, listing_of}
 use Rattle.run_law.specs.Readings.{IsNumbered, MarksAreAsked}
 use Rattle.run_law.proofs.Listed.{honest_is_granted, listing_is_maildrop, texts_are_messages}
 use Rattle.pop3_wire.specs.Line.{OneLine}
 use Rattle.pop3_wire.specs.Stuffed.{OneBody}
 use Rattle.pop3_wire.specs.Reading.{OneListOfLines, OneReading}
-use Rattle.run_law.specs.MboxSessions.{MboxLinksAreVisits}
+use Rattle.run_law.specs.MboxSessions.{MboxSessionsAreServed}
 use Rattle.run_law.specs.MboxHonestSession.{IsIn, MboxHonestSession}
 use Rattle.run_law.specs.HonestSession.{IsFileOf, HonestSession}
 
@@ -275,7 +275,7 @@ IsAsked commands place = (front behind : List Command) × (number : ℕ) × (com
 
 one_mark : (drop : List Message) (marks : List Bool) (command : Command) (commands : List Command) (bytes : List ℕ) (next : List Bool) (place : ℕ)
     → Grants drop marks command bytes next → slice_get next place ≡ Some true → (slice_get marks place ≡ Some true) ⊎ IsAsked (command ∷ commands) place
-one_mark drop marks (Dele n) commands bytes next place g e = ⊎_map (λ old. old) (λ same. ([], commands, n, refl, same)) (set_marks marks (n - 1) place (ap (λ (m : List Bool). slice_get m place) (sym g.3) ∙ e))
+one_mark drop marks (Dele n) commands bytes next place g e = ⊎_map (λ old. old) (λ same. ([], commands, n, refl, same)) (set_marks marks (n - 1) place (ap (λ (m : List Bool). slice_get m place) (sym g.1) ∙ e))
 one_mark drop marks Rset commands bytes next place g e = absurd (none_true marks place (ap (λ (m : List Bool). slice_get m place) (sym g.1) ∙ e))
 one_mark drop marks other commands bytes next place g e = grind arith
 
@@ -327,7 +327,7 @@ pairs account drop (w ∷ wanted) (text ∷ texts) (suc n) first ((m, there, is)
     ((w.0 - 1, m, there, rw (same, is) refl), pairs account drop wanted texts n first.1 are)
 
 -- by the laws of octets
-module _ (one_line : OneLine) (one_reading : OneReading) (one_list : OneListOfCommands) (one_body : OneBody) (one_lines : OneListOfLines) where
+module _ (one_line : OneLine) (one_reading : OneReading) (one_list : OneListOfCommands) (one_body : OneBody) (one_lines : OneListOfLines) (uids : UidRowsHaveFields) (scans : ScanRowsHaveFields) where
   module _ {sent got : List ℕ} (effect : Effect) {drop : List Message} {vanished : List (List ℕ)} (sends : SendsOnly (IsBegun effect.listing effect.begun) sent)
       (served : Served drop sent got vanished) where
     same : sends.commands ≡ served.honest.commands
@@ -352,7 +352,7 @@ module _ (one_line : OneLine) (one_reading : OneReading) (one_list : OneListOfCo
         let granted = honest_is_granted one_line one_reading one_list drop sent got served.marks asked replies served.honest r.talked in
         let numbered = texts_are_messages one_line one_body drop (no_marks drop) asked replies r.found r.talked.good granted r.retrieves in
         record {
-          listing = listing_is_maildrop one_line one_lines drop r.name r.word r.more r.user r.pass r.stat r.uidl r.list r.replies effect.listing r.talked.good granted r.listed;
+          listing = listing_is_maildrop one_line one_lines uids scans drop r.name r.word r.more r.user r.pass r.stat r.uidl r.list r.replies effect.listing r.talked.good granted r.listed;
           texts = rw r.texts (texts r.found wanted r.numbers numbered);
         }
       where
@@ -371,15 +371,13 @@ module _ (one_line : OneLine) (one_reading : OneReading) (one_list : OneListOfCo
     one_visit wanted (inl left) leaves none = (inl (leaves left), vanished_begun (inl (none left)))
     one_visit wanted (inr (stores, reads)) leaves none = let honest = session_honest wanted reads in (inr (stores, honest), vanished_begun (inr honest.listing))
 
-  pub visits : LinksAreVisits
-  visits world before link l =
-      let visit = one_visit l.effect l.session.sends l.served (wanted_at link.settings world.account before.account l.effect) l.session.step (λ left. left) (λ left. left.begun) in
-      record { same = l.same; step = visit.0; vanished = visit.1 }
+  pub served_sessions : SessionsAreServed
+  served_sessions settings account before sent got effect after drop vanished session served =
+      one_visit effect session.sends served (wanted_at settings account before effect) session.step (λ left. left) (λ left. left.begun)
 
-  pub mbox_visits : MboxLinksAreVisits
-  mbox_visits world before link l =
-      let visit = one_visit l.effect l.session.sends l.served (mbox_wanted link.settings before.account l.effect) l.session.step (λ left. left.0) (λ left. left.0.begun) in
-      record { same = l.same; only_new = l.only_new; step = visit.0; vanished = visit.1 }
+  pub mbox_served_sessions : MboxSessionsAreServed
+  mbox_served_sessions settings before sent got effect after drop vanished session served =
+      one_visit effect session.sends served (mbox_wanted settings before effect) session.step (λ left. left.0) (λ left. left.0.begun)
 
   -- ---- what one session with an mboxrd appends if its server is honest
 

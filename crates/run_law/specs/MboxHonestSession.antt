@@ -7,7 +7,7 @@ use Rattle.rc_file.specs.declared.settings.Settings.{Settings}
 use Rattle.mail_store.specs.Mboxrd.{entry_of}
 use Rattle.run_law.specs.Mails.{listing_of}
 use Rattle.run_law.specs.Mboxes.{MboxMail, MboxLeaves, settled}
-use Rattle.run_law.specs.MboxRuns.{entries_of}
+use Rattle.run_law.specs.Mboxes.{entries_of}
 use Rattle.run_law.specs.MboxSessions.{MboxSession}
 use Rattle.run_law.specs.Steps.{Effect}
 

@@ -8,7 +8,10 @@ use Rattle.fetch_rules.specs.Wanted.{wanted}
 use Rattle.rc_file.specs.declared.settings.Settings.{Settings}
 use Rattle.mail_store.specs.Mboxrd.{entry_of}
 use Rattle.mail_store.specs.Settling.{listed_size, stands_whole, settled_file}
-use Rattle.run_law.specs.Steps.{Effect, ids_wanted}
+use Rattle.pop3_wire.specs.World.{Message}
+use Rattle.mail_terms.specs.Distinct.{AreDistinct}
+use Rattle.run_law.specs.Mails.{ids_of}
+use Rattle.run_law.specs.Steps.{Effect, IsHonest, ids_wanted}
 
 -- the rows of the record and its open intent, and the mboxrd file
 pub record MboxMail : Type 0 where
@@ -48,6 +51,10 @@ mbox_wanted settings before effect = wanted settings (mbox_rows before effect) e
 -- the entries of these texts
 abbrev pub entries : List (List ℕ) → List ℕ
 entries texts = flat_map entry_of texts
+
+-- the entries of these messages
+abbrev pub entries_of : List Message → List ℕ
+entries_of ms = entries (map (λ (m : Message). m.text) ms)
 
 -- the intent to append the entry of a text to these bytes
 abbrev pub intent_of : List ℕ → List ℕ → List ℕ → Intent
@@ -92,3 +99,9 @@ pub record MboxStores (settings : Settings) (before : MboxMail) (effect : Effect
       ⊎ IsBroken settings before effect stored after
   pub begun : AllByRecursion (λ id. is_delivered after.rows id ≡ true) effect.begun
   pub ended : effect.ended ≡ true → (length (mbox_wanted settings before effect) ≤ stored) × (after.intent ≡ None)
+
+-- a law: from every account, over every maildrop, there is a session that ends
+abbrev pub MboxCanEnd : Type 0
+MboxCanEnd = (before : MboxMail) (settings : Settings) (drop : List Message) (now : ℕ) → AreDistinct (ids_of drop)
+    → (effect : Effect) × (after : MboxMail) × MboxStores settings before effect after
+    × IsHonest (mbox_wanted settings before effect) drop effect × (effect.ended ≡ true)

@@ -1,15 +1,10 @@
--- What a loss of power may leave, for one: all files, with an older record; or all but that of the last message.
+-- What a loss of power may leave, for one: all files but that of the last message.
 use Rattle.std.specs.Prelude.{◌≡◌, ◌⊎◌, ℕ, true, false, List, [], bytes_eq}
 use Rattle.mail_store.specs.FileName.{stem_of}
 use Rattle.mail_store.specs.Maildir.{Maildir}
 use Rattle.mail_terms.specs.UniqueId.{has_id, is_legal_id}
 use Rattle.run_law.specs.Accounts.{AccountMail, copies, files}
-use Rattle.run_law.specs.Runs.{World, IsSound, State, Kept, Forgets, IsLastStored, LosesPower}
-
--- a law: a loss of power may leave all files, with a record that shows the same or less
-abbrev pub AllMayBeLeft : Type 0
-AllMayBeLeft = (world : World) (before : State AccountMail) (after : AccountMail) → Forgets world.account before.account after
-    → LosesPower world before after
+use Rattle.run_law.specs.Runs.{World, IsSound, State, Kept, IsLastStored}
 
 -- the state with this Maildir
 abbrev pub with_maildir : Maildir → State AccountMail → State AccountMail

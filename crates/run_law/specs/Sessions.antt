@@ -1,4 +1,4 @@
--- Sessions, given by what their links gained, and runs of them over one world.
+-- Sessions, given by what their links gained.
 use Rattle.std.specs.Prelude.{◌≡◌, ◌⊎◌, ◌&&◌, ◌<◌, ◌-◌, ℕ, Bool, true, List, [], ◌∷◌, ◌++◌, map, take, length, Some, slice_get}
 use Rattle.std.specs.List.{AllByRecursion}
 use Rattle.pop3_wire.specs.declared.command.Command.{Command}
@@ -6,15 +6,14 @@ use Rattle.pop3_wire.specs.declared.command.Command.TheVariants.{User, Pass, Sta
 use Rattle.pop3_wire.specs.Commands.{line_of}
 use Rattle.pop3_wire.specs.Honest.{Asked, Honest}
 use Rattle.pop3_wire.specs.Line.{ended}
-use Rattle.pop3_wire.specs.World.{Message, maildrop_of}
+use Rattle.pop3_wire.specs.World.{Message}
 use Rattle.mail_terms.specs.Listing.{Item, is_first, is_last}
 use Rattle.rc_file.specs.declared.settings.Settings.{Settings}
 use Rattle.mail_terms.specs.UniqueId.{has_id}
 use Rattle.run_law.specs.Accounts.{AccountMail}
-use Rattle.run_law.specs.Steps.{Effect, Leaves, Stores, wanted_at}
+use Rattle.run_law.specs.Steps.{Effect, IsHonest, Leaves, Stores, wanted_at}
 use Rattle.pop3_wire.specs.Reading.{WholeReply}
 use Rattle.run_law.specs.Readings.{Talked, Retrieves, IsListed}
-use Rattle.run_law.specs.Runs.{World, State, Visit, Visits}
 
 -- a DELE's number counts from 1, the id of its message is among those begun, and no other message of the
 -- listing has that id
@@ -72,38 +71,12 @@ pub record Served (drop : List Message) (sent got : List ℕ) (vanished : List (
   pub quits : (vanished ≡ []) ⊎ ((front behind : List Command) × (honest.commands ≡ front ++ Quit ∷ behind))
   pub marked : AllByRecursion (IsMarked drop marks) vanished
 
--- one session over its link
-pub record Link (Account : Type 0) : Type 0 where
-  pub settings : Settings
-  pub come : ℕ
-  pub sent : List ℕ
-  pub got : List ℕ
-  pub vanished : List (List ℕ)
-  pub after : Account
-
--- a session of the code, over an honest link
-pub record Links (world : World) (before : State AccountMail) (link : Link AccountMail) : Type 0 where
-  pub same : link.settings.max_size ≡ world.max_size
-  pub effect : Effect
-  pub session : Session link.settings world.account before.account link.sent link.got effect link.after
-  pub served : Served (maildrop_of world.all link.come before.gone) link.sent link.got link.vanished
-
--- a session over its link, as a visit with what it did
-abbrev pub visit_of : {K : Type 0} → Link K → Effect → Visit K
-visit_of link effect = record {
-  settings = link.settings;
-  come = link.come;
-  effect = effect;
-  vanished = link.vanished;
-  after = link.after;
-}
-
--- a law: a session over an honest link is a visit of the law over runs
-abbrev pub LinksAreVisits : Type 0
-LinksAreVisits = (world : World) (before : State AccountMail) (link : Link AccountMail) → (l : Links world before link)
-    → Visits world before (visit_of link l.effect)
-
--- how much mail had come at a session, and which ids its QUIT removed from the server
-pub record Fact : Type 0 where
-  pub come : ℕ
-  pub vanished : List (List ℕ)
+-- a law: what a session did over an honest link is what it read of the maildrop, and a DELE was begun for each message that its QUIT
+-- removed
+abbrev pub SessionsAreServed : Type 0
+SessionsAreServed = (settings : Settings) (account : List ℕ) (before : AccountMail) (sent got : List ℕ) (effect : Effect)
+    (after : AccountMail) (drop : List Message) (vanished : List (List ℕ))
+    → Session settings account before sent got effect after → Served drop sent got vanished
+    → (Leaves before effect after
+    ⊎ (Stores settings account before effect after × IsHonest (wanted_at settings account before effect) drop effect))
+    × AllByRecursion (λ id. has_id effect.begun id ≡ true) vanished

@@ -9,7 +9,8 @@ use Rattle.mail_store.specs.Maildir.{Maildir, File}
 use Rattle.mail_store.specs.FileName.{is_held, mail_file}
 use Rattle.mail_store.specs.Held.{flags_of}
 use Rattle.pop3_wire.specs.World.{Message}
-use Rattle.run_law.specs.Mails.{listing_of}
+use Rattle.mail_terms.specs.Distinct.{AreDistinct}
+use Rattle.run_law.specs.Mails.{ids_of, listing_of}
 use Rattle.run_law.specs.Accounts.{AccountMail}
 use Rattle.run_law.specs.Readings.{IsNumbered}
 
@@ -78,3 +79,9 @@ AreTexts drop (first ∷ wanted) (text ∷ texts) = IsNumbered drop (first.0, te
 pub record IsHonest (wanted : List (ℕ × Item)) (drop : List Message) (effect : Effect) : Type 0 where
   pub listing : effect.listing ≡ listing_of drop
   pub texts : AreTexts drop wanted effect.texts
+
+-- a law: from every account, over every maildrop, there is a session that ends
+abbrev pub CanEnd : Type 0
+CanEnd = (account : List ℕ) (before : AccountMail) (settings : Settings) (drop : List Message) (now : ℕ) → AreDistinct (ids_of drop)
+    → (effect : Effect) × (after : AccountMail) × Stores settings account before effect after
+    × IsHonest (wanted_at settings account before effect) drop effect × (effect.ended ≡ true)

@@ -1,22 +1,28 @@
-//! Laws over runs of sessions: every list of sessions leads from a kept state to a kept one.
+//! Laws over accounts: what sessions and others do to them, over any maildrops, and over those that keep
+//! their order.
 #![tactic(auto)]
 
 ghost use Rattle.run_law.specs.Below.{Below};
-ghost use Rattle.run_law.specs.Mails.{WorldsShrink};
-ghost use Rattle.run_law.specs.Power.{AllMayBeLeft, OneMoreIsLast};
-ghost use Rattle.run_law.specs.Runs.{CanEnd, KeptHoldsWhatIsLeft, KeptStaysKept};
-ghost use Rattle.run_law.specs.Runs.{NothingTakenHoldsExactly, StartsKept};
-ghost use Rattle.run_law.specs.Readings.{HonestIsGranted, ListingIsMaildrop, MarksAreAsked, TextsAreMessages};
-ghost use Rattle.run_law.specs.HonestSession.{HonestSession};
-ghost use Rattle.run_law.specs.MboxHonestSession.{MboxHonestSession};
-ghost use Rattle.run_law.specs.Safety.{SessionsAreSafe};
-ghost use Rattle.run_law.specs.Sessions.{LinksAreVisits};
 ghost use Rattle.run_law.specs.Counted.{CountedStores};
-ghost use Rattle.run_law.specs.MboxRuns.{MboxCanEnd, MboxKeptStaysKept, MboxKeptHolds};
-ghost use Rattle.run_law.specs.MboxRuns.{MboxStartsKept, SomeAreRecorded};
-ghost use Rattle.run_law.specs.MboxSafety.{MboxSessionsAreSafe};
-ghost use Rattle.run_law.specs.MboxSessions.{MboxLinksAreVisits};
+ghost use Rattle.run_law.specs.HonestSession.{HonestSession};
 ghost use Rattle.run_law.specs.MboxCounted.{MboxCountedStores};
+ghost use Rattle.run_law.specs.Mboxes.{MboxCanEnd};
+ghost use Rattle.run_law.specs.MboxHonestSession.{MboxHonestSession};
+ghost use Rattle.run_law.specs.MboxOrder.{EntriesMeanTexts, MboxHeadline, MboxStartsInOrder};
+ghost use Rattle.run_law.specs.MboxPromises.{MboxSessionsAppend, MboxStarts};
+ghost use Rattle.run_law.specs.MboxSafety.{MboxSessionsAreSafe};
+ghost use Rattle.run_law.specs.MboxSessions.{MboxSessionsAreServed};
+ghost use Rattle.run_law.specs.Order.{Headline, NoneTaken, StaysAway};
+ghost use Rattle.run_law.specs.Mails.{WorldsShrink};
+ghost use Rattle.run_law.specs.Power.{OneMoreIsLast};
+ghost use Rattle.run_law.specs.Promises.{EventsKeepPromises};
+ghost use Rattle.run_law.specs.Runs.{KeptHoldsWhatIsLeft, LikeStatesAreKept, LossesLeaveKept};
+ghost use Rattle.run_law.specs.Runs.{NothingTakenHoldsExactly, SessionsKeepOrder, StartsKept};
+ghost use Rattle.run_law.specs.Runs.{WithdrawnLeaveKept, WorldsShowMaildrops};
+ghost use Rattle.run_law.specs.Readings.{HonestIsGranted, ListingIsMaildrop, MarksAreAsked, TextsAreMessages};
+ghost use Rattle.run_law.specs.Safety.{SessionsAreSafe};
+ghost use Rattle.run_law.specs.Sessions.{SessionsAreServed};
+ghost use Rattle.run_law.specs.Steps.{CanEnd};
 
 use fetch_rules::{
     distinct_messages_are_filtered, held_is_delivered, listed_has_row, marked_is_delivered,
@@ -28,7 +34,7 @@ use mail_store::{
 };
 use pop3_wire::{
     only_one_body, only_one_line, only_one_list_of_commands, only_one_list_of_lines,
-    only_one_reading,
+    only_one_reading, rows_have_fields,
 };
 
 /// What the laws over runs take from the laws of the crates below.
@@ -47,24 +53,56 @@ fn laws_below()
     marked_keeps_rows();
 }
 
-/// Every list of sessions, with whatever readers, other programs and the server do between them,
-/// leads from a kept state to a kept state, and each session keeps its promises.
-pub fn kept_states()
-    ensures { KeptStaysKept }
+/// Over maildrops in any order and under any limits, a session of an account with a Maildir keeps its
+/// promises and leaves a kept state, and so do readers and other programs.
+pub fn events_keep_promises()
+    ensures { EventsKeepPromises }
 {
     laws_below();
+    sessions_are_served();
+}
+
+/// The headline, over accounts: with a server that keeps its order and one limit on sizes, the Maildir
+/// holds exactly the first of the selected messages, each once, before and after each of a list of events.
+pub fn headline()
+    ensures { Headline }
+{
+    events_keep_promises();
+}
+
+/// If no reader takes anything away, nothing counts as taken away.
+pub fn none_taken()
+    ensures { NoneTaken }
+{
+    events_keep_promises();
+}
+
+/// A message that is recorded as delivered and was taken away isn't stored again by sessions that read
+/// only what is new.
+pub fn stays_away()
+    ensures { StaysAway }
+{
+    laws_below();
+    events_keep_promises();
+}
+
+/// With a server that keeps its order and one limit on sizes, a session keeps a prefix of the selected
+/// messages, and so do others: where the files of an account change, where messages are withdrawn, and
+/// where power is lost.
+pub fn kept_states()
+    ensures maildrops { WorldsShowMaildrops }
+    ensures sessions { SessionsKeepOrder }
+    ensures others { LikeStatesAreKept }
+    ensures withdrawn { WithdrawnLeaveKept }
+    ensures power { LossesLeaveKept }
+{
+    events_keep_promises();
 }
 
 /// What is left of a world after messages were withdrawn is a world.
 #[tactic(auto, using(crate::proofs::Core::worlds_shrink))]
 pub fn worlds_shrink()
     ensures { WorldsShrink }
-{}
-
-/// A loss of power may leave all files, with a record that shows the same or less.
-#[tactic(auto, using(crate::proofs::Laws::all_may_be_left))]
-pub fn all_may_be_left()
-    ensures { AllMayBeLeft }
 {}
 
 /// If one more message is held than in a kept state, it was taken away before, or it is the last that
@@ -116,6 +154,7 @@ pub fn listing_is_maildrop()
 {
     only_one_line();
     only_one_list_of_lines();
+    rows_have_fields();
 }
 
 /// A message that is marked at the end of an honest conversation was asked for by DELE.
@@ -124,15 +163,16 @@ pub fn marks_are_asked()
     ensures { MarksAreAsked }
 {}
 
-/// A session over an honest link is a visit of the law over runs.
-pub fn links_are_visits()
-    ensures { LinksAreVisits }
+/// What a session did over an honest link is what it read of the maildrop, whatever that is.
+pub fn sessions_are_served()
+    ensures { SessionsAreServed }
 {
     only_one_line();
     only_one_reading();
     only_one_list_of_commands();
     only_one_body();
     only_one_list_of_lines();
+    rows_have_fields();
 }
 
 /// If its server is honest, whatever its maildrop, a session leaves the account as it was; or its
@@ -146,9 +186,10 @@ pub fn honest_sessions_bring_messages()
     only_one_list_of_commands();
     only_one_body();
     only_one_list_of_lines();
+    rows_have_fields();
 }
 
-/// In every state there is a session that ends, so the laws over runs aren't about nothing.
+/// From every account there is a session that ends, so the laws aren't about nothing.
 pub fn can_end()
     ensures { CanEnd }
 {
@@ -169,48 +210,60 @@ pub fn sessions_are_safe()
     laws_below();
 }
 
-/// With an mboxrd: every list of sessions that read only what is new, with whatever is gone from the
-/// server between them and whatever others write while no intent is open, leads from a kept state to
-/// a kept state, and each session keeps its promises.
-pub fn mbox_states_are_kept()
-    ensures { MboxKeptStaysKept }
+/// With an mboxrd: over maildrops in any order and under any limits, a session that reads only what is new
+/// appends the entries of new messages, in the order in which it fetched them, and keeps its promises.
+pub fn mbox_sessions_append()
+    ensures { MboxSessionsAppend }
 {
     laws_below();
+    mbox_sessions_are_served();
 }
 
-/// With an mboxrd: a kept state's file is the one before the first session, followed by the
-/// entries of the first of the selected messages that weren't recorded before, each once, and by
-/// at most a prefix of the next entry.
-#[tactic(auto, using(crate::proofs::MboxKept::mbox_holds))]
-pub fn mbox_holds_exactly()
-    ensures { MboxKeptHolds }
+/// With an mboxrd: it may begin with any account that has no open intent, also after others wrote.
+#[tactic(auto, using(crate::proofs::MboxPromised::starts))]
+pub fn mbox_starts()
+    ensures { MboxStarts }
+{}
+
+/// The second headline, over accounts: with a server that keeps its order and one limit on sizes, the
+/// mboxrd file holds what it held before, followed by the entries of the first of the selected messages
+/// that weren't recorded before, each once, and by at most a prefix of the next entry.
+#[tactic(auto, using(crate::proofs::MboxOrder::mbox_headline))]
+pub fn mbox_headline()
+    ensures { MboxHeadline }
+{
+    mbox_sessions_append();
+    mbox_starts();
+}
+
+/// With an mboxrd: the second headline may begin with any file, and with a record that has no open intent
+/// and shows exactly a prefix of the selected messages as delivered, as an empty one does.
+#[tactic(auto, using(crate::proofs::MboxOrder::rewritten))]
+pub fn mbox_starts_in_order()
+    ensures { MboxStartsInOrder }
+{
+    mbox_starts();
+}
+
+/// With an mboxrd: if the file held texts before the first session, it holds the same and then those of
+/// the entries.
+#[tactic(auto, using(crate::proofs::MboxOrder::entries_mean_texts))]
+pub fn entries_mean_texts()
+    ensures { EntriesMeanTexts }
 {
     entries_add_texts();
 }
 
-/// With an mboxrd: an account without an open intent that records exactly a prefix of the
-/// selected messages as delivered is kept, whatever its file holds. An empty record is such a
-/// record, and a record of version 1 has no open intent.
-#[tactic(auto, using(crate::proofs::MboxKept::mbox_starts))]
-pub fn mbox_starts_kept()
-    ensures { MboxStartsKept }
-{}
-
-/// With an mboxrd: in a kept state without an open intent, others may write the file.
-#[tactic(auto, using(crate::proofs::MboxKept::some_are_recorded))]
-pub fn some_are_recorded()
-    ensures { SomeAreRecorded }
-{}
-
-/// With an mboxrd: a session over an honest link is a visit of the law over runs.
-pub fn mbox_links_are_visits()
-    ensures { MboxLinksAreVisits }
+/// With an mboxrd: what a session did over an honest link is what it read of the maildrop, whatever that is.
+pub fn mbox_sessions_are_served()
+    ensures { MboxSessionsAreServed }
 {
     only_one_line();
     only_one_reading();
     only_one_list_of_commands();
     only_one_body();
     only_one_list_of_lines();
+    rows_have_fields();
 }
 
 /// With an mboxrd: if its server is honest, whatever its maildrop, a session asked for no message; or
@@ -224,6 +277,7 @@ pub fn honest_sessions_append_messages()
     only_one_list_of_commands();
     only_one_body();
     only_one_list_of_lines();
+    rows_have_fields();
 }
 
 /// With an mboxrd: a session given by its numbers is one that the law over runs takes.
@@ -232,7 +286,7 @@ pub fn mbox_counted_stores()
     ensures { MboxCountedStores }
 {}
 
-/// With an mboxrd: in every state there is a session that ends.
+/// With an mboxrd: from every account there is a session that ends.
 pub fn mbox_can_end()
     ensures { MboxCanEnd }
 {

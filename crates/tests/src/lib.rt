@@ -12,3 +12,5 @@ mod no_memory_tests;
 mod pop3_wire_tests;
 #[cfg(test)]
 mod support;
+#[cfg(test)]
+mod trace_tests;

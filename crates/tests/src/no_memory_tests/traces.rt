@@ -1,9 +1,12 @@
 //! The lines of a trace.
 
-use crate::no_memory_tests::watched::{begin, end, tell, tell_answer, tell_bytes, tell_text};
+use crate::no_memory_tests::watched::{
+    begin, end, tell, tell_answer, tell_bytes, tell_no_memory, tell_text,
+};
 use pop3_wire::{Note, Wire};
+use std::io::Read;
 use test_devices::ScriptWire;
-use trace::{TracedWire, line_text, refusal_text};
+use trace::{Refusals, System, TracedWire, line_text, refusal_text};
 
 fn tell_line(rt: &HostRuntime) {
     begin(rt);
@@ -55,4 +58,48 @@ fn send_traced(rt: &HostRuntime) {
 fn traced_wire_row(rt: HostRuntime) {
     send_traced(&rt);
     send_traced(&rt);
+}
+
+/// Prints what was refused last.
+fn tell_kept(rt: &HostRuntime, refusals: &Refusals) {
+    match refusals.take() {
+        Some(refusal) => tell_answer(rt, refusal.text(rt.alloc())),
+        None => tell_no_memory(rt),
+    }
+}
+
+/// A rename that is refused, after another call was.
+fn rename(rt: &HostRuntime) {
+    let refusals = Refusals::new(rt.alloc(), None);
+    let system = System::new(rt, &refusals);
+    let _ = system.stat("older");
+    begin(rt);
+    let _ = system.rename("none", "other");
+    end(rt);
+    tell_kept(rt, &refusals);
+}
+
+#[test]
+fn rename_row(rt: HostRuntime) {
+    rename(&rt);
+    rename(&rt);
+}
+
+/// A read of a folder, which is refused, after another call was.
+fn read(rt: &HostRuntime) {
+    let refusals = Refusals::new(rt.alloc(), None);
+    let system = System::new(rt, &refusals);
+    let _ = system.stat("older");
+    begin(rt);
+    if let Ok(mut folder) = system.open(".") {
+        let _ = folder.read(&mut [0; 4]);
+    }
+    end(rt);
+    tell_kept(rt, &refusals);
+}
+
+#[test]
+fn read_row(rt: HostRuntime) {
+    read(&rt);
+    read(&rt);
 }

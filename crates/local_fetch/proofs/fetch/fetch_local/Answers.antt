@@ -1,6 +1,5 @@
 use Rattle.std.proofs.Common.{refl, ap}
 use Rattle.pop3_server.specs.LoopLink.{Loop}
-use Rattle.mail_store.specs.Maildir.{with_files}
 use Rattle.fetch_session.specs.Account.{digits_of}
 use Rattle.fetch_session.specs.Session.{account_files, mbox_account_files}
 use Rattle.fetch_session.specs.Target.{maildir_of, mbox_of}
@@ -18,7 +17,7 @@ returns-clause-fetches g c = λ d f m messages.
         went.4.0,
         went.4.1,
         fetches g.M.Maildrop.sound g.M.Maildrop.mail c.loops_are_honest.ensures c.sessions_are_conversations.ensures account.settings (digits_of account.settings) _ _ _ _ _
-            (account_files (with_files went.4.0 (maildir_of g.D.MaildirDisk account.store)) (g.F.FlatFile.stored account.file)) c.session-report.result
+            (account_files went.4.0 (g.F.FlatFile.stored account.file)) c.session-report.result
             (account_files (maildir_of g.D.MaildirDisk c.session-report.new.account.store) (g.F.FlatFile.stored c.session-report.new.account.file)) c.new-wire.ensures refl c.requires.new
             (rw c.settings.ensures.value at c.settings.ensures.valid) went.3 went.4.2 m messages,
       ),

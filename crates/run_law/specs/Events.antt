@@ -1,0 +1,109 @@
+-- Sessions of an account with a Maildir, and what others do between them, in what its files mean: the rows of its record, and the
+-- files of `new` and `cur`. A server may show any messages, in any order, and each session may have other limits: what stays is
+-- that a unique-id names one text.
+use Rattle.std.specs.Prelude.{◌≡◌, ◌⊎◌, ◌&&◌, ◌||◌, not, ℕ, Bool, true, List, [], ◌∷◌, ◌++◌, length}
+use Rattle.std.specs.List.{AllByRecursion}
+use Rattle.mail_terms.specs.Distinct.{AreDistinct}
+use Rattle.mail_terms.specs.UniqueId.{is_legal_id}
+use Rattle.fetch_rules.specs.Record.{is_delivered}
+use Rattle.rc_file.specs.declared.settings.Settings.{Settings}
+use Rattle.pop3_wire.specs.World.{Message, IsMessage}
+use Rattle.mail_store.specs.FileName.{is_held, stem_of}
+use Rattle.run_law.specs.Mails.{ids_of}
+use Rattle.run_law.specs.Accounts.{AccountMail, files, copies}
+use Rattle.run_law.specs.Steps.{Effect, wanted_at}
+use Rattle.run_law.specs.Sessions.{Served, Session}
+
+-- what stays throughout: the account's text, as it is in the names of its files, and the text that each unique-id names
+pub record Mail : Type 0 where
+  pub account : List ℕ
+  pub text : List ℕ → List ℕ
+
+-- a message whose text is the one that its id names; its size may be listed differently each time
+pub record IsOf (text_of : List ℕ → List ℕ) (message : Message) : Type 0 where
+  pub is : IsMessage message
+  pub text : message.text ≡ text_of message.uid
+
+-- a maildrop: any such messages, in any order, no two of which share an id
+pub record IsMaildrop (text_of : List ℕ → List ℕ) (maildrop : List Message) : Type 0 where
+  pub each : AllByRecursion (IsOf text_of) maildrop
+  pub distinct : AreDistinct (ids_of maildrop)
+
+-- an account; the ids that are gone from the server; and whether a message was held and isn't any more: a reader took it away
+pub record State : Type 0 where
+  pub account : AccountMail
+  pub gone : List (List ℕ)
+  pub taken : List ℕ → Bool
+
+-- the message is held, or was taken away
+abbrev pub is_safe : Mail → State → List ℕ → Bool
+is_safe mail state id = is_held mail.account state.account.maildir id || state.taken id
+
+abbrev pub IsSafe : Mail → State → List ℕ → Type 0
+IsSafe mail state id = (is_legal_id id ≡ true) × (is_safe mail state id ≡ true)
+
+-- each message is in one file with its text, or in none
+abbrev pub HoldsEachOnce : Mail → AccountMail → Type 0
+HoldsEachOnce mail account = (id : List ℕ) → is_legal_id id ≡ true
+    → (copies (files account) (stem_of mail.account id) ≡ []) ⊎ (copies (files account) (stem_of mail.account id) ≡ mail.text id ∷ [])
+
+-- one session: its settings; the maildrop that its server showed; what it sent and got; how many texts it retrieved, and
+-- whether it ended uncut; which ids its QUIT removed from the server; and the account that it left
+pub record Occasion (Account : Type 0) : Type 0 where
+  pub settings : Settings
+  pub maildrop : List Message
+  pub sent : List ℕ
+  pub got : List ℕ
+  pub retrieved : ℕ
+  pub ended : Bool
+  pub vanished : List (List ℕ)
+  pub after : Account
+
+-- it was a session of the account, whatever cut it, and all that it got came from an honest server with this maildrop
+pub record IsSession (mail : Mail) (before : AccountMail) (occasion : Occasion AccountMail) : Type 0 where
+  pub maildrop : IsMaildrop mail.text occasion.maildrop
+  pub served : Served occasion.maildrop occasion.sent occasion.got occasion.vanished
+  pub effect : Effect
+  pub session : Session occasion.settings mail.account before occasion.sent occasion.got effect occasion.after
+  pub ended : effect.ended ≡ occasion.ended
+  pub counted : occasion.ended ≡ true → occasion.retrieved ≡ length (wanted_at occasion.settings mail.account before effect)
+
+-- a session; what others do to the files and the record; and messages that are gone from the server without a session, after they
+-- were held, or before. `Visit` and `After` are what is known of a session, and of what others left
+pub data Event (Visit After : Type 0) : Type 0 where
+  Fetched : Visit → Event Visit After
+  Between : After → Event Visit After
+  Expired : List (List ℕ) → Event Visit After
+  Withdrawn : List (List ℕ) → Event Visit After
+
+-- the state once this is its account: what was held or taken away, and isn't held, was taken away
+abbrev pub state_with : Mail → State → AccountMail → State
+state_with mail state after = record {
+  account = after;
+  gone = state.gone;
+  taken = λ id. is_safe mail state id && not (is_held mail.account after.maildir id);
+}
+
+-- what a session leaves
+abbrev pub after_session : Mail → State → Occasion AccountMail → State
+after_session mail state occasion = record (state_with mail state occasion.after) { gone = state.gone ++ occasion.vanished }
+
+-- what an event leaves
+abbrev pub after_event : Mail → State → Event (Occasion AccountMail) AccountMail → State
+after_event mail state (Fetched occasion) = after_session mail state occasion
+after_event mail state (Between after) = state_with mail state after
+after_event mail state (Expired ids) = record state { gone = state.gone ++ ids }
+after_event mail state (Withdrawn ids) = state
+
+-- others may begin new processes, move and mark files, take messages away and put them back, and lose the record or replace it
+-- by an older one
+pub record IsBetween (mail : Mail) (before after : AccountMail) : Type 0 where
+  pub holds : HoldsEachOnce mail after
+  pub shows_no_more : (id : List ℕ) → is_delivered after.rows id ≡ true → is_delivered before.rows id ≡ true
+
+-- the event happens in this state
+abbrev pub Happens : Mail → State → Event (Occasion AccountMail) AccountMail → Type 0
+Happens mail state (Fetched occasion) = IsSession mail state.account occasion
+Happens mail state (Between after) = IsBetween mail state.account after
+Happens mail state (Expired ids) = AllByRecursion (IsSafe mail state) ids
+Happens mail state (Withdrawn ids) = Unit {0}

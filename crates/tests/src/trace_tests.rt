@@ -1,0 +1,21 @@
+//! What `Refusals` keeps of refused calls.
+
+use std::io::{Error, ErrorKind};
+use trace::Refusals;
+
+/// What was refused before isn't the reason once memory ran out.
+#[test]
+fn want_of_memory_is_no_refusal(rt: HostRuntime) {
+    let refusals = Refusals::new(rt.alloc(), None);
+    let _ = refusals.noted(
+        "open",
+        "a",
+        Err::<(), Error>(Error::from(ErrorKind::NotFound)),
+    );
+    let _ = refusals.noted(
+        "open",
+        "b",
+        Err::<(), Error>(Error::from(ErrorKind::OutOfMemory)),
+    );
+    assert!(rt; refusals.take().is_none());
+}
