@@ -5,7 +5,9 @@
 #   make            proves and builds the programs into bin/: twenty minutes on four cores the first time, thirty on two,
 #                   seconds if nothing has changed
 #   make check      the gate: every proof, then every test; its last line is 'N passed, 0 failed'
-#   make quick      what can be checked in seconds: the layout, the wrong bodies' texts, the documents
+#   make quick      what can be checked in seconds: the layout, the wrong bodies' texts, the documents, these two texts
+#   make statement  prints what is promised with all definitions, from the sources: docs/STATEMENT.txt
+#   make axioms     prints what is trusted, from the sources: docs/AXIOMS.txt
 #   make test       builds the programs and the tests of the libraries, and runs these and the tests from outside;
 #                   `make test-getmail WORDS='-k install'` builds only what the tests of getmail need, and runs some
 #   make install    puts programs, man pages, completions, units and examples below PREFIX (/usr/local), and builds only
@@ -16,7 +18,7 @@
 SHELL := /bin/bash
 .SHELLFLAGS := -eu -o pipefail -c
 
-.PHONY: all demo check quick test dist bench install uninstall clean getmail popd probe libraries
+.PHONY: all demo check quick statement axioms test dist bench install uninstall clean getmail popd probe libraries
 .PHONY: test-getmail test-popd test-probe test-libraries
 .PHONY: bench-getmail bench-popd bench-probe
 .NOTPARALLEL:
@@ -40,6 +42,10 @@ quick:
 	@$$(dirname "$$(rt doc)")/bin/rattle fmt --check $$(find crates -name out -prune -o -name '*.rt' -print -o -name '*.antt' -print)
 	@python3 tests/check_edits.py
 	@python3 tests/test_documents.py
+	@python3 tests/test_tools.py
+
+statement axioms:
+	@python3 tools/$@.py
 
 # The tests from outside and the benchmarks also run a small program that makes the libraries' calls one by one.
 probe:
@@ -51,6 +57,7 @@ libraries:
 test:
 	@./build.py getmail popd probe tests
 	python3 tests/test_documents.py
+	python3 tests/test_tools.py
 	python3 tests/run.py
 
 test-getmail: popd
@@ -63,6 +70,7 @@ bench-getmail: getmail popd
 	@python3 bench/rehearsal.py
 	@python3 bench/getmail.py
 	@python3 bench/flushes.py
+	@python3 bench/why.py
 
 bench-popd: popd
 	@python3 bench/popd.py

@@ -1,0 +1,228 @@
+#!/usr/bin/env python3
+"""Tests of the programs that print what is promised and what is trusted, tools/statement.py and tools/axioms.py: over a
+small tree whose answers are worked out by hand, and over this one. docs/STATEMENT.txt and docs/AXIOMS.txt are what they
+print."""
+
+import re
+import sys
+import tempfile
+from pathlib import Path
+
+TOP = Path(__file__).resolve().parent.parent
+sys.path[:0] = [str(TOP / "tools")]
+
+import axioms  # noqa: E402 (the path has to be there first)
+import statement  # noqa: E402
+from sources import Sources, Thing  # noqa: E402
+
+SMALL = {
+    "low/specs/Words.antt": """\
+-- Words.
+use Rattle.std.specs.Prelude.{◌≡◌, ℕ, Some}
+use Rattle.low.specs.declared.kind.Kind.TheVariants as kind
+use Rattle.low.specs.declared.kind.Limits.{Limits}
+
+-- the least word of Later
+infixl 10 ◌<+>◌
+abbrev pub ◌<+>◌ : ℕ → ℕ → ℕ
+a <+> b = a
+
+-- uses no Unused
+record Step (before : ℕ) : Type 0 where
+  pub unused : ℕ
+
+abbrev pub unused : ℕ
+unused = 3
+
+pub data Event : Type 0 where
+  Come : Step 0 → Event
+  Gone : Event
+
+abbrev pub is_first : Event → ℕ
+is_first Gone = 1 <+> 2
+is_first event = kind.One
+""",
+    "high/specs/Law.antt": """\
+use Rattle.low.specs.Words.{is_first as first, Event, Gone}
+use Rattle.high.specs.Hidden.{Hidden}
+
+-- first, in a comment, is no use
+abbrev pub Early : Event → ℕ
+Early event = 0
+
+abbrev pub Law : Event → ℕ
+Law event = first event
+
+abbrev pub Kept : Event → ℕ
+Kept event = Hidden Gone
+""",
+    "high/specs/Hidden.antt": """\
+use Rattle.low.specs.Words.{unused}
+abbrev pub Hidden : ℕ → ℕ
+Hidden n = unused
+""",
+    "low/src/kind.rt": """\
+use low::far::Far;
+
+/// A kind.
+#[derive(Drop)]
+pub enum Kind {
+    /// The only one.
+    One(Far),
+}
+""",
+    "low/src/far.rt": "/// Far.\npub struct Far;\n",
+    "high/src/device.rt": """\
+ghost use Rattle.high.specs.Hidden.{Hidden};
+
+/// A device.
+pub trait Device {
+    // The premise.
+    ghost sound: { Self → Type 0 };
+
+    /// Reads { or not.
+    fn read(&mut self, buf: &mut [u8; 4]) -> bool
+        requires { Hidden 3 }
+        ensures within { result ≡ true }
+        ensures reads { sound self.new → sound self.old × Hidden { } };
+
+    fn count(&self) -> u64
+        ensures { result ≡ 0 };
+}
+
+/// Real.
+pub struct Real;
+
+impl Device for Real {
+    ghost sound = { λ _. ⊥ };
+
+    fn read(&mut self, buf: &mut [u8; 4]) -> bool {
+        // not counted
+
+        buf[0] == 1
+    }
+
+    fn count(&self) -> u64 {
+        0
+    }
+}
+
+/// Made over another.
+pub struct Over<D>(D);
+
+impl<D: Device> Device for Over<D> {
+    ghost sound = { λ d. D.sound d.0 };
+
+    fn read(&mut self, buf: &mut [u8; 4]) -> bool {
+        self.0.read(buf)
+    }
+
+    fn count(&self) -> u64 {
+        self.0.count()
+    }
+}
+
+fn bare<R: Net<Stream = u8> + Drop>(net: &R) {
+    net.close()
+}
+
+#[tactic(auto)]
+pub fn law<D: Device>()
+    ensures first { Law }
+    ensures kept { Kept }
+{}
+""",
+}
+
+
+def small_tree(folder):
+    for path, text in SMALL.items():
+        file = Path(folder) / "crates" / path
+        file.parent.mkdir(parents=True, exist_ok=True)
+        file.write_text(text)
+    return Sources(folder)
+
+
+def named(things):
+    return [thing.name for thing in things]
+
+
+def test_order(sources):
+    """Each definition, type and variant is found, once and before its use; no field, comment or local name counts as one."""
+    law = Thing("high", "specs/Law.antt", "Law")
+    assert named(statement.ordered(sources, [law], [])) == ["Step", "Event", "Far", "Kind", "◌<+>◌", "is_first", "Law"]
+    words = {thing.name: thing for thing in statement.ordered(sources, [law], [])}
+    assert sources.lines(words["◌<+>◌"])[0] == "-- the least word of Later"
+    assert sources.lines(words["Kind"]) == ["/// A kind.", "pub enum Kind {", "    /// The only one.", "    One(Far),", "}"]
+
+
+def test_what_is_not_opened(sources):
+    """A definition that isn't opened, or is known, brings nothing in."""
+    kept, hidden = Thing("high", "specs/Law.antt", "Kept"), Thing("high", "specs/Hidden.antt", "Hidden")
+    assert named(statement.ordered(sources, [kept], [])) == ["Step", "Event", "unused", "Hidden", "Kept"]
+    assert named(statement.ordered(sources, [kept], [hidden])) == ["Step", "Event", "Kept"]
+
+
+def test_contracts(sources):
+    """A law is printed with its signature and clauses, or with the one that is asked for, and without its body."""
+    _, lines = statement.contract_of(sources, "high:law")
+    assert lines == ["pub fn law<D: Device>()", "    ensures first { Law }", "    ensures kept { Kept }"]
+    _, lines = statement.contract_of(sources, "high:law:kept")
+    assert lines == ["pub fn law<D: Device>()", "    ensures kept { Kept }"]
+
+
+def test_axioms(sources):
+    """What is assumed of a device is what its trait says under the premise; the code for it is uncovered, and so is what has
+    no contract."""
+    programs = axioms.Programs(sources, ["low", "high"])
+    assert [line.split() for line in axioms.assumptions(programs) if line] == [
+        "Real, a Device (crates/high/src/device.rt): 1 clauses are assumed, 2 are proved".split(),
+        "1 read reads Hidden { }".split()]
+    assert list(axioms.premises(programs)) == ["  Over, a Device (crates/high/src/device.rt): λ d. D.sound d.0"]
+    assert list(axioms.uncovered_code(programs)) == ["  high 6: device.rt 6", "  6 lines in all"]
+    assert axioms.handles(programs) == ["  Net of high: bare"]
+    assert list(programs.unproved()) == []
+    hole = sources.top / "crates/low/proofs/Hole.antt"
+    hole.parent.mkdir()
+    hole.write_text("lemma = ? -- a hole\n")
+    assert list(programs.unproved()) == ["crates/low/proofs/Hole.antt"]
+
+
+def test_this_tree():
+    """In the text over this tree each name comes after what it names, once, and no name of the files' `use` is left out."""
+    whole = statement.Statement(Sources())
+    read = set(whole.unopened)
+    for thing in [*whole.definitions, *(each for _, things in whole.traits for each in things), *whole.of_calls]:
+        assert thing not in read, thing
+        late = [name for name in whole.sources.named(thing) if name not in read and not whole.sources.is_trait(name)]
+        assert not late, f"{thing} names {late}, which comes later, or has a local name like that"
+        read.add(thing)
+        if thing.file.startswith("specs/"):
+            code = re.sub(r"--.*", "", "\n".join(whole.sources.lines(thing)))
+            uses = whole.sources.definitions(thing.crate, thing.file).uses
+            for word in re.findall(r"(?<![.\w'])[A-Z]\w*", code):
+                found = word in uses and whole.sources.found(*uses[word])
+                assert not found or found in read or whole.sources.is_trait(found), (thing, word)
+
+
+def old_texts():
+    """A line for each text in docs/ that isn't what its tool prints."""
+    for name, tool in (("STATEMENT", statement), ("AXIOMS", axioms)):
+        file = TOP / "docs" / f"{name}.txt"
+        if not file.is_file() or file.read_text() != tool.text_of():
+            yield f"docs/{name}.txt is old: `make {name.lower()} > docs/{name}.txt` makes it anew"
+
+
+def main():
+    with tempfile.TemporaryDirectory() as folder:
+        sources = small_tree(folder)
+        for test in (test_order, test_what_is_not_opened, test_contracts, test_axioms):
+            test(sources)
+    test_this_tree()
+    faults = list(old_texts())
+    print(*faults or ["docs/STATEMENT.txt and docs/AXIOMS.txt are what the sources say"], sep="\n")
+    return 1 if faults else 0
+
+
+if __name__ == "__main__":
+    sys.exit(main())

@@ -1,0 +1,215 @@
+#!/usr/bin/env python3
+"""Prints what the proofs of the programs trust, found in the sources: what is assumed of the devices of which nothing is
+known, the premises of the others, the code that no contract covers, the kit's crates, the handles and the toolchain.
+
+    python3 tools/axioms.py                   # the text, which is docs/AXIOMS.txt
+"""
+
+import re
+import subprocess
+import sys
+import textwrap
+from typing import NamedTuple
+
+from sources import TOP, Sources, without_comments
+
+sys.path.insert(0, str(TOP))
+
+from build import crates_of  # noqa: E402 (the path has to be there first)
+
+PROGRAMS = ("getmail", "popd")
+UNKNOWN = "λ _. ⊥"
+WHERE_SOUND = "sound self.new → sound self.old × "
+FUNCTION = re.compile(r"^( *)(?:pub(?:\([a-z]+\))? )?(?:const )?fn (\w+)", re.MULTILINE)
+HANDLE = re.compile(r"\b(Threads|Wait|Net|Processes)\b[<+ ]")
+NAMES_PREMISE = re.compile(r"\bsound\b")
+
+ASSUMED = """\
+1. Devices of which nothing is known: `sound`, their premise, is ⊥. The code over them is generic, and proved for each
+   device that does what its trait says. So each clause of the trait that holds only where `sound` does is assumed of
+   them. It is printed without the words `sound self.new → sound self.old ×` before it. docs/STATEMENT.txt has the
+   traits of fetching and what their names mean."""
+PREMISES = """\
+2. The premises of the other devices. What their traits say is proved, for one over another device as far as that one
+   does what its trait says."""
+UNCOVERED = """\
+3. Code that no contract covers: the lines, without comments and empty ones, of functions that have no contract of
+   their own, and of which no trait says anything, or only what 1 assumes."""
+
+
+class Function(NamedTuple):
+    """A function of a source: its name, the place of its first character, its clauses and all of its text."""
+
+    name: str
+    at: int
+    clauses: list
+    text: str
+
+    def is_covered(self):
+        return any(kind == "ensures" for kind, _, _ in self.clauses)
+
+
+class Impl(NamedTuple):
+    """An `impl` of a trait, the place of its first character, and its text."""
+
+    trait: str
+    type: str
+    at: int
+    text: str
+
+    def premise(self):
+        found = re.search(r"ghost sound = \{", self.text)
+        return found and one_line(braced(self.text, found.end() - 1))
+
+
+def braced(text, at):
+    """The text within the braces that open at this place."""
+    depth = 0
+    for brace in re.compile("[{}]").finditer(text, at):
+        depth += 1 if brace[0] == "{" else -1
+        if depth == 0:
+            return text[at + 1:brace.start()]
+    raise SystemExit("an unclosed brace")
+
+
+def one_line(text):
+    return " ".join(text.split())
+
+
+def function_at(text, found):
+    """The function whose first line this match is of: its clauses come before its body, or before a semicolon."""
+    at, depth, clauses = found.end(), 0, []
+    while not (depth == 0 and text[at] in "{;"):
+        depth += {"(": 1, "[": 1, ")": -1, "]": -1}.get(text[at], 0)
+        at += 1
+        if depth == 0 and (clause := re.compile(r"(requires|ensures)(?: (\w+))? \{").match(text, at)):
+            inner = braced(text, clause.end() - 1)
+            clauses.append((clause[1], clause[2] or "", one_line(inner)))
+            at = clause.end() + len(inner) + 1
+    if text.startswith("{\n", at):
+        end = text.index(f"\n{found[1]}}}\n", at) + len(found[1]) + 2
+    else:
+        end = text.index("\n", at)
+    return Function(found[2], found.start(), clauses, text[found.start():end])
+
+
+def functions_in(text):
+    return [function_at(text, found) for found in FUNCTION.finditer(text)]
+
+
+def impls_in(text):
+    for found in re.finditer(r"^impl(?:<[^{]*?>)?\s+(\w+)(?:<[^{]*?>)?\s+for\s+(\w+)[^{]*\{", text, re.MULTILINE):
+        body = braced(text, found.end() - 1)
+        yield Impl(found[1], found[2], found.start(), text[found.start():found.end() + len(body)])
+
+
+class Programs:
+    """The sources of the programs, without their comments."""
+
+    def __init__(self, sources, crates):
+        self.top, self.crates = sources.top, crates
+        self.files = {(crate, file): without_comments(sources.text(crate, file))
+                      for crate in crates for file in sources.files(crate)}
+        self.traits = {found[1]: functions_in(braced(text, found.end() - 1) + "\n") for text in self.files.values()
+                       for found in re.finditer(r"^(?:pub(?:\(crate\))? )?trait (\w+)[^{;]*\{", text, re.MULTILINE)}
+
+    def devices(self):
+        """Each `impl` of a trait that has a premise, with its place."""
+        for (crate, file), text in self.files.items():
+            for impl in impls_in(text):
+                if impl.trait in self.traits and impl.premise():
+                    yield impl, f"crates/{crate}/{file}"
+
+    def clauses(self, impl):
+        """What the impl's trait says of each call: the call, the clause's label and text."""
+        return [(function.name, label, text) for function in self.traits[impl.trait]
+                for kind, label, text in function.clauses if kind == "ensures"]
+
+    def is_said_by_trait(self, impl, function):
+        """Whether the trait says something of the function, and all of it is proved of this type."""
+        clauses = [text for each in self.traits.get(impl.trait, ()) if each.name == function.name
+                   for kind, _, text in each.clauses if kind == "ensures"]
+        is_assumed = impl.premise() == UNKNOWN and any(map(NAMES_PREMISE.search, clauses))
+        return impl.at <= function.at < impl.at + len(impl.text) and clauses != [] and not is_assumed
+
+    def uncovered(self, text):
+        """How many lines the functions of a file have that have no contract."""
+        impls = list(impls_in(text))
+        bare = [function for function in functions_in(text) if not function.is_covered() and not function.text.endswith(";")
+                and not any(self.is_said_by_trait(impl, function) for impl in impls)]
+        return sum(sum(line.strip() != "" for line in function.text.splitlines()) for function in bare)
+
+    def unproved(self):
+        """The files with an axiom, a hole, unsafe code or code of another language."""
+        for (crate, file), text in self.files.items():
+            if re.search(r"\b(?:unsafe|extern)\b", text):
+                yield f"crates/{crate}/{file}"
+        for path in sorted(path for crate in self.crates for path in (self.top / "crates" / crate).glob("[ps]*/**/*.antt")):
+            if re.search(r"(?<![\w'])(?:axiom\b|\?(?![\w']))", re.sub(r"--.*", "", path.read_text())):
+                yield str(path.relative_to(self.top))
+
+
+def assumptions(programs):
+    number = 0
+    for impl, place in programs.devices():
+        if impl.premise() != UNKNOWN:
+            continue
+        clauses = programs.clauses(impl)
+        mine = [clause for clause in clauses if NAMES_PREMISE.search(clause[2])]
+        rest = len(clauses) - len(mine)
+        yield from ("", f"{impl.type}, a {impl.trait} ({place}): {len(mine)} clauses are assumed, {rest} are proved")
+        for call, label, text in mine:
+            number += 1
+            yield f"  {number:2}  {call + (' ' + label if label else ''):20} {text.removeprefix(WHERE_SOUND)}"
+
+
+def premises(programs):
+    for impl, place in programs.devices():
+        if impl.premise() != UNKNOWN:
+            yield f"  {impl.type}, a {impl.trait} ({place}): {impl.premise()}"
+
+
+def uncovered_code(programs):
+    """A paragraph for each crate that has such code, and how many lines there are in all."""
+    lines = {}
+    for (crate, file), text in programs.files.items():
+        if count := programs.uncovered(text):
+            lines.setdefault(crate, {})[file.removeprefix("src/")] = count
+    for crate, files in lines.items():
+        text = f"{crate} {sum(files.values()):,}: " + ", ".join(f"{file} {count}" for file, count in files.items())
+        yield from textwrap.wrap(text, 118, initial_indent="  ", subsequent_indent="    ")
+    yield f"  {sum(sum(files.values()) for files in lines.values()):,} lines in all"
+
+
+def kit_crates():
+    """The crates of the kit that each program is linked with."""
+    for program in PROGRAMS:
+        crates = crates_of([program])
+        libraries = {library for line in crates.values() for library in line.partition(":")[2].split()}
+        yield f"  {program}: std, {', '.join(sorted(libraries - set(crates)))}"
+
+
+def handles(programs):
+    """The functions that have a handle, by its name and the crate."""
+    users = {}
+    for (crate, _), text in programs.files.items():
+        for function in functions_in(text):
+            if found := HANDLE.search(function.text):
+                users.setdefault(f"{found[1]} of {crate}", []).append(function.name)
+    return [f"  {crate}: {', '.join(names)}" for crate, names in users.items()]
+
+
+def text_of(top=TOP):
+    programs = Programs(Sources(top), crates_of(PROGRAMS))
+    kit = subprocess.run(["rt", "version"], check=True, capture_output=True, text=True).stdout.strip()
+    return "\n".join([
+        f"What the proofs of {' and '.join(PROGRAMS)} trust, from the sources: `make axioms` prints this text.", "",
+        ASSUMED, *assumptions(programs), "", PREMISES, *premises(programs), "", UNCOVERED, *uncovered_code(programs), "",
+        "4. The kit's crates that each program is linked with, whose statements are trusted:", *kit_crates(), "",
+        f"5. {(top / 'HANDLES').read_text().strip()} Functions that have one:", *handles(programs), "",
+        f"6. Files with an axiom, a hole or unsafe code: {', '.join(programs.unproved()) or 'none'}.",
+        f"7. The toolchain: {kit}. The C library, LLVM and the operating system are trusted with it.", ""])
+
+
+if __name__ == "__main__":
+    print(text_of(), end="")
