@@ -1,4 +1,4 @@
-use Rattle.std.proofs.Common.{◌≡◌, ◌≤◌, take, length, subst, rules, arith}
+use Rattle.std.proofs.Common.{◌≡◌, take, subst, rules, arith}
 use Rattle.std.specs.Io.BufRead.{FillKeeps}
 use Rattle.std.proofs.BufReadLemmas.{Consumes_shown}
 use Rattle.folder_drop.proofs.SameOctetsLemmas.{different, later_same}

@@ -1,4 +1,4 @@
-use Rattle.std.proofs.Common.{◌∙◌, ◌++◌, List, ap, map, option_map, rules, filter}
+use Rattle.std.proofs.Common.{◌∙◌, ◌++◌, List, ap, map, option_map, refl, rules, filter}
 use Rattle.std.proofs.lemmas.List.{map-append}
 use Rattle.std.proofs.lemmas.List.Elements.{filter_from_retain}
 use Rattle.folder_store.specs.MailCalls.{without_taken}
@@ -16,5 +16,5 @@ returns-clause-ok c =
     let stay = ap (λ (files : List StoredMail). map mail_file files) left ∙ left_files was.files.items in
     let taken = ap (λ (files : List StoredMail). files_at (map mail_file files)) c.in_ok-append.ensures.items
     ∙ ap files_at (map-append mail_file was.taken.items c.in_ok-taken.taken.items) ∙ map-append mail_at _ _
-    ∙ ap (λ (ss : List MailFile). files_at (map mail_file was.taken.items) ++ files_at ss) c.in_ok-taken.ensures in
+    ∙ ap (λ (ss : List MailFile). files_at (map mail_file was.taken.items) ++ files_at ss) (rw c.deref.ensures.value at c.in_ok-taken.ensures) in
     rw (← c.self.view_is) (rw (stay, taken) refl)
