@@ -50,14 +50,14 @@ class MboxLife(Life):
     account_kind, kept_kind, part_cut = MboxAccount, MboxKept, 0.5
 
     def let_others_work(self):
-        """Another program appends mail, and a record may be lost."""
+        """Another program appends mail, and a record may be lost, but none whose intent is open: a beginning of its entry
+        would stay in the file."""
         if self.source.random() < 0.3:
             self.kept.content += self.source.choice((OTHER, OTHER[:OTHER.index(b"\n")] + b"\n\n" + OTHER))
             self.account.mbox.write_bytes(self.kept.content)
-        if self.source.random() < 0.05:
+        if self.source.random() < 0.05 and self.kept.intent is None:
             self.account.record.unlink(missing_ok=True)
             self.kept.rows.clear()
-            self.kept.intent = None
 
     def record(self):
         """The record's rows and its open intent."""

@@ -41,11 +41,11 @@ class OtherHands(OneAccount):
         self.assertEqual(self.account.held(), THREE)
 
     def test_a_file_that_is_removed_after_its_folder_was_listed(self):
-        """It can't be flushed before its message is recorded, so nothing is recorded; the next session fetches it."""
+        """It can't be flushed before its message is recorded; its message isn't held then, and is fetched."""
         (self.account.maildir / "cur" / "folder").mkdir()
         path = self.hold_in_cur(*THREE[0])
-        self.assertEqual(self.session("-d", FROM=path), (REFUSED, ["RSET", "QUIT"]))
-        self.assertEqual(self.session(), (SILENT, ["RETR 1", "RETR 2", "RETR 3", "QUIT"]))
+        self.assertEqual(self.session("-d", FROM=path),
+                         (SILENT, ["RETR 1", "DELE 1", "RETR 2", "DELE 2", "RETR 3", "DELE 3", "QUIT"]))
         self.assertEqual(self.account.held(), THREE)
 
     def test_a_folder_that_cannot_be_read_to_its_end(self):

@@ -257,11 +257,13 @@ class Table(unittest.TestCase):
                                     LD_PRELOAD=str(refuse_step), STEP_REFUSED=str(number))
 
     def test_a_flush_that_a_system_does_not_have(self):
-        """It is no reason of what no call was refused for: a file of the message's name that came meanwhile."""
-        taken = self.account.maildir / "new" / self.account.name(*TWO[0])
+        """It is no reason of what was refused for another one: a file of the message's name that came meanwhile."""
+        new = self.account.maildir / "new"
+        taken = new / self.account.name(*TWO[0])
         self.server._answer = lambda command: (command == b"RETR 1" and taken.touch()) or self.usual(command)
         with preload.library("refuse_call") as refuse_call:
-            self.check_told("destination refused", LD_PRELOAD=str(refuse_call), REFUSED_CALL="folder-flush")
+            self.check_told("destination refused", f"{taken}: is there already", f"{new}: its file system flushes no folders",
+                            LD_PRELOAD=str(refuse_call), REFUSED_CALL="folder-flush")
 
     def test_a_fault_without_a_reason_is_not_told_the_last_one(self):
         """A write to the record that takes no octet is no refusal of the system: what was refused before isn't its reason."""
