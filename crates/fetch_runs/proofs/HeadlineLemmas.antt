@@ -16,7 +16,7 @@ use Rattle.fetch_session.specs.Account.{digits_of}
 use Rattle.fetch_session.specs.Record.{KeepsRows}
 use Rattle.mail_terms.specs.UniqueId.{has_id, is_legal_id}
 use Rattle.run_law.specs.Mails.{WorldsShrink, ids_of, selected, texts_of}
-use Rattle.run_law.specs.Accounts.{AccountMail, copies}
+use Rattle.run_law.specs.Accounts.{AccountMail, copies, without_flags}
 use Rattle.run_law.specs.Runs.{WorldsShowMaildrops, SessionsKeepOrder, LikeStatesAreKept, WithdrawnLeaveKept, LossesLeaveKept, after_occasion, mail_of, plain, IsSound, World, State, IsLastStored as LastIn, Kept as IsKeptIn, KeptHoldsWhatIsLeft, StartsKept, NothingTakenHoldsExactly, Event, Fetched, Between, Expired, Withdrawn, TakenAway, BroughtBack, Forgotten, PowerLost, after_event, after_events, world_after, world_left}
 use Rattle.run_law.specs.Sessions.{SendsOnly, SessionsAreServed}
 use Rattle.run_law.specs.Events.{is_safe, state_with, Occasion as OccasionIn, IsSession as IsSessionIn, Fetched as FetchedIn}
@@ -31,7 +31,7 @@ use Rattle.fetch_runs.proofs.Talk.{begins_of}
 use Rattle.fetch_session.specs.Session.{AccountFiles, account_files}
 use Rattle.std.proofs.lemmas.Slice.Eq.{bytes_eq-Decides}
 use Rattle.mail_store.specs.FlatFile.{Stored}
-use Rattle.mail_store.specs.Maildir.{File, IsPart, IsWithout, Maildir, WereTaken}
+use Rattle.mail_store.specs.Maildir.{AreReached, File, IsPart, IsWithout, Maildir, Reaches, WereTaken}
 use Rattle.fetch_session.specs.Target.{mail_in}
 
 -- the laws that are used
@@ -70,6 +70,16 @@ sends_weaker Is Other sent weaker sends = record {
 for_each : (P Q : List ℕ → Type 0) → ((id : List ℕ) → P id → Q id) → (drop : List Message) (command : Command) → DeletesOneOf drop P command → DeletesOneOf drop Q command
 for_each P Q f drop (Dele number) h = (h.0, h.1, h.2, f h.1.uid h.3)
 for_each P Q f drop other h = tt
+
+any_same : (p : List ℕ → Bool) (fs : List File) → list_any (λ (f : File). p f.name) (without_flags fs) ≡ list_any (λ (f : File). p f.name) fs
+any_same p [] = refl
+any_same p (f ∷ fs) = ap (λ (b : Bool). p f.name || b) (any_same p fs)
+
+-- a name that was there is, if these files came
+came_held : (p : List ℕ → Bool) (old new added : List File) → without_flags new ≡ without_flags old ++ added
+    → list_any (λ (f : File). p f.name) old ≡ true → list_any (λ (f : File). p f.name) new ≡ true
+came_held p old new added came held = sym (any_same p new) ∙ ap (λ (fs : List File). list_any (λ (f : File). p f.name) fs) came
+    ∙ list_any-append (λ (f : File). p f.name) (without_flags old) added ∙ or_left _ _ (any_same p old ∙ held)
 
 none_of : {X : Type 0} (xs : List X) → is_some xs ≡ false → xs ≡ []
 none_of [] e = refl
@@ -118,7 +128,7 @@ module _ (laws : Laws) (world : World) (state : State AccountFiles) (occasion : 
         let (promises, kept) = laws.sessions world (by_rows rows state) over_account occasion.come sound is_kept is_session is.settings.max_size refl in
         let held_after : (id : List ℕ) → is_safe (mail_of world) (state_with (mail_of world) (plain (by_rows rows state)) (holds s.rows' occasion.after.maildir)) id ≡ true → IsHeldAfter world state occasion id =
         λ id safe. then_held (is_held world.account state.account.maildir id) (is_held world.account occasion.after.maildir id) (has_id state.taken id)
-        (λ held. ap (λ (fs : List File). list_any (λ (f : File). names_id world.account id f.name) fs) promises.added ∙ list_any-append (λ (f : File). names_id world.account id f.name) state.account.maildir.files _ ∙ or_left _ _ held) safe in (
+        (came_held (names_id world.account id) state.account.maildir.files occasion.after.maildir.files _ promises.added) safe in (
           (
             λ ended. ⊎_map (λ full. full) (all_map _ _ (λ m. ⊎_map (held_after m.uid) (λ large. ap (λ limit. is_within limit m.size) (sym is.settings.max_size) ∙ large)) (maildrop_at world.all state.gone occasion)) (promises.left_out (s.ended_is.1 ended)),
             record { sent = s.sent; sent_is = s.sent_is; sends = sends_weaker _ _ s.sent (for_each _ (IsHeldAfter world state occasion) held_after (maildrop_at world.all state.gone occasion)) promises.deletes },
@@ -149,8 +159,8 @@ module _ (laws : Laws) (world : World) (state : State AccountFiles) (occasion : 
             still : (id : List ℕ) → is_held world.account state.account.maildir id ≡ true → IsKeptIn world (after_occasion (by_rows rows state) over_account) → is_some (contents_of world occasion.after id) ≡ true
             still id held kept =
                 let promises = (laws.sessions world (by_rows rows state) over_account occasion.come sound is_kept is_session is.settings.max_size refl).0 in
-                sym (held_is (stem_of world.account id) occasion.after.maildir.files) ∙ ap (λ (fs : List File). list_any (λ (f : File). bytes_eq (stem_of world.account id) (stem f.name)) fs) promises.added
-                ∙ list_any-append (λ (f : File). bytes_eq (stem_of world.account id) (stem f.name)) state.account.maildir.files _ ∙ or_left _ _ held
+                sym (held_is (stem_of world.account id) occasion.after.maildir.files)
+                ∙ came_held (λ n. bytes_eq (stem_of world.account id) (stem n)) state.account.maildir.files occasion.after.maildir.files _ promises.added held
 
 -- what its QUIT removed is recorded
 pub vanished_recorded : SessionIsAStep → SessionsAreServed → OneRecord → (world : World) (state : State AccountFiles) (occasion : Occasion AccountFiles) → IsKept world state → IsSession world state occasion
@@ -387,11 +397,19 @@ fewer_copies : (front : List ℕ) (a b : List File) (f : File)
 fewer_copies front [] b f = grind arith
 fewer_copies front (x ∷ a) b f = let fewer = fewer_copies front a b f in grind (arith, fewer)
 
+-- of which more may be durable
+reached_copies : (front : List ℕ) (fs left : List File) → AreReached fs left → copies left front ≡ copies fs front
+reached_copies front [] [] are = refl
+reached_copies front [] (g ∷ left) never = absurd never
+reached_copies front (f ∷ fs) [] never = absurd never
+reached_copies front (f ∷ fs) (g ∷ left) (same, are) = let rest = reached_copies front fs left are in grind (arith, same.name, same.content, rest)
+
 -- all that an id's files held, or less
 part_copies : (front : List ℕ) (fs left : List File) → IsPart fs left → (copies left front ≡ copies fs front) ⊎ (length (copies left front) < length (copies fs front))
-part_copies front fs left ([], is) = inl (ap (λ (fs : List File). copies fs front) is)
-part_copies front fs left (f ∷ gone, (a, b, e, is)) =
-    let less = part_copies front (a ++ b) left (gone, is) in let fewer = fewer_copies front a b f in rw e (grind (arith, less, fewer))
+part_copies front fs left ([], are) = inl (reached_copies front fs left are)
+part_copies front fs left (f ∷ gone, (a, b, are, is)) =
+    let less = part_copies front (a ++ b) left (gone, is) in let fewer = fewer_copies front a b f in
+    let same = reached_copies front fs (a ++ f ∷ b) are in rw (← same) (grind (arith, less, fewer))
 
 -- if it was one file, that is left, or nothing is
 pub left_or_none : (front : List ℕ) (fs left : List File) → IsPart fs left → length (copies fs front) ≤ 1
@@ -411,14 +429,49 @@ abbrev pub LeaveParts : State AccountFiles → List (Event Occasion AccountFiles
 LeaveParts state [] = Unit {0}
 LeaveParts state (event ∷ events) = IsPart state.account.maildir.files (after_event after_session state event).account.maildir.files × LeaveParts (after_event after_session state event) events
 
+reaches_same : (f : File) → Reaches f f
+reaches_same f = record { name = refl; content = refl; named = λ is. is; flushed = λ is. is }
+
+reached_same : (fs : List File) → AreReached fs fs
+reached_same [] = tt
+reached_same (f ∷ fs) = (reaches_same f, reached_same fs)
+
+reached_on : (xs ys zs : List File) → AreReached xs ys → AreReached ys zs → AreReached xs zs
+reached_on [] [] zs first then = then
+reached_on [] (y ∷ ys) zs never then = absurd never
+reached_on (x ∷ xs) [] zs never then = absurd never
+reached_on (x ∷ xs) (y ∷ ys) [] first never = absurd never
+reached_on (x ∷ xs) (y ∷ ys) (z ∷ zs) (a, first) (b, then) = (
+  record {
+    name = b.name ∙ a.name;
+    content = b.content ∙ a.content;
+    named = λ is. b.named (a.named is);
+    flushed = λ is. b.flushed (a.flushed is);
+  },
+  reached_on xs ys zs first then,
+)
+
+reached_without : (gone files mid left : List File) → AreReached files mid → IsWithout mid gone left → IsWithout files gone left
+reached_without [] files mid left first is = reached_on files mid left first is
+reached_without (f ∷ gone) files mid left first (front, back, then, is) = (front, back, reached_on files mid (front ++ f ∷ back) first then, is)
+
+others_reached : (front : List ℕ) (fs gs : List File) → AreReached fs gs → AreReached (others_than front fs) (others_than front gs)
+others_reached front [] [] are = tt
+others_reached front [] (g ∷ gs) never = absurd never
+others_reached front (f ∷ fs) [] never = absurd never
+others_reached front (f ∷ fs) (g ∷ gs) (same, are) = ⊎_elim
+    (λ (is : bytes_eq front (stem f.name) ≡ true). let too : bytes_eq front (stem g.name) ≡ true = rw same.name is in rw (is, too) (others_reached front fs gs are))
+    (λ (not : bytes_eq front (stem f.name) ≡ false). let too : bytes_eq front (stem g.name) ≡ false = rw same.name not in rw (not, too) (same, others_reached front fs gs are))
+    (cases_Bool (bytes_eq front (stem f.name)))
+
 without_kept : (f : File) (gone files left : List File) → IsWithout files gone left → IsWithout (f ∷ files) gone (f ∷ left)
-without_kept f [] files left e = ap (λ (fs : List File). f ∷ fs) e
-without_kept f (g ∷ gone) files left (front, back, e, is) =
-    (f ∷ front, back, ap (λ (fs : List File). f ∷ fs) e, without_kept f gone (front ++ back) left is)
+without_kept f [] files left are = (reaches_same f, are)
+without_kept f (g ∷ gone) files left (front, back, are, is) =
+    (f ∷ front, back, (reaches_same f, are), without_kept f gone (front ++ back) left is)
 
 others_are_part : (front : List ℕ) (fs : List File) → IsPart fs (others_than front fs)
-others_are_part front [] = ([], refl)
-others_are_part front (f ∷ fs) = let (gone, is) = others_are_part front fs in ⊎_elim (λ same. rw same (f ∷ gone, ([], fs, refl, is)))
+others_are_part front [] = ([], tt)
+others_are_part front (f ∷ fs) = let (gone, is) = others_are_part front fs in ⊎_elim (λ same. rw same (f ∷ gone, ([], fs, reached_same (f ∷ fs), is)))
     (λ other. rw other (gone, without_kept f gone fs (others_than front fs) is)) (cases_Bool (bytes_eq front (stem f.name)))
 
 all_others : (front : List ℕ) (fs : List File) → copies fs front ≡ [] → others_than front fs ≡ fs
@@ -427,11 +480,13 @@ all_others front (f ∷ fs) none = let rest = all_others front fs in grind (arit
 
 -- what is left and has no file of this stem is a part of the others
 part_of_others : (front : List ℕ) (fs left : List File) → IsPart fs left → copies left front ≡ [] → IsPart (others_than front fs) left
-part_of_others front fs left ([], e) none = ([], e ∙ sym (all_others front fs (rw e at none)))
-part_of_others front fs left (f ∷ gone, (a, b, e, is)) none =
+part_of_others front fs left ([], are) none = ([], rw (all_others front fs (sym (reached_copies front fs left are) ∙ none)) are)
+part_of_others front fs left (f ∷ gone, (a, b, are, is)) none =
     let (others, rest) = part_of_others front (a ++ b) left (gone, is) none in
-    rw (e, filter-append) (⊎_elim (λ same. rw same (others, rw filter-append at rest))
-    (λ other. rw other (f ∷ others, (others_than front a, others_than front b, refl, rw filter-append at rest))) (cases_Bool (bytes_eq front (stem f.name))))
+    let reached : AreReached (others_than front fs) (others_than front a ++ others_than front (f ∷ b)) = rw filter-append at (others_reached front fs (a ++ f ∷ b) are) in
+    let after : IsWithout (others_than front a ++ others_than front b) others left = rw filter-append at rest in
+    ⊎_elim (λ same. (others, reached_without others (others_than front fs) (others_than front a ++ others_than front b) left (rw same at reached) after))
+    (λ other. (f ∷ others, (others_than front a, others_than front b, rw other at reached, after))) (cases_Bool (bytes_eq front (stem f.name)))
 
 -- ---- one id after another
 

@@ -8,19 +8,19 @@ use Rattle.fetch_rules.specs.RecordGrowth.{OneRecord, AppendedCounts, OneMeaning
 use Rattle.fetch_session.specs.Record.{KeepsRows}
 use Rattle.mail_store.specs.FileName.{names_id, stem, stem_of, StemsDiffer, is_held, NamesAreBases, NamesHaveStems, sized_file}
 use Rattle.mail_store.specs.declared.file.flat_file.FlatFile.{Ghosts as FileGhosts}
-use Rattle.mail_store.specs.Maildir.{File, name_in, names_of, Maildir, counted as with_refusal, dropped}
-use Rattle.mail_store.specs.declared.maildir.disk.MaildirDisk.{Ghosts as DiskGhosts}
+use Rattle.mail_store.specs.Maildir.{AllFlushed, AllNamed, File, IsDurable, IsNamed, Maildir, counted as with_refusal, dropped}
 use Rattle.run_law.specs.Accounts.{copies}
 use Rattle.std.proofs.lemmas.List.{nil_from_length, append-nil, append_cancel_left, map-append}
 use Rattle.std.proofs.lemmas.List.Folds.{list_any-append}
 use Rattle.fetch_runs.specs.Headline.{Headline, after_session, Occasion, IsKept, IsLastStored, IsRecorded, IsSession, by_rows}
-use Rattle.fetch_runs.specs.Power.{IsSure, CanLosePower, IsSureOrTaken, AllButLastStay, IsSessionOf, ShowsSure}
+use Rattle.fetch_runs.specs.Power.{AllButLastNamed, CanLosePower, HasNamed, IsNamedOrTaken, IsSessionOf, ShowsNamed}
 use Rattle.run_law.specs.Runs.{World, State, IsSound, Fetched}
 use Rattle.fetch_runs.proofs.HeadlineLemmas.{vanished_recorded}
 use Rattle.mail_terms.specs.UniqueId.{has_id, is_legal_id}
 use Rattle.fetch_session.specs.Session.{AccountFiles, Dealt, Keeping, LeavesLink, Proceeds, Session, keeps_files, account_files, outcome_of}
 use Rattle.std.proofs.lemmas.List.Elements.{Contains-append_cases, All-from_recursion, recursion_from_All, All-contains, Contains-push, filter-append}
-use Rattle.fetch_runs.proofs.Lists.{bytes_same, bytes_self, same_rows}
+use Rattle.fetch_runs.proofs.Lists.{all_append, all_map, bytes_same, same_rows}
+use Rattle.pop3_wire.specs.Reading.{WholeReply}
 use Rattle.fetch_rules.specs.RecordFile.{Two}
 use Rattle.fetch_rules.specs.RecordMeaning.{Rows, Fault, FileStandsFor}
 use Rattle.std.proofs.lemmas.List.Concat.{flat_map-append}
@@ -28,7 +28,8 @@ use Rattle.std.proofs.lemmas.Slice.Eq.{bytes_eq-Decides}
 use Rattle.fetch_rules.specs.Plan.{IsQuiet, planned}
 use Rattle.fetch_rules.specs.declared.steps.Step.{Step}
 use Rattle.fetch_session.specs.Account.{digits_of}
-use Rattle.fetch_session.specs.Lasting.{AreLeft, CarriedLasts, CarriesLast, IsUntouched, Lasts, Leaves, MergeLasts, ProceedsLast, UnreadyLasts}
+use Rattle.fetch_session.specs.Lasting.{AreLeft, CarriedLasts, CarriesLast, IsUntouched, Lasts, Leaves, ProceedsLast, UnlessQuiet, UnreadyLasts}
+use Rattle.fetch_session.specs.Readiness.{AreDurable, IsMerged, IsMergedAtMost}
 use Rattle.fetch_session.specs.Laws.{SteadyFilesKeep, UnsavedFilesKeep}
 use Rattle.fetch_session.specs.Plan.{Carried, Carries, tasks_ahead}
 use Rattle.fetch_session.specs.Scene.{Does, FileNotSaved, NoFile, Scene, Stops, Went, scene}
@@ -40,7 +41,7 @@ use Rattle.fetch_session.specs.declared.account.Store.TheVariants.{Maildir as In
 use Rattle.fetch_session.specs.declared.fault.Cut.{Cut}
 use Rattle.mail_store.specs.FlatFile.{Stored}
 use Rattle.mail_store.specs.Held.{flags_of}
-use Rattle.mail_store.specs.Power.{LeavesNoMore, TookOne, count_named}
+use Rattle.mail_store.specs.Power.{LeavesNoMore}
 use Rattle.mail_terms.specs.Listing.{Item, is_flagged}
 use Rattle.pop3_wire.specs.Place.{Place, at}
 use Rattle.run_law.specs.Power.{OneMoreIsLast}
@@ -52,7 +53,7 @@ use Rattle.fetch_rules.specs.RecordTorn.{IsPartOf, TornIsIgnoredOrSeen, ends_at_
 use Rattle.fetch_rules.specs.declared.seen.SeenFault.TheVariants.{BadRow}
 use Rattle.mail_store.specs.Settling.{MayBeLeft, block_size, is_lost}
 use Rattle.std.proofs.lemmas.Bool.Decides.{nat_tests}
-use Rattle.fetch_runs.proofs.Power.{can_after, held_sure, kept_legal, named_in, recorded_sure, same_shown, still_last, still_shown}
+use Rattle.fetch_runs.proofs.Power.{can_after, held_named, kept_legal, named_there, recorded_named, same_shown, still_last, still_shown}
 
 -- the laws that are used
 pub record PowerLaws : Type 0 where
@@ -108,17 +109,6 @@ left_stands laws rows others now left is (intent, stands) = elim is.file.begun [
 
 -- ---- lists
 
-count_there : (fs : List File) (f : File) → Contains fs f → 1 ≤ count_named f.name fs
-count_there [] f (k, below, is) = omega (arith, below)
-count_there (x ∷ fs) f (zero, below, is) = grind (arith, bytes_self f.name, ap name_in is)
-count_there (x ∷ fs) f (suc k, below, is) = grind (arith, count_there fs f (k, omega (arith, below), is))
-
--- files of one name have one stem
-count_below : (front name : List ℕ) (fs : List File) → bytes_eq front (stem name) ≡ true → count_named name fs ≤ length (copies fs front)
-count_below front name [] its = omega arith
-count_below front name (x ∷ fs) its =
-    grind (arith, its, bytes_same name x.name, count_below front name fs its)
-
 -- what is flagged is held
 flag_held : (account : List ℕ) (maildir : Maildir) (items : List Item) (id : List ℕ) → is_flagged items (flags_of account maildir items) id ≡ true → is_held account maildir id ≡ true
 flag_held account maildir [] id never = absurd (both_ways false refl never)
@@ -126,6 +116,16 @@ flag_held account maildir (i ∷ items) id flagged = grind (arith, flagged, byte
 
 no_more : {A : Type 0} (xs ys : List A) (x : A) → ys ≡ xs → ys ≡ xs ++ x ∷ [] → ⊥
 no_more xs ys x same more = absurd (omega (arith, ap length same, ap length more, length-append xs (x ∷ [])))
+
+-- the files that tasks stored are durable
+all_durable : (account : List ℕ) (dones : List Done) → AllByRecursion IsDurable (files_of account dones)
+all_durable account [] = tt
+all_durable account (d ∷ dones) = all_append IsDurable (files_in account d.task d.replies) (files_of account dones) (by d.task d.replies) (all_durable account dones)
+  where
+    by : (task : Task) (replies : List WholeReply) → AllByRecursion IsDurable (files_in account task replies)
+    by (stores number uid) [] = tt
+    by (stores number uid) (reply ∷ replies) = ((refl, refl), by (stores number uid) replies)
+    by other replies = tt
 
 -- tasks that mark nothing store nothing
 no_files : (account : List ℕ) (dones : List Done) → ids_ahead (tasks_of dones) ≡ [] → files_of account dones ≡ []
@@ -142,8 +142,8 @@ quiet_ids : (steps : List Step) (items : List Item) (held : List Bool) → AllBy
 quiet_ids (s ∷ ss) (i ∷ is) (h ∷ hs) quiet = grind (arith, quiet.0.0, quiet.0.1, quiet_ids ss is hs quiet.1)
 quiet_ids steps items held quiet = refl
 
-module _ (laws : PowerLaws) {D F : Type 0} (disk : DiskGhosts D) (files : FileGhosts F) (world : World) (state : State AccountFiles) (occasion : Occasion AccountFiles) (was : D) (from : F) (device : D) (f : F)
-    (sound : IsSound world) (is_kept : IsKept world state) (is : IsSessionOf disk files world state occasion was from device f) (can : CanLosePower disk files was from world state) where
+module _ (laws : PowerLaws) {F : Type 0} (files : FileGhosts F) (world : World) (state : State AccountFiles) (occasion : Occasion AccountFiles) (from f : F)
+    (sound : IsSound world) (is_kept : IsKept world state) (is : IsSessionOf files world state occasion from f) (can : CanLosePower files from world state) where
   open world use {account}
   open state use {account as before}
   open occasion.after use {maildir, file}
@@ -161,7 +161,7 @@ module _ (laws : PowerLaws) {D F : Type 0} (disk : DiskGhosts D) (files : FileGh
   after = after_session state occasion
 
   abbrev pub Answered : Type 0
-  Answered = CanLosePower disk files device f world after
+  Answered = CanLosePower files f world after
 
   is_session : (m : Maildir) → Session occasion.settings digits occasion.now occasion.link before occasion.report occasion.link' (account_files m file) → IsSession world state (with_maildir m)
   is_session m s = record { settings = is.settings; session = s; served = is.served }
@@ -192,29 +192,35 @@ module _ (laws : PowerLaws) {D F : Type 0} (disk : DiskGhosts D) (files : FileGh
         let unrecorded : IsRecorded occasion.after id → ⊥ = λ recorded. both_ways _ lastly.unrecorded (same_shown laws.one file.content recorded.0 kept_without.0 recorded.1 kept_without.1 id recorded.2) in
         search (lastly, unrecorded)) (laws.last world (by_rows kept_without.0 (after_with without)) maildir id sound kept_without.2 legal none other_copies)
 
-  -- ---- which files stay
+  -- ---- which files are durable
 
+  -- its bytes are; and so is its name, or the message may go
   abbrev ExtraOk : File → Type 0
-  ExtraOk g = disk.outlives device g ⊎ ((id : List ℕ) → is_legal_id id ≡ true → names_id account id g.name ≡ true → (has_id state.taken id ≡ true) ⊎ IsLastStored world after id)
+  ExtraOk g = (g.is_flushed ≡ true) × (IsNamed g ⊎ ((id : List ℕ) → is_legal_id id ≡ true → names_id account id g.name ≡ true → (has_id state.taken id ≡ true) ⊎ IsLastStored world after id))
 
-  all_but_last : (front extra : List File) → maildir.files ≡ (before.maildir.files ++ front) ++ extra → ((name : List ℕ) → Contains (names_of before.maildir.files) name → disk.stays device name)
-      → AllByRecursion (disk.outlives device) front → AllByRecursion ExtraOk extra → AllButLastStay disk device world after
-  all_but_last front extra are stays outlive goes id legal held = ⊎_elim (λ sure. inl (inl sure)) (⊎_map inr (λ lastly. lastly)) (held_sure {Else = (has_id state.taken id ≡ true) ⊎ IsLastStored world after id} disk device world maildir.files id held (λ g there named. elim (Contains-append_cases (before.maildir.files ++ front) extra g (rw are at there)) [
-    | inl first ↦ inl (⊎_map (λ old. stays g.name (named_in before.maildir.files g old)) (All-contains (disk.outlives device) front g (All-from_recursion (disk.outlives device) front outlive))
-        (Contains-append_cases before.maildir.files front g first))
-    | inr more ↦ ⊎_map inr (λ go. go id legal named) (All-contains ExtraOk extra g (All-from_recursion ExtraOk extra goes) more)
-  ]))
+  -- these files came after those that were there, which are durable, and then others
+  module _ (dones : List Done) (extra : List File) (are : maildir.files ≡ (before.maildir.files ++ files_of digits dones) ++ extra) (goes : AllByRecursion ExtraOk extra) where
+    all_but_last : AllNamed before.maildir.files → AllButLastNamed world after
+    all_but_last named id legal held = ⊎_elim (λ one. inl (inl one)) (⊎_map inr (λ lastly. lastly)) (held_named {Else = (has_id state.taken id ≡ true) ⊎ IsLastStored world after id} world maildir.files id held (λ g there of. elim (Contains-append_cases (before.maildir.files ++ files_of digits dones) extra g (rw are at there)) [
+      | inl first ↦ inl (⊎_elim (named_there before.maildir.files g named) (λ new. (All-contains IsDurable (files_of digits dones) g (All-from_recursion IsDurable (files_of digits dones) (all_durable digits dones)) new).0)
+          (Contains-append_cases before.maildir.files (files_of digits dones) g first))
+      | inr more ↦ ⊎_map (λ named. named) (λ go. go id legal of) (All-contains ExtraOk extra g (All-from_recursion ExtraOk extra goes) more).1
+    ]))
+
+    all_flushed : AllFlushed maildir.files
+    all_flushed = rw are (all_append _ (before.maildir.files ++ files_of digits dones) extra (all_append _ before.maildir.files (files_of digits dones) can.flushed
+        (all_map IsDurable _ (λ g durable. durable.1) (files_of digits dones) (all_durable digits dones))) (all_map ExtraOk _ (λ g ok. ok.0) extra goes))
 
   -- ---- what the record shows
 
   abbrev Shows : List ℕ → List Row → Type 0
-  Shows id rows = (is_delivered rows id ≡ true) ⊎ ((is_legal_id id ≡ true) × IsSureOrTaken disk device world after id)
+  Shows id rows = (is_delivered rows id ≡ true) ⊎ ((is_legal_id id ≡ true) × IsNamedOrTaken world after id)
 
   -- what these rows deliver is delivered in all that the record's file stands for
   abbrev Has : List Row → Type 0
   Has was = (rows : List Row) → KeepsRows file.content rows → (id : List ℕ) → is_delivered was id ≡ true → is_delivered rows id ≡ true
 
-  shown_by : (was others : List Row) → Leaves files f (AreLeft was others) → Has was → ((id : List ℕ) → is_delivered others id ≡ true → is_legal_id id ≡ true → Shows id was) → ShowsSure disk files device f world after
+  shown_by : (was others : List Row) → Leaves files f (AreLeft was others) → Has was → ((id : List ℕ) → is_delivered others id ≡ true → is_legal_id id ≡ true → Shows id was) → ShowsNamed files f world after
   shown_by was others leaves within more left now rows may keeps_now keeps id d = by file.content refl
     where
       by : (content : Option (List ℕ)) → file.content ≡ content → Shows id rows
@@ -224,83 +230,69 @@ module _ (laws : PowerLaws) {D F : Type 0} (disk : DiskGhosts D) (files : FileGh
         | inr same ↦ ⊎_map (within rows keeps id) (λ sure. sure) (more id (rw same at d) (kept_legal left now keeps_now id d))
       ]
 
-  -- one more is delivered, and its file stays
-  one_more : (was : List Row) (uid : List ℕ) (g : File) → Contains maildir.files g → disk.outlives device g → names_id account uid g.name ≡ true → (id : List ℕ) → is_delivered (marked was uid) id ≡ true → is_legal_id id ≡ true → Shows id was
-  one_more was uid g there outlives named id d legal = ⊎_map (λ delivered. delivered)
-      (λ both. (legal, inl (record { one = g; there = there; named = rw (bytes_same uid id (and_parts (has_row was id) (bytes_eq uid id) both).1) at named; sure = inr outlives })))
+  -- one more is delivered, and its file is durable
+  one_more : (was : List Row) (uid : List ℕ) (g : File) → Contains maildir.files g → IsNamed g → names_id account uid g.name ≡ true → (id : List ℕ) → is_delivered (marked was uid) id ≡ true → is_legal_id id ≡ true → Shows id was
+  one_more was uid g there named of id d legal = ⊎_map (λ delivered. delivered)
+      (λ both. (legal, inl (record { one = g; there = there; of = rw (bytes_same uid id (and_parts (has_row was id) (bytes_eq uid id) both).1) at of; named = named })))
       (or_cases _ _ (sym (laws.marks was uid id) ∙ d))
 
   -- ---- the files and the record are as they were, and no more may be left
 
-  as_it_was : maildir.files ≡ before.maildir.files → file.content ≡ before.file.content → LeavesNoMore (files.may_leave from) (files.may_leave f)
-      → ((id : List ℕ) → is_legal_id id ≡ true → IsSure disk was world before.maildir.files id → IsSure disk device world maildir.files id) → Answered
-  as_it_was same same_content no_more sure_on =
+  moved : maildir.files ≡ before.maildir.files → (id : List ℕ) → IsNamedOrTaken world state id → IsNamedOrTaken world after id
+  moved same id = ⊎_map (λ one. record { one = one.one; there = rw same one.there; of = one.of; named = one.named }) (λ taken. taken)
+
+  as_it_was : maildir.files ≡ before.maildir.files → file.content ≡ before.file.content → LeavesNoMore (files.may_leave from) (files.may_leave f) → Answered
+  as_it_was same same_content no_more =
       let back : (id : List ℕ) → IsRecorded occasion.after id → IsRecorded before id = λ id r. (r.0, rw same_content at r.1, r.2) in
-      can_after laws.one disk files world sound state is_kept was from can device after f
-      (record { mail = λ id legal. ⊎_map (sure_on id legal) (λ taken. taken); record_is = λ left may. inr (no_more left may) })
+      can_after laws.one files world sound state is_kept from can after f
+      (record { mail = λ id legal. moved same id; flushed = rw same can.flushed; record_is = λ left may. inr (no_more left may) })
       (λ id legal held. inr (rw same at held))
-      (λ id legal lastly. inr (still_last laws.one disk files world sound state is_kept was from can device after back
+      (λ id legal lastly. inr (still_last laws.one files world sound state is_kept from can after back
       (λ m l neither. (rw same neither.0, neither.1)) id (λ on. list_any-append (bytes_eq id) state.gone occasion.vanished ∙ or_from _ _ on (false_from_ne_true _ (λ gone.
       lastly.unrecorded (back id (vanished_recorded laws.steps laws.served laws.one world state occasion is_kept (is_session maildir is.session) id gone))))) lastly))
-      (still_shown laws.one disk files world sound state is_kept was from can device after (λ rows keeps. rw same_content keeps))
-
-  kept_sure : maildir.files ≡ before.maildir.files → (id : List ℕ) → (one : IsSure disk was world before.maildir.files id)
-      → (disk.stays was one.one.name → disk.stays device one.one.name) → (disk.outlives was one.one → disk.outlives device one.one) → IsSure disk device world maildir.files id
-  kept_sure same id one stay outlive = record { one = one.one; there = rw same one.there; named = one.named; sure = ⊎_map stay outlive one.sure }
+      (still_shown laws.one files world sound state is_kept from can after (λ rows keeps. rw same_content keeps))
 
   -- nothing was written
-  still : maildir.files ≡ before.maildir.files → IsUntouched disk files (InMaildir was) (InMaildir device) from f → Answered
+  still : maildir.files ≡ before.maildir.files → IsUntouched files from f → Answered
   still same un = as_it_was same (ap (λ (s : Stored). s.content) (is.file_is ∙ un.same ∙ sym is.from_is)) un.no_more
-      (λ id legal one. kept_sure same id one (un.mail.0 one.one.name) (un.mail.1 one.one))
 
   -- ---- it was cut while it prepared the record
 
-  module _ (items : List Item) (same : maildir.files ≡ before.maildir.files)
-      (lasts : UnreadyLasts disk files (InMaildir was) from (AsFiles digits) items occasion.now (in_maildir before.maildir) before.file (InMaildir device) f) where
-    sure_left : (id : List ℕ) → is_legal_id id ≡ true → IsSure disk was world before.maildir.files id → IsSure disk device world maildir.files id
-    sure_left id legal one = kept_sure same id one (λ stays. on (lasts.mail.0 one.one.name stays)) (λ outlives. on (lasts.mail.1 one.one outlives))
-      where
-        on : {P : Type 0} → P ⊎ TookOne one.one.name (disk.maildir was).files before.maildir.files → P
-        on = ⊎_elim (λ kept. kept) (λ took. absurd (omega (arith, took, count_there before.maildir.files one.one one.there, count_below (stem_of account id) one.one.name (disk.maildir was).files one.named, is.once id legal)))
-
-    moved : (id : List ℕ) → is_legal_id id ≡ true → IsSureOrTaken disk was world state id → IsSureOrTaken disk device world after id
-    moved id legal = ⊎_map (sure_left id legal) (λ taken. taken)
-
+  module _ (items : List Item) (same : maildir.files ≡ before.maildir.files) where
     -- the record was merged, or was about to be
-    module _ (m : MergeLasts disk files (AsFiles digits) items occasion.now (in_maildir before.maildir) before.file (InMaildir device) from f) where
+    module _ (m : IsMerged (AsFiles digits) items occasion.now (in_maildir before.maildir) before.file (in_maildir maildir) file) where
       abbrev here : List Row
       here = merged m.was.rows items (flags_of digits before.maildir items) occasion.now
 
-      all_sure : (id : List ℕ) → is_held account maildir id ≡ true → IsSureOrTaken disk device world after id
-      all_sure id held = held_sure disk device world maildir.files id held (λ g there named. inl (inl (m.stay g.name (rw is.maildir_is at (named_in maildir.files g there)))))
+      all_named : (id : List ℕ) → is_held account maildir id ≡ true → IsNamedOrTaken world after id
+      all_named id held = held_named world maildir.files id held (λ g there of. inl (named_there before.maildir.files g m.durable.0 (rw same at there)))
 
       of_recorded : (id : List ℕ) (rows : List Row) → is_delivered is_kept.0 id ≡ true → Shows id rows
       of_recorded id rows delivered =
-          let safe = recorded_sure laws.one disk files world sound state is_kept was from can id delivered in
-          inr (safe.0, moved id safe.0 safe.1)
+          let safe = recorded_named laws.one files world sound state is_kept from can id delivered in
+          inr (safe.0, moved same id safe.1)
 
       of_was : (id : List ℕ) (rows : List Row) → is_delivered m.was.rows id ≡ true → Shows id rows
       of_was id rows delivered = of_recorded id rows (same_shown laws.one before.file.content m.was.rows is_kept.0 (m.was.intent, m.stood) is_kept.1 id delivered)
 
       of_merged : (id : List ℕ) (rows : List Row) → is_legal_id id ≡ true → is_delivered here id ≡ true → Shows id rows
-      of_merged id rows legal delivered = ⊎_elim (of_was id rows) (λ flagged. inr (legal, all_sure id (rw (same, ← is.settings.account) (flag_held digits before.maildir items id flagged))))
+      of_merged id rows legal delivered = ⊎_elim (of_was id rows) (λ flagged. inr (legal, all_named id (rw (same, ← is.settings.account) (flag_held digits before.maildir items id flagged))))
           (or_cases _ _ (sym (laws.flagged m.was.rows items (flags_of digits before.maildir items) occasion.now id) ∙ delivered))
 
       shows_left : (left : Option (List ℕ)) (now rows : List Row) → KeepsRows left now → (id : List ℕ) → is_delivered now id ≡ true
           → files.may_leave from left ⊎ (AreLeft m.was.rows here left ⊎ AreLeft here here left) → Shows id rows
       shows_left left now rows keeps_now id d (inl could) =
-          ⊎_elim (of_recorded id rows) (λ (legal, safe). inr (legal, moved id legal safe)) (can.shows left now is_kept.0 could keeps_now is_kept.1 id d)
+          ⊎_elim (of_recorded id rows) (λ (legal, safe). inr (legal, moved same id safe)) (can.shows left now is_kept.0 could keeps_now is_kept.1 id d)
       shows_left left now rows keeps_now id d (inr are) = ⊎_elim (λ same. of_was id rows (rw same at d)) (λ same. of_merged id rows (kept_legal left now keeps_now id d) (rw same at d))
           (⊎_elim (λ are. left_stands laws m.was.rows here now left are keeps_now) (λ are. ⊎_elim inr inr (left_stands laws here here now left are keeps_now)) are)
 
-    unready : Answered
-    unready = elim lasts.rows [
-      | inl (no_more, same_content) ↦ as_it_was same (ap (λ (s : Stored). s.content) is.file_is ∙ same_content) no_more sure_left
-      | inr m ↦ record {
-        stay = λ id legal held. inl (all_sure m id held);
-        shows = λ left now rows may keeps_now keeps id d. shows_left m left now rows keeps_now id d (m.leaves left may);
-      }
-    ]
+    unready : (content : IsMergedAtMost (AsFiles digits) items occasion.now (in_maildir before.maildir) before.file (in_maildir maildir) file) → UnreadyLasts files from content f → Answered
+    unready (inl same_content) no_more = as_it_was same same_content no_more
+    unready (inr m) leaves = record {
+      named = λ id legal held. inl (all_named m id held);
+      flushed = rw same can.flushed;
+      shows = λ left now rows may keeps_now keeps id d. shows_left m left now rows keeps_now id d (leaves left may);
+    }
 
   -- ---- its tasks were begun
 
@@ -325,16 +317,19 @@ module _ (laws : PowerLaws) {D F : Type 0} (disk : DiskGhosts D) (files : FileGh
     none_came c dones went none = all_came c dones went ∙ rw (no_files digits dones none) (append-nil before.maildir.files)
 
     -- it did all its tasks
-    answer_ok : (c : CarriedTo (Ok tt) maildir) → CarriedLasts disk files (InMaildir was) from c (InMaildir device) f → Answered
-    answer_ok c lasts = elim (lasts (tt, is.sure)) [
-      | inl (quiet, un) ↦ still (none_came c c.does.dones c.does.went (rw c.does.all at (quiet_tasks c quiet))) un
-      | inr (lasts, mail) ↦ record {
-        stay = all_but_last (files_of digits c.does.dones) [] (all_came c c.does.dones c.does.went ∙ sym (append-nil _)) mail.stay lasts.texts tt;
-        shows = shown_by (marked_all c.mid.rows (ids_of c.does.dones)) (marked_all c.mid.rows (ids_of c.does.dones)) lasts.left
-            (λ rows keeps id d. rw (same_rows laws.one file.content rows rows' keeps (None, laws.steady file.content (none_open rows') (c.does.went.saved c.prepared.saved)), c.does.went.rows) d)
-            (λ id d legal. inl d);
-      }
-    ]
+    answer_ok : (c : CarriedTo (Ok tt) maildir) → CarriedLasts files (InMaildir (tt {0})) from c (InMaildir (tt {0})) f → Answered
+    answer_ok c lasts = by c.prepared.durable (lasts (tt, is.sure))
+      where
+        by : (durable : (All IsQuiet (planned occasion.settings c.mid.rows items occasion.now) × (c.mid.file ≡ before.file)) ⊎ AreDurable (AsFiles digits) c.prepared.was.rows items (in_maildir before.maildir))
+            → UnlessQuiet files from durable (Lasts files (AsFiles digits) (tasks_ahead occasion.settings (AsFiles digits) items occasion.now (in_maildir before.maildir) c.mid.rows) c.mid (Ok tt) (end_with maildir) c.does (InMaildir (tt {0})) f) f → Answered
+        by (inl (quiet, kept)) un = still (none_came c c.does.dones c.does.went (rw c.does.all at (quiet_tasks c quiet))) un
+        by (inr durable) lasts = record {
+          named = all_but_last c.does.dones [] (all_came c c.does.dones c.does.went ∙ sym (append-nil _)) tt durable.0;
+          flushed = all_flushed c.does.dones [] (all_came c c.does.dones c.does.went ∙ sym (append-nil _)) tt;
+          shows = shown_by (marked_all c.mid.rows (ids_of c.does.dones)) (marked_all c.mid.rows (ids_of c.does.dones)) lasts.left
+              (λ rows keeps id d. rw (same_rows laws.one file.content rows rows' keeps (None, laws.steady file.content (none_open rows') (c.does.went.saved c.prepared.saved)), c.does.went.rows) d)
+              (λ id d legal. inl d);
+        }
 
     quiet_cut : {cut : Cut} (c : CarriedTo (Err cut) maildir) → All IsQuiet (planned occasion.settings c.mid.rows items occasion.now) → maildir.files ≡ before.maildir.files
     quiet_cut {cut} c quiet = by c.does.stops ∙ none_came c c.does.dones c.does.went parts.0
@@ -351,8 +346,8 @@ module _ (laws : PowerLaws) {D F : Type 0} (disk : DiskGhosts D) (files : FileGh
         by (inr (inr u)) = absurd (cc (rw u.is at parts.1))
 
     -- it was cut, and such sessions leave kept states
-    module _ {cut : Cut} (c : CarriedTo (Err cut) maildir) (stay : (name : List ℕ) → Contains (names_of before.maildir.files) name → disk.stays device name)
-        (lasts : Lasts disk files (AsFiles digits) (tasks_ahead occasion.settings (AsFiles digits) items occasion.now (in_maildir before.maildir) c.mid.rows) c.mid (Err cut) (end_with maildir) c.does (InMaildir device) f)
+    module _ {cut : Cut} (c : CarriedTo (Err cut) maildir) (were_named : AllNamed before.maildir.files)
+        (lasts : Lasts files (AsFiles digits) (tasks_ahead occasion.settings (AsFiles digits) items occasion.now (in_maildir before.maildir) c.mid.rows) c.mid (Err cut) (end_with maildir) c.does (InMaildir (tt {0})) f)
         (alike : (m : Maildir) → CarriedTo (Err cut) m → IsSession world state (with_maildir m)) where
       open c.does use {mid}
 
@@ -364,44 +359,45 @@ module _ (laws : PowerLaws) {D F : Type 0} (disk : DiskGhosts D) (files : FileGh
       same_has same rows keeps id d =
           rw (same_rows laws.one mid.file.content rows mid.rows (rw same at keeps) (None, laws.steady mid.file.content (none_open mid.rows) (c.does.went.saved c.prepared.saved)), c.does.went.rows) d
 
-      unmarked : Leaves files f (AreLeft mid.rows mid.rows) → file ≡ mid.file → ShowsSure disk files device f world after
+      unmarked : Leaves files f (AreLeft mid.rows mid.rows) → file ≡ mid.file → ShowsNamed files f world after
       unmarked leaves same = shown_by rows_then rows_then (rw c.does.went.rows at leaves) (same_has same) (λ id d legal. inl d)
 
       marked_one : (number : ℕ) (uid : List ℕ) → c.does.next ≡ stores number uid → (g : File) → maildir.files ≡ mid.store.maildir.files ++ g ∷ [] → names_id account uid g.name ≡ true
-          → disk.outlives device g → Has rows_then → ShowsSure disk files device f world after
-      marked_one number uid is g came named outlives within =
+          → IsNamed g → Has rows_then → ShowsNamed files f world after
+      marked_one number uid is g came of named within =
           shown_by rows_then (marked rows_then uid) (subst (λ (t : Task). Leaves files f (AreLeft rows_then (marked_all rows_then (ids_in t)))) is lasts.0.left) within
-          (one_more rows_then uid g (rw came (Contains-push mid.store.maildir.files g)) outlives named)
+          (one_more rows_then uid g (rw came (Contains-push mid.store.maildir.files g)) named of)
 
-      staying : (extra : List File) → maildir.files ≡ mid.store.maildir.files ++ extra → AllByRecursion ExtraOk extra → AllButLastStay disk device world after
-      staying extra came = all_but_last (files_of digits c.does.dones) extra (came ∙ ap (λ (l : List File). l ++ extra) (all_came c c.does.dones c.does.went)) stay lasts.0.texts
+      staying : (extra : List File) → maildir.files ≡ mid.store.maildir.files ++ extra → AllByRecursion ExtraOk extra → ShowsNamed files f world after → Answered
+      staying extra came goes shows =
+          let are = came ∙ ap (λ (l : List File). l ++ extra) (all_came c c.does.dones c.does.went) in
+          record { named = all_but_last c.does.dones extra are goes were_named; flushed = all_flushed c.does.dones extra are goes; shows = shows }
 
       -- the file that came is this one
-      named_one : (uid text : List ℕ) (g : File) → maildir.files ≡ mid.store.maildir.files ++ sized_file (stem_of digits uid) text ∷ [] → maildir.files ≡ mid.store.maildir.files ++ g ∷ []
-          → names_id account uid g.name ≡ true
-      named_one uid text g came came' =
-          let same : sized_file (stem_of digits uid) text ≡ g = cc (append_cancel_left mid.store.maildir.files (sized_file (stem_of digits uid) text ∷ []) (g ∷ []) (sym came ∙ came')) in
-          rw (← same, is.settings.account) ((bytes_eq-Decides (stem_of account uid) _).1 (sym (ap stem (laws.bases account uid (length text) sound.account) ∙ laws.stems account uid (length text) sound.account)))
+      same_one : (g h : File) → maildir.files ≡ mid.store.maildir.files ++ h ∷ [] → maildir.files ≡ mid.store.maildir.files ++ g ∷ [] → h ≡ g
+      same_one g h came came' = cc (append_cancel_left mid.store.maildir.files (h ∷ []) (g ∷ []) (sym came ∙ came'))
+
+      named_one : (uid text : List ℕ) → names_id account uid (sized_file (stem_of digits uid) text).name ≡ true
+      named_one uid text =
+          rw is.settings.account ((bytes_eq-Decides (stem_of account uid) _).1 (sym (ap stem (laws.bases account uid (length text) sound.account) ∙ laws.stems account uid (length text) sound.account)))
 
       -- nothing came
       nothing : maildir.files ≡ mid.store.maildir.files → file ≡ mid.file → Answered
-      nothing same same_record = record {
-        stay = staying [] (same ∙ sym (append-nil mid.store.maildir.files)) tt;
-        shows = ⊎_elim (λ un. unmarked un.0 same_record) (λ (g, came, outlives). absurd (no_more mid.store.maildir.files maildir.files g same came)) lasts.1;
-      }
+      nothing same same_record = staying [] (same ∙ sym (append-nil mid.store.maildir.files)) tt
+          (⊎_elim (λ un. unmarked un same_record) (λ (g, came, durable). absurd (no_more mid.store.maildir.files maildir.files g same came)) lasts.1)
 
       refused : (n : NoFile digits c.does.next mid (end_with maildir) cut) → RefusesText mid.store.maildir (stem_of digits n.uid) n.rest n.text cut.fault maildir → Answered
       refused n (inl missing) = nothing (ap (λ (m : Maildir). m.files) missing.2) n.file
       refused n (inr (is, inl same)) = nothing (ap (λ (m : Maildir). m.files) same) n.file
-      refused n (inr (is, inr (done, there))) = record {
-        stay = staying (sized_file (stem_of digits n.uid) n.text ∷ []) came (inr (may_go without (sized_file (stem_of digits n.uid) n.text) (kept_after without (alike without shorter)) came), tt);
-        shows = elim lasts.1 [
-          | inl un ↦ unmarked un.0 n.file
-          | inr (g, came', outlives) ↦ marked_one n.number n.uid n.is g came' (named_one n.uid n.text g came came') outlives (same_has n.file)
-        ];
-      }
+      refused n (inr (is, inr (done, (is_named, there)))) = staying (one ∷ []) came ((refl, inr (may_go without one (kept_after without (alike without shorter)) came)), tt) (elim lasts.1 [
+        | inl un ↦ unmarked un n.file
+        | inr (g, came', durable) ↦ marked_one n.number n.uid n.is g came' (rw (← same_one g one came came') (named_one n.uid n.text)) durable.0 (same_has n.file)
+      ])
         where
-          came : maildir.files ≡ mid.store.maildir.files ++ sized_file (stem_of digits n.uid) n.text ∷ []
+          one : File
+          one = record (sized_file (stem_of digits n.uid) n.text) { is_named = is_named }
+
+          came : maildir.files ≡ mid.store.maildir.files ++ one ∷ []
           came = ap (λ (m : Maildir). m.files) there
 
           without : Maildir
@@ -415,10 +411,8 @@ module _ (laws : PowerLaws) {D F : Type 0} (disk : DiskGhosts D) (files : FileGh
               search (c, does)
 
       unsaved : (u : FileNotSaved digits c.does.next mid (end_with maildir) cut) → Answered
-      unsaved u = elim lasts.1 [
-        | inl un ↦ absurd (no_more mid.store.maildir.files maildir.files (file_from digits u.uid u.reply) (un.1 u.none) u.stored.came)
-        | inr (g, came, outlives) ↦ record { stay = staying (g ∷ []) came (inl outlives, tt); shows = marked_one u.number u.uid u.is g came (named_one u.uid _ g u.stored.came came) outlives within }
-      ]
+      unsaved u = staying (file_from digits u.uid u.reply ∷ []) u.stored.came ((refl, inl refl), tt)
+          (marked_one u.number u.uid u.is (file_from digits u.uid u.reply) u.stored.came (named_one u.uid _) refl within)
         where
           within : Has rows_then
           within rows keeps id d = elim (laws.unsaved mid.file (none_open mid.rows) (none_open (marked mid.rows u.uid)) cut.fault file u.saves (c.does.went.saved c.prepared.saved)) [
@@ -438,21 +432,27 @@ module _ (laws : PowerLaws) {D F : Type 0} (disk : DiskGhosts D) (files : FileGh
     where
       by : (result : Result (Unit {0}) Cut)
           → (proceeds : Proceeds occasion.settings (AsFiles digits) occasion.now (at occasion.link []) (keeps_files before) result is.session.mid (keeps_files occasion.after) is.session.notes)
-          → ProceedsLast disk files (InMaildir was) from _ _ _ _ _ _ _ _ _ proceeds (InMaildir device) f → LeavesLink result is.session.mid occasion.link' → Reports (outcome_of result) is.session.notes.total is.session.notes.skipped is.session.notes.lines occasion.report → Answered
+          → ProceedsLast files (InMaildir (tt {0})) from _ _ _ _ _ _ _ _ _ proceeds (InMaildir (tt {0})) f → LeavesLink result is.session.mid occasion.link' → Reports (outcome_of result) is.session.notes.total is.session.notes.skipped is.session.notes.lines occasion.report → Answered
       by (Ok done) dealt lasts leaves reports = answer_ok dealt.items dealt.mid dealt.carries.0 dealt.carries.1 lasts
       by (Err cut) (inl stopped) un leaves reports = still (ap (λ (k : Keeping). k.store.maildir.files) stopped.same) un
       by (Err cut) (inr (inl wanting)) un leaves reports = still (ap (λ (k : Keeping). k.store.maildir.files) wanting.same) un
       by (Err cut) (inr (inr dealt)) lasts leaves reports = of dealt.carries lasts
         where
           of : (carries : Carries occasion.settings (AsFiles digits) dealt.items occasion.now dealt.mid (in_maildir before.maildir) before.file [] (Err cut) is.session.mid
-              (in_maildir maildir) file is.session.notes.lines is.session.notes.skipped) → CarriesLast disk files (InMaildir was) from occasion.settings (AsFiles digits) dealt.items occasion.now dealt.mid
-              (in_maildir before.maildir) before.file [] (Err cut) is.session.mid (in_maildir maildir) file is.session.notes.lines is.session.notes.skipped carries (InMaildir device) f → Answered
-          of (rows, inl (none_said, unprepared)) all = unready dealt.items (unready_files cut.fault before.maildir before.file maildir file unprepared.unready.cause) (all (tt, is.sure))
-          of (rows, inr c) all = elim (all (tt, is.sure)) [
-            | inl (quiet, un) ↦ still (quiet_cut dealt.items dealt.mid rows c quiet) un
-            | inr (lasts, mail) ↦ answer_cut dealt.items dealt.mid rows c mail.stay lasts (λ m carried.
-                let carries : Carries occasion.settings (AsFiles digits) dealt.items occasion.now dealt.mid (in_maildir before.maildir) before.file [] (Err cut) is.session.mid (in_maildir m) file
-                is.session.notes.lines is.session.notes.skipped = (rows, inr carried) in
-                let session : Dealt occasion.settings (AsFiles digits) occasion.now (at occasion.link []) (keeps_files before) (Err cut) is.session.mid (keeps_files (account_files m file)) is.session.notes = search (dealt, carries) in
-                is_session m (search (session, leaves, reports, inr)))
-          ]
+              (in_maildir maildir) file is.session.notes.lines is.session.notes.skipped) → CarriesLast files (InMaildir (tt {0})) from occasion.settings (AsFiles digits) dealt.items occasion.now dealt.mid
+              (in_maildir before.maildir) before.file [] (Err cut) is.session.mid (in_maildir maildir) file is.session.notes.lines is.session.notes.skipped carries (InMaildir (tt {0})) f → Answered
+          of (rows, inl (none_said, unprepared)) all =
+              unready dealt.items (unready_files cut.fault before.maildir before.file maildir file unprepared.unready.cause) unprepared.unready.content (all (tt, is.sure))
+          of (rows, inr c) all = by_plan c.prepared.durable (all (tt, is.sure))
+            where
+              alike : (m : Maildir) → CarriedTo dealt.items dealt.mid rows (Err cut) m → IsSession world state (with_maildir m)
+              alike m carried =
+                  let carries : Carries occasion.settings (AsFiles digits) dealt.items occasion.now dealt.mid (in_maildir before.maildir) before.file [] (Err cut) is.session.mid (in_maildir m) file
+                  is.session.notes.lines is.session.notes.skipped = (rows, inr carried) in
+                  let session : Dealt occasion.settings (AsFiles digits) occasion.now (at occasion.link []) (keeps_files before) (Err cut) is.session.mid (keeps_files (account_files m file)) is.session.notes = search (dealt, carries) in
+                  is_session m (search (session, leaves, reports, inr))
+
+              by_plan : (durable : (All IsQuiet (planned occasion.settings c.mid.rows dealt.items occasion.now) × (c.mid.file ≡ before.file)) ⊎ AreDurable (AsFiles digits) c.prepared.was.rows dealt.items (in_maildir before.maildir))
+                  → UnlessQuiet files from durable (Lasts files (AsFiles digits) (tasks_ahead occasion.settings (AsFiles digits) dealt.items occasion.now (in_maildir before.maildir) c.mid.rows) c.mid (Err cut) (end_with dealt.items dealt.mid rows maildir) c.does (InMaildir (tt {0})) f) f → Answered
+              by_plan (inl (quiet, kept)) un = still (quiet_cut dealt.items dealt.mid rows c quiet) un
+              by_plan (inr durable) lasts = answer_cut dealt.items dealt.mid rows c durable.0 lasts alike

@@ -19,7 +19,7 @@ use Rattle.fetch_session.specs.declared.report.Outcome.{Outcome}
 use Rattle.fetch_session.specs.declared.report.Outcome.TheVariants.{Cut as WasCut}
 use Rattle.fetch_session.specs.declared.report.ReportLine.{ReportLine}
 use Rattle.fetch_session.specs.Plan.{Unprepared, Carried, Carries, tasks_ahead as tasks_for}
-use Rattle.fetch_session.specs.Task.{Task, Done, IsAnswered, stores, task_in, tasks_of, ids_in, ids_of, ids_ahead, files_of, file_from, rereads, texts_in, texts_of}
+use Rattle.fetch_session.specs.Task.{Task, Done, IsAnswered, stores, task_in, tasks_of, ids_in, ids_of, ids_ahead, files_in, files_of, file_from, rereads, texts_in, texts_of}
 use Rattle.fetch_session.specs.Record.{Keeps, Steady, KeepsRows, record_state, with_open}
 use Rattle.fetch_session.specs.Scene.{Scene, scene, Went, Fell, NoFile, FileNotSaved, Stops, Does, EntryNotSaved}
 use Rattle.fetch_session.specs.Session.{outcome_of, Keeping, Noted, Proceeds, AccountFiles, keeping, keeps_files}
@@ -28,7 +28,8 @@ use Rattle.fetch_runs.proofs.Lists.{all_append, same_rows, at_length, mapped_at,
 use Rattle.fetch_runs.proofs.Talk.{Course, course, SessionCourse, Idle, Deals, course_carried, course_carries, course_proceeded, stored_done, found_in, found_by, found_of, spare_in, course_stopped, course_does, begun_of, nothing_found, deleted_by, number_found, number_of, text_found, effect_of}
 use Rattle.fetch_runs.proofs.StateDone.{tasks_ahead, key, count, found_all, same_length, Laws, Inputs, rows_on, tasks_on, messages_on, rows_after, IsRecorded, IsRightOn, Part, safe_part, right_front, fetched_part, wanted_are, files_part, records_part, fetched_in, fetched, IsRight, texts_by, right_part}
 use Rattle.std.proofs.lemmas.Simd.{map-map}
-use Rattle.mail_store.specs.Maildir.{Maildir}
+use Rattle.mail_store.specs.Maildir.{File, Maildir}
+use Rattle.run_law.specs.Accounts.{without_flags}
 use Rattle.mail_store.specs.FileName.{stem_of}
 use Rattle.fetch_session.specs.Readiness.{UnreadyCause, IsSettledBy, Settles}
 use Rattle.fetch_session.specs.Store.{RefusesText}
@@ -237,7 +238,20 @@ inputs settings account now maildir rows items = record { settings = settings; a
 
 -- only the files of these tasks were added
 abbrev AddsFiles : List ℕ → Maildir → List Done → Maildir → Type 0
-AddsFiles account maildir dones maildir' = maildir'.files ≡ maildir.files ++ files_of account dones
+AddsFiles account maildir dones maildir' = without_flags maildir'.files ≡ without_flags maildir.files ++ files_of account dones
+
+-- of files that are durable only names and bytes are known
+made_files : (account : List ℕ) (dones : List Done) → without_flags (files_of account dones) ≡ files_of account dones
+made_files account [] = refl
+made_files account (d ∷ dones) = map-append _ (files_in account d.task d.replies) (files_of account dones) ∙ rw (by d.task d.replies, made_files account dones) refl
+  where
+    by : (task : Task) (replies : List WholeReply) → without_flags (files_in account task replies) ≡ files_in account task replies
+    by (stores number uid) [] = refl
+    by (stores number uid) (reply ∷ replies) = ap (λ (fs : List File). file_from account uid reply ∷ fs) (by (stores number uid) replies)
+    by other replies = refl
+
+came_too : (old new added : List File) → new ≡ old ++ added → without_flags new ≡ without_flags old ++ without_flags added
+came_too old new added came = ap without_flags came ∙ map-append _ old added
 
 -- the account that a session left, and what it found; the record is the old one only if no task was begun
 pub record Leads (settings : Settings) (account : List ℕ) (now : ℕ) (maildir : Maildir) (rows : List Row) (result : Result (Unit {0}) Cut) (c : Course) (maildir' : Maildir) (content' : Option (List ℕ)) : Type 0 where
@@ -289,7 +303,8 @@ module _ (laws : Laws) (settings : Settings) (account : List ℕ) (now : ℕ) (m
     module _ {tasks : List Task} {old : Scene} (starts : Starts (p items) tasks old) (same_maildir : old.store.maildir ≡ maildir) where
       -- what there was after the tasks that were done
       mid_files : (dones : List Done) (mid : Scene) → Went (AsFiles account) dones old mid → AddsFiles account maildir dones mid.store.maildir
-      mid_files dones mid went = rw (← same_maildir) went.stored.came
+      mid_files dones mid went = came_too maildir.files mid.store.maildir.files (files_of account dones) (rw (← same_maildir) went.stored.came)
+          ∙ ap (λ (fs : List File). without_flags maildir.files ++ fs) (made_files account dones)
 
       module _ {cut : Cut} {new : Scene} (fell : Fell (AsFiles account) tasks old cut new) where
         abbrev Stopped : Course → Type 0
@@ -301,17 +316,17 @@ module _ (laws : Laws) (settings : Settings) (account : List ℕ) (now : ℕ) (m
         -- the next task left the files as they were
         bare : new.store.maildir.files ≡ fell.mid.store.maildir.files → new.file ≡ fell.mid.file → Stopped (course items fell.dones [] (fell.next ∷ []))
         bare same file =
-            lead (tally_no_line laws (p items) starts fell) new.store.maildir new.file.content (same ∙ mid_files fell.dones fell.mid fell.went) (still file)
+            lead (tally_no_line laws (p items) starts fell) new.store.maildir new.file.content (ap without_flags same ∙ mid_files fell.dones fell.mid fell.went) (still file)
 
         -- the file of the next task's text is there
-        files : (number : ℕ) (uid : List ℕ) (reply : WholeReply) → new.store.maildir.files ≡ fell.mid.store.maildir.files ++ file_from account uid reply ∷ []
+        files : (number : ℕ) (uid : List ℕ) (reply : WholeReply) → without_flags new.store.maildir.files ≡ without_flags fell.mid.store.maildir.files ++ file_from account uid reply ∷ []
             → AddsFiles account maildir (fell.dones ++ stored_done number uid reply ∷ []) new.store.maildir
         files number uid reply came = simp (came, mid_files fell.dones fell.mid fell.went, append_assoc, flat_map-append)
 
         -- and the record is one of two
         unsaved : (u : FileNotSaved account fell.next fell.mid new cut) → Stopped (course items (fell.dones ++ stored_done u.number u.uid u.reply ∷ []) [] [])
         unsaved u =
-            let there : AddsFiles account maildir (fell.dones ++ stored_done u.number u.uid u.reply ∷ []) new.store.maildir = files u.number u.uid u.reply u.stored.came in
+            let there : AddsFiles account maildir (fell.dones ++ stored_done u.number u.uid u.reply ∷ []) new.store.maildir = files u.number u.uid u.reply (came_too fell.mid.store.maildir.files new.store.maildir.files (file_from account u.uid u.reply ∷ []) u.stored.came) in
             elim (laws.unsaved fell.mid.file (none_open fell.mid.rows) (none_open (marked fell.mid.rows u.uid)) cut.fault new.file u.saves (fell.went.saved starts.steady)) [
               | inl was ↦
                   lead (tally_old laws (p items) starts fell u.number u.uid u.reply u.is u.talked.good
@@ -327,10 +342,10 @@ module _ (laws : Laws) (settings : Settings) (account : List ℕ) (now : ℕ) (m
             → Stopped (course items fell.dones (spare_in refused refuses) (fell.next ∷ []))
         not_stored refused (inl missing) = bare (ap (λ (m : Maildir). m.files) missing.2) refused.file
         not_stored refused (inr (is, inl same)) = bare (ap (λ (m : Maildir). m.files) same) refused.file
-        not_stored refused (inr (is, inr (done, there))) =
+        not_stored refused (inr (is, inr (done, (is_named, there)))) =
             let whole = refused.whole done in
             lead (tally_spare laws (p items) starts fell refused.number refused.uid whole.0 refused.is whole.1.good (ap WasCut is)) new.store.maildir new.file.content
-            (files refused.number refused.uid whole.0 (rw (there, whole.2) refl)) (still refused.file)
+            (files refused.number refused.uid whole.0 (rw (there, whole.2) (map-append _ fell.mid.store.maildir.files _))) (still refused.file)
 
         stopped : (stops : Stops (AsFiles account) fell.next fell.mid cut new) → Stopped (course_stopped (AsFiles account) items fell.dones fell.next fell.mid new cut stops)
         stopped (inl broken) = bare (ap (λ (s : Stores). s.maildir.files) broken.store) broken.file
@@ -355,14 +370,15 @@ module _ (laws : Laws) (settings : Settings) (account : List ℕ) (now : ℕ) (m
         by_course settings (AsFiles account) now (keeping (in_maildir maildir) file) (λ r c store file'. Leading r c store.maildir file'.content)
         (λ items place cut new is.
         let none : Tally (p items) (Err cut) (course items [] [] []) [] [] (RefusedIn (Err cut)) = tally_none laws (p items) in
-        let same : AddsFiles account maildir [] new.store.maildir = unready_files cut.fault maildir file new.store.maildir new.file is.unready.cause ∙ sym (append-nil maildir.files) in
+        let same : AddsFiles account maildir [] new.store.maildir = ap without_flags (unready_files cut.fault maildir file new.store.maildir new.file is.unready.cause) ∙ sym (append-nil (without_flags maildir.files)) in
         -- the record is as it was
         let stays : KeepsRows new.file.content rows → Leading (Err cut) (course items [] [] []) new.store.maildir new.file.content =
         λ keeps'. record { full = []; noted = []; tally = none; files = same; rows' = rows; keeps = keeps'; recorded = inr (refl, refl, refl, refl) } in
         elim is.unready.content [
           | inl content ↦ stays (rw content keeps)
-          | inr (was, stood, settled, inl left) ↦ stays (was.intent, rw (← same_rows laws.one file.content was.rows rows (was.intent, stood) keeps) left)
-          | inr (was, stood, settled, inr merges) ↦ lead items none new.store.maildir new.file.content same (None, rw (← same_rows laws.one file.content was.rows rows (was.intent, stood) keeps) merges)
+          | inr m ↦
+              let were = same_rows laws.one file.content m.was.rows rows (m.was.intent, m.stood) keeps in
+              ⊎_elim (λ left. stays (m.was.intent, rw (← were) left)) (λ merges. lead items none new.store.maildir new.file.content same (None, rw (← were) merges)) m.stands
         ])
         (λ items place result new skipped is.
         let rows_are : is.mid.rows ≡ rows_on (p items) = rw (is.prepared.rows, same_rows laws.one file.content is.prepared.was.rows rows (is.prepared.was.intent, is.prepared.stood) keeps) refl in
@@ -649,10 +665,11 @@ module _ (laws : Laws) (settings : Settings) (now : ℕ) (before : Keeping) (hel
           | inr (was, stood, inl same) ↦ inl (ap mail_in same)
           | inr (was, stood, inr (bytes, there, settled)) ↦ inr (ap mail_in settled ∙ closed_is was bytes items stood there)
         ]))
-        | inr (was, stood, settled, inl stays) ↦ inl (rests (rw (← same_record laws.one before.file.content was held stood keeps) stays) (inr (ap mail_in (settled_content was items new.store stood settled))))
-        | inr (was, stood, settled, inr merges) ↦
-            inr (lead_closed laws settings now held before.store.mbox items (tally_none laws (mbox_inputs settings now held before.store.mbox items)) new.store.mbox new.file.content [] refl
-            (rw (← rows_are was items stood) merges) (ap mail_in (settled_content was items new.store stood settled) ∙ sym (append-nil _)))
+        | inr m ↦
+            let settled = ap mail_in (settled_content m.was items new.store m.stood m.settles) in
+            ⊎_elim (λ stays. inl (rests (rw (← same_record laws.one before.file.content m.was held m.stood keeps) stays) (inr settled)))
+            (λ merges. inr (lead_closed laws settings now held before.store.mbox items (tally_none laws (mbox_inputs settings now held before.store.mbox items)) new.store.mbox new.file.content [] refl
+            (rw (← rows_are m.was items m.stood) merges) (settled ∙ sym (append-nil _)))) m.stands
       ])
       (λ items place result new skipped is.
       let rows : is.mid.rows ≡ rows_on (mbox_inputs settings now held before.store.mbox items) = rw (is.prepared.rows, rows_are is.prepared.was items is.prepared.stood) refl in

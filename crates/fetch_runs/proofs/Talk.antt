@@ -84,7 +84,7 @@ abbrev pub spare_in : {account : List ℕ} {next : Task} {old new : Scene} {cut 
     → RefusesText old.store.maildir (stem_of account refused.uid) refused.rest refused.text cut.fault new.store.maildir → List WholeReply
 spare_in refused (inl missing) = []
 spare_in refused (inr (is, inl same)) = []
-spare_in refused (inr (is, inr (done, there))) = (refused.whole done).0 ∷ []
+spare_in refused (inr (is, inr (done, (is_named, there)))) = (refused.whole done).0 ∷ []
 
 abbrev pub course_stopped : (target : Target) (items : List Item) (dones : List Done) (next : Task) (mid new : Scene) (cut : Cut) → Stops target next mid cut new → Course
 course_stopped target items dones next mid new cut (inl broken) = course items dones [] (next ∷ [])
@@ -542,7 +542,7 @@ module _ (joining : TurnsJoin) (paced : ConversationsArePaced) (items : List Ite
             → Ahead (AsFiles account) items tasks lines new.lines (Err cut) (course items dones (spare_in refused refuses) (next ∷ [])) first last.link
         ahead_refused (inl missing) = passed took_under refused.lines (λ account reply files e. absurd cc)
         ahead_refused (inr (is, inl same)) = passed took_under refused.lines (λ account reply files e. absurd cc)
-        ahead_refused (inr (is, inr (done, there))) =
+        ahead_refused (inr (is, inr (done, (is_named, there)))) =
             let said = rest_left.0 done in
             let whole = refused.whole done in
             passed (with_spare refused.number refused.uid whole.0 refused.is whole.1 (goes_tail (fronted paced ends new.place last said.0 said.1))) refused.lines (λ other reply files e. ap WasCut is)

@@ -63,7 +63,7 @@ pub record Dealing (settings : Settings) (target : Target) (items : List Item) (
   pub rows : List Row
   pub ahead : Ahead target items (tasks_ahead settings target items now store rows) lines lines' result c start link
   pub open ahead use *
-  pub found : ((mid : Scene) × Prepared target items now start store file lines mid × (mid.rows ≡ rows)) ⊎ (begun_of c ≡ [])
+  pub found : ((mid : Scene) × Prepared settings target items now start store file lines mid × (mid.rows ≡ rows)) ⊎ (begun_of c ≡ [])
 
 module _ (joining : TurnsJoin) (paced : ConversationsArePaced) where
   ahead_does : (target : Target) (items : List Item) (tasks : List Task) (old new : Scene) (result : Result (Unit {0}) Cut) (link : Link) → (does : Does target tasks old result new)
@@ -399,7 +399,7 @@ module _ (joins : TurnsJoin) (granted : HonestIsGranted) (settings : Settings) (
   abbrev ready : Scene
   ready = record u.ready { place = entered }
 
-  prepared : Prepared (AsFiles account) u.items now entered (in_maildir before.maildir) before.file [] ready
+  prepared : Prepared settings (AsFiles account) u.items now entered (in_maildir before.maildir) before.file [] ready
   prepared = search u.prepared
 
   open u.last.place use {waiting as waits}

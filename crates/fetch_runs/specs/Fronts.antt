@@ -28,7 +28,7 @@ pub record Uncut (settings : Settings) (account : List ℕ) (now : ℕ) (link : 
   pub entered : Place
   pub enters : Enters_with settings (at link []) (Ok items) entered
   pub ready : Scene
-  pub prepared : Prepared (AsFiles account) items now entered (in_maildir before.maildir) before.file [] ready
+  pub prepared : Prepared settings (AsFiles account) items now entered (in_maildir before.maildir) before.file [] ready
   pub dones : List Done
   pub tasks : tasks_ahead settings (AsFiles account) items now (in_maildir before.maildir) ready.rows ≡ tasks_of dones
   pub last : Scene

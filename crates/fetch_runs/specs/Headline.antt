@@ -19,7 +19,7 @@ use Rattle.fetch_session.specs.Session.{AccountFiles, Session, account_files}
 use Rattle.fetch_session.specs.declared.report.Outcome.TheVariants.{Ended}
 use Rattle.fetch_session.specs.declared.report.Report.{Report}
 use Rattle.run_law.specs.Mails.{is_selected, messages_after, selected, texts_of}
-use Rattle.run_law.specs.Accounts.{AccountMail, KeepsOthers, copies, files}
+use Rattle.run_law.specs.Accounts.{AccountMail, KeepsOthers, copies, files, without_flags}
 use Rattle.run_law.specs.Runs.{World, IsSound, State, IsHeldOrTaken, IsNeither, Kept as IsKeptIn, HoldsExactly, HoldsWhatIsLeft}
 use Rattle.run_law.specs.Promises.{DeletesOneOf}
 use Rattle.run_law.specs.Runs.{Event, Fetched, Between, Expired, Withdrawn, TakenAway, BroughtBack, Forgotten, PowerLost}
@@ -196,7 +196,7 @@ OthersStay world before after = KeepsOthers world.account (holds [] before.accou
 -- was added comes after them: so a session loses none
 pub record FilesStay (before after : Maildir) : Type 0 where
   pub gained : List File
-  pub came : after.files ≡ before.files ++ gained
+  pub came : without_flags after.files ≡ without_flags before.files ++ gained
 
 -- if delivered messages aren't read again, none that is recorded as delivered is stored, and it stays recorded
 abbrev pub StoresOnlyNew : World → State AccountFiles → Occasion AccountFiles → Type 0

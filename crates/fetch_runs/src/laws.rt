@@ -7,8 +7,8 @@ ghost use Rattle.fetch_runs.specs.Headline.{EmptyIsKept, Headline, HeadlineFromE
 ghost use Rattle.fetch_runs.specs.Headline.{LostRecordsAreForgotten, NewProcessesAreBetween, StaysAway};
 ghost use Rattle.fetch_runs.specs.Headline.{StopsAreRuns, TakingsAreEvents};
 ghost use Rattle.fetch_runs.specs.MboxCalls.{MboxCallsAreSessions, MboxCallsKeepPromises};
-ghost use Rattle.fetch_runs.specs.Power.{AllMayBeOnDisk, AsMuchIsSure, EventsKeepPower, HeadlineOn};
-ghost use Rattle.fetch_runs.specs.Power.{LossesAreEvents, SessionsAndPower, TakingsRunOn};
+ghost use Rattle.fetch_runs.specs.Power.{AllMayBeDurable, EventsKeepPower, HeadlineOn, LossesAreEvents};
+ghost use Rattle.fetch_runs.specs.Power.{SessionsAndPower, TakingsRunOn};
 ghost use Rattle.fetch_runs.specs.Steps.{AnyServer, HonestSessions, MboxAnyServer, MboxHonestSessions};
 ghost use Rattle.fetch_runs.specs.Steps.{MboxSessionIsAStep, MboxSessionsAddTexts, SessionIsAStep};
 
@@ -19,8 +19,8 @@ use fetch_rules::{
 };
 use fetch_session::{sessions_by_store, steady_files_keep, unsaved_files_keep};
 use mail_store::{
-    FlatFile, MaildirDisk, entries_add_texts, flags_tell_what_is_held, names_are_bases,
-    names_have_stems, stems_differ,
+    FlatFile, MaildirDisk, calls_keep_files_flushed, entries_add_texts, flags_tell_what_is_held,
+    losses_leave_what_is_durable, names_are_bases, names_have_stems, stems_differ,
 };
 use pop3_client::{conversations_are_paced, turns_join};
 use pop3_wire::{Wire, fronts_are_asked};
@@ -149,25 +149,27 @@ pub fn recorded_stay_away()
     headline();
 }
 
-/// A loss of power is part of a run, whatever it may leave of the Maildir and of a record's file that can
-/// be read, if a file of each message stays, but perhaps of the last that was stored or of what was
-/// taken away before, and no more may be left of the record than it shows and they hold.
-pub fn losses_are_events<D: MaildirDisk, F: FlatFile>()
-    ensures { LossesAreEvents D.MaildirDisk F.FlatFile }
+/// A loss of power is part of a run, whatever it leaves of the Maildir and of a record's file that can be
+/// read, if the bytes of all files are durable and so is the name of a file of each message, but perhaps of the
+/// last that was stored or of what was taken away before, and no more may be left of the record than it shows
+/// and such files hold.
+pub fn losses_are_events<F: FlatFile>()
+    ensures { LossesAreEvents F.FlatFile }
 {
     headline();
+    losses_leave_what_is_durable();
 }
 
-/// So it is if all is on the disk.
-pub fn all_on_disk<D: MaildirDisk, F: FlatFile>()
-    ensures { AllMayBeOnDisk D.MaildirDisk F.FlatFile }
+/// So it is if all is durable.
+pub fn all_durable<F: FlatFile>()
+    ensures { AllMayBeDurable F.FlatFile }
 {
     files_stand_for_one_record();
 }
 
 /// So it is after a session, if it was before.
-pub fn sessions_and_power<D: MaildirDisk, F: FlatFile>()
-    ensures { SessionsAndPower D.MaildirDisk F.FlatFile }
+pub fn sessions_and_power<F: FlatFile>()
+    ensures { SessionsAndPower F.FlatFile }
 {
     headline();
     session_is_a_step();
@@ -186,44 +188,38 @@ pub fn sessions_and_power<D: MaildirDisk, F: FlatFile>()
     unsaved_files_keep();
 }
 
-/// What devices made anew leave, if it is as much as the last ones left, is kept, also while readers
-/// take files away.
-#[tactic(auto, using(crate::proofs::Power::as_much_is_sure))]
-pub fn as_much_is_sure<D: MaildirDisk, F: FlatFile>()
-    ensures { AsMuchIsSure D.MaildirDisk F.FlatFile }
-{
-    headline();
-}
-
-/// Files that readers take away from a kept state, also during a session, are events over its devices.
+/// Files that readers take away from a kept state, also during a session, are events, also over a device of
+/// the record's file made anew, of which a loss of power leaves no more.
 #[tactic(auto, using(crate::proofs::Power::takings_run_on))]
-pub fn takings_run_on<D: MaildirDisk, F: FlatFile>()
-    ensures { TakingsRunOn D.MaildirDisk F.FlatFile }
+pub fn takings_run_on<F: FlatFile>()
+    ensures { TakingsRunOn F.FlatFile }
 {
     headline();
     stems_differ();
+    calls_keep_files_flushed();
 }
 
-/// Each event keeps it, with what its devices keep; a loss of power is an event, and leaves devices from
-/// which it goes on.
+/// Each event keeps it, with what is kept besides; a loss of power is an event, and leaves a state from which it
+/// goes on.
 #[tactic(auto, using(crate::proofs::Power::events_keep_power))]
-pub fn events_keep_power<D: MaildirDisk, F: FlatFile>()
-    ensures { EventsKeepPower D.MaildirDisk F.FlatFile }
+pub fn events_keep_power<F: FlatFile>()
+    ensures { EventsKeepPower F.FlatFile }
 {
     files_stand_for_one_record();
-    losses_are_events::<D, F>();
-    all_on_disk::<D, F>();
-    sessions_and_power::<D, F>();
+    losses_leave_what_is_durable();
+    losses_are_events::<F>();
+    all_durable::<F>();
+    sessions_and_power::<F>();
 }
 
-/// The headline over devices: after any list of sessions, losses of power and other events, each with
-/// what its devices keep, all that the headline promises holds.
-pub fn headline_over_devices<D: MaildirDisk, F: FlatFile>()
-    ensures { HeadlineOn D.MaildirDisk F.FlatFile }
+/// The headline over the device of the record's file: after any list of sessions, losses of power and other
+/// events, each with what is kept besides, all that the headline promises holds.
+pub fn headline_over_devices<F: FlatFile>()
+    ensures { HeadlineOn F.FlatFile }
 {
     headline();
     worlds_shrink();
-    events_keep_power::<D, F>();
+    events_keep_power::<F>();
 }
 
 /// A record's file that is missing or empty is one that forgot, whatever it held.

@@ -1,3 +1,4 @@
+mod DurableLemmas
 mod MessagePreviewLemmas
 mod PartLemmas
 mod ReadyLemmas

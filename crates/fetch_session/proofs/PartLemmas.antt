@@ -1,5 +1,5 @@
 -- What parts of a session keep and do, one after the other, and QUIT at their end.
-use Rattle.std.proofs.Common.{rules, ◌≡◌, ◌≤◌, ◌+◌, ◌*◌, ℕ, Bool, true, false, List, [], ◌∷◌, ◌++◌, length, None, Result, Ok, Err, IfErr, OnOk, refl, sym, ap, subst, ◌∙◌, inl, arith, append_assoc, length-append, Vec, Global, Option, inr}
+use Rattle.std.proofs.Common.{rules, ◌≡◌, ◌≤◌, ◌+◌, ◌*◌, ℕ, Bool, true, false, List, [], ◌∷◌, ◌++◌, length, None, Result, Ok, Err, OnErr, OnOk, refl, sym, ap, subst, ◌∙◌, inl, arith, append_assoc, length-append, Vec, Global, Option, inr}
 use Rattle.std.proofs.lemmas.Grind.{flat_map-append}
 use Rattle.std.proofs.lemmas.Result.{on_ok_weaker}
 use Rattle.std.specs.List.{AllByRecursion}
@@ -7,7 +7,7 @@ use Rattle.mail_terms.specs.Listing.{Item}
 use Rattle.mail_store.specs.declared.file.flat_file.FlatFile.{Ghosts as FileGhosts}
 use Rattle.mail_store.specs.declared.maildir.disk.MaildirDisk.{Ghosts as DiskGhosts}
 use Rattle.mail_store.specs.FileName.{stem_of}
-use Rattle.mail_store.specs.Maildir.{Maildir}
+use Rattle.mail_store.specs.Maildir.{AllNamed, Maildir}
 use Rattle.fetch_rules.specs.Record.{Row, has_row, none_open, marked, marked_all}
 use Rattle.fetch_rules.specs.declared.steps.Step.{Step}
 use Rattle.mail_terms.specs.FailureCount.{Tallies}
@@ -26,7 +26,7 @@ use Rattle.fetch_session.specs.declared.work.Ledger.{Ledger}
 use Rattle.fetch_session.specs.declared.work.Work.{Work}
 use Rattle.fetch_session.specs.Fault.{cut_of, fault_of}
 use Rattle.fetch_session.specs.Refusal.{Took, TookTillCut, TookWithTail, step_limit, tail_limit}
-use Rattle.fetch_session.specs.Lasting.{AreLeft, CutLasts, DoesAndLasts, IsSafe, IsSafeWork, KeepsMailIn, KeepsWork, Leaves, NewOutlive, IsSafeStore, KeepsMboxIn}
+use Rattle.fetch_session.specs.Lasting.{AreLeft, CutLasts, DoesAndLasts, IsSafe, IsSafeStore, IsSafeWork, KeepsMboxIn, KeepsWork, Leaves}
 use Rattle.fetch_session.specs.Parts.{DoesTasks, RunsTasks, IsReadyFor, KeepsLedger, KeepsLink, KeepsStore, IsReady, IsWritten, WhereWorkSound, scene_of}
 use Rattle.fetch_session.specs.Record.{Steady}
 use Rattle.fetch_session.specs.Report.{Adds}
@@ -37,7 +37,7 @@ use Rattle.fetch_session.specs.Target.{Target, is_sound, kind_of, stores_of, tar
 use Rattle.fetch_session.specs.Task.{Task, stores, ids_in, ids_ahead, turns_in, turns_ahead, AreFresh, fetching, deleting, tasks_in, tasks_planned, says}
 use Rattle.fetch_session.proofs.ReadyLemmas.{fetched_all, OneMore, ahead, fresh_grows}
 use Rattle.fetch_session.proofs.TalkLemmas.{most_tail, takes_on, took_broke, took_less, took_nothing, with_tail_on, cut_by, till_cut}
-use Rattle.fetch_session.proofs.SessionLemmas.{good_before, good_more, if_err, in_kind, keeps_mail_on, keeps_same, none_came, none_lasts, nothing_cut, rows_last, same_left, scene_at, texts_ok}
+use Rattle.fetch_session.proofs.SessionLemmas.{good_before, good_more, in_kind, keeps_same, none_lasts, nothing_cut, rows_last, same_left, scene_at, texts_ok}
 use Rattle.fetch_session.proofs.SceneLemmas.{did_then, all_append, all_sound, all_none, all_weaker, fell_first, on_any}
 use Rattle.mail_store.specs.FlatFile.{Stored}
 use Rattle.mail_store.specs.declared.file.flat_file.Edges.{Edges}
@@ -49,6 +49,14 @@ use Rattle.fetch_session.specs.Mbox.{IsTold, LooksAgain}
 on_both : {T E P Q R : Type 0} (result : Result T E) → (P → Q → R) → OnOk result P → OnOk result Q → OnOk result R
 on_both (Ok done) to p q = to p q
 on_both (Err fault) to p q = tt
+
+on_under : {T E P : Type 0} (Q : Type 0) (result : Result T E) → (P → OnOk result Q) → OnOk result (P → Q)
+on_under Q (Ok done) to = to
+on_under Q (Err fault) to = tt
+
+pub on_err : {T E P : Type 0} (result : Result T E) → P → OnErr result P
+on_err (Ok done) p = tt
+on_err (Err fault) p = p
 
 -- a task was cut before its id was marked
 pub same_ledger : {F H Z : Type 0} {file : FileGhosts F} (uid : List ℕ) (ledger : Ledger F H Z) (cut : Cut) → IsWritten file ledger → KeepsLedger file uid ledger (Err cut) ledger
@@ -126,6 +134,7 @@ ready_front {D} {F} {H} {Z} {disk} {file} {account} {work} xs ys ready =
       legal = all_front _ (ids_ahead xs) _ (rw split at ready.legal);
       rows = all_front _ (ids_ahead xs) _ (rw split at ready.rows);
       free = λ d. fresh_front account (stores_of disk file work.store).maildir (ids_ahead xs) _ (rw split at (ready.free d));
+      named = λ d. all_front _ (ids_ahead xs) _ (rw split at (ready.named d));
     }
 
 -- ---- the link
@@ -203,7 +212,7 @@ module _ {W D F H Z : Type 0} {link : WireGhosts W} {disk : DiskGhosts D} {file 
     record {
       talk = link_still;
       store = record { lines = (omega arith, omega arith); kind = refl; none_begun = λ d. (d, ready.none_begun d) };
-      lasts = λ d f. (f, (λ name is. is, λ g is. is), λ safe. safe);
+      lasts = λ d f. (f, λ safe. safe);
       idle = λ none. refl;
       next = λ later ready. ready;
     },
@@ -214,7 +223,7 @@ module _ {W D F H Z : Type 0} {link : WireGhosts W} {disk : DiskGhosts D} {file 
       same _,
       record {
         does = all_none (target_of w.store account) _;
-        lasts = λ safe. let steady = ready.written.steady f in none_lasts disk file (target_of w.store account) (place_of link c) w w [] safe (keeps_same disk file w) steady (same_left file w.ledger.file safe.0 steady);
+        lasts = λ safe. let steady = ready.written.steady f in none_lasts disk file (target_of w.store account) (place_of link c) w w [] safe (keeps_same file w) steady (same_left file w.ledger.file safe.0 steady);
       },
     ),
   )
@@ -228,7 +237,7 @@ module _ {W D F H Z : Type 0} {link : WireGhosts W} {disk : DiskGhosts D} {file 
       lasts = λ d f.
           let later = then.lasts d f in
           let before = first.lasts (then.store.none_begun d).0 later.0 in
-          (before.0, keeps_mail_on before.1 later.1, λ safe. later.2 (before.2 safe));
+          (before.0, λ safe. later.1 (before.1 safe));
       idle = λ none. let both = none_both (ids_ahead xs) (ids_ahead ys) (sym (flat_map-append ids_in xs ys) ∙ none) in then.idle both.1 ∙ first.idle both.0;
       next = on_ok_weaker r (λ next later ready. next later (first.next (ys ++ later) (rw append_assoc at ready))) then.next;
     },
@@ -239,8 +248,7 @@ module _ {W D F H Z : Type 0} {link : WireGhosts W} {disk : DiskGhosts D} {file 
           before.1,
           before.2,
           on _ _ _ before.3 later.3,
-          good_more joining r w'.store before.4.does (λ safe. (before.4.lasts safe).texts) (then.lasts d f).1
-              (in_kind w'.store w.store account first.store.kind later.4 (first.lasts later.1 later.2).2),
+          good_more joining r before.4.does (in_kind w'.store w.store account first.store.kind later.4 (first.lasts later.1 later.2).1),
         ),
   )
 
@@ -258,44 +266,45 @@ module _ {W D F H Z : Type 0} {link : WireGhosts W} {disk : DiskGhosts D} {file 
 
 -- ---- one task
 
-module _ {D F H Z : Type 0} {disk : DiskGhosts D} {file : FileGhosts F} where
-  -- what a task did, and what of it outlives a loss of power
-  pub good_task : (target : Target) (task : Task) (a b : Place) (old new : Work D F H Z) (r : Result (Unit {0}) Cut) → TakesTask target task (scene_at disk file a old) r (scene_at disk file b new)
-      → KeepsWork disk file old new → Steady (file.stored old.ledger.file).content (none_open old.ledger.seen.rows)
-      → OnOk r (Steady (file.stored new.ledger.file).content (none_open new.ledger.seen.rows))
-      → (IsSafeWork file old → OnOk r (IsSafeWork file new × NewOutlive disk file old.store new.store))
-      → (IsSafeWork file old → Leaves file new.ledger.file (AreLeft old.ledger.seen.rows (marked_all old.ledger.seen.rows (ids_in task))))
-      → (IsSafeWork file old → IfErr r (λ cut. CutLasts disk file target cut (scene_at disk file a old) (scene_at disk file b new) new.store new.ledger.file))
-      → DoesAndLasts disk file (IsSafeWork file old) target (task ∷ []) (scene_at disk file a old) r (scene_at disk file b new) new.store new.ledger.file
-  unfolding fell_first
-  good_task target task a b old new (Ok done) took keeps steady written lasts left next = record {
-    does = record { dones = record { task = task; replies = took.0 } ∷ []; all = refl; went = took.1 };
-    lasts = λ safe. record {
-      texts = texts_ok disk file target (record { task = task; replies = took.0 } ∷ []) old.store new.store took.1.stored (lasts safe).1 (lasts safe).0.1;
-      rows = rw took.1.rows at (rows_last file new.ledger.file new.ledger.seen.rows (lasts safe).0.0 written);
-      left = subst (λ rows. Leaves file new.ledger.file (AreLeft rows rows)) took.1.rows (same_left file new.ledger.file (lasts safe).0.0 written);
-    };
-  }
-  good_task target task a b old new (Err cut) took keeps steady written lasts left next = record {
-    does = fell_first target task [] _ _ cut took;
-    lasts = λ safe. (none_lasts disk file target a old new (ids_in task) safe keeps steady (left safe), next safe);
-  }
+-- what a task did, and what of it outlives a loss of power
+pub good_task : {D F H Z : Type 0} (disk : DiskGhosts D) {file : FileGhosts F} (target : Target) (task : Task) (a b : Place) (old new : Work D F H Z) (r : Result (Unit {0}) Cut) → TakesTask target task (scene_at disk file a old) r (scene_at disk file b new)
+    → KeepsWork file old new → Steady (file.stored old.ledger.file).content (none_open old.ledger.seen.rows)
+    → OnOk r (Steady (file.stored new.ledger.file).content (none_open new.ledger.seen.rows))
+    → (IsSafeWork file old → OnOk r (IsSafeWork file new))
+    → (IsSafeWork file old → Leaves file new.ledger.file (AreLeft old.ledger.seen.rows (marked_all old.ledger.seen.rows (ids_in task))))
+    → (IsSafeWork file old → OnErr r (CutLasts file target (scene_at disk file a old) (scene_at disk file b new) new.ledger.file))
+    → DoesAndLasts file (IsSafeWork file old) target (task ∷ []) (scene_at disk file a old) r (scene_at disk file b new) new.store new.ledger.file
+unfolding fell_first
+good_task disk {file} target task a b old new (Ok done) took keeps steady written lasts left next = record {
+  does = record { dones = record { task = task; replies = took.0 } ∷ []; all = refl; went = took.1 };
+  lasts = λ safe. record {
+    texts = texts_ok disk file target (record { task = task; replies = took.0 } ∷ []) old.store new.store took.1.stored (lasts safe).1;
+    rows = rw took.1.rows at (rows_last file new.ledger.file new.ledger.seen.rows (lasts safe).0 written);
+    left = subst (λ rows. Leaves file new.ledger.file (AreLeft rows rows)) took.1.rows (same_left file new.ledger.file (lasts safe).0 written);
+  };
+}
+good_task disk {file} target task a b old new (Err cut) took keeps steady written lasts left next = record {
+  does = fell_first target task [] _ _ cut took;
+  lasts = λ safe. (none_lasts disk file target a old new (ids_in task) safe keeps steady (left safe), next safe);
+}
 
+module _ {D F H Z : Type 0} {disk : DiskGhosts D} {file : FileGhosts F} where
   -- a text that is stored
   pub runs_taking : {W : Type 0} {link : WireGhosts W} {account : List ℕ} → OneMore → (number : ℕ) (uid : List ℕ) {c c' : Client W} {w w' : Work D F H Z} (r : Result (Unit {0}) Cut)
       → IsWritten file w.ledger → KeepsLink link (TookTillCut (line_limit + text_limit)) c r c' → KeepsLedger file uid w.ledger r w'.ledger → kind_of w'.store ≡ kind_of w.store
-      → (is_sound disk file w'.store → is_sound disk file w.store × MayGain (stem_of account uid) (stores_of disk file w.store).maildir (stores_of disk file w'.store).maildir)
+      → (is_sound disk file w'.store → is_sound disk file w.store × MayGain (stem_of account uid) (stores_of disk file w.store).maildir (stores_of disk file w'.store).maildir
+      × OnOk r (AllNamed (stores_of disk file w'.store).maildir.files))
       → WhereWorkSound link disk file c w c' w' (λ old new. TakesTask (target_of w.store account) (stores number uid) old r new)
-      → (is_sound disk file w'.store → file.sound w'.ledger.file → KeepsWork disk file w w' × (IsSafeWork file w → OnOk r (IsSafeWork file w' × NewOutlive disk file w.store w'.store)
-      × IfErr r (λ cut. CutLasts disk file (target_of w.store account) cut (scene_of link disk file c w) (scene_of link disk file c' w') w'.store w'.ledger.file)))
+      → (is_sound disk file w'.store → file.sound w'.ledger.file → KeepsWork file w w' × (IsSafeWork file w → OnOk r (IsSafeWork file w')
+      × OnErr r (CutLasts file (target_of w.store account) (scene_of link disk file c w) (scene_of link disk file c' w') w'.ledger.file)))
       → RunsTasks link disk file account (stores number uid ∷ []) c w r c' w'
   runs_taking {link = link} {account} law number uid {c} {c'} {w} {w'} r written talk ledger kind grows takes lasts = (
     record {
       talk = talk;
       store = record { lines = ledger.lines; kind = kind; none_begun = λ d. ((grows d).0, (grows d).1.none_begun) };
-      lasts = λ d f. (ledger.sound f, (lasts d f).0.0, λ safe. on_ok_weaker r (λ all. all.0) ((lasts d f).1 safe).0);
+      lasts = λ d f. (ledger.sound f, λ safe. ((lasts d f).1 safe).0);
       idle = λ none. absurd cc;
-      next = on_both r (λ written rows later before. record {
+      next = on_both r (λ written (rows, named) later before. record {
         digits = before.digits;
         room = omega (arith, before.room, ledger.lines.0, ledger.lines.1);
         ready = record { none_begun = λ d. (grows d).1.none_begun; written = written };
@@ -305,9 +314,10 @@ module _ {D F H Z : Type 0} {disk : DiskGhosts D} {file : FileGhosts F} where
             let grew = grows d in
             let fresh = before.free grew.0 in
             fresh_grows law account uid (ids_ahead later) (stores_of disk file w.store).maildir (stores_of disk file w'.store).maildir before.digits fresh.0 fresh.2 grew.1 fresh.3;
-      }) ledger.written ledger.rows;
+        named = λ d. all_weaker _ _ (ids_ahead later) (λ id was. named d) (before.named (grows d).0).1;
+      }) ledger.written (on_both r (λ rows named. (rows, named)) ledger.rows (on_under (AllNamed (stores_of disk file w'.store).maildir.files) r (λ d. (grows d).2)));
     },
-    λ s d f. did_then (takes s d f) (λ took. good_task (target_of w.store account) (stores number uid) (place_of link c) (place_of link c') w w' r took (lasts d f).0
+    λ s d f. did_then (takes s d f) (λ took. good_task disk (target_of w.store account) (stores number uid) (place_of link c) (place_of link c') w w' r took (lasts d f).0
         (written.steady (ledger.sound f)) (on_ok_weaker r (λ is. is.steady f) ledger.written) (λ safe. ((lasts d f).1 safe).0) (λ safe. ledger.left f safe.0) (λ safe. ((lasts d f).1 safe).1)),
   )
 
@@ -318,9 +328,9 @@ module _ {D F H Z : Type 0} {disk : DiskGhosts D} {file : FileGhosts F} where
       → IsReady disk file work → DoesTasks link disk file account (task ∷ []) client work r client' (record work { ledger = record work.ledger { lines = lines } })
   does_talking link account task client client' work lines r talked ready = all_sound talked (λ d. (d, tt {0})) (λ f. (f, f)) (λ took _ f.
       let steady = ready.written.steady f in
-      good_task (target_of work.store account) task (place_of link client) (place_of link client') work (record work { ledger = record work.ledger { lines = lines } }) r took
-      (keeps_same disk file work) steady (on_any r steady) (λ safe. on_any r (safe, none_came disk file work.store work.store refl)) (λ safe. same_left file work.ledger.file safe.0 steady)
-      (λ safe. if_err r (λ cut. nothing_cut disk file (target_of work.store account) cut _ _ work.store work.ledger.file (same_left file work.ledger.file safe.0 steady) refl)))
+      good_task disk (target_of work.store account) task (place_of link client) (place_of link client') work (record work { ledger = record work.ledger { lines = lines } }) r took
+      (keeps_same file work) steady (on_any r steady) (λ safe. on_any r safe) (λ safe. same_left file work.ledger.file safe.0 steady)
+      (λ safe. on_err r (nothing_cut file (target_of work.store account) _ _ work.ledger.file (same_left file work.ledger.file safe.0 steady))))
 
 -- ---- what the look left
 
@@ -350,7 +360,7 @@ pub record Looked {D F H Z : Type 0} (disk : DiskGhosts D) (file : FileGhosts F)
   pub ready : IsReady disk file work
   pub kind : kind_of store ≡ kind_of work.store
   pub same : is_sound disk file store → is_sound disk file work.store × ((stores_of disk file store).maildir ≡ (stores_of disk file work.store).maildir)
-  pub keeps : is_sound disk file store → KeepsMailIn disk work.store store × KeepsMboxIn disk file work.store store
+  pub keeps : is_sound disk file store → KeepsMboxIn file work.store store
 
 module _ {D F H Z : Type 0} {disk : DiskGhosts D} {file : FileGhosts F} {work : Work D F H Z} {store : Store D F} (is : Looked disk file work store) where
   abbrev pub left : Work D F H Z
@@ -372,7 +382,7 @@ module _ {D F H Z : Type 0} {disk : DiskGhosts D} {file : FileGhosts F} {work : 
     record {
       talk = talk;
       store = store_less (omega arith) quitting_store;
-      lasts = λ d f. (f, (is.keeps d).0, λ sure. on_ok_weaker r (λ s. (sure.0, s)) (safe d sure.1));
+      lasts = λ d f. (f, λ sure. on_ok_weaker r (λ s. (sure.0, s)) (safe d sure.1));
       idle = λ none. refl;
       next = on_any r (λ later before. record {
         digits = before.digits;
@@ -381,6 +391,7 @@ module _ {D F H Z : Type 0} {disk : DiskGhosts D} {file : FileGhosts F} {work : 
         legal = before.legal;
         rows = before.rows;
         free = λ d. rw (is.same d).1 (before.free (is.same d).0);
+        named = λ d. rw (is.same d).1 (before.named (is.same d).0);
       });
     },
     λ s d f.
@@ -390,9 +401,9 @@ module _ {D F H Z : Type 0} {disk : DiskGhosts D} {file : FileGhosts F} {work : 
           (is.same d).0,
           f,
           all.1,
-          good_task (target_of work.store account) (says quit) _ _ work left r all.2 ((is.keeps d).0, (is.keeps d).1, λ last. last) steady (on_any r steady)
-              (λ sure. on_ok_weaker r (λ s. ((sure.0, s), none_came disk file work.store store (is.same d).1)) (safe d sure.1))
+          good_task disk (target_of work.store account) (says quit) _ _ work left r all.2 (is.keeps d, λ last. last) steady (on_any r steady)
+              (λ sure. on_ok_weaker r (λ s. (sure.0, s)) (safe d sure.1))
               (λ sure. same_left file work.ledger.file sure.0 steady)
-              (λ sure. if_err r (λ cut. nothing_cut disk file (target_of work.store account) cut _ _ store work.ledger.file (same_left file work.ledger.file sure.0 steady) (ap (λ (m : Maildir). m.files) (is.same d).1))),
+              (λ sure. on_err r (nothing_cut file (target_of work.store account) _ _ work.ledger.file (same_left file work.ledger.file sure.0 steady))),
         ),
   )

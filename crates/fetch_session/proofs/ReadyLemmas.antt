@@ -1,5 +1,5 @@
 -- What is planned and which ids stay fresh, what a session has ready, or why it isn't ready, and what of it outlives a loss of power.
-use Rattle.std.proofs.Common.{◌≡◌, ◌≢◌, inl, inr, ◌<◌, ◌+◌, ℕ, suc, Bool, true, false, List, [], ◌∷◌, ◌++◌, drop, get_or, length, refl, sym, ap, ◌∙◌, arith, append_assoc, ◌||◌, bytes_eq, drop-cons, not, map, take, Option, Ok, subst, HoldsAt, Result, Err, All, IfOk, ⊎_elim, None, append-nil}
+use Rattle.std.proofs.Common.{◌≡◌, ◌≢◌, inl, inr, ◌<◌, ◌+◌, ℕ, suc, Bool, true, false, List, [], ◌∷◌, ◌++◌, drop, get_or, length, refl, sym, ap, ◌∙◌, arith, append_assoc, ◌⊎◌, ◌||◌, bytes_eq, drop-cons, not, map, take, Option, Ok, subst, HoldsAt, Result, Err, All, IfOk, ⊎_elim, None, append-nil}
 use Rattle.std.specs.List.{AllByRecursion}
 use Rattle.std.proofs.lemmas.Bool.{false_from_ne_true, true≢false, or_parts}
 use Rattle.std.proofs.lemmas.Grind.{flat_map-append}
@@ -7,8 +7,8 @@ use Rattle.std.proofs.lemmas.Slice.Eq.{bytes_eq-Decides}
 use Rattle.mail_terms.specs.UniqueId.{IsLegalId}
 use Rattle.mail_terms.specs.Listing.{Item, has_item, numbered}
 use Rattle.fetch_rules.specs.declared.steps.Step.{Step}
-use Rattle.mail_store.specs.Maildir.{Maildir, WereTaken, with_file, File}
-use Rattle.mail_store.specs.FileName.{mail_file, stem_of, is_held, IsAccountText}
+use Rattle.mail_store.specs.Maildir.{AreReached, File, Maildir, WereTaken, with_file}
+use Rattle.mail_store.specs.FileName.{mail_file, sized_file, stem_of, is_held, IsAccountText}
 use Rattle.fetch_session.specs.Task.{Task, ids_ahead, AreFresh, fetching, deleting, tasks_in, tasks_planned}
 use Rattle.fetch_session.specs.Store.{MayGain}
 use Rattle.std.proofs.lemmas.List.Folds.{list_any-append, list_any_at}
@@ -17,15 +17,14 @@ use Rattle.mail_store.specs.declared.file.flat_file.FlatFile.{Ghosts as FileGhos
 use Rattle.fetch_session.specs.declared.account.Store.{Store}
 use Rattle.fetch_session.specs.declared.account.Store.TheVariants.{Maildir as InMaildir, Mboxrd as InMbox}
 use Rattle.fetch_session.specs.Target.{flags_in, stores_of, target_of, Stores, in_maildir, kind_of, with_maildir, AfterTakingIn, AsFiles, Target, AsEntries, closed_file, rows_in, Kind, Files, Entries, in_mbox}
-use Rattle.mail_store.specs.Held.{flags_of, FoundOutlive}
+use Rattle.mail_store.specs.Held.{flags_of}
 use Rattle.fetch_rules.specs.Laws.{FetchesFirsts}
 use Rattle.fetch_session.proofs.SceneLemmas.{all_append, all_weaker, read_keeps, steady_keeps, not_whole, read_steady}
 use Rattle.std.proofs.lemmas.List.{map-append, take_more, length-map}
 use Rattle.fetch_rules.specs.Record.{Loaded, Row, is_delivered, Intent, RecordState, has_row, none_open, merged, IsRecord}
-use Rattle.fetch_rules.specs.RecordGrowth.{OneRecord}
 use Rattle.fetch_session.specs.declared.readiness.Found.{Found}
-use Rattle.fetch_session.specs.Lasting.{FoundLast, FoundLastIn, NewsLast, KeepsLeftIn, KeepsMailIn, ReadiesAndLasts, ReadyLasts, AllStayIn, IsSafe, IsSafeStore, LeavesMerged}
-use Rattle.fetch_session.specs.Readiness.{FindsIn, Unready, CausesUnready, FindsRefused, MboxUnready, Settles, UnreadyCause, merged_in, AreAsHeld, ChecksStore, HasPlan, IsIdle, Readies, Rests}
+use Rattle.fetch_session.specs.Lasting.{IsSafe, IsSafeStore, LeavesMerged, ReadiesAndLasts, ReadyLasts, UnlessQuiet, UnreadyLasts}
+use Rattle.fetch_session.specs.Readiness.{AreDurable, FindsIn, IsMergedAtMost, CausesUnready, FindsRefused, MboxUnready, Settles, UnreadyCause, merged_in, AreAsHeld, ChecksStore, HasPlan, IsIdle, Readies, Rests}
 use Rattle.fetch_session.specs.Record.{ReadAs, IsSecured, Reads, Keeps, Merges, record_state_in}
 use Rattle.fetch_rules.specs.Plan.{IsQuiet, planned, step_of}
 use Rattle.mail_store.specs.FlatFile.{Stored}
@@ -51,12 +50,19 @@ abbrev pub OneMore : Type 0
 OneMore = (account a b content : List ℕ) (maildir : Maildir) → IsAccountText account → IsLegalId a → IsLegalId b
     → is_held account (with_file maildir (mail_file account a content)) b ≡ (is_held account maildir b || bytes_eq b a)
 
+-- whether an id is held doesn't depend on what is durable
+by_names : (account uid : List ℕ) (maildir : Maildir) (f : File) (is_named : Bool)
+    → is_held account (with_file maildir (record f { is_named = is_named })) uid ≡ is_held account (with_file maildir f) uid
+by_names account uid maildir f is_named =
+    list_any-append _ maildir.files (record f { is_named = is_named } ∷ []) ∙ sym (list_any-append _ maildir.files (f ∷ []))
+
 still_free : OneMore → (account uid other : List ℕ) (a b : Maildir) → IsAccountText account → IsLegalId uid → IsLegalId other → other ≢ uid → MayGain (stem_of account uid) a b
     → is_held account a other ≡ false → is_held account b other ≡ false
 still_free law account uid other a b text legal legal' apart grows free =
     elim grows.came [
       | inl same ↦ rw same free
-      | inr more ↦ rw more.1 (law account uid other more.0 a text legal legal' ∙ ap (λ (k : Bool). k || bytes_eq other uid) free
+      | inr (content, is_named, more) ↦ rw more (by_names account other a (sized_file (stem_of account uid) content) is_named
+          ∙ law account uid other content a text legal legal' ∙ ap (λ (k : Bool). k || bytes_eq other uid) free
           ∙ false_from_ne_true (bytes_eq other uid) (λ same. apart ((bytes_eq-Decides other uid).0 same)))
     ]
 
@@ -140,8 +146,6 @@ pub flags_same : {D F : Type 0} (disk : DiskGhosts D) (file : FileGhosts F) (sto
 flags_same disk file (InMaildir device) account items = refl
 flags_same disk file (InMbox device) account items = refl
 
--- ---- messages that a Maildir holds and that the record doesn't show as delivered
-
 -- the flag of one item more
 pub flags_more : (f : List ℕ → Bool) (items : List Item) (i : ℕ) (flags new : List Bool) (uid : List ℕ) (flag : Bool)
     → flags ≡ map (λ (item : Item). f item.uid) (take i items) → i < length items → HoldsAt (λ (item : Item). uid ≡ item.uid) items i
@@ -152,119 +156,55 @@ flags_more f items i flags new uid flag before inside at is pushed =
     pushed ∙ ap (λ xs. xs ++ flag ∷ []) before ∙ ap (λ b. map test (take i items) ++ b ∷ []) (is ∙ ap f (at no_item))
     ∙ sym (map-append test (take i items) (item ∷ [])) ∙ ap (map test) (sym (take_more items i no_item inside))
 
--- the items for which a flag is set are those that the rows don't show as delivered
-pub found_last : (account : List ℕ) (rows : List Row) (items : List Item) (flags : List Bool) (maildir : Maildir) (outlives : File → Type 0)
-    → flags ≡ map (λ (item : Item). not (is_delivered rows item.uid)) items → FoundOutlive account maildir outlives items flags → FoundLast account rows items maildir outlives
-found_last account rows [] flags maildir outlives is found = tt
-found_last account rows (item ∷ rest) flags maildir outlives is found = let f = rw is at found in (λ new held. f.0 (ap not new) held, found_last account rows rest _ maildir outlives refl f.1)
-
--- a file of the record stands for the rows that were read
-pub news_found : OneRecord → {D F : Type 0} (disk : DiskGhosts D) (files : FileGhosts F) (was store : Store D F) (account : List ℕ) (content : Option (List ℕ)) (loaded : Loaded)
-    (items : List Item) (found : Found) (left : Maildir) → ReadAs content loaded → kind_of store ≡ kind_of was
-    → FindsIn (target_of was account) loaded.intent (with_maildir (stores_of disk files was) left) items (Ok found) (stores_of disk files store)
-    → FoundLastIn disk account loaded.rows items store
-    → NewsLast disk (target_of was account) content items (with_maildir (stores_of disk files was) left) store
-news_found one disk files (InMaildir device) (InMaildir now) account content loaded items found left read same finds last = λ held stood.
-    let rows = (one content loaded.rows held.rows loaded.intent held.intent (read_keeps content loaded read) stood).0 in
-    let maildir = ap (λ (s : Stores). s.maildir) finds.2 in
-    rw (maildir, rows) at last
-news_found one disk files (InMaildir device) (InMbox now) account content loaded items found left read same finds last = absurd (cc same)
-news_found one disk files (InMbox device) store account content loaded items found left read same finds last = tt
-
 -- ---- what outlives a loss of power once a record was made ready, or wasn't
+
+reached_same : (files : List File) → AreReached files files
+reached_same [] = tt
+reached_same (f ∷ files) = (record { name = refl; content = refl; named = λ is. is; flushed = λ is. is }, reached_same files)
 
 -- no file was taken away
 pub none_taken : (maildir : Maildir) → WereTaken maildir maildir
-none_taken maildir = record { gone = []; files = refl; is = rw append-nil refl }
+none_taken maildir = record { gone = []; files = reached_same maildir.files; is = rw append-nil refl }
 
 pub untaken : {Q : Maildir → Type 0} (maildir : Maildir) → Q maildir → (left : Maildir) × WereTaken maildir left × Q left
 untaken maildir is = (maildir, none_taken maildir, is)
 
 -- a record's file that couldn't be read or flushed has the same bytes
-pub misread_same : (old new : Stored) (loaded : Loaded) (fault : Fault) → Reads old loaded (Err fault) new → new.content ≡ old.content
-misread_same old new loaded SeenRefused is = ap (λ (s : Stored). s.content) is
-misread_same old new loaded (BadSeen line) is = ap (λ (s : Stored). s.content) is.3
-misread_same old new loaded NoMemory is = ap (λ (s : Stored). s.content) is
-misread_same old new loaded _ never = absurd never
-
 pub unsecured_same : (old new : Stored) (fault : Fault) → IsSecured old (Err fault) new → new.content ≡ old.content
 unsecured_same old new SeenRefused is = ap (λ (s : Stored). s.content) is
 unsecured_same old new _ never = absurd never
 
 module _ {D F : Type 0} (disk : DiskGhosts D) (files : FileGhosts F) where
-  -- ---- a Maildir
-
-  -- no name was told
-  pub left_same : (was store : Store D F) (left : List File) → KeepsMailIn disk was store → KeepsLeftIn disk files was left store
-  left_same was store left keeps = (λ name is. inl (keeps.0 name is), λ f is. inl (keeps.1 f is))
-
   -- the store wasn't asked, and the record's file has the same bytes
   pub unasked : {A B safe : Type 0} {settings : Settings} {items : List Item} {now : ℕ} {fault : Fault} {after : List Row} (was : Store D F) (from f : F) (target : Target) → A → B
-      → Unready target items now (stores_of disk files was) (files.stored from) fault (stores_of disk files was) (files.stored f) → LeavesNoMore (files.may_leave from) (files.may_leave f)
-      → (files.stored f).content ≡ (files.stored from).content
-      → A × B × AfterTakingIn (stores_of disk files was) (λ left. ReadiesAndLasts disk files safe was from settings target items now left (Err fault) after was f)
-  unasked was from f target a b why no_more same =
-      (a, b, untaken _ (record { readies = why; lasts = λ sure. record { mail = left_same was was _ (λ name is. is, λ one is. is); rows = inl (no_more, same) } }))
-
-  pub left_on : (was mid end : Store D F) (left : List File) → KeepsLeftIn disk files was left mid → KeepsMailIn disk mid end → KeepsLeftIn disk files was left end
-  left_on was mid end left first then = (
-    λ name is. ⊎_elim (λ stays. inl (then.0 name stays)) inr (first.0 name is),
-    λ f is. ⊎_elim (λ outlives. inl (then.1 f outlives)) inr (first.1 f is),
-  )
-
-  -- the files that are left are those that are there now
-  pub left_found : (was store : Store D F) (account : List ℕ) (intent : Option Intent) (items : List Item) (r : Result Found Fault) (left : Maildir)
-      → FindsIn (target_of was account) intent (with_maildir (stores_of disk files was) left) items r (stores_of disk files store)
-      → KeepsLeftIn disk files was (stores_of disk files store).maildir.files store → KeepsLeftIn disk files was left.files store
-  left_found (InMaildir device) store account intent items r left finds keeps =
-      subst (λ (fs : List File). KeepsLeftIn disk files (InMaildir device) fs store) (same r finds) keeps
-    where
-      same : (r : Result Found Fault) → FindsIn (AsFiles account) intent (with_maildir (in_maildir (disk.maildir device)) left) items r (stores_of disk files store)
-          → (stores_of disk files store).maildir.files ≡ left.files
-      same (Ok found) (held, stored, is) = ap (λ (s : Stores). s.maildir.files) is
-      same (Err (StoreRefused why.Missing)) is = ap (λ (m : Maildir). m.files) is.1
-      same (Err (StoreRefused why.Refused)) is = ap (λ (m : Maildir). m.files) is
-      same (Err NoMemory) is = ap (λ (m : Maildir). m.files) is
-      same (Err _) never = absurd never
-  left_found (InMbox device) store account intent items r left finds keeps = (λ name never. absurd never, λ f never. absurd never)
-
-  -- ---- what was made ready
-
-  -- the store wasn't asked what it holds
-  pub rest_lasts : (was store : Store D F) (from f : F) (target : Target) (items : List Item) (now : ℕ) (old : Stores) (r : Result Ready Fault) (steps : List Step)
-      → KeepsMailIn disk was store → LeavesNoMore (files.may_leave from) (files.may_leave f) → files.stored f ≡ files.stored from → All IsQuiet steps
-      → IfOk r (λ ready. ready.steps.items ≡ steps) → ReadyLasts disk files was from target items now old r store f
-  rest_lasts was store from f target items now old (Ok ready) steps keeps no_more same quiet are =
-      inl (subst (λ (ss : List Step). All IsQuiet ss) (sym are) quiet, record { mail = keeps; no_more = no_more; same = same })
-  rest_lasts was store from f target items now old (Err fault) steps keeps no_more same quiet are =
-      record { mail = left_same was store old.maildir.files keeps; rows = inl (no_more, ap (λ (s : Stored). s.content) same) }
+      → CausesUnready target items fault (stores_of disk files was) (files.stored from) (stores_of disk files was) (files.stored f) → (files.stored f).content ≡ (files.stored from).content
+      → LeavesNoMore (files.may_leave from) (files.may_leave f)
+      → A × B × AfterTakingIn (stores_of disk files was) (λ left. ReadiesAndLasts disk files safe from settings target items now left (Err fault) after was f)
+  unasked was from f target a b why same no_more =
+      (a, b, untaken _ (record { readies = record { cause = why; content = inl same }; lasts = λ sure. no_more }))
 
   -- the same if the record's file was read and flushed before
   module _ (from mid f : F) (no_more : LeavesNoMore (files.may_leave from) (files.may_leave mid)) (same : files.stored mid ≡ files.stored from) where
-    ready_from : (was store : Store D F) (target : Target) (items : List Item) (now : ℕ) (old : Stores) (r : Result Ready Fault)
-        → ReadyLasts disk files was mid target items now old r store f → ReadyLasts disk files was from target items now old r store f
-    ready_from was store target items now old (Ok ready) (inl (quiet, un)) =
-        inl (quiet, record { mail = un.mail; no_more = λ left may. no_more left (un.no_more left may); same = un.same ∙ same })
-    ready_from was store target items now old (Ok ready) (inr (safe, stay, left, news)) =
-        inr (safe, stay, left, rw same at news)
-    ready_from was store target items now old (Err fault) lasts = record {
-      mail = lasts.mail;
-      rows = elim lasts.rows [
-        | inl (none, is) ↦ inl (λ left may. no_more left (none left may), is ∙ ap (λ (s : Stored). s.content) same)
-        | inr merge ↦ inr (record {
-          stay = merge.stay;
-          was = merge.was;
-          stood = rw same at merge.stood;
-          leaves = λ left may. ⊎_elim (λ before. inl (no_more left before)) inr (merge.leaves left may);
-          news = rw same at merge.news;
-        })
-      ];
-    }
+    ready_from : (settings : Settings) (target : Target) (items : List Item) (now : ℕ) (old new : Stores) (file file' : Stored) (after : List Row) (store : Store D F) (r : Result Ready Fault)
+        → (is : Readies settings target items now old file r after new file') → ReadyLasts files mid settings target items now old file r after new file' is store f
+        → ReadyLasts files from settings target items now old file r after new file' is store f
+    ready_from settings target items now old new file file' after store (Ok ready) is lasts = by _ is.durable lasts
+      where
+        by : {A B : Type 0} (Safe : Type 0) (either : A ⊎ B) → UnlessQuiet files mid either Safe f → UnlessQuiet files from either Safe f
+        by Safe (inl quiet) un = record { no_more = λ left may. no_more left (un.no_more left may); same = un.same ∙ same }
+        by Safe (inr durable) safe = safe
+    ready_from settings target items now old new file file' after store (Err fault) is lasts = by is.content lasts
+      where
+        by : (content : IsMergedAtMost target items now old file new file') → UnreadyLasts files mid content f → UnreadyLasts files from content f
+        by (inl is) none = λ left may. no_more left (none left may)
+        by (inr merged) leaves = λ left may. ⊎_elim (λ before. inl (no_more left before)) inr (leaves left may)
 
-    pub readies_from : {safe sure : Type 0} {was store : Store D F} {settings : Settings} {target : Target} {items : List Item} {now : ℕ} {old : Stores} {r : Result Ready Fault}
-        {after : List Row} → (sure → safe) → ReadiesAndLasts disk files safe was mid settings target items now old r after store f → ReadiesAndLasts disk files sure was from settings target items now old r after store f
-    readies_from {safe} {sure} {was} {store} {settings} {target} {items} {now} {old} {r} {after} firm is =
-        record { readies = rw same at is.readies; lasts = λ s. ready_from was store target items now old r (is.lasts (firm s)) }
+    pub readies_from : {safe sure : Type 0} {store : Store D F} {settings : Settings} {target : Target} {items : List Item} {now : ℕ} {old : Stores} {r : Result Ready Fault}
+        {after : List Row} → (sure → safe) → ReadiesAndLasts disk files safe mid settings target items now old r after store f → ReadiesAndLasts disk files sure from settings target items now old r after store f
+    readies_from {safe} {sure} {store} {settings} {target} {items} {now} {old} {r} {after} firm is =
+        let both = subst (λ (file : Stored). (readies : Readies settings target items now old file r after (stores_of disk files store) (files.stored f)) × (sure → ReadyLasts files from settings target items now old file r after (stores_of disk files store) (files.stored f) readies store f))
+        same (is.readies, λ s. ready_from settings target items now old (stores_of disk files store) (files.stored mid) (files.stored f) after store r is.readies (is.lasts (firm s))) in
+        record { readies = both.0; lasts = both.1 }
 
 -- ---- what was found
 
@@ -279,20 +219,23 @@ pub followed : {A A' B C L L' : Type 0} {Part P Q : Maildir → Type 0} → A ×
 followed went sound leads both = (sound, went.1, went.2, leads, (went.4.0, went.4.1, both went.4.0 went.4.2))
 
 -- the rows once the open intent was ended by what was found, which messages are held, and the store
-found_is : (target : Target) (store store' : Stores) (items : List Item) (was : RecordState) (found : Found) → FindsIn target was.intent store items (Ok found) store'
+found_is : (target : Target) (store store' : Stores) (items : List Item) (was : RecordState) (found : Found) → FindsIn target was store items (Ok found) store'
     → (closed_rows found.stored was.rows was.intent ≡ rows_in target store was items) × (found.held.items ≡ flags_in target store items) × Settles target was items store store'
-found_is (AsFiles account) store store' items was found (held, stored, same) = (rw stored (not_whole was.rows was.intent), held, same)
-found_is AsEntries store store' items was found (bytes, is, stored, now, goes_on, held) = (rw (stored, is), held, (bytes, is, now, goes_on))
+    × AreDurable target was.rows items store
+found_is (AsFiles account) store store' items was found (held, stored, same, durable) = (rw stored (not_whole was.rows was.intent), held, same, durable)
+found_is AsEntries store store' items was found (bytes, is, stored, now, goes_on, held) = (rw (stored, is), held, (bytes, is, now, goes_on), tt)
 
 -- ---- nothing was planned
 
-pub unread : (target : Target) (items : List Item) (now : ℕ) (store : Stores) (file new : Stored) (loaded : Loaded) (fault : Fault) → Reads file loaded (Err fault) new → Unready target items now store file fault store new
-unread (AsFiles account) items now store file new loaded SeenRefused is = record { cause = (omega (arith, ap (λ (s : Stored). s.failures) is), refl); content = inl (rw is) }
-unread AsEntries items now store file new loaded SeenRefused is = record { cause = (omega (arith, ap (λ (s : Stored). s.failures) is), inl refl); content = inl (rw is) }
-unread (AsFiles account) items now store file new loaded NoMemory is = record { cause = refl; content = inl (rw is) }
-unread AsEntries items now store file new loaded NoMemory is = record { cause = inl refl; content = inl (rw is) }
-unread _ items now store file new loaded (BadSeen line) is = record { cause = (is, refl); content = inl (rw is.3) }
-unread _ items now store file new loaded _ never = absurd never
+pub unread : (target : Target) (items : List Item) (store : Stores) (file new : Stored) (loaded : Loaded) (fault : Fault) → Reads file loaded (Err fault) new
+    → CausesUnready target items fault store file store new × (new.content ≡ file.content)
+unread (AsFiles account) items store file new loaded SeenRefused is = ((omega (arith, ap (λ (s : Stored). s.failures) is), refl), rw is)
+unread AsEntries items store file new loaded SeenRefused is = ((omega (arith, ap (λ (s : Stored). s.failures) is), inl refl), rw is)
+unread (AsFiles account) items store file new loaded NoMemory is = (refl, rw is)
+unread AsEntries items store file new loaded NoMemory is = (inl refl, rw is)
+unread (AsFiles account) items store file new loaded (BadSeen line) is = ((is, refl), rw is.3)
+unread AsEntries items store file new loaded (BadSeen line) is = ((is, refl), rw is.3)
+unread _ items store file new loaded _ never = absurd never
 
 files_refused : (fault : Fault) (maildir : Maildir) (file : Stored) (maildir' : Maildir) (file' : Stored) → FindsRefused maildir fault maildir' → UnreadyCause fault maildir file maildir' file'
 files_refused (StoreRefused why.Missing) maildir file maildir' file' is = is
@@ -310,12 +253,11 @@ mbox_refused NoMemory items was mbox file mbox' file' kept (same, most) = inr (w
 mbox_refused _ items was mbox file mbox' file' kept never = absurd never
 
 -- the store refused
-pub not_found : (target : Target) (items : List Item) (now : ℕ) (store store' : Stores) (file new : Stored) (loaded : Loaded) (fault : Fault) → ReadAs file.content loaded → new ≡ file
-    → FindsIn target loaded.intent store items (Err fault) store' → Unready target items now store file fault store' new
-not_found (AsFiles account) items now store store' file new loaded fault stood same finds =
-    record { cause = files_refused fault store.maildir file store'.maildir new finds; content = inl (ap (λ (s : Stored). s.content) same) }
-not_found AsEntries items now store store' file new loaded fault stood same finds =
-    record { cause = mbox_refused fault items (record_state_in loaded) store.mbox file store'.mbox new (read_keeps file.content loaded stood) finds; content = inl (ap (λ (s : Stored). s.content) same) }
+pub not_found : (target : Target) (items : List Item) (store store' : Stores) (file new : Stored) (loaded : Loaded) (fault : Fault) → ReadAs file.content loaded
+    → FindsIn target (record_state_in loaded) store items (Err fault) store' → CausesUnready target items fault store file store' new
+not_found (AsFiles account) items store store' file new loaded fault stood finds = files_refused fault store.maildir file store'.maildir new finds
+not_found AsEntries items store store' file new loaded fault stood finds =
+    mbox_refused fault items (record_state_in loaded) store.mbox file store'.mbox new (read_keeps file.content loaded stood) finds
 
 -- ---- the listing was merged
 
@@ -327,7 +269,7 @@ stop_of (Err fault) = fault
 module _ {D F : Type 0} (disk : DiskGhosts D) (files : FileGhosts F) (was place : Store D F) (from f : F) (account : List ℕ)
     (settings : Settings) (items : List Item) (now : ℕ) (left : Maildir) (loaded : Loaded) (found : Found)
     (stood : ReadAs (files.stored from).content loaded)
-    (finds : FindsIn (target_of was account) loaded.intent (with_maildir (stores_of disk files was) left) items (Ok found)
+    (finds : FindsIn (target_of was account) (record_state_in loaded) (with_maildir (stores_of disk files was) left) items (Ok found)
     (stores_of disk files place)) where
   abbrev store : Stores
   store = with_maildir (stores_of disk files was) left
@@ -344,6 +286,7 @@ module _ {D F : Type 0} (disk : DiskGhosts D) (files : FileGhosts F) (was place 
   is : (closed_rows found.stored loaded.rows loaded.intent ≡ rows_in (target_of was account) store state items)
       × (found.held.items ≡ flags_in (target_of was account) store items)
       × Settles (target_of was account) state items store (stores_of disk files place)
+      × AreDurable (target_of was account) loaded.rows items store
   is = found_is (target_of was account) store (stores_of disk files place) items state found finds
 
   as_now : here ≡ merged_in (target_of was account) store state items now
@@ -356,58 +299,51 @@ module _ {D F : Type 0} (disk : DiskGhosts D) (files : FileGhosts F) (was place 
   cause (AsFiles account) same = let is = ap (λ (s : Stores). s.maildir) same in (is, λ risen. (risen, is))
   cause AsEntries (bytes, is, now, goes_on) = let settled = inr (state, kept, inr (bytes, is, ap (λ (s : Stored). s.content) now)) in (settled, λ risen. (risen, settled))
 
+  reason : (r : Result (Unit {0}) Fault) → Merges (files.stored from) state (none_open here) r (files.stored f)
+      → CausesUnready (target_of was account) items (stop_of r) store (files.stored from) (stores_of disk files place) (files.stored f)
+  reason (Ok done) merges = (cause (target_of was account) is.2).0
+  reason (Err SeenRefused) merges = (cause (target_of was account) is.2).1 (omega (arith, merges.0))
+  reason (Err NoMemory) merges = (cause (target_of was account) is.2).0
+  reason (Err _) never = absurd never
+
+  -- what the record's file stands for
+  stands : (r : Result (Unit {0}) Fault) → Merges (files.stored from) state (none_open here) r (files.stored f)
+      → Keeps (files.stored f).content state ⊎ Keeps (files.stored f).content (none_open (merged_in (target_of was account) store state items now))
+  stands (Ok done) merges = inr (rw as_now at (steady_keeps (files.stored f).content (none_open here) merges.1))
+  stands (Err SeenRefused) merges = rw as_now at merges.1
+  stands (Err NoMemory) merges = inl (rw merges kept)
+  stands (Err _) never = absurd never
+
   -- it wasn't saved, or memory ran out for the plan
-  unmade : (r : Result (Unit {0}) Fault) → Merges (files.stored from) state (none_open here) r (files.stored f)
-      → Unready (target_of was account) items now store (files.stored from) (stop_of r) (stores_of disk files place) (files.stored f)
-  unmade (Ok done) merges = record {
-    cause = (cause (target_of was account) is.2).0;
-    content = inr (state, kept, is.2, inr (rw as_now at (steady_keeps (files.stored f).content (none_open here) merges.1)));
+  pub unready : {safe : Type 0} {after : List Row} (r : Result (Unit {0}) Fault) → Merges (files.stored from) state (none_open here) r (files.stored f)
+      → (safe → LeavesMerged files loaded.rows here from f)
+      → ReadiesAndLasts disk files safe from settings (target_of was account) items now store (Err (stop_of r)) after place f
+  unready r merges leaves = record {
+    readies = record {
+      cause = reason r merges;
+      content = inr (record { was = state; stood = kept; settles = is.2; durable = is.3; stands = stands r merges });
+    };
+    lasts = λ sure. rw as_now at (leaves sure);
   }
-  unmade (Err SeenRefused) merges = record {
-    cause = (cause (target_of was account) is.2).1 (omega (arith, merges.0));
-    content = inr (state, kept, is.2, rw as_now at merges.1);
+
+  pub ready : {safe : Type 0} (plan : Ready) {after : List Row} → Merges (files.stored from) state (none_open here) (Ok tt) (files.stored f)
+      → after ≡ here
+      → plan.held.items ≡ found.held.items → plan.steps.items ≡ planned settings after items now → (safe → IsSafe files f × IsSafeStore files place)
+      → ReadiesAndLasts disk files safe from settings (target_of was account) items now store (Ok plan) after place f
+  ready plan merges rows_are flags_are steps_are firm = record {
+    readies = record {
+      was = state;
+      stood = kept;
+      held = ap (tasks_planned plan.steps.items items) (flags_are ∙ is.1);
+      rows = rows_are ∙ as_now;
+      steps = steps_are;
+      durable = inr is.3;
+      saved = rw rows_are merges.1;
+      file_count = merges.0;
+      settles = is.2;
+    };
+    lasts = firm;
   }
-  unmade (Err NoMemory) merges = record { cause = (cause (target_of was account) is.2).0; content = inl (ap (λ (s : Stored). s.content) merges) }
-  unmade (Err _) never = absurd never
-
-  module _ (law : OneRecord) {safe : Type 0} (kind : kind_of place ≡ kind_of was)
-      (keeps : KeepsLeftIn disk files was (stores_of disk files place).maildir.files place)
-      (lasts : safe → IsSafeStore files place × AllStayIn disk place × FoundLastIn disk account loaded.rows items place) where
-    mail : KeepsLeftIn disk files was left.files place
-    mail = left_found disk files was place account loaded.intent items (Ok found) left finds keeps
-
-    news : FoundLastIn disk account loaded.rows items place
-        → NewsLast disk (target_of was account) (files.stored from).content items store place
-    news = news_found law disk files was place account (files.stored from).content loaded items found left stood kind finds
-
-    pub unready : {after : List Row} (r : Result (Unit {0}) Fault) → Merges (files.stored from) state (none_open here) r (files.stored f)
-        → (safe → LeavesMerged files loaded.rows here from f)
-        → ReadiesAndLasts disk files safe was from settings (target_of was account) items now store (Err (stop_of r)) after place f
-    unready r merges leaves = record {
-      readies = unmade r merges;
-      lasts = λ sure. record {
-        mail = mail;
-        rows = inr (record { stay = (lasts sure).1; was = state; stood = kept; leaves = rw as_now at (leaves sure); news = news (lasts sure).2 });
-      };
-    }
-
-    pub ready : (plan : Ready) {after : List Row} → Merges (files.stored from) state (none_open here) (Ok tt) (files.stored f)
-        → after ≡ here
-        → plan.held.items ≡ found.held.items → plan.steps.items ≡ planned settings after items now → (safe → IsSafe files f)
-        → ReadiesAndLasts disk files safe was from settings (target_of was account) items now store (Ok plan) after place f
-    ready plan merges rows_are flags_are steps_are firm = record {
-      readies = record {
-        was = state;
-        stood = kept;
-        held = ap (tasks_planned plan.steps.items items) (flags_are ∙ is.1);
-        rows = rows_are ∙ as_now;
-        steps = steps_are;
-        saved = rw rows_are merges.1;
-        file_count = merges.0;
-        settles = is.2;
-      };
-      lasts = λ sure. inr ((firm sure, (lasts sure).0), (lasts sure).1, mail, news (lasts sure).2);
-    }
 
 -- ---- every listed id has a row
 
@@ -455,27 +391,43 @@ module _ {D F : Type 0} (disk : DiskGhosts D) (files : FileGhosts F) (account : 
   rows_same (InMaildir device) was items closed = refl
   rows_same (InMbox device) was items closed = rw closed refl
 
-  pub rested : {settings : Settings} {items : List Item} {now : ℕ} (store : Store D F) (new : Stores) (file read : Stored) (loaded : Loaded) (r : Result Ready Fault) (steps : List Step)
+  pub rested : {safe : Type 0} {settings : Settings} {items : List Item} {now : ℕ} (store store' : Store D F) (from f : F) (loaded : Loaded) (r : Result Ready Fault) (steps : List Step)
       → ((rows : List Row) (listing : List Item) (held : List Bool) (now : ℕ) → IsRecord rows → All (λ (item : Item). is_delivered rows item.uid ≡ true) listing → merged rows listing held now ≡ rows)
-      → Rests (kind_of store) (stores_of disk files store) items r new → ReadAs file.content loaded → read ≡ file
+      → Rests (kind_of store) (stores_of disk files store) items r (stores_of disk files store') → ReadAs (files.stored from).content loaded → files.stored f ≡ files.stored from
+      → LeavesNoMore (files.may_leave from) (files.may_leave f)
       → IsIdle settings loaded items now steps → IfOk r (λ ready. ready.steps.items ≡ steps) → IfOk r (λ ready. length ready.held.items ≡ length items)
-      → Readies settings (target_of store account) items now (stores_of disk files store) file r loaded.rows new read
-  rested {settings} {items} {now} store new file read loaded (Ok ready) steps law rests stood same idle are counted =
+      → ReadiesAndLasts disk files safe from settings (target_of store account) items now (stores_of disk files store) r loaded.rows store' f
+  rested {settings = settings} {items} {now} store store' from f loaded (Ok ready) steps law rests stood same no_more idle are counted =
+      let file = files.stored from in
       let flags = flags_in (target_of store account) (stores_of disk files store) items in
       record {
-        was = record_state_in loaded;
-        stood = read_keeps file.content loaded stood;
-        held = quiet_same ready.steps.items items ready.held.items flags (rw are idle.quiet) counted (flags_length (target_of store account) (stores_of disk files store) items);
-        rows = sym (law loaded.rows items flags now idle.is_record idle.known) ∙ ap (λ (rows : List Row). merged rows items flags now) (sym (rows_same store (record_state_in loaded) items idle.closed));
-        steps = are ∙ idle.planned;
-        saved = rw same (read_steady file.content loaded stood idle.fresh).0;
-        file_count = rw same;
-        settles = settles_same store (record_state_in loaded) items new idle.closed rests;
+        readies = record {
+          was = record_state_in loaded;
+          stood = read_keeps file.content loaded stood;
+          held = quiet_same ready.steps.items items ready.held.items flags (rw are idle.quiet) counted (flags_length (target_of store account) (stores_of disk files store) items);
+          rows = sym (law loaded.rows items flags now idle.is_record idle.known) ∙ ap (λ (rows : List Row). merged rows items flags now) (sym (rows_same store (record_state_in loaded) items idle.closed));
+          steps = are ∙ idle.planned;
+          durable = inl (rw are idle.quiet, same);
+          saved = rw same (read_steady file.content loaded stood idle.fresh).0;
+          file_count = rw same;
+          settles = settles_same store (record_state_in loaded) items (stores_of disk files store') idle.closed rests;
+        };
+        lasts = λ sure. record { no_more = no_more; same = same };
       }
-  rested {settings} {items} {now} (InMaildir device) new file read loaded (Err fault) steps law finds stood same idle are counted =
-      not_found (AsFiles account) items now (in_maildir (disk.maildir device)) new file read loaded fault stood same finds
-  rested {settings} {items} {now} (InMbox device) new file read loaded (Err fault) steps law finds stood same idle are counted =
-      not_found AsEntries items now (in_mbox (files.stored device)) new file read loaded fault stood same (subst (λ (intent : Option Intent). AsksMbox intent (files.stored device) items (Err fault) new.mbox) (sym idle.closed) finds.0)
+  rested {items = items} store store' from f loaded (Err fault) steps law finds stood same no_more idle are counted = record {
+    readies = record {
+      cause = by store finds;
+      content = inl (ap (λ (s : Stored). s.content) same);
+    };
+    lasts = λ sure. no_more;
+  }
+    where
+      by : (store : Store D F) → Rests (kind_of store) (stores_of disk files store) items (Err fault) (stores_of disk files store')
+          → CausesUnready (target_of store account) items fault (stores_of disk files store) (files.stored from) (stores_of disk files store') (files.stored f)
+      by (InMaildir device) finds =
+          not_found (AsFiles account) items (in_maildir (disk.maildir device)) (stores_of disk files store') (files.stored from) (files.stored f) loaded fault stood finds
+      by (InMbox device) finds = not_found AsEntries items (in_mbox (files.stored device)) (stores_of disk files store') (files.stored from) (files.stored f) loaded fault stood
+          (subst (λ (intent : Option Intent). AsksMbox intent (files.stored device) items (Err fault) (stores_of disk files store').mbox) (sym idle.closed) finds.0)
 
 -- ---- whatever came of it
 
@@ -496,3 +448,8 @@ pub rest_held : (r : Result Ready Fault) (target : Target) (steps : List Step) (
 rest_held (Ok ready) target steps items new quiet same held =
     quiet_same ready.steps.items items ready.held.items (flags_in target new items) (rw same quiet) held (flags_length target new items)
 rest_held (Err fault) target steps items new quiet same held = tt
+
+pub rest_named : (P : Type 0) (r : Result Ready Fault) (steps : List Step) → All IsQuiet steps → IfOk r (λ ready. ready.steps.items ≡ steps)
+    → IfOk r (λ ready. All IsQuiet ready.steps.items ⊎ P)
+rest_named P (Ok ready) steps quiet same = inl (rw same quiet)
+rest_named P (Err fault) steps quiet same = tt

@@ -359,11 +359,11 @@ module _ (account : List ℕ) (tasks : List Task) (old new : Scene) (cut : Cut) 
       elim refused.refuses [
         | inl missing ↦ short [] (rw (missing.2, append-nil)) (inl refl)
         | inr (is, inl same) ↦ short [] (rw (same, append-nil)) (inl refl)
-        | inr (is, inr (done, there)) ↦ (
+        | inr (is, inr (done, (is_named, there))) ↦ (
             let came = refused.whole done in
             let talked = joining.on (turns_of fell.dones) (retr refused.number ∷ []) (replies_of fell.dones) (came.0 ∷ []) old.place fell.mid.place new.place fell.went.talked came.1 in
             let got = stand (turns_of fell.dones ++ retr refused.number ∷ []) (replies_of fell.dones ++ came.0 ∷ []) old new new [] none talked (sym (append-nil new.place.link.got)) in
-            short (mail_file account refused.uid refused.text ∷ []) (rw there) (inr (is, (refused.number, refused.uid, fell.later, came.0, rw refused.is, rw came.2, got)))
+            short (record (mail_file account refused.uid refused.text) { is_named = is_named } ∷ []) (rw there) (inr (is, (refused.number, refused.uid, fell.later, came.0, rw refused.is, (is_named, rw came.2), got)))
             )
       ]
 

@@ -10,10 +10,9 @@ use Rattle.fetch_rules.specs.RecordGrowth.{Grows, Updates}
 use Rattle.mail_store.specs.FlatFile.{Stored}
 use Rattle.mail_store.specs.declared.maildir.disk.MaildirDisk.{Ghosts as DiskGhosts}
 use Rattle.mail_store.specs.declared.file.flat_file.FlatFile.{Ghosts as FileGhosts}
-use Rattle.mail_store.specs.FileName.{sized, sized_file}
-use Rattle.mail_store.specs.Maildir.{Maildir, File, IsWithout, WereTaken, file, with_file, mail}
+use Rattle.mail_store.specs.Maildir.{Maildir, File, IsWithout, WereTaken}
 use Rattle.mail_store.specs.Mboxrd.{entry_of}
-use Rattle.mail_store.specs.Power.{IsLonger, KeepsMail, KeepsWhole, LastsWhole, LeavesEither, LeavesLonger, LeavesNoMore, LeavesPart, Outlives}
+use Rattle.mail_store.specs.Power.{IsLonger, KeepsWhole, LastsWhole, LeavesEither, LeavesLonger, LeavesNoMore, LeavesPart, Outlives}
 use Rattle.pop3_client.specs.Conversation.{TurnsJoin, Talks}
 use Rattle.fetch_session.specs.declared.account.Store.{Store}
 use Rattle.fetch_session.specs.declared.account.Store.TheVariants.{Maildir as InMaildir, Mboxrd as InMbox}
@@ -21,8 +20,8 @@ use Rattle.fetch_session.specs.declared.fault.Cut.{Cut}
 use Rattle.fetch_session.specs.declared.work.Work.{Work}
 use Rattle.fetch_session.specs.Record.{Steady, bytes_in, record_state, ReadAs, record_state_in}
 use Rattle.fetch_session.specs.Scene.{Scene, scene, Went, AllWent}
-use Rattle.fetch_session.specs.Store.{Brings, Ends, begun_with}
-use Rattle.fetch_session.specs.Lasting.{AreLeft, CutLasts, DoesAndLasts, DonesLast, IsSafe, IsSafeStore, IsSafeWork, IsUntouched, IsLeft, KeepsMailIn, RowsStillLast, KeepsWork, Leaves, LeavesLeft, LeavesMerged, NewOutlive, RowsLast, ShowsRows, TextsLast, may_leave_in, outlives_in, CarriesLast, ProceedsLast, SessionLasts, AllStayIn, AreSure, CarriedLasts, KeepsLeftIn, Lasts, MailLasts, NewsLast, StayFrom}
+use Rattle.fetch_session.specs.Store.{Brings}
+use Rattle.fetch_session.specs.Lasting.{AreLeft, AreSure, CarriedLasts, CarriesLast, CutLasts, DoesAndLasts, DonesLast, IsLeft, IsSafe, IsSafeStore, IsSafeWork, IsUntouched, KeepsWork, Lasts, Leaves, LeavesLeft, LeavesMerged, ProceedsLast, RowsLast, RowsStillLast, SessionLasts, ShowsRows, TextsLast, UnlessQuiet, may_leave_in}
 use Rattle.fetch_session.specs.Target.{Target, AsFiles, AsEntries, Stores, kind_of, stores_of, target_of, AfterTakingIn, IsSoundMaildir, IsSoundMbox, in_maildir, in_mbox, is_sound, no_maildir, with_maildir, maildir_of, mbox_of, flags_in}
 use Rattle.fetch_session.specs.Task.{Task, Done, files_of, ids_in, ids_of, texts_of, ids_ahead, says, tasks_planned}
 use Rattle.fetch_session.proofs.SceneLemmas.{is_there, not_whole, read_keeps, all_append, all_weaker, all_on, fell_before, fell_on, marked_on}
@@ -41,10 +40,10 @@ use Rattle.fetch_rules.specs.declared.steps.Step.{Step}
 use Rattle.pop3_client.specs.Turns.{quit}
 use Rattle.fetch_session.specs.declared.readiness.Ready.{Ready}
 use Rattle.fetch_session.specs.Fault.{cut_of, fault_of}
-use Rattle.fetch_session.specs.Readiness.{IsReady, Settles}
+use Rattle.fetch_session.specs.Readiness.{AreDurable, IsReady}
 use Rattle.fetch_session.specs.declared.report.Skips.{Skips}
 use Rattle.std.proofs.lemmas.List.Elements.{recursion_from_All}
-use Rattle.fetch_session.proofs.ReadyLemmas.{ahead, left_on}
+use Rattle.fetch_session.proofs.ReadyLemmas.{ahead}
 use Rattle.fetch_rules.specs.Intents.{closed_rows}
 use Rattle.pop3_client.specs.declared.fault.ClientFault.{ClientFault}
 use Rattle.fetch_session.specs.declared.preview.WorkPreview.{WorkPreview}
@@ -94,73 +93,51 @@ module _ {F : Type 0} (file : FileGhosts F) (f : F) where
   same_left {rows} {others} {intent} safe stood =
       rows_left rows others rows intent intent [] (inl (inl (refl, refl, refl))) (inl refl) (safe_left (record_state rows intent) [] safe stood)
 
--- ---- what outlives it
-
--- what two calls one after the other keep
-pub keeps_mail_on : {s s' s'' : List ℕ → Type 0} {o o' o'' : File → Type 0} → KeepsMail s o s' o' → KeepsMail s' o' s'' o'' → KeepsMail s o s'' o''
-keeps_mail_on first then = (λ name is. then.0 name (first.0 name is), λ f is. then.1 f (first.1 f is))
-
--- the file that was settled outlives a loss of power, whatever its text is called
-pub lasts_settled : (old now new : Maildir) (stem text : List ℕ) (octets : ℕ) (P : File → Type 0) → now ≡ begun_with old (file stem text)
-    → octets ≡ length text → Ends now (sized stem octets) (Ok tt) new
-    → ((f : File) → now.begun ≡ Some f → P (mail (sized stem octets) f.content))
-    → (other : List ℕ) → new ≡ with_file old (sized_file stem other) → P (sized_file stem other)
-lasts_settled old now new stem text octets P was counted ends lasts other is =
-    let both = sym (settled old now new stem text octets was counted ends) ∙ is in
-    let one = append_cancel_left old.files (sized_file stem text ∷ []) (sized_file stem other ∷ []) (ap (λ (m : Maildir). m.files) both) in
-    let same : sized_file stem text ≡ sized_file stem other = cc in
-    subst P same ((rw (was, counted) at lasts) (file stem text) refl)
-
 -- ---- texts
 
 -- the texts of these tasks, and then those of others
-texts_on : {D F : Type 0} (disk : DiskGhosts D) (file : FileGhosts F) (target : Target) (xs ys : List Done) (a b : Stores) (mid new : Store D F)
-    → Brings target xs a b → TextsLast disk file target xs a mid → KeepsMailIn disk mid new → TextsLast disk file target ys b new
-    → TextsLast disk file target (xs ++ ys) a new
-texts_on disk file (AsFiles account) xs ys a b mid new brings first keeps then =
-    simp flat_map-append (all_append (outlives_in disk new) (files_of account xs) (files_of account ys)
-    (all_weaker (outlives_in disk mid) (outlives_in disk new) (files_of account xs) keeps.1 first) then)
-texts_on disk file AsEntries xs ys a b mid new brings first keeps then = λ was is.
+texts_on : {D F : Type 0} (file : FileGhosts F) (target : Target) (xs ys : List Done) (a b : Stores) (new : Store D F)
+    → Brings target xs a b → TextsLast file target ys b new → TextsLast file target (xs ++ ys) a new
+texts_on file (AsFiles account) xs ys a b new brings then = tt
+texts_on file AsEntries xs ys a b new brings then = λ was is.
     simp (flat_map-append, ← append_assoc) (then (was ++ flat_map entry_of (texts_of xs)) (rw (brings.content, is)))
 
 -- ---- tasks
 
-dones_on : {D F : Type 0} (disk : DiskGhosts D) (file : FileGhosts F) (target : Target) (xs ys : List Done) (next : List (List ℕ)) (a b : Scene) (mid new : Store D F)
-    (f : F) → Went target xs a b → TextsLast disk file target xs a.store mid → KeepsMailIn disk mid new → DonesLast disk file target ys next b new f
-    → DonesLast disk file target (xs ++ ys) next a new f
-dones_on disk file target xs ys next a b mid new f went first keeps then =
+dones_on : {D F : Type 0} (file : FileGhosts F) (target : Target) (xs ys : List Done) (next : List (List ℕ)) (a b : Scene) (new : Store D F)
+    (f : F) → Went target xs a b → DonesLast file target ys next b new f → DonesLast file target (xs ++ ys) next a new f
+dones_on file target xs ys next a b new f went then =
     let same : marked_all b.rows (ids_of ys) ≡ marked_all a.rows (ids_of (xs ++ ys)) = simp (went.rows, flat_map-append, marked_on) in
     record {
-      texts = texts_on disk file target xs ys a.store b.store mid new went.stored first keeps then.texts;
+      texts = texts_on file target xs ys a.store b.store new went.stored then.texts;
       rows = subst (λ (rows : List Row). RowsLast file f rows) same then.rows;
       left = subst (λ (rows : List Row). Leaves file f (AreLeft rows (marked_all rows next))) same then.left;
     }
 
 -- the same if another premise gives this one, and for another store of this kind
-pub in_kind : {D F : Type 0} {disk : DiskGhosts D} {file : FileGhosts F} {here safe : Type 0} {tasks : List Task} {old new : Scene}
+pub in_kind : {D F : Type 0} {file : FileGhosts F} {here safe : Type 0} {tasks : List Task} {old new : Scene}
     {r : Result (Unit {0}) Cut} {store : Store D F} {f : F} (a b : Store D F) (account : List ℕ) → kind_of a ≡ kind_of b
-    → DoesAndLasts disk file here (target_of a account) tasks old r new store f → (safe → here) → DoesAndLasts disk file safe (target_of b account) tasks old r new store f
-in_kind {D} {F} {disk} {file} {here} {safe} {tasks} {old} {new} {r} {store} {f} a b account same does on =
+    → DoesAndLasts file here (target_of a account) tasks old r new store f → (safe → here) → DoesAndLasts file safe (target_of b account) tasks old r new store f
+in_kind {D} {F} {file} {here} {safe} {tasks} {old} {new} {r} {store} {f} a b account same does on =
     let moved = rw same at does in record { does = moved.does; lasts = λ s. moved.lasts (on s) }
 
-module _ {D F : Type 0} {disk : DiskGhosts D} {file : FileGhosts F} {safe : Type 0} {target : Target} where
+module _ {D F : Type 0} {file : FileGhosts F} {safe : Type 0} {target : Target} where
   -- some tasks were done, and then others, or not all of them
-  pub good_more : TurnsJoin → {xs ys : List Task} {a b c : Scene} (r : Result (Unit {0}) Cut) (mid : Store D F) {new : Store D F} {f : F} → (went : AllWent target xs a b)
-      → (safe → TextsLast disk file target went.dones a.store mid) → KeepsMailIn disk mid new → DoesAndLasts disk file safe target ys b r c new f
-      → DoesAndLasts disk file safe target (xs ++ ys) a r c new f
+  pub good_more : TurnsJoin → {xs ys : List Task} {a b c : Scene} (r : Result (Unit {0}) Cut) {new : Store D F} {f : F} → (went : AllWent target xs a b)
+      → DoesAndLasts file safe target ys b r c new f → DoesAndLasts file safe target (xs ++ ys) a r c new f
   unfolding all_on fell_on
-  good_more joining {xs} {ys} {a} {b} {c} (Ok done) mid {new} {f} went first keeps then = record {
+  good_more joining {xs} {ys} {a} {b} {c} (Ok done) {new} {f} went then = record {
     does = all_on joining target xs ys a b c went then.does;
-    lasts = λ s. dones_on disk file target went.dones then.does.dones [] a b mid new f went.went (first s) keeps (then.lasts s);
+    lasts = λ s. dones_on file target went.dones then.does.dones [] a b new f went.went (then.lasts s);
   }
-  good_more joining {xs} {ys} {a} {b} {c} (Err cut) mid {new} {f} went first keeps then = record {
+  good_more joining {xs} {ys} {a} {b} {c} (Err cut) {new} {f} went then = record {
     does = fell_on joining target xs ys a b c cut went then.does;
-    lasts = λ s. (dones_on disk file target went.dones then.does.dones (ids_in then.does.next) a b mid new f went.went (first s) keeps (then.lasts s).0, (then.lasts s).1);
+    lasts = λ s. (dones_on file target went.dones then.does.dones (ids_in then.does.next) a b new f went.went (then.lasts s).0, (then.lasts s).1);
   }
 
   -- some of these tasks were done, and none of those after them
-  pub good_before : {xs : List Task} (ys : List Task) {a new : Scene} {cut : Cut} {store : Store D F} {f : F} → DoesAndLasts disk file safe target xs a (Err cut) new store f
-      → DoesAndLasts disk file safe target (xs ++ ys) a (Err cut) new store f
+  pub good_before : {xs : List Task} (ys : List Task) {a new : Scene} {cut : Cut} {store : Store D F} {f : F} → DoesAndLasts file safe target xs a (Err cut) new store f
+      → DoesAndLasts file safe target (xs ++ ys) a (Err cut) new store f
   unfolding fell_before
   good_before {xs} ys {a} {new} {cut} does = record {
     does = fell_before target xs ys a new cut does.does;
@@ -235,91 +212,86 @@ module _ {F : Type 0} (files : FileGhosts F) (rows others : List Row) (from f : 
     | inr is ↦ inr (inl (record { before = None; added = group; next = others; after = None; grows = inl updates; next_is = inr refl; file = is }))
   ]
 
+-- the mboxrd file of a store
+same_mbox : {D F : Type 0} (disk : DiskGhosts D) (file : FileGhosts F) (store : Store D F) → (mbox_of file store).content ≡ (stores_of disk file store).mbox.content
+same_mbox disk file (InMaildir device) = refl
+same_mbox disk file (InMbox device) = refl
+
 -- nothing came yet
 no_texts : {D F : Type 0} (disk : DiskGhosts D) (file : FileGhosts F) (old new : Store D F)
-    → ((was : List ℕ) → (stores_of disk file old).mbox.content ≡ Some was → Outlives (may_leave_in file new) was)
-    → (target : Target) → TextsLast disk file target [] (stores_of disk file old) new
+    → ((was : List ℕ) → (mbox_of file old).content ≡ Some was → Outlives (may_leave_in file new) was)
+    → (target : Target) → TextsLast file target [] (stores_of disk file old) new
 no_texts disk file old new whole (AsFiles digits) = tt
-no_texts disk file old new whole AsEntries = λ was is. subst (λ (bytes : List ℕ). Outlives (may_leave_in file new) bytes) (sym (append-nil was)) (whole was is)
+no_texts disk file old new whole AsEntries = λ was is.
+    subst (λ (bytes : List ℕ). Outlives (may_leave_in file new) bytes) (sym (append-nil was)) (whole was (same_mbox disk file old ∙ is))
 
 -- a safe mboxrd file
-pub whole_in : {D F : Type 0} (disk : DiskGhosts D) (file : FileGhosts F) (store : Store D F) → IsSafeStore file store
-    → (bytes : List ℕ) → (stores_of disk file store).mbox.content ≡ Some bytes → Outlives (may_leave_in file store) bytes
-whole_in disk file (InMaildir device) safe bytes is = absurd (none-some bytes is)
-whole_in disk file (InMbox device) safe bytes is = λ left may. ([], rw append-nil ((safe.1 bytes is).1 left may))
+pub whole_in : {D F : Type 0} (file : FileGhosts F) (store : Store D F) → IsSafeStore file store
+    → (bytes : List ℕ) → (mbox_of file store).content ≡ Some bytes → Outlives (may_leave_in file store) bytes
+whole_in file (InMaildir device) safe bytes is = absurd (none-some bytes is)
+whole_in file (InMbox device) safe bytes is = λ left may. ([], rw append-nil ((safe.1 bytes is).1 left may))
 
 -- what came into the store is safe
 pub texts_ok : {D F : Type 0} (disk : DiskGhosts D) (file : FileGhosts F) (target : Target) (dones : List Done) (old new : Store D F)
-    → Brings target dones (stores_of disk file old) (stores_of disk file new) → NewOutlive disk file old new → IsSafeStore file new
-    → TextsLast disk file target dones (stores_of disk file old) new
-texts_ok disk file (AsFiles account) dones old new brings outlive safe = outlive (files_of account dones) brings.came
-texts_ok disk file AsEntries dones old new brings outlive safe = λ was is.
-    whole_in disk file new safe (was ++ flat_map entry_of (texts_of dones)) (rw (brings.content, is))
+    → Brings target dones (stores_of disk file old) (stores_of disk file new) → IsSafeStore file new
+    → TextsLast file target dones (stores_of disk file old) new
+texts_ok disk file (AsFiles account) dones old new brings safe = tt
+texts_ok disk file AsEntries dones old new brings safe = λ was is.
+    whole_in file new safe (was ++ flat_map entry_of (texts_of dones)) (same_mbox disk file new ∙ rw (brings.content, is))
 
 -- ---- if nothing is done
 
-pub if_err : {T E : Type 0} {P : E → Type 0} (r : Result T E) → ((e : E) → P e) → IfErr r P
-if_err (Ok done) all = tt
-if_err (Err e) all = all e
-
--- nothing was marked, and no file came
-pub nothing_cut : {D F : Type 0} (disk : DiskGhosts D) (file : FileGhosts F) (target : Target) (cut : Cut) (old new : Scene) (store : Store D F) (f : F)
-    → Leaves file f (AreLeft old.rows old.rows) → new.store.maildir.files ≡ old.store.maildir.files → CutLasts disk file target cut old new store f
-nothing_cut disk file (AsFiles account) cut old new store f left same = inl (left, λ none. same)
-nothing_cut disk file AsEntries cut old new store f left same = tt
-
--- no file came
-pub none_came : {D F : Type 0} (disk : DiskGhosts D) (file : FileGhosts F) (old new : Store D F) → (stores_of disk file new).maildir ≡ (stores_of disk file old).maildir
-    → NewOutlive disk file old new
-none_came disk file old new same = λ files is.
-    let was = (stores_of disk file old).maildir.files in
-    subst (λ (fs : List File). AllByRecursion (outlives_in disk new) fs) (append_cancel_left was [] files (append-nil was ∙ ap (λ (m : Maildir). m.files) (sym same) ∙ is)) tt
-
-pub keeps_same : {D F H Z : Type 0} (disk : DiskGhosts D) (file : FileGhosts F) (work : Work D F H Z) → KeepsWork disk file work work
-keeps_same disk file work = ((λ name is. is, λ f is. is), λ bytes has is. is, λ last. last)
+pub keeps_same : {D F H Z : Type 0} (file : FileGhosts F) (work : Work D F H Z) → KeepsWork file work work
+keeps_same file work = (λ bytes has is. is, λ last. last)
 
 -- no call was made
-pub untouched : {D F : Type 0} (disk : DiskGhosts D) (file : FileGhosts F) (store : Store D F) (f : F) → IsUntouched disk file store store f f
-untouched disk file store f = record { mail = (λ name is. is, λ g is. is); no_more = λ left may. may; same = refl }
+pub untouched : {F : Type 0} (file : FileGhosts F) (f : F) → IsUntouched file f f
+untouched file f = record { no_more = λ left may. may; same = refl }
 
 -- the state of a session at this place
 abbrev pub scene_at : {D F H Z : Type 0} → DiskGhosts D → FileGhosts F → Place → Work D F H Z → Scene
 scene_at disk file place work = scene place (stores_of disk file work.store) (file.stored work.ledger.file) work.ledger.seen.rows work.ledger.lines.items
 
+-- nothing was marked
+pub nothing_cut : {F : Type 0} (file : FileGhosts F) (target : Target) (old new : Scene) (f : F)
+    → Leaves file f (AreLeft old.rows old.rows) → CutLasts file target old new f
+nothing_cut file (AsFiles account) old new f left = inl left
+nothing_cut file AsEntries old new f left = tt
+
 -- what was safe and written down before still is
 pub none_lasts : {D F H Z : Type 0} (disk : DiskGhosts D) (file : FileGhosts F) (target : Target) (place : Place) (old new : Work D F H Z) (next : List (List ℕ))
-    → IsSafeWork file old → KeepsWork disk file old new → Steady (file.stored old.ledger.file).content (none_open old.ledger.seen.rows)
-    → Leaves file new.ledger.file (AreLeft old.ledger.seen.rows (marked_all old.ledger.seen.rows next)) → DonesLast disk file target [] next (scene_at disk file place old) new.store new.ledger.file
+    → IsSafeWork file old → KeepsWork file old new → Steady (file.stored old.ledger.file).content (none_open old.ledger.seen.rows)
+    → Leaves file new.ledger.file (AreLeft old.ledger.seen.rows (marked_all old.ledger.seen.rows next)) → DonesLast file target [] next (scene_at disk file place old) new.store new.ledger.file
 none_lasts disk file target place old new next safe keeps steady left = record {
-  texts = no_texts disk file old.store new.store (λ was is. keeps.1 was is (whole_in disk file old.store safe.1 was is)) target;
-  rows = keeps.2 (rows_last file old.ledger.file old.ledger.seen.rows safe.0 steady);
+  texts = no_texts disk file old.store new.store (λ was is. keeps.0 was is (whole_in file old.store safe.1 was is)) target;
+  rows = keeps.1 (rows_last file old.ledger.file old.ledger.seen.rows safe.0 steady);
   left = left;
 }
 
 -- ---- a whole session
 
-pub dealt : {D F : Type 0} (disk : DiskGhosts D) (files : FileGhosts F) (was : Store D F) (from : F) (settings : Settings) (target : Target) (now : ℕ) (old : Place) (before : Keeping)
+pub dealt : {D F : Type 0} (files : FileGhosts F) (was : Store D F) (from : F) (settings : Settings) (target : Target) (now : ℕ) (old : Place) (before : Keeping)
     (result : Result (Unit {0}) Cut) (new : Place) (after : Keeping) (notes : Noted) (items : List Item) (mid : Place) (start : List ReportLine) (store : Store D F) (f : F)
     → start ≡ [] → Enters_with settings old (Ok items) mid → notes.total ≡ length items
     → (is : Carries settings target items now mid before.store before.file start result new after.store after.file notes.lines notes.skipped)
-    × CarriesLast disk files was from _ _ _ _ _ _ _ _ _ _ _ _ _ _ is store f
-    → (is : Proceeds settings target now old before result new after notes) × ProceedsLast disk files was from _ _ _ _ _ _ _ _ _ is store f
-dealt disk files was from settings target now old before result new after notes items mid start store f none enters total carries =
+    × CarriesLast files was from _ _ _ _ _ _ _ _ _ _ _ _ _ _ is store f
+    → (is : Proceeds settings target now old before result new after notes) × ProceedsLast files was from _ _ _ _ _ _ _ _ _ is store f
+dealt files was from settings target now old before result new after notes items mid start store f none enters total carries =
     let from_nothing = rw none at carries in
     by result (record { items = items; mid = mid; enters = enters; total = total; carries = from_nothing.0 }) from_nothing.1
   where
-    by : (r : Result (Unit {0}) Cut) (is : Dealt settings target now old before r new after notes) → CarriesLast disk files was from _ _ _ _ _ _ _ _ _ _ _ _ _ _ is.carries store f
-        → (is : Proceeds settings target now old before r new after notes) × ProceedsLast disk files was from _ _ _ _ _ _ _ _ _ is store f
+    by : (r : Result (Unit {0}) Cut) (is : Dealt settings target now old before r new after notes) → CarriesLast files was from _ _ _ _ _ _ _ _ _ _ _ _ _ _ is.carries store f
+        → (is : Proceeds settings target now old before r new after notes) × ProceedsLast files was from _ _ _ _ _ _ _ _ _ is store f
     by (Ok done) is lasts = (is, lasts)
     by (Err cut) is lasts = (inr (inr is), lasts)
 
 -- a session that was brought to its end, or cut and then left
-pub left_session : {D F : Type 0} {disk : DiskGhosts D} {files : FileGhosts F} {was : Store D F} {from : F} {settings : Settings} {target : Target} {now : ℕ} {link link' : Link} {before after : Keeping} {report : Report} {store : Store D F} {f : F}
-    (id : Target) (reader : List ℕ) (result : Result (Unit {0}) Cut) (mid : Place) (notes : Noted)
-    → id ≡ target → reader ≡ [] → (is : Proceeds settings id now (at link reader) before result mid after notes) × ProceedsLast disk files was from _ _ _ _ _ _ _ _ _ is store f
+pub left_session : {D F : Type 0} {files : FileGhosts F} {from : F} {settings : Settings} {target : Target} {now : ℕ} {link link' : Link} {before after : Keeping} {report : Report} {store : Store D F} {f : F}
+    (was : Store D F) (id : Target) (reader : List ℕ) (result : Result (Unit {0}) Cut) (mid : Place) (notes : Noted)
+    → id ≡ target → reader ≡ [] → (is : Proceeds settings id now (at link reader) before result mid after notes) × ProceedsLast files was from _ _ _ _ _ _ _ _ _ is store f
     → LeavesLink result mid link' → Reports (outcome_of result) notes.total notes.skipped notes.lines report
-    → (session : SessionIn settings target now link before report link' after) × SessionLasts disk files was from session store f
-left_session {D} {F} {disk} {files} {was} {from} {settings} {target} {now} {link} {link'} {before} {after} {report} {store} {f} id reader result mid notes same none proceeds leaves reports =
+    → (session : SessionIn settings target now link before report link' after) × SessionLasts files was from session store f
+left_session {D} {F} {files} {from} {settings} {target} {now} {link} {link'} {before} {after} {report} {store} {f} was id reader result mid notes same none proceeds leaves reports =
     let here = rw (same, none) at proceeds in
     (record { result = result; mid = mid; notes = notes; proceeds = here.0; leaves = leaves; reports = reports }, here.1)
 
@@ -334,12 +306,13 @@ files_session disk file store (InMbox device') digits Did A B C kind met never =
 
 -- no file is taken from an mboxrd file
 none_left : (left : Maildir) → WereTaken no_maildir left → left ≡ no_maildir
-none_left left taken = let none = is_none taken.gone taken.files in taken.is ∙ rw (none.0, none.1) refl
+none_left left taken = let none = is_none taken.gone left.files taken.files in taken.is ∙ rw (none.0, none.1) refl
   where
-    is_none : (gone : List File) → IsWithout [] gone left.files → (gone ≡ []) × (left.files ≡ [])
-    is_none [] e = (refl, e)
-    is_none (f ∷ gone) ([], back, e, is) = absurd cc
-    is_none (f ∷ gone) (g ∷ front, back, e, is) = absurd cc
+    is_none : (gone files : List File) → IsWithout [] gone files → (gone ≡ []) × (files ≡ [])
+    is_none [] [] are = (refl, refl)
+    is_none [] (g ∷ files) never = absurd never
+    is_none (f ∷ gone) files ([], back, never, is) = absurd never
+    is_none (f ∷ gone) files (g ∷ front, back, never, is) = absurd never
 
 pub entries_session : {D F : Type 0} (disk : DiskGhosts D) (file : FileGhosts F) (store store' : Store D F) (digits : List ℕ) (Did : Target → Stores → Stores → Type 0) (A B C : Type 0) → kind_of store' ≡ kind_of store
     → (is_sound disk file store' → A × is_sound disk file store × B × C × AfterTakingIn (stores_of disk file store) (λ (left : Stores). Did (target_of store digits) left (stores_of disk file store')))
@@ -353,72 +326,59 @@ entries_session disk file store (InMaildir device') digits Did A B C kind met ne
 
 -- ---- what follows once a record is ready, and what of it outlives a loss of power
 
--- the files that were there stay
-pub stay_from : {D F : Type 0} (disk : DiskGhosts D) (files : FileGhosts F) (target : Target) (was : RecordState) (items : List Item) (old : Stores) (mid end : Store D F)
-    → Settles target was items old (stores_of disk files mid) → AllStayIn disk mid → KeepsMailIn disk mid end → StayFrom disk target old end
-stay_from disk files (AsFiles account) was items old (InMaildir device) end settles all keeps = λ name inside. keeps.0 name (all name (rw (← settles) at inside))
-stay_from disk files (AsFiles account) was items old (InMbox device) end settles all keeps = λ name inside. absurd (omega (arith, (rw (← settles) at inside).1))
-stay_from disk files AsEntries was items old mid end settles all keeps = tt
-
--- the files that were found still outlive a loss of power
-news_on : {D F : Type 0} (disk : DiskGhosts D) (target : Target) (content : Option (List ℕ)) (items : List Item) (old : Stores) (mid end : Store D F)
-    → KeepsMailIn disk mid end → NewsLast disk target content items old mid → NewsLast disk target content items old end
-news_on disk (AsFiles account) content items old mid end keeps news =
-    λ was stood. all_weaker _ _ items (λ item found new held. let file = found new held in (file.0, file.1, file.2, keeps.1 file.0 file.3)) (news was stood)
-news_on disk AsEntries content items old mid end keeps news = tt
+all_alike : {A P : Type 0} → P → (xs : List A) → AllByRecursion (λ (x : A). P) xs
+all_alike p [] = tt
+all_alike p (x ∷ xs) = (p, all_alike p xs)
 
 -- steps that fetch nothing mark nothing
 quiet_ids : (steps : List Step) (items : List Item) (held : List Bool) → AllByRecursion IsQuiet steps → ids_ahead (tasks_planned steps items held) ≡ []
 quiet_ids (s ∷ ss) (i ∷ is) (h ∷ hs) quiet = rw (ahead s i h (tasks_planned ss is hs), quiet.0.0) (quiet_ids ss is hs quiet.1)
 quiet_ids _ _ _ quiet = refl
 
+-- if they mark something, each name is durable
+pub named_ahead : {P : Type 0} (steps : List Step) (items : List Item) (held : List Bool) → All IsQuiet steps ⊎ P
+    → AllByRecursion (λ (uid : List ℕ). P) (ids_ahead (tasks_planned steps items held))
+named_ahead steps items held (inl quiet) = rw (quiet_ids steps items held (recursion_from_All IsQuiet steps quiet)) tt
+named_ahead steps items held (inr p) = all_alike p (ids_ahead (tasks_planned steps items held))
+
 -- the planned tasks and QUIT were done once the record was ready, or as far as went well
 pub carried : {D F : Type 0} (disk : DiskGhosts D) (files : FileGhosts F) {safe : Type 0} {settings : Settings} {target : Target} {items : List Item} {now : ℕ} {place : Place} {store : Stores} {file : Stored} {lines : List ReportLine} {ready : Ready} {after : List Row}
     (was before : Store D F) {end : Store D F} (from mid_file : F) {f : F} {file' : Stored} (mid_lines : List ReportLine) (steps : List Step) (held : List Bool) {skipped : Skips} {r : Result (Unit {0}) Cut} {new : Scene}
-    → mid_lines ≡ lines → IsReady settings target items now store file ready after (stores_of disk files before) file' → steps ≡ ready.steps.items → held ≡ ready.held.items → skipped ≡ skips_of settings after items now ready.steps.items
-    → (AreSure files was from → (All IsQuiet ready.steps.items × IsUntouched disk files was before from mid_file)
-    ⊎ (safe × AllStayIn disk before × KeepsLeftIn disk files was store.maildir.files before × NewsLast disk target file.content items store before)) → KeepsMailIn disk before end
+    → mid_lines ≡ lines → (is : IsReady settings target items now store file ready after (stores_of disk files before) file') → steps ≡ ready.steps.items → held ≡ ready.held.items → skipped ≡ skips_of settings after items now ready.steps.items
+    → (AreSure files was from → UnlessQuiet files from is.durable safe mid_file)
     → (ids_ahead (tasks_planned steps items held ++ says quit ∷ []) ≡ [] → f ≡ mid_file)
-    → DoesAndLasts disk files safe target (tasks_planned steps items held ++ says quit ∷ []) (scene place (stores_of disk files before) file' after mid_lines) r new end f
-    → (is : Carries settings target items now place store file lines r new.place new.store new.file new.lines skipped) × CarriesLast disk files was from _ _ _ _ _ _ _ _ _ _ _ _ _ _ is end f
-carried {D} {F} disk files {safe} {settings} {target} {items} {now} {place} {store} {file} {lines} {ready} {after} was before {end} from mid_file {f} {file'} mid_lines steps held {skipped} {r} {new} lines_are is steps_are held_are skipped_is firm keeps same_file does =
+    → DoesAndLasts files safe target (tasks_planned steps items held ++ says quit ∷ []) (scene place (stores_of disk files before) file' after mid_lines) r new end f
+    → (is : Carries settings target items now place store file lines r new.place new.store new.file new.lines skipped) × CarriesLast files was from _ _ _ _ _ _ _ _ _ _ _ _ _ _ is end f
+carried {D} {F} disk files {safe} {settings} {target} {items} {now} {place} {store} {file} {lines} {ready} {after} was before {end} from mid_file {f} {file'} mid_lines steps held {skipped} {r} {new} lines_are is steps_are held_are skipped_is firm same_file does =
     let mid : Scene = scene place (stores_of disk files before) file' after mid_lines in
     let good = rw (steps_are, held_are, is.held, is.steps) at does in
     of_result r (
       record {
         mid = mid;
-        prepared = record { was = is.was; stood = is.stood; rows = is.rows; saved = is.saved; file_count = is.file_count; place_is = refl; settles = is.settles; lines_are = lines_are };
+        prepared = record { was = is.was; stood = is.stood; rows = is.rows; durable = quiet_or is.durable; saved = is.saved; file_count = is.file_count; place_is = refl; settles = is.settles; lines_are = lines_are };
         does = good.does;
         skips = skipped_is ∙ ap (skips_of settings after items now) is.steps;
       },
-      λ sure. by (Lasts disk files target (tasks_ahead settings target items now store after) mid r new good.does end f) good.lasts (firm sure),
+      λ sure. by (Lasts files target (tasks_ahead settings target items now store after) mid r new good.does end f) good.lasts is.durable (firm sure),
     )
   where
-    of_result : (r : Result (Unit {0}) Cut) → (c : Carried settings target items now place store file lines r new skipped) × CarriedLasts disk files was from c end f
-        → (is : Carries settings target items now place store file lines r new.place new.store new.file new.lines skipped) × CarriesLast disk files was from _ _ _ _ _ _ _ _ _ _ _ _ _ _ is end f
+    quiet_or : (All IsQuiet ready.steps.items × (file' ≡ file)) ⊎ AreDurable target is.was.rows items store
+        → (All IsQuiet (planned settings after items now) × (file' ≡ file)) ⊎ AreDurable target is.was.rows items store
+    quiet_or (inl (quiet, same)) = inl (subst (λ (ss : List Step). All IsQuiet ss) is.steps quiet, same)
+    quiet_or (inr durable) = inr durable
+
+    of_result : (r : Result (Unit {0}) Cut) → (c : Carried settings target items now place store file lines r new skipped) × CarriedLasts files was from c end f
+        → (is : Carries settings target items now place store file lines r new.place new.store new.file new.lines skipped) × CarriesLast files was from _ _ _ _ _ _ _ _ _ _ _ _ _ _ is end f
     of_result (Ok done) (c, lasts) = ((new.rows, c), lasts)
     of_result (Err cut) (c, lasts) = ((new.rows, inr c), lasts)
 
-    by : (P : Type 0) → (safe → P) → (All IsQuiet ready.steps.items × IsUntouched disk files was before from mid_file)
-        ⊎ (safe × AllStayIn disk before × KeepsLeftIn disk files was store.maildir.files before × NewsLast disk target file.content items store before)
-        → (All IsQuiet (planned settings after items now) × IsUntouched disk files was end from f) ⊎ (P × MailLasts disk files was target store file.content items end)
-    by P good (inl (quiet, still)) =
+    by : (P : Type 0) → (safe → P) → (durable : (All IsQuiet ready.steps.items × (file' ≡ file)) ⊎ AreDurable target is.was.rows items store) → UnlessQuiet files from durable safe mid_file → UnlessQuiet files from (quiet_or durable) P f
+    by P good (inl (quiet, same_too)) still =
         let same = same_file (flat_map-append ids_in (tasks_planned steps items held) (says quit ∷ []) ∙ append-nil _ ∙ quiet_ids steps
         items held (subst (λ (ss : List Step). AllByRecursion IsQuiet ss) (sym steps_are)
         (recursion_from_All IsQuiet ready.steps.items quiet))) in
-        inl (
-          subst (λ (ss : List Step). All IsQuiet ss) is.steps quiet,
-          subst (λ (g : F). IsUntouched disk files was end from g) (sym same) (record { mail = keeps_mail_on still.mail keeps; no_more = still.no_more; same = still.same }),
-        )
-    by P good (inr (s, all, left, news)) =
-        inr (
-          good s,
-          record {
-            stay = stay_from disk files target is.was items store before end is.settles all keeps;
-            keeps = left_on disk files was before end store.maildir.files left keeps;
-            news = news_on disk target file.content items store before end keeps news;
-          },
-        )
+        subst (λ (g : F). IsUntouched files from g) (sym same) still
+    by P good (inr durable) s = good s
 
 -- ---- what a preview says
 

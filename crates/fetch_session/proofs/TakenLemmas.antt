@@ -40,7 +40,15 @@ grew_on a b c (xs, came, taken) (ys, come, took) =
 refused_grew : (old : Maildir) (stem text : List ℕ) (rest : Rest) (fault : Fault) (new : Maildir) → RefusesText old stem rest text fault new → Grew old new
 refused_grew old stem text rest fault new (inl (is, none, same)) = grew_none old new same
 refused_grew old stem text rest fault new (inr (is, inl none)) = rw none ([], sym (append-nil old.files), refl)
-refused_grew old stem text rest fault new (inr (is, inr (ended, one))) = rw one (sized_file stem text ∷ [], refl, refl)
+refused_grew old stem text rest fault new (inr (is, inr (ended, (is_named, one)))) = rw one (record (sized_file stem text) { is_named = is_named } ∷ [], refl, refl)
+
+pub unready_same : (fault : Fault) (old : Maildir) (file : Stored) (new : Maildir) (file' : Stored) → UnreadyCause fault old file new file' → new.files ≡ old.files
+unready_same SeenRefused old file new file' is = ap (λ (m : Maildir). m.files) is.1
+unready_same (BadSeen line) old file new file' is = ap (λ (m : Maildir). m.files) is.1
+unready_same (StoreRefused Missing) old file new file' is = ap (λ (m : Maildir). m.files) is.1
+unready_same (StoreRefused Refused) old file new file' is = ap (λ (m : Maildir). m.files) is
+unready_same NoMemory old file new file' is = ap (λ (m : Maildir). m.files) is
+unready_same _ old file new file' never = absurd never
 
 unready_grew : (fault : Fault) (old : Maildir) (file : Stored) (new : Maildir) (file' : Stored) → UnreadyCause fault old file new file' → Grew old new
 unready_grew SeenRefused old file new file' is = grew_none old new is.1

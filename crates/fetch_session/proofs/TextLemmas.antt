@@ -1,7 +1,8 @@
 -- How one text is taken: stored in a Maildir, or appended to an mboxrd file.
-use Rattle.std.proofs.Common.{rules, ◌≡◌, inl, inr, ◌≤◌, ◌+◌, ℕ, List, [], ◌∷◌, ◌++◌, length, take, Option, None, Some, Result, Ok, Err, refl, sym, ap, subst, ◌∙◌, arith, length-append, ◌⊎◌, Bool, append_assoc, append-nil}
+use Rattle.std.proofs.Common.{rules, ◌≡◌, inl, inr, ◌≤◌, ◌+◌, ℕ, List, [], ◌∷◌, ◌++◌, length, take, Option, None, Some, Result, Ok, Err, refl, sym, ap, subst, ◌∙◌, arith, length-append, ◌⊎◌, Bool, true, append_assoc, append-nil}
 use Rattle.std.proofs.lemmas.List.{length-take-le}
-use Rattle.mail_store.specs.Maildir.{Maildir, File, file, with_file, dropped}
+use Rattle.std.specs.List.{AllZip}
+use Rattle.mail_store.specs.Maildir.{AllNamed, File, IsNamed, Maildir, MayBeNamed, draft, dropped, with_file}
 use Rattle.mail_store.specs.FileName.{sized, sized_file, stem_of}
 use Rattle.pop3_client.specs.declared.fault.ClientFault.{ClientFault}
 use Rattle.fetch_session.specs.declared.fault.Fault.{Fault}
@@ -49,19 +50,33 @@ not_grown old new name none_begun is = rw is (record { none_begun = none_begun; 
 pub dropped_none_begun : (old : Maildir) → old.begun ≡ None → dropped old ≡ old
 dropped_none_begun old none_begun = λ i. record old { begun = sym none_begun i }
 
+-- a flush of names changes nothing if each is durable
+pub named_before : (files risen : List File) → AllNamed files → AllZip MayBeNamed files risen → risen ≡ files
+named_before [] [] all are = refl
+named_before [] (g ∷ risen) all never = absurd never
+named_before (f ∷ files) [] all never = absurd never
+named_before (f ∷ files) (g ∷ risen) all (inl same, are) = rw (same, named_before files risen all.1 are) refl
+named_before (f ∷ files) (g ∷ risen) all (inr same, are) =
+    rw (same, named_before files risen all.1 are) (λ i. record f { is_named = sym all.0 i } ∷ files)
+
+-- one more name is durable
+pub named_more : (files : List File) (f : File) → AllNamed files → IsNamed f → AllNamed (files ++ f ∷ [])
+named_more [] f all is = (is, tt)
+named_more (g ∷ files) f all is = (all.0, named_more files f all.1 is)
+
 -- what was written is in a file whose name gives its length
-pub settled : (old now new : Maildir) (stem text : List ℕ) (octets : ℕ) → now ≡ begun_with old (file stem text) → octets ≡ length text
+pub settled : (old now new : Maildir) (stem text : List ℕ) (octets : ℕ) → now ≡ begun_with old (draft stem text) → octets ≡ length text
     → Ends now (sized stem octets) (Ok tt) new → new ≡ with_file old (sized_file stem text)
-settled old now new stem text octets was counts ends = (rw (was, counts) at ends) (file stem text) refl
+settled old now new stem text octets was counts ends = (rw (was, counts) at ends) (draft stem text) refl
 
 stops_grows : (old new : Maildir) (name text : List ℕ) (fault : Fault) (rest : Option Rest) → old.begun ≡ None → StopsStoring name old text fault rest new → MayGain name old new
 stops_grows old new name text fault None none_begun is = not_grown old new name none_begun is
 stops_grows old new name text fault (Some rest) none_begun (inl missing) = not_grown old new name none_begun missing.2
 stops_grows old new name text fault (Some rest) none_begun (inr (why, inl is)) = rw is (record { none_begun = refl; came = inl refl })
-stops_grows old new name text fault (Some rest) none_begun (inr (why, inr there)) = rw there.1 (record { none_begun = refl; came = inr (text, refl) })
+stops_grows old new name text fault (Some rest) none_begun (inr (why, inr (ended, (is_named, there)))) = rw there (record { none_begun = refl; came = inr (text, is_named, refl) })
 
 pub stores_grows : (old new : Maildir) (name text : List ℕ) (r : Result ℕ Cut) → old.begun ≡ None → StoresText name old text r new → MayGain name old new
-stores_grows old new name text (Ok octets) none_begun is = rw is.0 (record { none_begun = refl; came = inr (text, refl) })
+stores_grows old new name text (Ok octets) none_begun is = rw is.0 (record { none_begun = refl; came = inr (text, true, refl) })
 stores_grows old new name text (Err cut) none_begun is = stops_grows old new name text cut.fault cut.rest none_begun is
 
 -- a text that grew by the first `put` of some bytes is `put` longer

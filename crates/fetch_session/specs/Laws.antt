@@ -1,9 +1,11 @@
 -- What a list of tasks that stopped leaves, in terms of the tasks that were done.
-use Rattle.std.specs.Prelude.{◌≡◌, ◌⊎◌, ℕ, List, [], ◌∷◌, ◌++◌, Option, Err}
-use Rattle.std.specs.List.{flat_map, AllZip}
-use Rattle.fetch_rules.specs.Record.{RecordState, none_open, marked_all}
+use Rattle.std.specs.Prelude.{◌≡◌, ◌⊎◌, ◌≤◌, ℕ, Bool, true, List, [], ◌∷◌, ◌++◌, length, Option, Err}
+use Rattle.std.specs.List.{AllByRecursion, AllZip, flat_map}
+use Rattle.fetch_rules.specs.Record.{RecordState, Row, is_delivered, marked_all, none_open}
 use Rattle.mail_store.specs.FlatFile.{Stored}
-use Rattle.mail_store.specs.Maildir.{File, IsWithout, AfterTaking}
+use Rattle.mail_store.specs.FileName.{IsAccountText}
+use Rattle.mail_store.specs.Held.{HasDurable}
+use Rattle.mail_store.specs.Maildir.{AfterTaking, AllFlushed, File, IsDurable, IsWithout}
 use Rattle.pop3_wire.specs.Link.{Link}
 use Rattle.rc_file.specs.declared.settings.Settings.{Settings}
 use Rattle.pop3_wire.specs.Reading.{WholeReply, reply_bytes}
@@ -13,7 +15,7 @@ use Rattle.fetch_session.specs.declared.fault.Cut.{Cut}
 use Rattle.fetch_session.specs.declared.fault.Fault.TheVariants.{StoreRefused, SeenRefused, NoMemory}
 use Rattle.fetch_session.specs.declared.fault.Why.TheVariants.{Refused}
 use Rattle.fetch_session.specs.Task.{Task, Done, stores, tasks_of, turns_of, replies_of, ids_of, files_of, file_from, lines_of}
-use Rattle.fetch_session.specs.Record.{Keeps, Steady, Saves}
+use Rattle.fetch_session.specs.Record.{Keeps, KeepsRows, Saves, Steady}
 use Rattle.fetch_session.specs.Scene.{Scene, Fell, WhereAllSound}
 use Rattle.fetch_session.specs.Target.{AsFiles, IsSoundMaildir, IsSoundMbox, maildir_of, mbox_of}
 use Rattle.fetch_session.specs.Account.{Holding, IsSameAccount, digits_of}
@@ -28,12 +30,13 @@ use Rattle.pop3_wire.specs.declared.wire.Wire.{Ghosts as WireGhosts}
 abbrev pub CameWhole : List WholeReply → Scene → Scene → Type 0
 CameWhole replies old new = (rest : List ℕ) × (new.place.link.got ≡ old.place.link.got ++ (flat_map reply_bytes replies ++ rest))
 
--- one more file, whose reply comes after those taken, only if the store refused
+-- one more file, whose reply comes after those taken, only if the store refused; its name may not be durable
 abbrev pub ExtraIs : List ℕ → List Done → List Task → Scene → Fault → Scene → List File → Type 0
 ExtraIs account taken next old fault new extra = (extra ≡ [])
     ⊎ ((fault ≡ StoreRefused Refused) × ((number : ℕ) × (uid : List ℕ) × (later : List Task) × (reply : WholeReply)
     × (next ≡ stores number uid ∷ later)
-    × (extra ≡ file_from account uid reply ∷ []) × CameWhole (replies_of taken ++ reply ∷ []) old new))
+    × ((is_named : Bool) × (extra ≡ record (file_from account uid reply) { is_named = is_named } ∷ []))
+    × CameWhole (replies_of taken ++ reply ∷ []) old new))
 
 -- the marks are those of all tasks; or the last is missing, only if the record wasn't saved
 abbrev pub MarksAre : List (List ℕ) → Fault → List (List ℕ) → Type 0
@@ -85,6 +88,24 @@ SessionsKeepFiles = (settings : Settings) (account : List ℕ) (now : ℕ) (link
     → AfterTaking before.maildir (λ left. Session settings account now link (account_files left before.file) report link' after)
     → (left came gone : List File) × IsWithout before.maildir.files gone left × (after.maildir.files ≡ left ++ came)
     × (after.maildir.taken ≡ before.maildir.taken ++ gone)
+
+-- the files that came are durable, but perhaps the last, whose name may not be; and of each message that the record shows as delivered and
+-- didn't before a durable file is there
+pub record LeavesDurable (account : List ℕ) (before after : AccountFiles) : Type 0 where
+  pub came : List File
+  pub last : List File
+  pub files : after.maildir.files ≡ before.maildir.files ++ (came ++ last)
+  pub durable : AllByRecursion IsDurable came
+  pub flushed : AllFlushed last
+  pub at_most_one : length last ≤ 1
+  pub shown : (was rows : List Row) (id : List ℕ) → KeepsRows before.file.content was → KeepsRows after.file.content rows
+      → is_delivered rows id ≡ true → (is_delivered was id ≡ true) ⊎ HasDurable account after.maildir id
+
+-- so a session leaves it, whatever cut it
+abbrev pub SessionsAreDurable : Type 0
+SessionsAreDurable = (settings : Settings) (account : List ℕ) (now : ℕ) (link : Link) (before : AccountFiles) (report : Report)
+    (link' : Link) (after : AccountFiles)
+    → IsAccountText account → Session settings account now link before report link' after → LeavesDurable account before after
 
 -- a file of version 2 that stands for a record and has no torn end stands for that record
 abbrev pub SteadyFilesKeep : Type 0

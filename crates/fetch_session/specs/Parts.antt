@@ -5,6 +5,7 @@ use Rattle.mail_terms.specs.UniqueId.{IsLegalId}
 use Rattle.mail_store.specs.declared.file.flat_file.FlatFile.{Ghosts as FileGhosts}
 use Rattle.mail_store.specs.declared.maildir.disk.MaildirDisk.{Ghosts as DiskGhosts}
 use Rattle.mail_store.specs.FileName.{IsAccountText}
+use Rattle.mail_store.specs.Maildir.{AllNamed}
 use Rattle.fetch_rules.specs.Intents.{IsNoneOrOf}
 use Rattle.fetch_rules.specs.Record.{Row, has_row, marked, none_open}
 use Rattle.pop3_client.specs.Client.{HasSameLink, link_of, place_of}
@@ -18,7 +19,7 @@ use Rattle.fetch_session.specs.declared.step.Task.{Task as Planned}
 use Rattle.fetch_session.specs.declared.step.Task.TheVariants.{Store, Reread, Skip, Delete}
 use Rattle.fetch_session.specs.declared.work.Ledger.{Ledger}
 use Rattle.fetch_session.specs.declared.work.Work.{Work}
-use Rattle.fetch_session.specs.Lasting.{AreLeft, DoesAndLasts, IsSafe, IsSafeWork, KeepsMailIn, Leaves}
+use Rattle.fetch_session.specs.Lasting.{AreLeft, DoesAndLasts, IsSafe, IsSafeWork, Leaves}
 use Rattle.fetch_session.specs.Record.{Steady, record_state_in}
 use Rattle.fetch_session.specs.Refusal.{RefusesTillCut, TookTillCut}
 use Rattle.fetch_session.specs.Report.{Adds, HasRoom}
@@ -57,7 +58,7 @@ task_of (Skip number size) = skips number size
 task_of (Delete number) = deletes number
 
 -- ready for these tasks: there is room for their lines, no file is begun, all is written down, and each id that they will mark is
--- legal, has a row and isn't held
+-- legal, has a row and isn't held; if there is one, each name in a Maildir is durable
 pub record IsReadyFor {D F H Z : Type 0} (disk : DiskGhosts D) (file : FileGhosts F) (account : List ℕ) (tasks : List Task)
     (work : Work D F H Z) : Type 0 where
   pub digits : IsAccountText account
@@ -66,6 +67,8 @@ pub record IsReadyFor {D F H Z : Type 0} (disk : DiskGhosts D) (file : FileGhost
   pub legal : AllByRecursion IsLegalId (ids_ahead tasks)
   pub rows : AllByRecursion (λ (uid : List ℕ). has_row work.ledger.seen.rows uid ≡ true) (ids_ahead tasks)
   pub free : is_sound disk file work.store → AreFresh account (stores_of disk file work.store).maildir (ids_ahead tasks)
+  pub named : is_sound disk file work.store
+      → AllByRecursion (λ (uid : List ℕ). AllNamed (stores_of disk file work.store).maildir.files) (ids_ahead tasks)
 
 -- ---- what calls leave as it was
 
@@ -110,16 +113,15 @@ pub record KeepsBegun {D F H Z : Type 0} (disk : DiskGhosts D) (file : FileGhost
   pub begun : is_sound disk file new.store → is_sound disk file old.store
       × ((stores_of disk file new.store).maildir.begun ≡ (stores_of disk file old.store).maildir.begun)
 
--- a part of a session that has these tasks: it takes and notes no more than they may, and what a loss of power would have left it still
--- leaves; without a mark the record's file is as it was; and if all went well, what was safe is safe, and what was ready for these tasks
--- and others is ready for the others
+-- a part of a session that has these tasks: it takes and notes no more than they may; without a mark the record's file is as it was; and
+-- if all went well, what was safe is safe, and what was ready for these tasks and others is ready for the others
 pub record KeepsSession {W D F H Z : Type 0} (link : WireGhosts W) (disk : DiskGhosts D) (file : FileGhosts F) (account : List ℕ)
     (tasks : List Task) (client : Client W) (work : Work D F H Z) (result : Result (Unit {0}) Cut) (client' : Client W)
     (work' : Work D F H Z) : Type 0 where
   pub talk : KeepsLink link (TookTillCut (most_of (turns_ahead tasks))) client result client'
   pub store : KeepsStore disk file (length tasks) work work'
   pub lasts : is_sound disk file work'.store → file.sound work'.ledger.file → file.sound work.ledger.file
-      × KeepsMailIn disk work.store work'.store × (IsSafeWork file work → OnOk result (IsSafeWork file work'))
+      × (IsSafeWork file work → OnOk result (IsSafeWork file work'))
   pub idle : ids_ahead tasks ≡ [] → work'.ledger.file ≡ work.ledger.file
   pub next : OnOk result ((later : List Task) → IsReadyFor disk file account (tasks ++ later) work
       → IsReadyFor disk file account later work')
@@ -130,7 +132,7 @@ pub record KeepsSession {W D F H Z : Type 0} (link : WireGhosts W) (disk : DiskG
 abbrev pub DoesTasks : {W D F H Z : Type 0} → WireGhosts W → DiskGhosts D → FileGhosts F → List ℕ → List Task → Client W → Work D F H Z
     → Result (Unit {0}) Cut → Client W → Work D F H Z → Type 0
 DoesTasks link disk file account tasks client work result client' work' = WhereWorkSound link disk file client work client' work'
-    (λ old new. DoesAndLasts disk file (IsSafeWork file work) (target_of work.store account) tasks old result new
+    (λ old new. DoesAndLasts file (IsSafeWork file work) (target_of work.store account) tasks old result new
     work'.store work'.ledger.file)
 
 -- the same, and what is kept of it

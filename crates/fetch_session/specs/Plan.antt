@@ -1,16 +1,16 @@
 -- A listing's steps prepared and carried out.
-use Rattle.std.specs.Prelude.{◌≡◌, ◌⊎◌, ℕ, List, [], ◌∷◌, ◌++◌, None, Result, Ok, Err}
+use Rattle.std.specs.Prelude.{◌≡◌, ◌⊎◌, ℕ, All, List, [], ◌∷◌, ◌++◌, None, Result, Ok, Err}
 use Rattle.pop3_wire.specs.Place.{Place}
 use Rattle.mail_terms.specs.Listing.{Item}
 use Rattle.fetch_rules.specs.Record.{Row, RecordState, none_open}
-use Rattle.fetch_rules.specs.Plan.{planned}
+use Rattle.fetch_rules.specs.Plan.{IsQuiet, planned}
 use Rattle.rc_file.specs.declared.settings.Settings.{Settings}
 use Rattle.mail_store.specs.FlatFile.{Stored}
 use Rattle.pop3_client.specs.Turns.{quit}
 use Rattle.fetch_session.specs.declared.report.ReportLine.{ReportLine}
 use Rattle.fetch_session.specs.declared.fault.Cut.{Cut}
 use Rattle.fetch_session.specs.Task.{Task, says, tasks_planned}
-use Rattle.fetch_session.specs.Readiness.{Settles, Unready, merged_in}
+use Rattle.fetch_session.specs.Readiness.{AreDurable, Settles, Unready, merged_in}
 use Rattle.fetch_session.specs.Record.{Keeps, Steady}
 use Rattle.fetch_session.specs.Target.{Target, Stores, flags_in}
 use Rattle.fetch_session.specs.declared.report.Skips.{Skips}
@@ -22,12 +22,14 @@ abbrev pub tasks_ahead : Settings → Target → List Item → ℕ → Stores �
 tasks_ahead settings target items now store rows = tasks_planned (planned settings rows items now) items
     (flags_in target store items) ++ says quit ∷ []
 
--- the record was read, merged with the listing and saved
-pub record Prepared (target : Target) (items : List Item) (now : ℕ) (place : Place) (store : Stores)
+-- the record was read, merged with the listing and saved. Nothing is to be fetched or deleted and nothing was written, or what was found
+-- is durable
+pub record Prepared (settings : Settings) (target : Target) (items : List Item) (now : ℕ) (place : Place) (store : Stores)
     (file : Stored) (lines : List ReportLine) (mid : Scene) : Type 0 where
   pub was : RecordState
   pub stood : Keeps file.content was
   pub rows : mid.rows ≡ merged_in target store was items now
+  pub durable : (All IsQuiet (planned settings mid.rows items now) × (mid.file ≡ file)) ⊎ AreDurable target was.rows items store
   pub saved : Steady mid.file.content (none_open mid.rows)
   pub file_count : mid.file.failures ≡ file.failures
   pub place_is : mid.place ≡ place
@@ -47,7 +49,7 @@ pub record Carried (settings : Settings) (target : Target) (items : List Item) (
     (store : Stores) (file : Stored) (lines : List ReportLine) (result : Result (Unit {0}) Cut) (new : Scene)
     (skipped : Skips) : Type 0 where
   pub mid : Scene
-  pub prepared : Prepared target items now place store file lines mid
+  pub prepared : Prepared settings target items now place store file lines mid
   pub does : Does target (tasks_ahead settings target items now store mid.rows) mid result new
   pub skips : skipped ≡ skips_planned settings mid.rows items now
 

@@ -1,5 +1,5 @@
 -- What a session has ready before its first task, or why it isn't ready.
-use Rattle.std.specs.Prelude.{◌≡◌, ◌⊎◌, ◌<◌, ℕ, Bool, true, false, All, List, length, Option, None, Some, Result, Ok, Err, Vec}
+use Rattle.std.specs.Prelude.{◌≡◌, ◌⊎◌, ◌<◌, ℕ, Bool, true, false, All, List, length, map, not, Option, None, Some, Result, Ok, Err, Vec}
 use Rattle.std.specs.List.{AllByRecursion}
 use Rattle.mail_terms.specs.Listing.{Item}
 use Rattle.fetch_rules.specs.Record.{Row, Intent, RecordState, IsRecord, Loaded, has_row, is_delivered, none_open, merged}
@@ -8,9 +8,9 @@ use Rattle.fetch_rules.specs.declared.steps.Step.{Step}
 use Rattle.fetch_session.specs.Task.{tasks_planned}
 use Rattle.rc_file.specs.declared.settings.Settings.{Settings}
 use Rattle.mail_store.specs.FlatFile.{Stored, holding}
-use Rattle.mail_store.specs.Maildir.{Maildir}
+use Rattle.mail_store.specs.Maildir.{AllNamed, Maildir}
 use Rattle.mail_store.specs.Mboxrd.{MayGoOn}
-use Rattle.mail_store.specs.Held.{flags_of}
+use Rattle.mail_store.specs.Held.{FoundDurable, flags_of}
 use Rattle.fetch_session.specs.declared.fault.Fault.{Fault}
 use Rattle.fetch_session.specs.declared.fault.Fault.TheVariants.{StoreRefused, SeenRefused, BadSeen, NoMemory}
 use Rattle.fetch_session.specs.declared.fault.Why.TheVariants.{Missing, Refused, NotMbox}
@@ -21,7 +21,7 @@ use Rattle.fetch_session.specs.declared.readiness.Ready.{Ready}
 use Rattle.fetch_session.specs.Mbox.{AsksMbox, IsSettledAtMost}
 use Rattle.fetch_session.specs.Record.{Keeps, Steady, Misread}
 use Rattle.mail_store.specs.MboxCalls.{Checks}
-use Rattle.fetch_session.specs.Target.{Kind, Files, Entries, Target, AsFiles, AsEntries, Stores, flags_in, rows_in, closed_file}
+use Rattle.fetch_session.specs.Target.{Kind, Files, Entries, Target, AsFiles, AsEntries, Stores, closed_file, flags_in, in_maildir, rows_in}
 
 -- a folder isn't there, or a call was refused, or memory ran out
 abbrev pub FindsRefused : Maildir → Fault → Maildir → Type 0
@@ -30,17 +30,29 @@ FindsRefused old (StoreRefused Refused) new = new ≡ Rattle.mail_store.specs.Ma
 FindsRefused old NoMemory new = new ≡ old
 FindsRefused old _ new = ⊥
 
--- which messages are held was found, or why not
-abbrev pub FindsHeld : {Z : Type 0} → List ℕ → Maildir → List Item → Result (Vec Bool Z) Fault → Maildir → Type 0
-FindsHeld account old items (Ok flags) new = (flags.items ≡ flags_of account old items) × (new ≡ old)
-FindsHeld account old items (Err fault) new = FindsRefused old fault new
+-- for each message, whether these rows don't show it as delivered
+abbrev pub undelivered : List Row → List Item → List Bool
+undelivered rows items = map (λ (item : Item). not (is_delivered rows item.uid)) items
 
--- what a store holds was asked of it
-abbrev pub FindsIn : Target → Option Intent → Stores → List Item → Result Found Fault → Stores → Type 0
-FindsIn (AsFiles account) intent old items (Ok found) new = (found.held.items ≡ flags_of account old.maildir items)
-    × (found.stored ≡ false) × (new ≡ old)
-FindsIn (AsFiles account) intent old items (Err fault) new = FindsRefused old.maildir fault new.maildir
-FindsIn AsEntries intent old items result new = AsksMbox intent old.mbox items result new.mbox
+-- the name of each file of a Maildir is durable, and so is a file of each listed message that is held there and that these rows don't
+-- show as delivered
+abbrev pub AreDurable : Target → List Row → List Item → Stores → Type 0
+AreDurable (AsFiles account) rows items store =
+    AllNamed store.maildir.files × FoundDurable account store.maildir items (undelivered rows items)
+AreDurable AsEntries rows items store = Unit {0}
+
+-- which messages are held was found, and the files of those that aren't delivered are durable; or why not
+abbrev pub FindsHeld : {Z : Type 0} → List ℕ → List Row → Maildir → List Item → Result (Vec Bool Z) Fault → Maildir → Type 0
+FindsHeld account rows old items (Ok flags) new =
+    (flags.items ≡ flags_of account old items) × (new ≡ old) × AreDurable (AsFiles account) rows items (in_maildir old)
+FindsHeld account rows old items (Err fault) new = FindsRefused old fault new
+
+-- what a store holds was asked of it, after this record was read
+abbrev pub FindsIn : Target → RecordState → Stores → List Item → Result Found Fault → Stores → Type 0
+FindsIn (AsFiles account) was old items (Ok found) new = (found.held.items ≡ flags_of account old.maildir items)
+    × (found.stored ≡ false) × (new ≡ old) × AreDurable (AsFiles account) was.rows items old
+FindsIn (AsFiles account) was old items (Err fault) new = FindsRefused old.maildir fault new.maildir
+FindsIn AsEntries was old items result new = AsksMbox was.intent old.mbox items result new.mbox
 
 -- the store was asked, and in an mboxrd file what the open intent had left was cut off or counted
 abbrev pub Settles : Target → RecordState → List Item → Stores → Stores → Type 0
@@ -92,7 +104,8 @@ pub record HasPlan (settings : Settings) (items : List Item) (now : ℕ) (ready 
   pub rows : AllByRecursion (λ (item : Item). has_row seen.rows item.uid ≡ true) items
   pub closed : seen.intent ≡ None
 
--- the record was read, merged and saved, and the plan made; no intent is open any more
+-- the record was read, merged and saved, and the plan made; no intent is open any more. Nothing is to be fetched or deleted and nothing
+-- was written, or what was found is durable
 pub record IsReady (settings : Settings) (target : Target) (items : List Item) (now : ℕ) (store : Stores)
     (file : Stored) (ready : Ready) (after : List Row) (store' : Stores) (file' : Stored) : Type 0 where
   pub was : RecordState
@@ -100,6 +113,7 @@ pub record IsReady (settings : Settings) (target : Target) (items : List Item) (
   pub held : AreAsHeld ready.steps.items items ready.held.items (flags_in target store items)
   pub rows : after ≡ merged_in target store was items now
   pub steps : ready.steps.items ≡ planned settings after items now
+  pub durable : (All IsQuiet ready.steps.items × (file' ≡ file)) ⊎ AreDurable target was.rows items store
   pub saved : Steady file'.content (none_open after)
   pub file_count : file'.failures ≡ file.failures
   pub settles : Settles target was items store store'
@@ -133,11 +147,19 @@ abbrev pub CausesUnready : Target → List Item → Fault → Stores → Stored 
 CausesUnready (AsFiles account) items fault store file store' file' = UnreadyCause fault store.maildir file store'.maildir file'
 CausesUnready AsEntries items fault store file store' file' = MboxUnready items fault store.mbox file store'.mbox file'
 
--- the file is as it was; or the store was settled first, and the file stands for the record or for the merged one
+-- the store was settled and what was found is durable, and the file stands for the record or for the merged one
+pub record IsMerged (target : Target) (items : List Item) (now : ℕ) (store : Stores) (file : Stored) (store' : Stores) (file' : Stored)
+    : Type 0 where
+  pub was : RecordState
+  pub stood : Keeps file.content was
+  pub settles : Settles target was items store store'
+  pub durable : AreDurable target was.rows items store
+  pub stands : Keeps file'.content was ⊎ Keeps file'.content (none_open (merged_in target store was items now))
+
+-- the file is as it was, or that
 abbrev pub IsMergedAtMost : Target → List Item → ℕ → Stores → Stored → Stores → Stored → Type 0
-IsMergedAtMost target items now store file store' file' = (file'.content ≡ file.content)
-    ⊎ ((was : RecordState) × Keeps file.content was × Settles target was items store store' × (Keeps file'.content was
-    ⊎ Keeps file'.content (none_open (merged_in target store was items now))))
+IsMergedAtMost target items now store file store' file' =
+    (file'.content ≡ file.content) ⊎ IsMerged target items now store file store' file'
 
 pub record Unready (target : Target) (items : List Item) (now : ℕ) (store : Stores) (file : Stored)
     (fault : Fault) (store' : Stores) (file' : Stored) : Type 0 where

@@ -1,5 +1,5 @@
 -- What storing one text does.
-use Rattle.std.specs.Prelude.{◌≡◌, ◌⊎◌, ◌≤◌, ℕ, false, List, [], ◌∷◌, ◌++◌, length, Option, None, Some, Result, Ok, Err, option_map}
+use Rattle.std.specs.Prelude.{◌≡◌, ◌⊎◌, ◌≤◌, ℕ, Bool, false, List, [], ◌∷◌, ◌++◌, length, Option, None, Some, Result, Ok, Err, option_map}
 use Rattle.std.specs.List.{flat_map}
 use Rattle.mail_store.specs.FlatFile.{Stored}
 use Rattle.mail_store.specs.Mboxrd.{entry_of}
@@ -13,7 +13,7 @@ use Rattle.pop3_client.specs.Conversation.{Talked, Broke}
 use Rattle.pop3_client.specs.Turns.{retr}
 use Rattle.pop3_client.specs.Texts.{Fetching, Fetched, body_text}
 use Rattle.fetch_session.specs.declared.fault.Cut.{Cut}
-use Rattle.mail_store.specs.Maildir.{Maildir, File, file, mail, with_file, dropped, counted}
+use Rattle.mail_store.specs.Maildir.{Maildir, File, Draft, MayHave, draft, mail, with_file, dropped, counted}
 use Rattle.mail_store.specs.FileName.{sized_file}
 use Rattle.pop3_client.specs.declared.fault.ClientFault.{ClientFault}
 use Rattle.fetch_session.specs.declared.fault.Fault.{Fault}
@@ -39,39 +39,41 @@ abbrev pub Brings : Target → List Done → Stores → Stores → Type 0
 Brings (AsFiles account) dones old new = Gained old.maildir new.maildir (files_of account dones)
 Brings AsEntries dones old new = Appended old.mbox new.mbox (texts_of dones)
 
--- at most a file with this stem and its length in its name came, and none is begun
+-- at most a file with this stem and its length in its name came, whose name may not be durable, and none is begun
 pub record MayGain (stem : List ℕ) (old new : Maildir) : Type 0 where
   pub none_begun : new.begun ≡ None
-  pub came : (new.files ≡ old.files) ⊎ ((content : List ℕ) × (new.files ≡ old.files ++ sized_file stem content ∷ []))
+  pub came : (new.files ≡ old.files)
+      ⊎ ((content : List ℕ) × (is_named : Bool) × (new.files ≡ old.files ++ record (sized_file stem content) { is_named = is_named } ∷ []))
 
 -- ---- a text, piece by piece
 
 -- this file is being written
-abbrev pub begun_with : Maildir → File → Maildir
-begun_with old f = record old { begun = Some f }
+abbrev pub begun_with : Maildir → Draft → Maildir
+begun_with old d = record old { begun = Some d }
 
 -- an empty file of this name is being written, or none is
 abbrev pub Starts : Maildir → List ℕ → Result (Unit {0}) Fault → Maildir → Type 0
-Starts old name (Ok done) new = new ≡ begun_with old (file name [])
+Starts old name (Ok done) new = new ≡ begun_with old (draft name [])
 Starts old name (Err fault) new = ((fault ≡ StoreRefused Missing) × (old.there.tmp ≡ false) × (new ≡ old))
     ⊎ ((fault ≡ StoreRefused Refused) × (new ≡ counted old))
 
 -- the bytes were appended to the file that is being written, or none is any more
 abbrev pub Puts : Maildir → List ℕ → Result (Unit {0}) Fault → Maildir → Type 0
-Puts old bytes (Ok done) new = (f : File) → old.begun ≡ Some f → new ≡ begun_with old (file f.name (f.content ++ bytes))
-Puts old bytes (Err fault) new = (fault ≡ StoreRefused Refused) × ((f : File) → old.begun ≡ Some f → new ≡ counted (dropped old))
+Puts old bytes (Ok done) new = (d : Draft) → old.begun ≡ Some d → new ≡ begun_with old (draft d.name (d.content ++ bytes))
+Puts old bytes (Err fault) new = (fault ≡ StoreRefused Refused) × ((d : Draft) → old.begun ≡ Some d → new ≡ counted (dropped old))
 
--- what was written is there under this name, or, refused, it may be
+-- what was written is there under this name and durable; or, refused, it may be there
 abbrev pub Ends : Maildir → List ℕ → Result (Unit {0}) Fault → Maildir → Type 0
-Ends old name (Ok done) new = (f : File) → old.begun ≡ Some f → new ≡ with_file old (mail name f.content)
-Ends old name (Err fault) new = (fault ≡ StoreRefused Refused) × ((f : File) → old.begun ≡ Some f
-    → (new ≡ counted (dropped old)) ⊎ (new ≡ counted (with_file old (mail name f.content))))
+Ends old name (Ok done) new = (d : Draft) → old.begun ≡ Some d → new ≡ with_file old (mail name d.content)
+Ends old name (Err fault) new = (fault ≡ StoreRefused Refused) × ((d : Draft) → old.begun ≡ Some d
+    → (new ≡ counted (dropped old)) ⊎ MayHave old (mail name d.content) new)
 
--- the store refused a text of which this much has come: nothing came, or, only if the text had come whole, the file
+-- the store refused a text of which this much has come: no file came, or, only if the text had come whole, its file did, which a
+-- loss of power may take
 abbrev pub RefusesText : Maildir → List ℕ → Rest → List ℕ → Fault → Maildir → Type 0
 RefusesText old stem rest text fault new = ((fault ≡ StoreRefused Missing) × (old.there.tmp ≡ false) × (new ≡ old))
     ⊎ ((fault ≡ StoreRefused Refused) × ((new ≡ counted (dropped old))
-    ⊎ ((rest.spot ≡ AtEnd) × (new ≡ counted (with_file old (sized_file stem text))))))
+    ⊎ ((rest.spot ≡ AtEnd) × MayHave old (sized_file stem text) new)))
 
 -- the link stopped, and nothing was stored; or the store refused
 abbrev pub StopsStoring : List ℕ → Maildir → List ℕ → Fault → Option Rest → Maildir → Type 0

@@ -3,7 +3,7 @@ ghost use Rattle.std.specs.Prelude.{◌≡◌, ◌∷◌, ℕ, List, [], IfOk, O
 ghost use Rattle.pop3_client.specs.Turns.{quit};
 ghost use Rattle.fetch_session.specs.Mbox.{IsTold, LooksAgain, went};
 ghost use Rattle.fetch_session.specs.Refusal.{TookWithTail, tail_limit};
-ghost use Rattle.fetch_session.specs.Lasting.{IsSafeStore, KeepsMailIn, KeepsMboxIn};
+ghost use Rattle.fetch_session.specs.Lasting.{IsSafeStore, KeepsMboxIn};
 ghost use Rattle.fetch_session.specs.Parts.{RunsTasks, KeepsLink, KeepsStore, IsReady};
 ghost use Rattle.fetch_session.specs.Target.{is_sound, kind_of, stores_of};
 ghost use Rattle.fetch_session.specs.Task.{says};
@@ -27,8 +27,7 @@ fn look_again<D: MaildirDisk, F: FlatFile>(
     ensures looks { is_sound D.MaildirDisk F.FlatFile store.new → is_sound D.MaildirDisk F.FlatFile store.old
         × LooksAgain (kind_of store.old) lines.now (stores_of D.MaildirDisk F.FlatFile store.old) result
         (stores_of D.MaildirDisk F.FlatFile store.new) }
-    ensures keeps { is_sound D.MaildirDisk F.FlatFile store.new
-        → KeepsMailIn D.MaildirDisk store.old store.new × KeepsMboxIn D.MaildirDisk F.FlatFile store.old store.new }
+    ensures keeps { is_sound D.MaildirDisk F.FlatFile store.new → KeepsMboxIn F.FlatFile store.old store.new }
     ensures safe { is_sound D.MaildirDisk F.FlatFile store.new → IsSafeStore F.FlatFile store.old
         → OnOk result (IsSafeStore F.FlatFile store.new) }
 {

@@ -55,7 +55,7 @@ fn proceed<W: Wire, D: MaildirDisk, F: FlatFile, H: BuildHasher, L: Listener>(
         (λ old new. AfterTakingIn old.store (λ left. (is : Proceeds terms.entry.settings.now
         (target_of work.old.store terms.entry.account.now) terms.entry.now old.place (keeping left old.file) result
         new.place (keeping new.store new.file) (noted counts.new.total counts.new.skipped new.lines))
-        × ProceedsLast D.MaildirDisk F.FlatFile work.old.store work.old.ledger.file _ _ _ _ _ _ _ _ _ is
+        × ProceedsLast F.FlatFile work.old.store work.old.ledger.file _ _ _ _ _ _ _ _ _ is
         work.new.store work.new.ledger.file)) }
     ensures heard { L.goes_on listener.old listener.new }
 {

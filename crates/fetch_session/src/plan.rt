@@ -49,7 +49,7 @@ pub fn carry_out<W: Wire, D: MaildirDisk, F: FlatFile, H: BuildHasher, L: Listen
         (λ old new. AfterTakingIn old.store (λ left. (is : Carries terms.entry.settings.now
         (target_of work.old.store terms.entry.account.now) listing.now terms.entry.now old.place left old.file old.lines result
         new.place new.store new.file new.lines skipped.new)
-        × CarriesLast D.MaildirDisk F.FlatFile work.old.store work.old.ledger.file _ _ _ _ _ _ _ _ _ _ _ _ _ _ is
+        × CarriesLast F.FlatFile work.old.store work.old.ledger.file _ _ _ _ _ _ _ _ _ _ _ _ _ _ is
         work.new.store work.new.ledger.file)) }
     ensures heard { L.goes_on listener.old listener.new }
 {

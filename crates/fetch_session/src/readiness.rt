@@ -1,20 +1,18 @@
 //! What a session knows before its plan is carried out: the record, and what the store holds.
 ghost use Rattle.std.specs.Prelude.{◌≡◌, ◌≢◌, ◌⊎◌, ℕ, Bool, List, [], false, true};
-ghost use Rattle.std.specs.Prelude.{not, map, All, None, Some, length, OnOk, IfOk, IfSome};
+ghost use Rattle.std.specs.Prelude.{All, None, Some, length, OnOk, IfOk, IfSome};
 ghost use Rattle.std.specs.List.{AllByRecursion};
 ghost use Rattle.fetch_rules.specs.Intents.{closed_rows};
 ghost use Rattle.fetch_rules.specs.Record.{Loaded, has_row, is_delivered, none_open, merged};
 ghost use Rattle.fetch_rules.specs.RecordFile.{file_of};
 ghost use Rattle.fetch_rules.specs.Plan.{IsQuiet, planned};
 ghost use Rattle.fetch_session.specs.Mbox.{AsksMbox, SettlesIntent};
-ghost use Rattle.mail_store.specs.Maildir.{AfterTaking};
-ghost use Rattle.mail_store.specs.Power.{AllStay, KeepsLeft, LeavesNoMore};
-ghost use Rattle.fetch_session.specs.Lasting.{AllStayIn, AreSure, FoundLast, FoundLastIn};
-ghost use Rattle.fetch_session.specs.Lasting.{IsSafe, IsSafeStore, KeepsLeftIn, KeepsMailIn, LeavesMerged};
-ghost use Rattle.fetch_session.specs.Lasting.{ReadiesAndLasts, is_sure};
+ghost use Rattle.mail_store.specs.Maildir.{AfterTaking, AllNamed};
+ghost use Rattle.mail_store.specs.Power.{LeavesNoMore};
+ghost use Rattle.fetch_session.specs.Lasting.{AreSure, IsSafe, IsSafeStore, LeavesMerged, ReadiesAndLasts, is_sure};
 ghost use Rattle.fetch_session.specs.Parts.{KeepsBegun};
 ghost use Rattle.fetch_session.specs.Target.{AfterTakingIn, flags_in, is_sound, kind_of, stores_of, target_of};
-ghost use Rattle.fetch_session.specs.Readiness.{AreAsHeld, ChecksStore, FindsHeld, FindsIn, HasPlan, IsIdle, Rests};
+ghost use Rattle.fetch_session.specs.Readiness.{AreAsHeld, ChecksStore, FindsHeld, FindsIn, HasPlan, IsIdle, Rests, undelivered};
 ghost use Rattle.fetch_session.specs.Record.{Gets, Reads, ReadAs, Merges, IsLineFault, IsSecured, Steady, bytes_in, record_state_in};
 
 use crate::account::Store;
@@ -23,8 +21,8 @@ use crate::record::{grow, save};
 use crate::terms::Terms;
 use crate::work::{Ledger, Work};
 use fetch_rules::{
-    Listing, Seen, SeenFault, Step, ask_nothing, delivered_has_row, files_stand_for_one_record,
-    known_listings_change_nothing, listed_has_row, plan, plan_of_known,
+    Listing, Seen, SeenFault, Step, ask_nothing, delivered_has_row, known_listings_change_nothing,
+    listed_has_row, plan, plan_of_known,
 };
 use mail_store::{
     AccountId, FlatFile, Folder, MaildirDisk, StoreFault, check_mbox, flush_held, listed_size,
@@ -115,7 +113,7 @@ fn undelivered<H: BuildHasher>(
     seen: &Seen<H>,
     listing: &Listing,
 ) -> Result<Vec<bool>, AllocError>
-    ensures { IfOk result (λ flags. flags.items ≡ map (λ item. not (is_delivered seen.now.rows item.uid)) listing.now) }
+    ensures { IfOk result (λ flags. flags.items ≡ undelivered seen.now.rows listing.now) }
 {
     let mut flags = Vec::new(alloc);
     for i in 0..listing.len() {
@@ -135,11 +133,7 @@ fn find_held<D: MaildirDisk, H: BuildHasher>(
 ) -> Result<Vec<bool>, Fault>
     ensures length { IfOk result (λ flags. length flags.items ≡ length listing.now) }
     ensures finds { D.sound disk.new → D.sound disk.old
-        × AfterTaking (D.maildir disk.old) (λ left. FindsHeld account.now left listing.now result (D.maildir disk.new)) }
-    ensures lasts { D.sound disk.new → KeepsLeft (D.maildir disk.old).files (D.maildir disk.new).files
-        (D.stays disk.old) (D.outlives disk.old) (D.stays disk.new) (D.outlives disk.new)
-        × OnOk result (AllStay (D.maildir disk.new) (D.stays disk.new)
-        × FoundLast account.now seen.now.rows listing.now (D.maildir disk.new) (D.outlives disk.new)) }
+        × AfterTaking (D.maildir disk.old) (λ left. FindsHeld account.now seen.now.rows left listing.now result (D.maildir disk.new)) }
 {
     let flags = undelivered(alloc, seen, listing)?;
     Ok(flush_held(alloc, disk, account, listing, &flags)?)
@@ -197,16 +191,14 @@ fn ask_store<D: MaildirDisk, F: FlatFile, H: BuildHasher>(
     ensures length { IfOk result (λ found. length found.held.items ≡ length listing.now) }
     ensures stays { is_sound D.MaildirDisk F.FlatFile store.new → is_sound D.MaildirDisk F.FlatFile store.old
         × ((stores_of D.MaildirDisk F.FlatFile store.new).maildir.begun ≡ (stores_of D.MaildirDisk F.FlatFile store.old).maildir.begun)
-        × IfOk result (λ found. found.held.items
-        ≡ flags_in (target_of store.old account.now) (stores_of D.MaildirDisk F.FlatFile store.new) listing.now) }
+        × IfOk result (λ found. (found.held.items
+        ≡ flags_in (target_of store.old account.now) (stores_of D.MaildirDisk F.FlatFile store.new) listing.now)
+        × AllNamed (stores_of D.MaildirDisk F.FlatFile store.new).maildir.files) }
     ensures finds { is_sound D.MaildirDisk F.FlatFile store.new → is_sound D.MaildirDisk F.FlatFile store.old
-        × AfterTakingIn (stores_of D.MaildirDisk F.FlatFile store.old) (λ left. FindsIn (target_of store.old account.now) seen.now.intent
-        left listing.now result (stores_of D.MaildirDisk F.FlatFile store.new)) }
-    ensures keeps { is_sound D.MaildirDisk F.FlatFile store.new → KeepsLeftIn D.MaildirDisk F.FlatFile store.old
-        (stores_of D.MaildirDisk F.FlatFile store.new).maildir.files store.new }
+        × AfterTakingIn (stores_of D.MaildirDisk F.FlatFile store.old) (λ left. FindsIn (target_of store.old account.now)
+        (record_state_in seen.now) left listing.now result (stores_of D.MaildirDisk F.FlatFile store.new)) }
     ensures lasts { is_sound D.MaildirDisk F.FlatFile store.new → is_sure F.FlatFile store.old
-        → OnOk result (IsSafeStore F.FlatFile store.new × AllStayIn D.MaildirDisk store.new
-        × FoundLastIn D.MaildirDisk account.now seen.now.rows listing.now store.new) }
+        → OnOk result (IsSafeStore F.FlatFile store.new) }
 {
     match store {
         Store::Maildir(disk) => Ok(Found {
@@ -284,7 +276,6 @@ fn check_store<D: MaildirDisk, F: FlatFile>(store: &mut Store<D, F>) -> Result<(
     ensures checks { is_sound D.MaildirDisk F.FlatFile store.new → is_sound D.MaildirDisk F.FlatFile store.old
         × ChecksStore (kind_of store.old) (stores_of D.MaildirDisk F.FlatFile store.old) result
         (stores_of D.MaildirDisk F.FlatFile store.new) }
-    ensures keeps { is_sound D.MaildirDisk F.FlatFile store.new → KeepsMailIn D.MaildirDisk store.old store.new }
 {
     match store {
         Store::Maildir(disk) => {
@@ -308,7 +299,6 @@ fn rest<D: MaildirDisk, F: FlatFile>(
     ensures finds { is_sound D.MaildirDisk F.FlatFile store.new → is_sound D.MaildirDisk F.FlatFile store.old
         × Rests (kind_of store.old) (stores_of D.MaildirDisk F.FlatFile store.old) listing.now result
         (stores_of D.MaildirDisk F.FlatFile store.new) }
-    ensures keeps { is_sound D.MaildirDisk F.FlatFile store.new → KeepsMailIn D.MaildirDisk store.old store.new }
 {
     check_store(store)?;
     let held = vec![in alloc; false; listing.len() as usize]?;
@@ -327,19 +317,19 @@ fn prepare_by_store<D: MaildirDisk, F: FlatFile, H: BuildHasher>(
     requires begun { F.sound work.old.ledger.file → is_new ≡ false → bytes_in (F.stored work.old.ledger.file).content ≢ [] }
     ensures store { KeepsBegun D.MaildirDisk F.FlatFile work.old work.new }
     ensures plans { IfOk result (λ ready. HasPlan terms.entry.settings.now listing.now terms.entry.now ready work.new.ledger.seen) }
-    ensures held { is_sound D.MaildirDisk F.FlatFile work.new.store → IfOk result (λ ready. ready.held.items
-        ≡ flags_in (target_of work.old.store terms.entry.account.now) (stores_of D.MaildirDisk F.FlatFile work.new.store) listing.now) }
+    ensures held { is_sound D.MaildirDisk F.FlatFile work.new.store → IfOk result (λ ready. (ready.held.items
+        ≡ flags_in (target_of work.old.store terms.entry.account.now) (stores_of D.MaildirDisk F.FlatFile work.new.store) listing.now)
+        × AllNamed (stores_of D.MaildirDisk F.FlatFile work.new.store).maildir.files) }
     ensures steady { F.sound work.new.ledger.file → F.sound work.old.ledger.file
         × OnOk result (Steady (F.stored work.new.ledger.file).content (none_open work.new.ledger.seen.rows)) }
     ensures readies { is_sound D.MaildirDisk F.FlatFile work.new.store → F.sound work.new.ledger.file
         → is_sound D.MaildirDisk F.FlatFile work.old.store × F.sound work.old.ledger.file
         × AfterTakingIn (stores_of D.MaildirDisk F.FlatFile work.old.store) (λ left. ReadiesAndLasts D.MaildirDisk F.FlatFile
-        (is_sure F.FlatFile work.old.store × IsSafe F.FlatFile work.old.ledger.file) work.old.store work.old.ledger.file
+        (is_sure F.FlatFile work.old.store × IsSafe F.FlatFile work.old.ledger.file) work.old.ledger.file
         terms.entry.settings.now (target_of work.old.store terms.entry.account.now) listing.now terms.entry.now left result
         work.new.ledger.seen.rows work.new.store work.new.ledger.file) }
 {
     listed_has_row();
-    files_stand_for_one_record();
     let alloc = work.ledger.alloc;
     let found = ask_store(
         alloc,
@@ -370,12 +360,14 @@ pub fn prepare<D: MaildirDisk, F: FlatFile, H: BuildHasher>(
     ensures held { is_sound D.MaildirDisk F.FlatFile work.new.store → IfOk result (λ ready. AreAsHeld ready.steps.items listing.now
         ready.held.items
         (flags_in (target_of work.old.store terms.entry.account.now) (stores_of D.MaildirDisk F.FlatFile work.new.store) listing.now)) }
+    ensures named { is_sound D.MaildirDisk F.FlatFile work.new.store → IfOk result (λ ready. All IsQuiet ready.steps.items
+        ⊎ AllNamed (stores_of D.MaildirDisk F.FlatFile work.new.store).maildir.files) }
     ensures steady { F.sound work.new.ledger.file → F.sound work.old.ledger.file
         × OnOk result (Steady (F.stored work.new.ledger.file).content (none_open work.new.ledger.seen.rows)) }
     ensures readies { is_sound D.MaildirDisk F.FlatFile work.new.store → F.sound work.new.ledger.file
         → is_sound D.MaildirDisk F.FlatFile work.old.store × F.sound work.old.ledger.file
         × AfterTakingIn (stores_of D.MaildirDisk F.FlatFile work.old.store) (λ left. ReadiesAndLasts D.MaildirDisk F.FlatFile
-        (AreSure F.FlatFile work.old.store work.old.ledger.file) work.old.store work.old.ledger.file
+        (AreSure F.FlatFile work.old.store work.old.ledger.file) work.old.ledger.file
         terms.entry.settings.now (target_of work.old.store terms.entry.account.now) listing.now terms.entry.now left result
         work.new.ledger.seen.rows work.new.store work.new.ledger.file) }
 {

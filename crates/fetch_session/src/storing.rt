@@ -1,6 +1,5 @@
 //! How a text is taken: stored, or passed over if it is held already.
-ghost use Rattle.std.specs.Prelude.{◌≡◌, ◌≢◌, ◌⊎◌, ◌≤◌, ◌++◌, ℕ, List, [], None, Some, IfErr, IsSome, OnOk, false, string_bytes};
-ghost use Rattle.std.specs.List.{AllByRecursion};
+ghost use Rattle.std.specs.Prelude.{◌≡◌, ◌≢◌, ◌⊎◌, ◌≤◌, ℕ, List, [], None, IsSome, OnErr, OnOk, false, string_bytes};
 ghost use Rattle.mail_terms.specs.UniqueId.{IsLegalId};
 ghost use Rattle.pop3_client.specs.Client.{HasSameLink, CountsRefusals, place_of, link_of};
 ghost use Rattle.pop3_wire.specs.Link.{WhereSound};
@@ -10,10 +9,9 @@ ghost use Rattle.pop3_client.specs.Turns.{most, retr, text_limit};
 ghost use Rattle.pop3_client.specs.Texts.{Fetching};
 ghost use Rattle.fetch_rules.specs.Record.{Row};
 ghost use Rattle.mail_store.specs.FlatFile.{Stored};
-ghost use Rattle.mail_store.specs.FileName.{HasRoomForSize, IsAccountText, is_held, sized, sized_file, stem_of};
-ghost use Rattle.mail_store.specs.Maildir.{File, IsThere, file, mail, with_file};
-ghost use Rattle.mail_store.specs.Power.{KeepsMail};
-ghost use Rattle.fetch_session.specs.Lasting.{AreLeft, IsSafe, RowsStillLast, Leaves, OneOutlives};
+ghost use Rattle.mail_store.specs.FileName.{HasRoomForSize, IsAccountText, is_held, sized, stem_of};
+ghost use Rattle.mail_store.specs.Maildir.{AllNamed, IsThere};
+ghost use Rattle.fetch_session.specs.Lasting.{AreLeft, IsSafe, Leaves, OneDurable, RowsStillLast};
 ghost use Rattle.fetch_session.specs.Parts.{KeepsLedger, KeepsLink, IsWritten};
 ghost use Rattle.fetch_session.specs.Refusal.{RefusesTillCut, TookTillCut};
 ghost use Rattle.fetch_session.specs.Report.{Adds, HasRoom};
@@ -41,7 +39,6 @@ fn begin_file<D: MaildirDisk>(disk: &mut D, name: &str) -> Result<(), Fault>
     requires { D.sound disk.old → (D.maildir disk.old).begun ≡ None }
     ensures starts { D.sound disk.new → D.sound disk.old
         × Starts (D.maildir disk.old) name.now result (D.maildir disk.new) }
-    ensures keeps { D.sound disk.new → KeepsMail (D.stays disk.old) (D.outlives disk.old) (D.stays disk.new) (D.outlives disk.new) }
 {
     match disk.begin(name) {
         Ok(()) => Ok(()),
@@ -56,7 +53,6 @@ fn put_piece<D: MaildirDisk>(disk: &mut D, bytes: &[u8]) -> Result<(), Fault>
     requires { D.sound disk.old → IsSome (D.maildir disk.old).begun }
     ensures puts { D.sound disk.new → D.sound disk.old
         × Puts (D.maildir disk.old) bytes.now result (D.maildir disk.new) }
-    ensures keeps { D.sound disk.new → KeepsMail (D.stays disk.old) (D.outlives disk.old) (D.stays disk.new) (D.outlives disk.new) }
 {
     if bytes.is_empty() {
         return Ok(());
@@ -75,11 +71,9 @@ fn settle_file<D: MaildirDisk>(disk: &mut D, stem: String, size: u64) -> Result<
     requires room { HasRoomForSize stem }
     requires begun { D.sound disk.old → IsSome (D.maildir disk.old).begun }
     requires not_there { D.sound disk.old → IsThere (D.maildir disk.old) (sized (string_bytes stem) size) → ⊥ }
+    requires named { D.sound disk.old → AllNamed (D.maildir disk.old).files }
     ensures ends { D.sound disk.new → D.sound disk.old
         × Ends (D.maildir disk.old) (sized (string_bytes stem) size) result (D.maildir disk.new) }
-    ensures keeps { D.sound disk.new → KeepsMail (D.stays disk.old) (D.outlives disk.old) (D.stays disk.new) (D.outlives disk.new) }
-    ensures lasts { D.sound disk.new → OnOk result ((f : File) → (D.maildir disk.old).begun ≡ Some f
-        → D.outlives disk.new (mail (sized (string_bytes stem) size) f.content)) }
 {
     let mut name = stem;
     add_size(&mut name, size);
@@ -103,6 +97,7 @@ pub(crate) fn store_text<W: Wire, D: MaildirDisk>(
     requires within { body.left ≤ text_limit }
     requires none_begun { D.sound disk.old → (D.maildir disk.old).begun ≡ None }
     requires not_there { D.sound disk.old → (size : ℕ) → IsThere (D.maildir disk.old) (sized (string_bytes stem) size) → ⊥ }
+    requires named { D.sound disk.old → AllNamed (D.maildir disk.old).files }
     ensures link { HasSameLink client.old client.new }
     ensures counted { RefusesTillCut (link_of W.Wire client.old) result (link_of W.Wire client.new) }
     ensures stores { (text : List ℕ) × (D.sound disk.new → D.sound disk.old
@@ -110,10 +105,6 @@ pub(crate) fn store_text<W: Wire, D: MaildirDisk>(
         × WhereSound W.sound W.leads_to client.old.wire.now client.new.wire.now
         ((number : ℕ) (start : Place) → Fetching (retr number) start (place_of W.Wire client.old) body []
         → ReadsText number start text result (place_of W.Wire client.new)) }
-    ensures keeps { D.sound disk.new → KeepsMail (D.stays disk.old) (D.outlives disk.old) (D.stays disk.new) (D.outlives disk.new) }
-    ensures lasts { D.sound disk.new → OnOk result ((text : List ℕ)
-        → D.maildir disk.new ≡ with_file (D.maildir disk.old) (sized_file (string_bytes stem) text)
-        → D.outlives disk.new (sized_file (string_bytes stem) text)) }
 {
     let mut rest = body;
     if let Err(fault) = begin_file(disk, stem.as_str()) {
@@ -214,25 +205,23 @@ pub(crate) fn take_into_maildir<W: Wire, D: MaildirDisk, F: FlatFile, H: BuildHa
     requires none_begun { D.sound disk.old → (D.maildir disk.old).begun ≡ None }
     requires ready { IsWritten F.FlatFile ledger.old }
     requires free { D.sound disk.old → is_held account.now (D.maildir disk.old) uid.now ≡ false }
+    requires named { D.sound disk.old → AllNamed (D.maildir disk.old).files }
     ensures link { KeepsLink W.Wire (TookTillCut (most (retr number))) client.old result client.new }
     ensures ledger { KeepsLedger F.FlatFile uid.now ledger.old result ledger.new }
     ensures grows { D.sound disk.new → D.sound disk.old
-        × MayGain (stem_of account.now uid.now) (D.maildir disk.old) (D.maildir disk.new) }
+        × MayGain (stem_of account.now uid.now) (D.maildir disk.old) (D.maildir disk.new)
+        × OnOk result (AllNamed (D.maildir disk.new).files) }
     ensures takes { WhereAllSound W.sound W.leads_to D.sound F.sound client.old.wire.now client.new.wire.now disk.old disk.new
         ledger.old.file ledger.new.file (TakesTask (AsFiles account.now) (stores number uid.now)
         (scene (place_of W.Wire client.old) (in_maildir (D.maildir disk.old)) (F.stored ledger.old.file) ledger.old.seen.rows
         ledger.old.lines.items) result
         (scene (place_of W.Wire client.new) (in_maildir (D.maildir disk.new)) (F.stored ledger.new.file) ledger.new.seen.rows
         ledger.new.lines.items)) }
-    ensures keeps { D.sound disk.new → F.sound ledger.new.file
-        → KeepsMail (D.stays disk.old) (D.outlives disk.old) (D.stays disk.new) (D.outlives disk.new)
-        × ((rows : List Row) → RowsStillLast F.FlatFile rows ledger.old.file ledger.new.file) }
+    ensures keeps { F.sound ledger.new.file → ((rows : List Row) → RowsStillLast F.FlatFile rows ledger.old.file ledger.new.file) }
     ensures lasts { D.sound disk.new → F.sound ledger.new.file → IsSafe F.FlatFile ledger.old.file
-        → OnOk result (IsSafe F.FlatFile ledger.new.file × ((files : List File)
-        → (D.maildir disk.new).files ≡ (D.maildir disk.old).files ++ files → AllByRecursion (D.outlives disk.new) files))
-        × IfErr result (λ cut. (Leaves F.FlatFile ledger.new.file (AreLeft ledger.old.seen.rows ledger.old.seen.rows)
-        × (cut.rest ≡ None → (D.maildir disk.new).files ≡ (D.maildir disk.old).files))
-        ⊎ OneOutlives (D.maildir disk.old) (D.maildir disk.new) (D.outlives disk.new)) }
+        → OnOk result (IsSafe F.FlatFile ledger.new.file)
+        × OnErr result (Leaves F.FlatFile ledger.new.file (AreLeft ledger.old.seen.rows ledger.old.seen.rows)
+        ⊎ OneDurable (D.maildir disk.old) (D.maildir disk.new)) }
 {
     conversations_are_paced();
     marked_keeps_rows();

@@ -1,16 +1,15 @@
 -- What others' moves and flushes of names leave as it was.
-use Rattle.std.proofs.Common.{◌≡◌, ◌||◌, Contains, append_assoc, inl, inr, ⊎_elim, ℕ, zero, suc, Bool, true, false, not, List, [], ◌∷◌, ◌++◌, map, None, Option, refl, sym, ap, subst, ◌∙◌, arith, true≢false}
-use Rattle.std.specs.List.{AllByRecursion}
-use Rattle.std.proofs.lemmas.Bool.{false_from_ne_true, or_left}
-use Rattle.std.proofs.lemmas.Simd.{map-map}
+use Rattle.std.proofs.Common.{◌≡◌, ◌⊎◌, ◌||◌, Contains, inl, inr, ⊎_elim, ℕ, zero, suc, Bool, true, false, not, List, [], ◌∷◌, ◌++◌, map, None, Option, refl, sym, ap, ◌∙◌, arith}
+use Rattle.std.specs.List.{AllByRecursion, AllZip}
+use Rattle.std.proofs.lemmas.Bool.{or_left}
 use Rattle.mail_terms.specs.MaildirName.{base}
 use Rattle.mail_store.specs.declared.maildir.disk.Folder.{Folder}
 use Rattle.mail_store.specs.declared.maildir.disk.Folder.TheVariants.{New, Cur}
-use Rattle.mail_store.specs.Maildir.{File, IsPart, IsWithout, names_of}
-use Rattle.mail_store.specs.Power.{KeepsMail}
-use Rattle.folder_store.specs.MailFolders.{MailFile, Directories, KeepsFile, MovesFile, RestsFile, Each, Moved, mail_at, files_at, name_at, entries_in, touches_new, touches_cur, maildir_in, OneMoves, is_in}
-use Rattle.folder_store.specs.MailPower.{AreLeftAs, IsLeftAs, SomeIs, StaysIn, OutlivesIn, AllFlushed, AllNamed, AllOnDisk, StayingMailIsLeft, OutlivingMailIsLeft, MailOnDiskIsLeft, MailCanLosePower}
-use Rattle.folder_store.specs.MailCalls.{Leads, named_by}
+use Rattle.mail_store.specs.Loss.{AreLeftAs as FilesLeftAs}
+use Rattle.mail_store.specs.Maildir.{AllDurable, AreReached, File, IsWithout, MayBeNamed, Reaches, names_of}
+use Rattle.folder_store.specs.MailFolders.{Draft, MailFile, Directories, KeepsFile, MovesFile, RestsFile, Each, Moved, mail_at, files_at, name_at, entries_in, touches_new, touches_cur, maildir_in, OneMoves, is_in}
+use Rattle.folder_store.specs.MailPower.{AllNamed, AreLeftAs, IsLeftAs, MailCanLosePower}
+use Rattle.folder_store.specs.MailCalls.{Leads, Rests, named_by}
 
 -- what holds of two lists of files that are so related one by one
 pub each_by : (Does : MailFile → MailFile → Type 0) (P : List MailFile → List MailFile → Type 0) → P [] []
@@ -19,6 +18,11 @@ each_by Does P none more [] [] h = none
 each_by Does P none more [] (t ∷ ts) h = absurd h
 each_by Does P none more (s ∷ ss) [] h = absurd h
 each_by Does P none more (s ∷ ss) (t ∷ ts) h = more s t ss ts h.0 (each_by Does P none more ss ts h.1)
+
+-- one of the files is such
+abbrev pub SomeIs : (MailFile → Type 0) → List MailFile → Type 0
+SomeIs Is [] = ⊥
+SomeIs Is (s ∷ entries) = Is s ⊎ SomeIs Is entries
 
 -- what holds of one of the files, then holds of one of the others
 pub some_kept : {Does : MailFile → MailFile → Type 0} {Is Will : MailFile → Type 0} → (a b : List MailFile) → Each Does a b → SomeIs Is a
@@ -46,58 +50,25 @@ there_some g x P (s ∷ ss) all (suc k, below, is) = inr (there_some g x P ss al
 
 -- ---- files that keep their names up to the colon and their bytes
 
-pub same_mail : (s t : MailFile) → base t.name ≡ base s.name → t.content ≡ s.content → mail_at t ≡ mail_at s
-same_mail s t title content = rw (title, content) refl
+pub same_mail : (s t : MailFile) → base t.name ≡ base s.name → t.content ≡ s.content → t.is_named ≡ s.is_named → t.is_flushed ≡ s.is_flushed
+    → mail_at t ≡ mail_at s
+same_mail s t title content named flushed = rw (title, content, named, flushed) refl
 
-pub files_kept : (a b : List MailFile) → Each KeepsFile a b → files_at b ≡ files_at a
-files_kept a b = each_by KeepsFile (λ a b. files_at b ≡ files_at a) refl
-    (λ s t ss ts k same. ap (λ (f : File). f ∷ files_at ts) (same_mail s t k.title k.content) ∙ ap (λ (fs : List File). mail_at s ∷ fs) same) a b
+pub reaches_at : (s t : MailFile) → KeepsFile s t → Reaches (mail_at s) (mail_at t)
+reaches_at s t k = record { name = k.title; content = k.content; named = k.named; flushed = k.flushed }
 
-pub mail_kept : (a b : List MailFile) → Each KeepsFile a b → KeepsMail (StaysIn a) (OutlivesIn a) (StaysIn b) (OutlivesIn b)
-mail_kept a b h = (
-  λ name is. some_kept a b h is (λ s t k x. (k.title ∙ x.0, k.named x.1)),
-  λ f is. some_kept a b h is (λ s t k x. (same_mail s t k.title k.content ∙ x.0, k.named x.1, k.flushed x.2)),
-)
+pub files_reached : (a b : List MailFile) → Each KeepsFile a b → AreReached (files_at a) (files_at b)
+files_reached a b = each_by KeepsFile (λ a b. AreReached (files_at a) (files_at b)) tt
+    (λ s t ss ts k rest. (reaches_at s t k, rest)) a b
 
-pub flushed_kept : (a b : List MailFile) → Each KeepsFile a b → AllFlushed a → AllFlushed b
-flushed_kept a b =
-    each_by KeepsFile (λ a b. AllFlushed a → AllFlushed b) (λ all. all) (λ s t ss ts k rest all. (k.flushed all.0, rest all.1)) a b
+pub files_moved : (a b : List MailFile) → Each MovesFile a b → files_at b ≡ files_at a
+files_moved a b = each_by MovesFile (λ a b. files_at b ≡ files_at a) refl
+    (λ s t ss ts m same. ap (λ (f : File). f ∷ files_at ts) (same_mail s t m.keeps.title m.keeps.content m.named m.flushed)
+    ∙ ap (λ (fs : List File). mail_at s ∷ fs) same) a b
 
--- what a loss of power leaves of a file could be left of it before, where it was
-abbrev where_it_was : MailFile → MailFile → MailFile
-where_it_was s u = record u { is_new = s.is_new; is_gone = s.is_gone }
-
-left_before : (s t u : MailFile) → KeepsFile s t → IsLeftAs t u → IsLeftAs s (where_it_was s u)
-left_before s t u k l = record {
-  title = l.title ∙ k.title;
-  in_new = λ new. ap (λ (b : Bool). b || s.left_new) new;
-  in_cur = λ cur. ap (λ (b : Bool). not b || s.left_cur) cur;
-  content = λ flushed. l.content (k.flushed flushed) ∙ k.content;
-  flushed = l.flushed;
-  named = l.named;
-  firm = l.firm;
-  gone = λ here. here;
-}
-
-not_named : (s t : MailFile) → KeepsFile s t → t.is_named ≡ false → s.is_named ≡ false
-not_named s t k gone = false_from_ne_true s.is_named (λ named. let is = k.named named in cc)
-
--- what a loss of power leaves of files could be left of them before
-abbrev pub WereLeft : List MailFile → List MailFile → Type 0
-WereLeft ss left = (before : List MailFile) × AreLeftAs ss before × (files_at left ≡ files_at before)
-
-pub were_left : (a b : List MailFile) → Each KeepsFile a b → (left : List MailFile) → AreLeftAs b left → WereLeft a left
-were_left [] [] h left e = ([], refl, ap files_at e)
-were_left [] (t ∷ ts) h left l = absurd h
-were_left (s ∷ ss) [] h left l = absurd h
-were_left (s ∷ ss) (t ∷ ts) h left (inl (gone, l)) = let r = were_left ss ts h.1 left l in (r.0, inl (not_named s t h.0 gone, r.1), r.2)
-were_left (s ∷ ss) (t ∷ ts) h left (inr (u, rest, e, is, l)) =
-    let r = were_left ss ts h.1 rest l in
-    (where_it_was s u ∷ r.0, inr (where_it_was s u, r.0, refl, left_before s t u h.0 is, r.1), rw e (ap (λ (fs : List File). mail_at u ∷ fs) r.2))
-
-pub leads_keep : (a b : Directories) → Leads a b
-    → KeepsMail (StaysIn a.entries) (OutlivesIn a.entries) (StaysIn b.entries) (OutlivesIn b.entries)
-leads_keep a b l = mail_kept a.entries b.entries l.keeps
+pub titles_kept : (a b : List MailFile) → Each KeepsFile a b → names_of (files_at b) ≡ names_of (files_at a)
+titles_kept a b = each_by KeepsFile (λ a b. names_of (files_at b) ≡ names_of (files_at a)) refl
+    (λ s t ss ts k same. ap (λ (n : List ℕ). n ∷ names_of (files_at ts)) k.title ∙ ap (λ (ns : List (List ℕ)). base s.name ∷ ns) same) a b
 
 -- ---- others' moves, and flushes of names
 
@@ -127,20 +98,44 @@ leads_same a = record { there = refl; made = refl; taken = refl; keeps = each_sa
 
 -- ---- one after another
 
-pub without_kept : (f : File) (gone files left : List File) → IsWithout files gone left → IsWithout (f ∷ files) gone (f ∷ left)
-without_kept f [] files left e = ap (λ (fs : List File). f ∷ fs) e
-without_kept f (g ∷ gone) files left (front, back, e, is) =
-    (f ∷ front, back, ap (λ (fs : List File). f ∷ fs) e, without_kept f gone (front ++ back) left is)
+pub reaches_same : (f : File) → Reaches f f
+reaches_same f = record { name = refl; content = refl; named = λ is. is; flushed = λ is. is }
 
-without_behind : (xs ys gone q : List File) → IsWithout ys gone q → IsWithout (xs ++ ys) gone (xs ++ q)
-without_behind [] ys gone q is = is
-without_behind (x ∷ xs) ys gone q is = without_kept x gone (xs ++ ys) (xs ++ q) (without_behind xs ys gone q is)
+pub reached_same : (files : List File) → AreReached files files
+reached_same [] = tt
+reached_same (f ∷ files) = (reaches_same f, reached_same files)
 
-pub part_on : (xs ys p q : List File) → IsPart xs p → IsPart ys q → IsPart (xs ++ ys) (p ++ q)
-part_on xs ys p q ([], e) (gone, then) = (gone, rw e (without_behind xs ys gone q then))
-part_on xs ys p q (f ∷ first, (front, back, e, is)) then =
-    let (gone, both) = part_on (front ++ back) ys p q (first, is) then in
-    (f ∷ gone, (front, back ++ ys, ap (λ (fs : List File). fs ++ ys) e ∙ append_assoc front (f ∷ back) ys, rw append_assoc at both))
+reaches_on : (f g h : File) → Reaches f g → Reaches g h → Reaches f h
+reaches_on f g h first next = record {
+  name = next.name ∙ first.name;
+  content = next.content ∙ first.content;
+  named = λ is. next.named (first.named is);
+  flushed = λ is. next.flushed (first.flushed is);
+}
+
+pub named_same : (files : List File) → AllZip MayBeNamed files files
+named_same [] = tt
+named_same (f ∷ files) = (inl refl, named_same files)
+
+pub reached_on : (files mid left : List File) → AreReached files mid → AreReached mid left → AreReached files left
+reached_on [] [] left first next = next
+reached_on [] (g ∷ mid) left first next = absurd first
+reached_on (f ∷ files) [] left first next = absurd first
+reached_on (f ∷ files) (g ∷ mid) [] first next = absurd next
+reached_on (f ∷ files) (g ∷ mid) (h ∷ left) first next = (reaches_on f g h first.0 next.0, reached_on files mid left first.1 next.1)
+
+-- nothing was taken of one more
+pub without_more : (f : File) (gone files left : List File) → IsWithout files gone left → IsWithout (f ∷ files) gone (f ∷ left)
+without_more f [] files left are = (reaches_same f, are)
+without_more f (g ∷ gone) files left (front, back, are, is) =
+    (f ∷ front, back, (reaches_same f, are), without_more f gone (front ++ back) left is)
+
+-- what was taken first, and then of the rest
+pub without_on : (first next files mid left : List File) → IsWithout files first mid → IsWithout mid next left → IsWithout files (first ++ next) left
+without_on [] [] files mid left are second = reached_on files mid left are second
+without_on [] (f ∷ next) files mid left are (front, back, second, is) = (front, back, reached_on files mid (front ++ f ∷ back) are second, is)
+without_on (f ∷ first) next files mid left (front, back, are, is) second =
+    (front, back, are, without_on first next (front ++ back) mid left is second)
 
 pub keeps_on : (s t u : MailFile) → KeepsFile s t → KeepsFile t u → KeepsFile s u
 keeps_on s t u a b = record {
@@ -149,6 +144,9 @@ keeps_on s t u a b = record {
   flushed = λ is. b.flushed (a.flushed is);
   named = λ h. b.named (a.named h);
 }
+
+pub mapped_each : (f : MailFile → MailFile) → ((s : MailFile) → KeepsFile s (f s)) → (a b : List MailFile) → Each MovesFile a b → Each KeepsFile a (map f b)
+mapped_each f keeps a b = each_by MovesFile (λ a b. Each KeepsFile a (map f b)) tt (λ s t ss ts m rest. (keeps_on s t (f t) m.keeps (keeps t), rest)) a b
 
 -- others moved files, and then something was done to each that keeps it
 pub mapped_leads : (f : MailFile → MailFile) → ((s : MailFile) → KeepsFile s (f s)) → (a m : Directories) → Moved a m → Leads a (record m { entries = map f m.entries })
@@ -161,10 +159,22 @@ mapped_leads f keeps a m v = record {
 }
 
 -- the Maildir is as it was
-pub leads_maildir : (a b : Directories) (begun : Option (List ℕ)) (n : ℕ) → Leads a b → maildir_in b begun n ≡ maildir_in a begun n
-leads_maildir a b begun n l = rw (l.there, l.made, l.taken, files_kept a.entries b.entries l.keeps) refl
+pub moved_maildir : (a m b : Directories) (begun : Option (List ℕ)) (n : ℕ) → Moved a m → b ≡ m → maildir_in b begun n ≡ maildir_in a begun n
+moved_maildir a m b begun n v e = rw e (rw (v.there, v.made, v.taken, files_moved a.entries m.entries v.moves) refl)
 
--- ---- names on the disk
+pub moved_rests : (a m : Directories) (d : Option Draft) → Moved a m → Rests a (record m { made = d })
+moved_rests a m d v = record { there = v.there; taken = v.taken; files = files_moved a.entries m.entries v.moves }
+
+pub same_rests_at : (a m b : Directories) → Moved a m → b ≡ m → Rests a b
+same_rests_at a m b v e = rw e (record { there = v.there; taken = v.taken; files = files_moved a.entries m.entries v.moves })
+
+pub made_same : (a m b : Directories) → Moved a m → b ≡ m → a.made ≡ b.made
+made_same a m b v e = rw e (sym v.made)
+
+pub rests_on_at : (a b c : Directories) → Rests a b → Rests b c → Rests a c
+rests_on_at a b c first then = record { there = then.there ∙ first.there; taken = then.taken ∙ first.taken; files = then.files ∙ first.files }
+
+-- ---- durable names
 
 -- a flush of `new` and then one of `cur`, with moves between them, make all names last
 near : (s t : MailFile) → MovesFile (named_by New s) t → (named_by Cur t).is_named ≡ true
@@ -179,13 +189,6 @@ both_named (s ∷ ss) (t ∷ ts) h = (near s t h.0, both_named ss ts h.1)
 pub named_moved : (a b : List MailFile) → Each MovesFile a b → AllNamed a → AllNamed b
 named_moved a b =
     each_by MovesFile (λ a b. AllNamed a → AllNamed b) (λ all. all) (λ s t ss ts m rest all. (m.keeps.named all.0, rest all.1)) a b
-
--- each name stays
-pub named_stays : (ss : List MailFile) (name : List ℕ) → AllNamed ss → Contains (names_of (files_at ss)) name → StaysIn ss name
-named_stays ss name named c = there_some (λ s. base s.name) name (λ s. s.is_named ≡ true) ss named (rw map-map at c)
-
-pub stays_there : (ss : List MailFile) (name : List ℕ) → StaysIn ss name → Contains (names_of (files_at ss)) name
-stays_there ss name is = rw map-map (some_there (λ s. base s.name) name (λ s h. h.0) ss is)
 
 -- ---- `new` at rest
 
@@ -202,7 +205,7 @@ rests_new a b = each_by (RestsFile New) (λ a b. SameNames (entries_in New a) (e
 -- ---- what readers do is a step that `Moved` allows
 
 pub same_moves : (s : MailFile) → MovesFile s s
-same_moves s = record { keeps = same_keeps s; new = λ h. h; cur = λ h. h }
+same_moves s = record { keeps = same_keeps s; flushed = refl; named = refl; new = λ h. h; cur = λ h. h }
 
 pub same_rests : (folder : Folder) (s : MailFile) → RestsFile folder s s
 same_rests folder s = record { place = refl; name = λ h. refl; gone = λ h. refl }
@@ -233,7 +236,7 @@ one old front back s t new o = record {
 }
 
 moves_on : (s t u : MailFile) → MovesFile s t → MovesFile t u → MovesFile s u
-moves_on s t u a b = record { keeps = keeps_on s t u a.keeps b.keeps; new = λ h. b.new (a.new h); cur = λ h. b.cur (a.cur h) }
+moves_on s t u a b = record { keeps = keeps_on s t u a.keeps b.keeps; flushed = b.flushed ∙ a.flushed; named = b.named ∙ a.named; new = λ h. b.new (a.new h); cur = λ h. b.cur (a.cur h) }
 
 still_in : (folder : Folder) (s t : MailFile) → t.is_new ≡ s.is_new → is_in folder s ≡ true → is_in folder t ≡ true
 still_in New s t e h = e ∙ h
@@ -267,38 +270,23 @@ on a b c first then = record {
 
 -- ---- what a loss of power leaves of the folders of a Maildir
 
--- one of the files is left, if a name of it was on the disk
-some_left : {Is Will : MailFile → Type 0} → ((s : MailFile) → Is s → s.is_named ≡ true) → ((s t : MailFile) → IsLeftAs s t → Is s → Will t) → (ss left : List MailFile)
-    → SomeIs Is ss → AreLeftAs ss left → SomeIs Will left
-some_left named each [] left is l = absurd is
-some_left named each (s ∷ ss) left (inl is) (inl (gone, l)) = absurd (true≢false (sym (named s is) ∙ gone))
-some_left named each (s ∷ ss) left (inl is) (inr (t, rest, e, la, l)) = rw e (inl (each s t la is))
-some_left named each (s ∷ ss) left (inr is) (inl (gone, l)) = some_left named each ss left is l
-some_left named each (s ∷ ss) left (inr is) (inr (t, rest, e, la, l)) = rw e (inr (some_left named each ss rest is l))
+-- is what it may leave of the files
+pub left_as : (ss left : List MailFile) → AreLeftAs ss left → FilesLeftAs (files_at ss) (files_at left)
+left_as [] left l = ap files_at l
+left_as (s ∷ ss) left (inl (gone, l)) = inl (gone, left_as ss left l)
+left_as (s ∷ ss) left (inr (t, rest, e, is, l)) = inr (
+  mail_at t,
+  files_at rest,
+  ap files_at e,
+  record { name = is.title; content = is.content; durable = (is.named, is.flushed) },
+  left_as ss rest l,
+)
 
-pub staying_mail_is_left : StayingMailIsLeft
-staying_mail_is_left old new name is loses =
-    stays_there new.entries name (some_left (λ s h. h.1) (λ s t (la : IsLeftAs s t) h. (la.title ∙ h.0, la.named)) old.entries new.entries is loses.each)
-
-pub outliving_mail_is_left : OutlivingMailIsLeft
-outliving_mail_is_left old new f is loses =
-    some_there mail_at f (λ s h. h) new.entries
-    (some_left (λ s h. h.1) (λ s t la h. same_mail s t la.title (la.content h.2) ∙ h.0) old.entries new.entries is loses.each)
-
-all_left : (ss left : List MailFile) → AllOnDisk ss → AreLeftAs ss left → files_at left ≡ files_at ss
-all_left [] left on l = ap files_at l
-all_left (s ∷ ss) left on (inl (gone, l)) = absurd (true≢false (sym on.0.0 ∙ gone))
-all_left (s ∷ ss) left on (inr (t, rest, e, la, l)) =
-    ap files_at e ∙ ap (λ (f : File). f ∷ files_at rest) (same_mail s t la.title (la.content on.1.0))
-    ∙ ap (λ (fs : List File). mail_at s ∷ fs) (all_left ss rest (on.0.1, on.1.1) l)
-
-pub mail_on_disk_is_left : MailOnDiskIsLeft
-mail_on_disk_is_left old new on loses = all_left old.entries new.entries on loses.each
-
-pub on_disk : (ss left : List MailFile) → AreLeftAs ss left → AllOnDisk left
-on_disk [] left l = rw l (tt, tt)
-on_disk (s ∷ ss) left (inl (gone, l)) = on_disk ss left l
-on_disk (s ∷ ss) left (inr (t, rest, e, la, l)) = let r = on_disk ss rest l in rw e ((la.named, r.0), (la.flushed, r.1))
+-- and is durable
+pub left_durable : (ss left : List MailFile) → AreLeftAs ss left → AllDurable (files_at left)
+left_durable [] left l = rw l (tt, tt)
+left_durable (s ∷ ss) left (inl (gone, l)) = left_durable ss left l
+left_durable (s ∷ ss) left (inr (t, rest, e, is, l)) = let r = left_durable ss rest l in rw e ((is.named, r.0), (is.flushed, r.1))
 
 -- each file stays where it is, with its bytes
 abbrev pub staying : MailFile → MailFile

@@ -1,19 +1,18 @@
 -- What each call does to the folders of a Maildir, once others have moved files.
 use Rattle.std.specs.Prelude.{◌≡◌, ◌≢◌, ◌⊎◌, ◌||◌, ◌↔◌, ℕ, Bool, true, false, IsTrue, List, [], ◌∷◌, ◌++◌, map, Option}
 use Rattle.std.specs.Prelude.{Some, None, Result, Ok, Err, IfErr, IfOk, IfSome, OnOk, Vec, String, string_bytes, IsPermutation, Contains}
-use Rattle.std.specs.Global.{Global}
-use Rattle.std.specs.List.{AllByRecursion, filter}
+use Rattle.std.specs.List.{AllByRecursion, AllZip, filter}
 use Rattle.mail_terms.specs.MaildirName.{base}
 use Rattle.mail_store.specs.declared.fault.StoreFault.{StoreFault}
 use Rattle.mail_store.specs.declared.fault.StoreFault.TheVariants.{Missing, Refused}
 use Rattle.mail_store.specs.declared.maildir.disk.Folder.{Folder}
 use Rattle.mail_store.specs.declared.maildir.disk.Folder.TheVariants.{New, Cur}
-use Rattle.mail_store.specs.Maildir.{File, IsWithout, mail, bases_told, names_of, is_there, AreTheirs}
+use Rattle.mail_store.specs.Maildir.{AreTheirs, File, IsWithout, MayBeNamed, bases_told, is_there, mail, names_of}
 use Rattle.mail_store.specs.FileName.{stem}
-use Rattle.mail_store.specs.Power.{KeepsMail, ToldStay, is_among}
+use Rattle.mail_store.specs.Loss.{is_among}
 use Rattle.folder_store.specs.MailFolders.{Directories, MailFile, Draft, Each, KeepsFile, Moved, files_at, is_left, is_taken}
 use Rattle.folder_store.specs.MailFolders.{name_at, entries_in, rests_in, touches_new, touches_cur}
-use Rattle.folder_store.specs.MailPower.{AllFlushed, AllNamed, StaysIn, OutlivesIn, LeavesMail}
+use Rattle.folder_store.specs.MailPower.{AllNamed}
 
 -- others moved files, and then the call did this
 abbrev pub Then : (Directories → Directories → Type 0) → Directories → Directories → Type 0
@@ -72,7 +71,7 @@ WritesDraft bytes (Ok done) old new = (d : Draft) × (old.made ≡ Some d)
     × (new ≡ record old { made = Some (record { content = d.content ++ bytes; is_flushed = false }) })
 WritesDraft bytes (Err fault) old new = ChangesMade old new
 
--- `flush_made`: the bytes of the file made are on the disk; a refused call gives the file up
+-- `flush_made`: the bytes of the file made are durable; a refused call gives the file up
 abbrev pub FlushesDraft : {T : Type 0} → Result T StoreFault → Directories → Directories → Type 0
 FlushesDraft (Ok done) old new = (d : Draft) × (old.made ≡ Some d) × (new ≡ record old { made = Some (record d { is_flushed = true }) })
 FlushesDraft (Err fault) old new = new ≡ record old { made = None }
@@ -110,7 +109,7 @@ PutsDraft name (Ok done) old new = PutsIntoNew name old new
 PutsDraft name (Err fault) old new = ChangesMade old new ⊎ PutsIntoNew name old new
 
 -- a file once the names of a folder were flushed: if it is in this folder, or left it since they last were, some name
--- of it is on the disk
+-- of it is durable
 abbrev pub named_by : Folder → MailFile → MailFile
 named_by New s = record s { is_named = s.is_named || touches_new s; left_new = false }
 named_by Cur s = record s { is_named = s.is_named || touches_cur s; left_cur = false }
@@ -118,7 +117,7 @@ named_by Cur s = record s { is_named = s.is_named || touches_cur s; left_cur = f
 abbrev pub names_flushed_in : Folder → Directories → Directories
 names_flushed_in folder d = record d { entries = map (named_by folder) d.entries }
 
--- `flush_names`: the names of a folder are on the disk; a refused call did it, or nothing
+-- `flush_names`: the names of a folder are durable; a refused call did it, or nothing
 abbrev pub FlushesNamesIn : {T : Type 0} → Folder → Result T StoreFault → Directories → Directories → Type 0
 FlushesNamesIn folder (Ok done) old new = new ≡ names_flushed_in folder old
 FlushesNamesIn folder (Err fault) old new = Lacks old folder fault new ⊎ ((fault ≡ Refused) × (new ≡ names_flushed_in folder old))
@@ -130,22 +129,26 @@ flushed_by stems s = record s { is_flushed = s.is_flushed || is_among stems (ste
 abbrev pub files_flushed : {A : Type 0} → List (String A) → Directories → Directories
 files_flushed stems d = record d { entries = map (flushed_by stems) d.entries }
 
--- `flush_files`: the bytes of each file with one of these stems are on the disk, if the answer is true
+-- `flush_files`: the bytes of each file with one of these stems are durable, if the answer is true
 abbrev pub FlushesFiles : {A : Type 0} → List (String A) → Result Bool StoreFault → Directories → Directories → Type 0
 FlushesFiles stems (Ok true) old new = new ≡ files_flushed stems old
 FlushesFiles stems answer old new = new ≡ old
 
 -- ---- several calls
 
--- these files came after the others, flushed, what stayed and outlived still does, and a loss of power leaves at most
--- these files besides what it could have left before
+-- all that calls see of the files is as it was, and so is what of them is durable
+pub record Rests (old new : Directories) : Type 0 where
+  pub there : new.there ≡ old.there
+  pub taken : new.taken ≡ old.taken
+  pub files : files_at new.entries ≡ files_at old.entries
+
+-- these files came after the others, whose names may be durable by now
 pub record Brings (old : Directories) (added : List File) (new : Directories) : Type 0 where
   pub there : new.there ≡ old.there
   pub taken : new.taken ≡ old.taken
-  pub files : files_at new.entries ≡ files_at old.entries ++ added
-  pub keeps : KeepsMail (StaysIn old.entries) (OutlivesIn old.entries) (StaysIn new.entries) (OutlivesIn new.entries)
-  pub leaves : LeavesMail old added new
-  pub flushed : AllFlushed old.entries → AllFlushed new.entries
+  pub risen : List File
+  pub reached : AllZip MayBeNamed (files_at old.entries) risen
+  pub files : files_at new.entries ≡ risen ++ added
 
 -- all that calls see of the folders is as it was
 pub record Leads (old new : Directories) : Type 0 where
@@ -154,23 +157,15 @@ pub record Leads (old new : Directories) : Type 0 where
   pub taken : new.taken ≡ old.taken
   pub keeps : Each KeepsFile old.entries new.entries
 
--- each file is kept, or known no longer, in order
-abbrev pub AreKnown : List MailFile → List MailFile → Type 0
-AreKnown [] known = known ≡ []
-AreKnown (s ∷ entries) known =
-    AreKnown entries known
-    ⊎ ((t : MailFile) × (rest : List MailFile) × (known ≡ t ∷ rest) × KeepsFile s t × AreKnown entries rest)
-
 -- the same, but files that readers took away may be known no longer, except as taken
 pub record Learns (old new : Directories) : Type 0 where
   pub there : new.there ≡ old.there
   pub made : new.made ≡ old.made
-  pub known : AreKnown old.entries new.entries
   pub gone : List File
   pub taken : new.taken ≡ old.taken ++ gone
   pub left : IsWithout (files_at old.entries) gone (files_at new.entries)
 
--- the names of both folders at one moment, each of a file that has a name on the disk
+-- the names of both folders at one moment, each of a file with a durable name
 pub record ToldBoth {A : Type 0} (names : List (String A)) (d : Directories) : Type 0 where
   pub new_is_there : d.there.new ≡ true
   pub cur_is_there : d.there.cur ≡ true
@@ -194,7 +189,7 @@ TellsBoth old r new = Learns old new × IfOk r (λ names. ToldBoth names.items n
 abbrev pub TellsOne : {A B : Type 0} → Directories → Folder → Result (Vec (String A) B) StoreFault → Directories → Type 0
 TellsOne old folder r new =
     Learns old new × IfOk r (λ names. (is_there new.there folder ≡ true) × AreTheirs (files_at new.entries) names.items)
-    × ToldStay r (StaysIn new.entries) × IfMissing r (is_there new.there folder ≡ false)
+    × IfMissing r (is_there new.there folder ≡ false)
 
 -- ---- settling
 
@@ -202,43 +197,13 @@ TellsOne old folder r new =
 abbrev pub IsUnknown : List ℕ → Directories → Type 0
 IsUnknown name d = Contains (names_of (files_at d.entries)) (base name) → ⊥
 
--- the file made was flushed and is in one of the folders, if no file had its name
+-- the file made was flushed and is in one of the folders, if no file had its name; its name may be durable
 abbrev pub StandsIn : Directories → List ℕ → Directories → Type 0
-StandsIn old name new = (d : Draft) × (old.made ≡ Some d) × (IsUnknown name old → Brings old (mail name d.content ∷ []) new)
+StandsIn old name new = (d : Draft) × (old.made ≡ Some d)
+    × (IsUnknown name old → (is_named : Bool) × Brings old (record (mail name d.content) { is_named = is_named } ∷ []) new)
 
 -- the file made was flushed, put under the name, and then the names of `new` were flushed; a refused call did a part
 -- of this
 abbrev pub PutsForGood : {T : Type 0} → Directories → List ℕ → Result T StoreFault → Directories → Type 0
-PutsForGood old name (Ok done) new = (d : Draft) × (old.made ≡ Some d)
-    × (IsUnknown name old → Brings old (mail name d.content ∷ []) new × OutlivesIn new.entries (mail name d.content))
-PutsForGood old name (Err fault) new = Brings old [] new ⊎ StandsIn old name new
-
--- ---- laws
-
--- a call that changes only the file made brings no file
-abbrev pub MadeBringsNone : Type 0
-MadeBringsNone = (old new : Directories) → Then ChangesMade old new → Brings old [] new
-
--- what two calls bring, one after the other
-abbrev pub BothBring : Type 0
-BothBring = (a b c : Directories) (xs ys : List File) → Brings a xs b → Brings b ys c → Brings a (xs ++ ys) c
-
--- if the bytes of each file were on the disk, they are
-abbrev pub KeepsFlushed : Directories → Directories → Type 0
-KeepsFlushed old new = AllFlushed old.entries → AllFlushed new.entries
-
--- telling names, and looking for a folder, keeps them there
-abbrev pub TellingKeepsFlushed : Type 0
-TellingKeepsFlushed = (folder : Folder) (old new : Directories)
-    → (r : Result (Vec (String Global) Global) StoreFault) (found : Result (Unit {0}) StoreFault)
-    → TellsBoth old r new ⊎ (TellsOne old folder r new ⊎ Then (ChecksIn folder found) old new) → KeepsFlushed old new
-
--- so does writing a file, and giving it up
-abbrev pub WritingKeepsFlushed : Type 0
-WritingKeepsFlushed = (old new : Directories) (bytes : List ℕ) (r : Result (Unit {0}) StoreFault)
-    → Then (MakesDraft r) old new ⊎ (Then (WritesDraft bytes r) old new ⊎ Then GivesUp old new) → KeepsFlushed old new
-
--- so does settling it, if no file has its name
-abbrev pub SettlingKeepsFlushed : Type 0
-SettlingKeepsFlushed = (old new : Directories) (name : List ℕ) (r : Result (Unit {0}) StoreFault)
-    → IsUnknown name old → PutsForGood old name r new → KeepsFlushed old new
+PutsForGood old name (Ok done) new = (d : Draft) × (old.made ≡ Some d) × (IsUnknown name old → Brings old (mail name d.content ∷ []) new)
+PutsForGood old name (Err fault) new = Rests old new ⊎ StandsIn old name new

@@ -4,10 +4,10 @@ use Rattle.std.specs.List.{filter}
 use Rattle.mail_terms.specs.MaildirName.{base}
 use Rattle.mail_store.specs.declared.maildir.disk.Folder.{Folder}
 use Rattle.mail_store.specs.declared.maildir.disk.Folder.TheVariants.{New, Cur}
-use Rattle.mail_store.specs.Maildir.{Maildir, File, Folders, file, mail}
+use Rattle.mail_store.specs.Maildir.{Maildir, File, Folders, draft, mail}
 
 -- a file of one of the two folders: whether it is in `new`, its name with its marks, and its bytes; whether its
--- bytes are on the disk, and whether some name of it in one of the folders is; whether it left `new`, or `cur`,
+-- bytes are durable, and whether some name of it in one of the folders is; whether it left `new`, or `cur`,
 -- since the names of that folder were last flushed; and whether a reader took it away, after which it is known until
 -- a folder is listed
 pub record MailFile : Type 0 where
@@ -36,7 +36,7 @@ pub record Directories : Type 0 where
   pub made : Option Draft
   pub taken : List File
 
--- what a flush of the names of `new`, or of `cur`, makes last
+-- what a flush of the names of `new`, or of `cur`, makes durable
 abbrev pub touches_new : MailFile → Bool
 touches_new s = s.is_new || s.left_new
 
@@ -78,16 +78,18 @@ rests_in Cur d = d.cur_rests
 
 -- ---- what readers do
 
--- a file keeps its name up to the first colon, its bytes, and what of it is on the disk
+-- a file keeps its name up to the first colon, its bytes, and what of it is durable
 pub record KeepsFile (s t : MailFile) : Type 0 where
   pub title : base t.name ≡ base s.name
   pub content : t.content ≡ s.content
   pub flushed : s.is_flushed ≡ true → t.is_flushed ≡ true
   pub named : s.is_named ≡ true → t.is_named ≡ true
 
--- a file was moved and marked any number of times, and perhaps taken away
+-- a file was moved and marked any number of times, and perhaps taken away. What others flush isn't known to be durable
 pub record MovesFile (s t : MailFile) : Type 0 where
   pub keeps : KeepsFile s t
+  pub flushed : t.is_flushed ≡ s.is_flushed
+  pub named : t.is_named ≡ s.is_named
   pub new : touches_new s ≡ true → touches_new t ≡ true
   pub cur : touches_cur s ≡ true → touches_cur t ≡ true
 
@@ -126,7 +128,7 @@ pub record OneMoves (old : Directories) (front back : List MailFile) (s t : Mail
 -- ---- what is seen of them
 
 abbrev pub mail_at : MailFile → File
-mail_at s = mail s.name s.content
+mail_at s = record (mail s.name s.content) { is_named = s.is_named; is_flushed = s.is_flushed }
 
 abbrev pub files_at : List MailFile → List File
 files_at entries = map mail_at entries
@@ -139,7 +141,7 @@ abbrev pub maildir_in : Directories → Option (List ℕ) → ℕ → Maildir
 maildir_in d begun failures = record {
   there = d.there;
   files = files_at d.entries;
-  begun = option_map (λ name. file name (content_made d.made)) begun;
+  begun = option_map (λ name. draft name (content_made d.made)) begun;
   failures = failures;
   taken = d.taken;
 }

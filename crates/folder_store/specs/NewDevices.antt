@@ -1,16 +1,14 @@
 -- What a loss of power leaves to a device, and what a device that is made anew over the same folders begins with.
-use Rattle.std.specs.Prelude.{◌≡◌, ℕ, Bool, false, List, Option, Result, String}
-use Rattle.std.specs.Global.{Global}
-use Rattle.mail_store.specs.declared.fault.StoreFault.{StoreFault}
+use Rattle.std.specs.Prelude.{◌≡◌, ℕ, Bool, false, List, None, Option}
 use Rattle.mail_store.specs.declared.file.flat_file.FlatFile.{Ghosts as FileGhosts}
 use Rattle.mail_store.specs.declared.maildir.disk.MaildirDisk.{Ghosts as DiskGhosts}
-use Rattle.mail_store.specs.Loss.{MayLeave}
-use Rattle.mail_store.specs.Power.{AllStay, KeepsMail, LeavesNoMore}
+use Rattle.mail_store.specs.Loss.{LosesPower}
+use Rattle.mail_store.specs.Maildir.{AllDurable}
+use Rattle.mail_store.specs.Power.{LeavesNoMore}
 use Rattle.folder_store.specs.FileFolder.{Directory}
 use Rattle.folder_store.specs.PowerLoss.{Loses}
-use Rattle.folder_store.specs.MailFolders.{Directories, Each, MovesFile, files_at}
-use Rattle.folder_store.specs.MailPower.{AllFlushed, LosesMail}
-use Rattle.folder_store.specs.MailCalls.{FlushesFiles, KeepsFlushed, Then}
+use Rattle.folder_store.specs.MailFolders.{Directories, Each, MovesFile, maildir_in}
+use Rattle.folder_store.specs.MailPower.{LosesMail}
 
 -- ---- a Maildir
 
@@ -19,27 +17,20 @@ pub record FoundAgain (old new : Directories) : Type 0 where
   pub there : new.there ≡ old.there
   pub moves : Each MovesFile old.entries new.entries
 
--- a law: if the bytes of each file are on the disk, whatever a loss of power leaves of the folders may be left of the device's files
+-- a law: a loss of power of the folders is one of the Maildir
 abbrev pub LossesMayLeave : {D : Type 0} → DiskGhosts D → (D → Directories) → Type 0
-LossesMayLeave {D} disk folders = (device : D) (left : Directories) → AllFlushed (folders device).entries → LosesMail (folders device) left
-    → MayLeave disk device (disk.maildir device).files (files_at left.entries)
+LossesMayLeave {D} disk folders = (device : D) (left : Directories) → LosesMail (folders device) left
+    → LosesPower (disk.maildir device) (maildir_in left None 0)
 
--- a law: over folders as another device left them, a device sees the same files, and a loss of power leaves what it would have left
+-- a law: over folders as another device left them, a device sees the same files, and the same of them is durable
 abbrev pub NewMaildirsKeepMail : {D : Type 0} → DiskGhosts D → (D → Directories) → Type 0
 NewMaildirsKeepMail {D} disk folders = (was device : D) → FoundAgain (folders was) (folders device)
-    → ((disk.maildir device).files ≡ (disk.maildir was).files)
-    × KeepsMail (disk.stays was) (disk.outlives was) (disk.stays device) (disk.outlives device)
-    × (AllFlushed (folders was).entries → AllFlushed (folders device).entries)
+    → (disk.maildir device).files ≡ (disk.maildir was).files
 
--- a law: over folders that a loss of power left, each name stays, and the bytes of each file are on the disk
+-- a law: over folders that a loss of power left, all files are durable
 abbrev pub LeftMaildirsStay : {D : Type 0} → DiskGhosts D → (D → Directories) → Type 0
 LeftMaildirsStay {D} disk folders = (old left : Directories) (device : D) → LosesMail old left → FoundAgain left (folders device)
-    → AllStay (disk.maildir device) (disk.stays device) × AllFlushed (folders device).entries
-
--- a law: if the bytes of each file were on the disk, they are once files were flushed
-abbrev pub FlushingKeepsFlushed : Type 0
-FlushingKeepsFlushed = (old new : Directories) (stems : List (String Global)) (r : Result Bool StoreFault)
-    → Then (FlushesFiles stems r) old new → KeepsFlushed old new
+    → AllDurable (disk.maildir device).files
 
 -- ---- a file
 

@@ -4,12 +4,8 @@
 ghost use Rattle.std.specs.Prelude.{List};
 ghost use Rattle.folder_store.specs.PowerLoss.{DiskIsKnown, DiskIsLeft, PowerLeaves};
 ghost use Rattle.folder_store.specs.HostFile.{AppendsLast, CutsLast, ReplacesLast};
-ghost use Rattle.folder_store.specs.MailCalls.{BothBring, MadeBringsNone};
-ghost use Rattle.folder_store.specs.MailCalls.{SettlingKeepsFlushed, TellingKeepsFlushed, WritingKeepsFlushed};
 ghost use Rattle.folder_store.specs.MailFolders.{Directories, MailFile, Moved, OneMoves};
-ghost use Rattle.folder_store.specs.NewDevices.{FlushingKeepsFlushed};
-ghost use Rattle.folder_store.specs.MailPower.{LeftMailIsOnDisk, MailCanLosePower, MailOnDiskIsLeft};
-ghost use Rattle.folder_store.specs.MailPower.{OutlivingMailIsLeft, StayingMailIsLeft};
+ghost use Rattle.folder_store.specs.MailPower.{MailCanLosePower};
 
 /// A loss of power leaves what calls see under a name whose file is on the disk.
 #[tactic(auto, using(crate::proofs::Files::disk_is_left))]
@@ -36,20 +32,6 @@ pub fn writes_outlive_power()
     ensures replaces { ReplacesLast }
 {}
 
-/// What calls on the folders of a Maildir bring, so what a loss of power leaves after several of them.
-pub fn calls_bring_mail()
-    ensures made { MadeBringsNone }
-    ensures both { BothBring }
-{}
-
-/// If the bytes of each file of a Maildir are on the disk, they still are after each of its calls.
-pub fn calls_keep_mail_flushed()
-    ensures telling { TellingKeepsFlushed }
-    ensures writing { WritingKeepsFlushed }
-    ensures settling { SettlingKeepsFlushed }
-    ensures flushing { FlushingKeepsFlushed }
-{}
-
 /// Readers may do nothing, move or mark a file, and do so again.
 pub fn readers_move()
     ensures rest { (d : Directories) → Moved d d }
@@ -62,18 +44,4 @@ pub fn readers_move()
 #[tactic(auto, using(crate::proofs::MailMoves::mail_can_lose_power))]
 pub fn mail_can_lose_power()
     ensures { MailCanLosePower }
-{}
-
-/// A file that stays, and one that outlives a loss of power, is there after one; and if all is on the
-/// disk, so are all.
-pub fn mail_outlives_power()
-    ensures stays { StayingMailIsLeft }
-    ensures outlives { OutlivingMailIsLeft }
-    ensures all { MailOnDiskIsLeft }
-{}
-
-/// After a loss of power all that is left of a Maildir is on the disk.
-#[tactic(auto, using(crate::proofs::MailMoves::on_disk))]
-pub fn left_mail_is_on_disk()
-    ensures { LeftMailIsOnDisk }
 {}

@@ -26,8 +26,8 @@ pub use file::{HostFile, new_files_leave_no_more};
 pub use host::HostFolder;
 pub use host_folders::HostFolders;
 pub use laws::{
-    calls_bring_mail, calls_keep_mail_flushed, disk_is_known, disk_is_left, left_mail_is_on_disk,
-    mail_can_lose_power, mail_outlives_power, power_leaves, readers_move, writes_outlive_power,
+    disk_is_known, disk_is_left, mail_can_lose_power, power_leaves, readers_move,
+    writes_outlive_power,
 };
 pub use mail_folders::MailFolders;
 pub use maildir::{FolderMaildir, new_maildirs_keep_mail};

@@ -16,7 +16,7 @@ pub trait MailFolders {
     ghost use Rattle.folder_store.specs.MailCalls.{GivesUp, ListsIn, LooksUpNew, MakesDraft};
     ghost use Rattle.folder_store.specs.MailCalls.{PutsDraft, TellsRest, Then, WritesDraft};
 
-    // What calls see of the folders, and what is on the disk.
+    // What calls see of the folders, and what of it is durable.
     ghost directories: { Self → Directories };
 
     // The premise: so far the file system did what this trait says, and others did nothing but move,

@@ -10,7 +10,7 @@ use mail_store::{Folder, StoreFault};
 /// How many times the folders are listed for one answer.
 const MOST_LOOKS: u32 = 100;
 
-/// The names of both folders, once they are on the disk. None if `new` changed meanwhile: a reader may
+/// The names of both folders, once they are durable. None if `new` changed meanwhile: a reader may
 /// then have moved a file from the folder that wasn't listed yet to the one that was.
 fn look_at_both<F: MailFolders>(folders: &mut F) -> Result<Option<Vec<String>>, StoreFault>
     ensures looks { F.sound folders.new → F.sound folders.old
@@ -30,7 +30,7 @@ fn look_at_both<F: MailFolders>(folders: &mut F) -> Result<Option<Vec<String>>, 
     }
 }
 
-/// The names of the files of `new` and `cur` at one moment, once they are on the disk. Refused if
+/// The names of the files of `new` and `cur` at one moment, once they are durable. Refused if
 /// readers change `new` all the time.
 pub fn told_names<F: MailFolders>(folders: &mut F) -> Result<Vec<String>, StoreFault>
     ensures tells { F.sound folders.new → F.sound folders.old
@@ -48,7 +48,7 @@ pub fn told_names<F: MailFolders>(folders: &mut F) -> Result<Vec<String>, StoreF
     Err(StoreFault::Refused)
 }
 
-/// The names of a folder's files, once they are on the disk.
+/// The names of a folder's files, once they are durable.
 pub fn told_names_of<F: MailFolders>(
     folders: &mut F,
     folder: Folder,

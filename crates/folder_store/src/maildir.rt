@@ -3,7 +3,6 @@
 ghost use Rattle.std.specs.Prelude.{◌≡◌, ◌<◌, ◌+◌, option_map, string_bytes};
 ghost use Rattle.mail_terms.specs.FailureCount.{greatest_count};
 ghost use Rattle.folder_store.specs.MailFolders.{maildir_in, unknown_maildir};
-ghost use Rattle.folder_store.specs.MailPower.{OutlivesIn, StaysIn};
 ghost use Rattle.folder_store.specs.NewDevices.{LeftMaildirsStay, LossesMayLeave, NewMaildirsKeepMail};
 
 use crate::host_folders::HostFolders;
@@ -22,8 +21,8 @@ use trace::System;
 /// meanwhile; what is made for `new` is in `tmp`.
 ///
 /// A file is flushed before it is put into `new`, and then the names of `new` are flushed, so that a
-/// delivered text outlives a loss of power. The names of both folders are flushed before they are
-/// returned, so that no loss of power takes one back.
+/// delivered text is durable. The names of both folders are flushed before they are returned, so that
+/// no loss of power takes one back.
 #[derive(Drop)]
 pub struct FolderMaildir<F> {
     alloc: Global,
@@ -101,10 +100,6 @@ fn is_file_name(name: &str) -> bool {
 
 impl<F: MailFolders + Drop> MaildirDisk for FolderMaildir<F> {
     ghost maildir = { λ d. maildir_in (F.directories d.folders) (option_map string_bytes d.begun) d.failures };
-
-    ghost stays = { λ d name. StaysIn (F.directories d.folders).entries name };
-
-    ghost outlives = { λ d f. OutlivesIn (F.directories d.folders).entries f };
 
     ghost sound = { λ d. F.sound d.folders × (d.failures < greatest_count) };
 
@@ -191,9 +186,8 @@ impl<F: MailFolders + Drop> MaildirDisk for FolderMaildir<F> {
     }
 }
 
-/// What a loss of power leaves of the folders may be left of the Maildir, if the bytes of its files are on
-/// the disk. Made anew over the same folders, a Maildir keeps what the last one kept; over folders that a loss
-/// of power left, all of it stays.
+/// A loss of power of the folders is one of the Maildir. Made anew over the same folders, a Maildir has the
+/// files of the last one, and as much of them is durable; over folders that a loss of power left, all is.
 pub fn new_maildirs_keep_mail<F: MailFolders + Drop>()
     ensures losses { LossesMayLeave ⟦<FolderMaildir<F> as MaildirDisk>⟧ (λ d. F.directories d.folders) }
     ensures keeps { NewMaildirsKeepMail ⟦<FolderMaildir<F> as MaildirDisk>⟧ (λ d. F.directories d.folders) }

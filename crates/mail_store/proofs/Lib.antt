@@ -1,3 +1,4 @@
 mod MaildirLemmas
 mod MboxLemmas
 mod SettlingLemmas
+mod LossLemmas

@@ -1,10 +1,10 @@
 -- Names of files and what they hold; files that a Maildir in memory keeps in two folders; which stems are flushed.
-use Rattle.std.proofs.Common.{◌≡◌, ⊎_elim, cond, ℕ, zero, suc, ◌/◌, ◌%◌, ◌==◌, ◌<◌, Bool, true, false, List, [], ◌∷◌, ◌++◌, length, get_or, slice_index, refl, sym, ap, ◌∙◌, arith, Ok, inl, inr, All, not, codes, subst, ◌+◌, ◌≤◌, take, drop, map, String, Vec, string_bytes, remove, insert, set, HoldsAt, Contains, ◌≢◌, IsPermutation, ◌||◌, ◌&&◌, bytes_eq, Result, Err, below_more}
-use Rattle.std.specs.List.{AllPass, before_first, position_or_len, list_any}
+use Rattle.std.proofs.Common.{◌≡◌, ℕ, zero, suc, ◌/◌, ◌%◌, ◌==◌, ◌<◌, Bool, true, false, List, [], ◌∷◌, ◌++◌, length, get_or, slice_index, refl, sym, ap, ◌∙◌, arith, Ok, inl, inr, All, not, codes, subst, ◌+◌, ◌≤◌, take, drop, map, String, Vec, string_bytes, remove, insert, set, HoldsAt, Contains, ◌≢◌, IsPermutation, ◌||◌, ◌&&◌, bytes_eq, below_more}
+use Rattle.std.specs.List.{AllPass, AllZip, before_first, filter, position_or_len, list_any}
 use Rattle.std.specs.Fmt.{decimal, digits, digits_onto, digit_glyph}
 use Rattle.std.proofs.lemmas.Bool.{cases_lt, cond_both, both_ways}
 use Rattle.std.proofs.lemmas.List.{append-nil, append_cancel_left, take_all, take-append-le, get_or-take, get_or_past, length-take, append_assoc, map-append, length-map, length-append, get_or-map, length-take-le, take_more, take-append-drop}
-use Rattle.std.proofs.lemmas.List.Elements.{filter-append, All-nil, All-cons, All-append, All-from_recursion, All-map, Contains-append_left, Contains-append_right, Contains-get_or}
+use Rattle.std.proofs.lemmas.List.Elements.{All-nil, All-cons, All-append, All-from_recursion, All-map, Contains-append_left, Contains-append_right, Contains-get_or}
 use Rattle.std.proofs.lemmas.List.Sums.{AllPass-from_list_all, fails_before_first, position_or_len_is, prefix_len-le-length}
 use Rattle.std.proofs.lemmas.List.Folds.{prefix_len-append, list_any-append, list_any_at, Any-from_list_any}
 use Rattle.std.proofs.lemmas.Bool.Decides.{nat_tests}
@@ -22,14 +22,12 @@ use Rattle.mail_terms.specs.UniqueId.{IsLegalId, HasIdRanges}
 use Rattle.mail_terms.specs.MaildirName.{base, is_colon}
 use Rattle.mail_terms.specs.Listing.{Item, has_item, is_flagged}
 use Rattle.mail_store.specs.FileName.{account_text, is_comma, is_lower_hex_digit, name_of, stem, stem_of, IsAccountText, mail_file, names_id, is_held}
-use Rattle.mail_store.specs.Maildir.{AfterTaking, File, file_of, name_in, names_of, bases_told, AreTheirs, Maildir, IsThere, IsWithout, WereTaken, with_file, file}
+use Rattle.mail_store.specs.Maildir.{AllNamed, AreReached, AreTheirs, File, IsNamed, IsThere, IsWithout, Maildir, MayBeNamed, Reaches, WereTaken, bases_told, file_of, name_in, names_of, with_file}
 use Rattle.mail_store.specs.declared.maildir.disk.Folder.{Folder}
 use Rattle.mail_store.specs.declared.maildir.disk.Folder.TheVariants.{New, Cur}
 use Rattle.mail_store.specs.MemoryMaildir.{TwoFolders, count, files_of_folder, merged, shown}
-use Rattle.mail_store.specs.Held.{Finds, any_name, flags_of, FoundOutlive, HasLasting, HasStem, HasStems}
-use Rattle.mail_store.specs.declared.fault.StoreFault.{StoreFault}
-use Rattle.mail_store.specs.declared.fault.StoreFault.TheVariants.{Missing, Refused, NotMbox, NoMemory}
-use Rattle.mail_store.specs.Power.{AllStay, FlushedOutlive, KeepsLeft, count_named, is_among}
+use Rattle.mail_store.specs.Held.{FoundDurable, HasDurable, HasStem, HasStems, any_name, flags_of}
+use Rattle.mail_store.specs.Loss.{flushed, flushed_by, is_among}
 
 -- ---- digits
 
@@ -301,15 +299,24 @@ shown_there two folder front both there =
     in_both New c = Contains-append_left _ _ front c
     in_both Cur c = Contains-append_right _ _ front c
 
+-- all that is in memory counts as durable
+pub all_shown : (files : List File) → AllNamed (map shown files)
+all_shown [] = tt
+all_shown (f ∷ files) = (refl, all_shown files)
+
+filter_named : (files : List File) → AllNamed files → filter (λ (f : File). f.is_named) files ≡ files
+filter_named [] all = refl
+filter_named (f ∷ files) all = rw (all.0, filter_named files all.1) refl
+
 -- names of a folder are those of files that are shown
-pub theirs_of : {Z : Type 0} (two : TwoFolders) (folder : Folder) (names : List (String Z))
+pub theirs_of : {Z : Type 0} (two : TwoFolders) (folder : Folder) (names : List (String Z)) → AllNamed two.maildir.files
     → IsPermutation two.maildir.files (map shown (two.in_new ++ two.in_cur)) → map string_bytes names ≡ names_of (files_of_folder two folder)
     → AreTheirs two.maildir.files names
 unfolding AreTheirs
-theirs_of two folder names both told = λ k d inside.
+theirs_of two folder names all both told = λ k d inside.
     let name = get_or names k d in
-    shown_there two folder (base (string_bytes name)) both (rw (bases_shown names (files_of_folder two folder) told) at
-    (Contains-map (λ n. base (string_bytes n)) names name (Contains-get_or names k d inside)))
+    rw (filter_named two.maildir.files all) (shown_there two folder (base (string_bytes name)) both (rw (bases_shown names (files_of_folder two folder) told) at
+    (Contains-map (λ n. base (string_bytes n)) names name (Contains-get_or names k d inside))))
 
 -- the names of both folders tell all that is shown
 pub names_tell_both : {Z : Type 0} (files in_new in_cur : List File) (names : List (String Z)) → IsPermutation files (map shown (in_new ++ in_cur))
@@ -319,60 +326,65 @@ names_tell_both files in_new in_cur names both told =
 
 -- ---- files that readers took away
 
-pub none_taken : (maildir : Maildir) → WereTaken maildir maildir
-none_taken maildir = record { gone = []; files = refl; is = rw append-nil refl }
+pub reaches_same : (f : File) → Reaches f f
+reaches_same f = record { name = refl; content = refl; named = λ is. is; flushed = λ is. is }
+
+reaches_on : (f g h : File) → Reaches f g → Reaches g h → Reaches f h
+reaches_on f g h first next = record {
+  name = next.name ∙ first.name;
+  content = next.content ∙ first.content;
+  named = λ is. next.named (first.named is);
+  flushed = λ is. next.flushed (first.flushed is);
+}
+
+pub reached_same : (files : List File) → AreReached files files
+reached_same [] = tt
+reached_same (f ∷ files) = (reaches_same f, reached_same files)
+
+pub named_same : (files : List File) → AllZip MayBeNamed files files
+named_same [] = tt
+named_same (f ∷ files) = (inl refl, named_same files)
+
+pub reached_on : (files mid left : List File) → AreReached files mid → AreReached mid left → AreReached files left
+reached_on [] [] left first next = next
+reached_on [] (g ∷ mid) left first next = absurd first
+reached_on (f ∷ files) [] left first next = absurd first
+reached_on (f ∷ files) (g ∷ mid) [] first next = absurd next
+reached_on (f ∷ files) (g ∷ mid) (h ∷ left) first next = (reaches_on f g h first.0 next.0, reached_on files mid left first.1 next.1)
+
+-- more was durable first, and then some were taken
+without_reached : (gone files mid left : List File) → AreReached files mid → IsWithout mid gone left → IsWithout files gone left
+without_reached [] files mid left are is = reached_on files mid left are is
+without_reached (f ∷ gone) files mid left are (front, back, then, is) = (front, back, reached_on files mid (front ++ f ∷ back) are then, is)
+
+-- some were taken, and then more was durable
+reached_without : (gone files mid left : List File) → IsWithout files gone mid → AreReached mid left → IsWithout files gone left
+reached_without [] files mid left is are = reached_on files mid left is are
+reached_without (f ∷ gone) files mid left (front, back, first, is) are =
+    (front, back, first, reached_without gone (front ++ back) mid left is are)
 
 -- what was taken first, and then of the rest
 without_on : (first next files mid left : List File) → IsWithout files first mid → IsWithout mid next left → IsWithout files (first ++ next) left
-without_on [] next files mid left e second = subst (λ (fs : List File). IsWithout fs next left) e second
-without_on (f ∷ first) next files mid left (front, back, e, is) second = (front, back, e, without_on first next (front ++ back) mid left is second)
+without_on [] next files mid left are second = without_reached next files mid left are second
+without_on (f ∷ first) next files mid left (front, back, are, is) second =
+    (front, back, are, without_on first next (front ++ back) mid left is second)
 
-taken_on : (a b c : Maildir) → WereTaken a b → WereTaken b c → WereTaken a c
+-- nothing was taken of one more
+pub without_more : (gone files left : List File) (f g : File) → Reaches f g → IsWithout files gone left → IsWithout (f ∷ files) gone (g ∷ left)
+without_more [] files left f g one are = (one, are)
+without_more (h ∷ gone) files left f g one (front, back, are, is) =
+    (f ∷ front, back, (reaches_same f, are), without_more gone (front ++ back) left f g one is)
+
+pub none_taken : (maildir : Maildir) → WereTaken maildir maildir
+none_taken maildir = record { gone = []; files = reached_same maildir.files; is = rw append-nil refl }
+
+pub taken_on : (a b c : Maildir) → WereTaken a b → WereTaken b c → WereTaken a c
 taken_on a b c first next = record {
   gone = first.gone ++ next.gone;
   files = without_on first.gone next.gone a.files b.files c.files first.files next.files;
   is = next.is ∙ ap (λ (m : Maildir). record m { files = c.files; taken = m.taken ++ next.gone }) first.is
       ∙ ap (λ (taken : List File). record a { files = c.files; taken = taken }) (append_assoc a.taken first.gone next.gone);
 }
-
-counts_on : (name : List ℕ) (xs ys : List File) → count_named name (xs ++ ys) ≡ count_named name xs + count_named name ys
-counts_on name xs ys = rw (filter-append, length-append) refl
-
--- what is left has no more files of a name
-without_counts : (name : List ℕ) (gone files left : List File) → IsWithout files gone left → count_named name left ≤ count_named name files
-without_counts name [] files left is = rw is (omega arith)
-without_counts name (f ∷ gone) files left (front, back, e, is) = rw e (
-    omega (arith, without_counts name gone (front ++ back) left is, counts_on name front back, counts_on name front (f ∷ back), counts_on name (f ∷ []) back))
-
-taken_counts : (name : List ℕ) (a b : Maildir) → WereTaken a b → count_named name b.files ≤ count_named name a.files
-taken_counts name a b is = without_counts name is.gone a.files b.files is.files
-
--- what is held of what readers left twice
-pub finds_on : {B : Type 0} (account : List ℕ) (items : List Item) (old mid new : Maildir) (r : Result (Vec Bool B) StoreFault)
-    → WereTaken old mid → AfterTaking mid (λ m. Finds account m items r new) → AfterTaking old (λ m. Finds account m items r new)
-finds_on account items old mid new r first (left, next, finds) = (left, taken_on old mid left first next, finds)
-
-pub finds_files : {B : Type 0} (account : List ℕ) (old : Maildir) (items : List Item) (r : Result (Vec Bool B) StoreFault) (new : Maildir)
-    → Finds account old items r new → new.files ≡ old.files
-finds_files account old items (Ok flags) new finds = ap (λ (m : Maildir). m.files) finds.1
-finds_files account old items (Err Missing) new finds = ap (λ (m : Maildir). m.files) finds.1
-finds_files account old items (Err Refused) new finds = ap (λ (m : Maildir). m.files) finds
-finds_files account old items (Err NotMbox) new finds = absurd finds
-finds_files account old items (Err NoMemory) new finds = ap (λ (m : Maildir). m.files) finds
-
--- what a second call keeps of what a first one kept
-pub left_on : {stays mid_stays new_stays : List ℕ → Type 0} {outlives mid_outlives new_outlives : File → Type 0} (old mid left : Maildir) (new : List File)
-    → WereTaken old mid → WereTaken mid left → new ≡ left.files
-    → KeepsLeft old.files mid.files stays outlives mid_stays mid_outlives
-    → KeepsLeft mid.files new mid_stays mid_outlives new_stays new_outlives → KeepsLeft old.files new stays outlives new_stays new_outlives
-left_on old mid left new first next e keeps then =
-    let before = λ (name : List ℕ). taken_counts name old mid first in
-    let after : (name : List ℕ) → count_named name new ≤ count_named name mid.files = λ name. rw e (taken_counts name mid left next) in (
-      λ name s. ⊎_elim (λ m. ⊎_elim inl (λ took. inr (omega (arith, took, before name))) (then.0 name m))
-          (λ took. inr (omega (arith, took, after name))) (keeps.0 name s),
-      λ f s. ⊎_elim (λ m. ⊎_elim inl (λ took. inr (omega (arith, took, before f.name))) (then.1 f m))
-          (λ took. inr (omega (arith, took, after f.name))) (keeps.1 f s),
-    )
 
 pub same_digits : (account a b : List ℕ) → bytes_eq (account ++ 46 ∷ a) (account ++ 46 ∷ b) ≡ bytes_eq a b
 same_digits account a b = grind (arith, bytes_eq-Decides (account ++ 46 ∷ a) (account ++ 46 ∷ b), bytes_eq-Decides a b, append_cancel_left {A = ℕ})
@@ -444,31 +456,61 @@ stems_more account items held flags i stems x uid has at is = below_more (HasSte
 
 -- ---- the files
 
--- the files of these stems were flushed, so that of each id whose stem is among them a file outlives a loss of power
-pub flushed_lasts : {A : Type 0} (account : List ℕ) (maildir : Maildir) (stems : List (String A)) (stays : List ℕ → Type 0) (outlives : File → Type 0)
-    → AllStay maildir stays → FlushedOutlive maildir stems (Ok true) stays outlives
-    → (uid : List ℕ) → is_among stems (stem_of account uid) ≡ true → is_held account maildir uid ≡ true → HasLasting account maildir outlives uid
-flushed_lasts account maildir stems stays outlives all flushed uid among held =
+-- a flush changes only what is durable
+held_flushed : {A : Type 0} (account : List ℕ) (maildir : Maildir) (stems : List (String A)) (uid : List ℕ)
+    → is_held account (flushed stems maildir) uid ≡ is_held account maildir uid
+held_flushed account maildir stems uid = list_any-map (λ (f : File). names_id account uid f.name) (flushed_by stems) maildir.files
+
+pub flags_flushed : {A : Type 0} (account : List ℕ) (maildir : Maildir) (stems : List (String A)) (items : List Item)
+    → flags_of account (flushed stems maildir) items ≡ flags_of account maildir items
+flags_flushed account maildir stems [] = refl
+flags_flushed account maildir stems (item ∷ items) = rw (held_flushed account maildir stems item.uid, flags_flushed account maildir stems items) refl
+
+pub named_flushed : {A : Type 0} (stems : List (String A)) (files : List File) → AllNamed files → AllNamed (map (flushed_by stems) files)
+named_flushed stems [] all = tt
+named_flushed stems (f ∷ files) all = (all.0, named_flushed stems files all.1)
+
+reached_flushed : {A : Type 0} (stems : List (String A)) (files : List File) → AreReached files (map (flushed_by stems) files)
+reached_flushed stems [] = tt
+reached_flushed stems (f ∷ files) =
+    (record { name = refl; content = refl; named = λ is. is; flushed = λ is. rw is refl }, reached_flushed stems files)
+
+-- what readers left and was then flushed is what they left
+pub taken_flushed : {A : Type 0} (stems : List (String A)) (old left : Maildir) → WereTaken old left → WereTaken old (flushed stems left)
+taken_flushed stems old left taken = record {
+  gone = taken.gone;
+  files = reached_without taken.gone old.files left.files _ taken.files (reached_flushed stems left.files);
+  is = ap (flushed stems) taken.is;
+}
+
+-- the files of these stems were flushed, so that of each id whose stem is among them a file is durable
+durable_flushed : {A : Type 0} (account : List ℕ) (maildir : Maildir) (stems : List (String A)) → AllNamed maildir.files
+    → (uid : List ℕ) → is_among stems (stem_of account uid) ≡ true → is_held account maildir uid ≡ true
+    → HasDurable account (flushed stems maildir) uid
+durable_flushed account maildir stems all uid among held =
     let of = Any-from_list_any (λ (f : File). names_id account uid f.name) maildir.files held in
-    let there = Contains-map name_in maildir.files of.1 (of.0, of.2, of.3) in
     let same = (bytes_eq-Decides (stem_of account uid) (stem of.1.name)).0 of.4 in
-    let file = flushed of.1.name there (rw same at among) (all of.1.name there) in
-    (file.0, file.1, ap (names_id account uid) file.2 ∙ of.4, file.3)
+    let named : of.1.is_named ≡ true = rw of.3 at (All-from_recursion IsNamed maildir.files all of.0 of.1 of.2) in
+    (flushed_by stems of.1, Contains-map (flushed_by stems) maildir.files of.1 (of.0, of.2, of.3), of.4, (named, rw (rw same at among) (or-true _)))
 
-pub found_outlive : {A : Type 0} (account : List ℕ) (maildir : Maildir) (stems : List (String A)) (outlives : File → Type 0)
-    → ((uid : List ℕ) → is_among stems (stem_of account uid) ≡ true → is_held account maildir uid ≡ true → HasLasting account maildir outlives uid)
+-- the same of what the flush left
+pub durable_left : {A : Type 0} (account : List ℕ) (maildir : Maildir) (stems : List (String A)) → AllNamed maildir.files
+    → (uid : List ℕ) → is_among stems (stem_of account uid) ≡ true → is_held account (flushed stems maildir) uid ≡ true
+    → HasDurable account (flushed stems maildir) uid
+durable_left account maildir stems all uid among held =
+    durable_flushed account maildir stems all uid among (rw (held_flushed account maildir stems uid) at held)
+
+pub found_durable : {A : Type 0} (account : List ℕ) (maildir : Maildir) (stems : List (String A))
+    → ((uid : List ℕ) → is_among stems (stem_of account uid) ≡ true → is_held account maildir uid ≡ true → HasDurable account maildir uid)
     → (items : List Item) (flags : List Bool) → HasStems account items (flags_of account maildir items) flags (length items) stems
-    → FoundOutlive account maildir outlives items flags
-found_outlive account maildir stems outlives lasts (item ∷ items) (flag ∷ flags) has = (
-  λ is held. lasts item.uid (has 0 (omega arith) item (λ d. refl) (λ d. held) (λ d. is)) held,
-  found_outlive account maildir stems outlives lasts items flags (λ k below. has (suc k) (omega (arith, below))),
+    → FoundDurable account maildir items flags
+found_durable account maildir stems durable (item ∷ items) (flag ∷ flags) has = (
+  λ is held. durable item.uid (has 0 (omega arith) item (λ d. refl) (λ d. held) (λ d. is)) held,
+  found_durable account maildir stems durable items flags (λ k below. has (suc k) (omega (arith, below))),
 )
-found_outlive account maildir stems outlives lasts items flags has = tt
+found_durable account maildir stems durable items flags has = tt
 
--- all files of a device in memory outlive a loss of power
-pub all_outlive : {A : Type 0} (maildir : Maildir) (stems : List (String A))
-    → FlushedOutlive maildir stems (Ok true) (λ _. Unit {0}) (λ _. Unit {0})
-all_outlive maildir stems = λ name there among here.
-    let none = file [] [] in
-    let inside : there.0 < length maildir.files = omega (arith, there.1, length-map maildir.files name_in) in
-    (get_or maildir.files there.0 none, Contains-get_or maildir.files there.0 none inside, sym (get_or-map name_in maildir.files there.0 none name inside) ∙ there.2, tt)
+-- a flush of a device in memory changes nothing
+pub all_flushed : {A : Type 0} (stems : List (String A)) (files : List File) → map (flushed_by stems) (map shown files) ≡ map shown files
+all_flushed stems [] = refl
+all_flushed stems (f ∷ files) = ap (λ (fs : List File). shown f ∷ fs) (all_flushed stems files)

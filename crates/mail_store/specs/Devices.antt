@@ -8,7 +8,7 @@ use Rattle.mail_store.specs.declared.maildir.disk.MaildirDisk.{Ghosts as DiskGho
 use Rattle.mail_store.specs.Fault.{is_refusal, IsDeviceFault}
 use Rattle.mail_store.specs.FlatFile.{Stored}
 use Rattle.mail_store.specs.Maildir.{Maildir}
-use Rattle.mail_store.specs.Power.{KeepsMail, LastsWhole, LeavesNoMore, UnlessRefused}
+use Rattle.mail_store.specs.Power.{LastsWhole, LeavesNoMore, UnlessRefused}
 
 -- a call did this to the file
 abbrev pub FileDoes : {F : Type 0} → FileGhosts F → (Stored → Stored → Type 0) → F → F → Type 0
@@ -34,8 +34,3 @@ FileWrites file old result new = IfErr result (λ e. e ≡ Refused)
 -- a call did this to the Maildir
 abbrev pub DiskDoes : {D : Type 0} → DiskGhosts D → (Maildir → Maildir → Type 0) → D → D → Type 0
 DiskDoes disk Does old new = disk.sound new → disk.sound old × Does (disk.maildir old) (disk.maildir new)
-
--- a call after which a loss of power leaves what it would have left before
-abbrev pub DiskKeeps : {D T : Type 0} → DiskGhosts D → D → Result T StoreFault → D → Type 0
-DiskKeeps disk old result new = (disk.sound new → KeepsMail (disk.stays old) (disk.outlives old) (disk.stays new) (disk.outlives new))
-    × Tallies (refuses is_refusal result) (disk.maildir old).failures (disk.maildir new).failures

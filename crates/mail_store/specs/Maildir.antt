@@ -2,16 +2,24 @@
 -- before and after the call.
 use Rattle.std.specs.Prelude.{◌≡◌, ℕ, ◌+◌, List, [], ◌∷◌, ◌++◌, map, Bool, false, true, Option, Some, None, option_map}
 use Rattle.std.specs.Prelude.{Result, Ok, Err, ◌⊎◌, Vec, String, string_bytes, IsPermutation, Contains, All}
+use Rattle.std.specs.List.{AllByRecursion, AllZip, filter}
 use Rattle.mail_terms.specs.MaildirName.{base}
 use Rattle.mail_store.specs.declared.fault.StoreFault.{StoreFault}
 use Rattle.mail_store.specs.declared.fault.StoreFault.TheVariants.{Missing, Refused, NotMbox, NoMemory}
 use Rattle.mail_store.specs.declared.maildir.disk.Folder.{Folder}
 use Rattle.mail_store.specs.declared.maildir.disk.Folder.TheVariants.{New, Cur}
 
--- a file: its name and its bytes. Of a file that was settled the name is only the part before its
--- first colon: which of the two folders it is in and which marks follow the colon isn't seen, so a
--- reader that moves a file or changes its marks changes nothing here, at whatever moment
+-- a file of `new` or `cur`: its name, which is only the part before its first colon, and its bytes; and whether
+-- its name, and its bytes, are known to be durable. Which of the two folders it is in and which marks follow
+-- the colon isn't seen, so a reader that moves a file or changes its marks changes nothing here, at whatever moment
 pub record File : Type 0 where
+  pub name : List ℕ
+  pub content : List ℕ
+  pub is_named : Bool
+  pub is_flushed : Bool
+
+-- the file that is being written in `tmp`: its name and its bytes
+pub record Draft : Type 0 where
   pub name : List ℕ
   pub content : List ℕ
 
@@ -28,7 +36,7 @@ pub record Folders : Type 0 where
 pub record Maildir : Type 0 where
   pub there : Folders
   pub files : List File
-  pub begun : Option File
+  pub begun : Option Draft
   pub failures : ℕ
   pub taken : List File
 
@@ -39,17 +47,51 @@ name_in f = f.name
 abbrev pub names_of : List File → List (List ℕ)
 names_of files = map name_in files
 
--- a file of this name and these bytes
+-- a durable file of this name and these bytes
 abbrev pub file : List ℕ → List ℕ → File
-file name content = record { name = name; content = content }
+file name content = record { name = name; content = content; is_named = true; is_flushed = true }
 
--- a settled file of this name, with whatever marks, and these bytes
+-- a durable file of this name, with whatever marks, and these bytes
 abbrev pub mail : List ℕ → List ℕ → File
 mail name content = file (base name) content
 
--- the file that a device in memory is writing
+-- a file that is being written
+abbrev pub draft : List ℕ → List ℕ → Draft
+draft name content = record { name = name; content = content }
+
+-- a file of a device in memory, and the one that it is writing
 abbrev pub file_of : {A B : Type 0} → String A × Vec ℕ B → File
 file_of pair = file (string_bytes pair.0) pair.1.items
+
+abbrev pub draft_of : {A B : Type 0} → String A × Vec ℕ B → Draft
+draft_of pair = draft (string_bytes pair.0) pair.1.items
+
+-- ---- what is durable
+
+-- its name is durable: a loss of power leaves it
+abbrev pub IsNamed : File → Type 0
+IsNamed f = f.is_named ≡ true
+
+-- so are its bytes: a loss of power leaves it whole
+abbrev pub IsDurable : File → Type 0
+IsDurable f = (f.is_named ≡ true) × (f.is_flushed ≡ true)
+
+-- the name of each file is durable; its bytes are; both
+abbrev pub AllNamed : List File → Type 0
+AllNamed files = AllByRecursion IsNamed files
+
+abbrev pub AllFlushed : List File → Type 0
+AllFlushed files = AllByRecursion (λ (f : File). f.is_flushed ≡ true) files
+
+abbrev pub AllDurable : List File → Type 0
+AllDurable files = AllNamed files × AllFlushed files
+
+-- the same file, of which more may be durable
+pub record Reaches (f g : File) : Type 0 where
+  pub name : g.name ≡ f.name
+  pub content : g.content ≡ f.content
+  pub named : f.is_named ≡ true → g.is_named ≡ true
+  pub flushed : f.is_flushed ≡ true → g.is_flushed ≡ true
 
 -- the names that a device told, each without its marks
 abbrev pub bases_told : {A : Type 0} → List (String A) → List (List ℕ)
@@ -69,16 +111,25 @@ with_file old f = record old { files = old.files ++ f ∷ []; begun = None }
 
 -- the name of the file that is being written, if there is one
 abbrev pub name_begun : Maildir → Option (List ℕ)
-name_begun maildir = option_map name_in maildir.begun
+name_begun maildir = option_map (λ (d : Draft). d.name) maildir.begun
 
--- what is left of some files, in order, once these were taken from them, one after another
+-- the same files, in order, of each of which more may be durable
+abbrev pub AreReached : List File → List File → Type 0
+AreReached files risen = AllZip Reaches files risen
+
+-- what is left of some files, in order, once these were taken from them, one after another; at each moment more may
+-- be durable
 abbrev pub IsWithout : List File → List File → List File → Type 0
-IsWithout files [] left = left ≡ files
-IsWithout files (f ∷ gone) left = (front back : List File) × (files ≡ front ++ f ∷ back) × IsWithout (front ++ back) gone left
+IsWithout files [] left = AreReached files left
+IsWithout files (f ∷ gone) left = (front back : List File) × AreReached files (front ++ f ∷ back) × IsWithout (front ++ back) gone left
 
--- some of these files, in order
+-- some of these files, in order, of each of which more may be durable
 abbrev pub IsPart : List File → List File → Type 0
 IsPart files part = (gone : List File) × IsWithout files gone part
+
+-- the Maildir with these files
+abbrev pub with_files : List File → Maildir → Maildir
+with_files files old = record old { files = files }
 
 -- readers were seen to have taken some files away: what is missing is what `taken` gained
 pub record WereTaken (old left : Maildir) : Type 0 where
@@ -86,9 +137,17 @@ pub record WereTaken (old left : Maildir) : Type 0 where
   pub files : IsWithout old.files gone left.files
   pub is : left ≡ record old { files = left.files; taken = old.taken ++ gone }
 
--- this holds of what readers have left since names were last told
+-- this holds of what readers have left since names were last told; names and bytes of other files may have been flushed
 abbrev pub AfterTaking : Maildir → (Maildir → Type 0) → Type 0
 AfterTaking old Does = (left : Maildir) × WereTaken old left × Does left
+
+-- the same file, whose name may be durable by now
+abbrev pub MayBeNamed : File → File → Type 0
+MayBeNamed f g = (g ≡ f) ⊎ (g ≡ record f { is_named = true })
+
+-- names of other files were flushed on the way, and this holds of what that left
+abbrev pub AfterFlushing : Maildir → (Maildir → Type 0) → Type 0
+AfterFlushing old Does = (risen : List File) × AllZip MayBeNamed old.files risen × Does (with_files risen old)
 
 -- some file of `new` or `cur` has this name, with whatever marks
 abbrev pub IsThere : Maildir → List ℕ → Type 0
@@ -99,11 +158,11 @@ abbrev pub is_there : Folders → Folder → Bool
 is_there there New = there.new
 is_there there Cur = there.cur
 
--- each of the names, without its marks, is that of one of the files
+-- each of the names, without its marks, is the durable name of one of the files
 unfoldable pub AreTheirs : {A : Type 0} → List File → List (String A) → Type 0
-AreTheirs files names = All (λ name. Contains (names_of files) (base (string_bytes name))) names
+AreTheirs files names = All (λ name. Contains (names_of (filter (λ (f : File). f.is_named) files)) (base (string_bytes name))) names
 
--- `names`: each name is that of some file of `new` or `cur`, whichever of the two it is in by now
+-- `names`: each name is that of some file of `new` or `cur`, whichever of the two it is in by now, and is durable
 abbrev pub Lists : {A B : Type 0} → Maildir → Folder → Result (Vec (String A) B) StoreFault → Maildir → Type 0
 Lists old folder (Ok names) new =
     (is_there old.there folder ≡ true) × AreTheirs old.files names.items × (new ≡ old)
@@ -111,10 +170,11 @@ Lists old folder (Err Missing) new = (is_there old.there folder ≡ false) × (n
 Lists old folder (Err Refused) new = new ≡ counted old
 Lists old folder (Err fault) new = ⊥
 
--- `all_names`: the name of each file of `new` and `cur`, in any order
+-- `all_names`: the name of each file of `new` and `cur`, in any order, and each is durable
 abbrev pub ListsAll : {A B : Type 0} → Maildir → Result (Vec (String A) B) StoreFault → Maildir → Type 0
 ListsAll old (Ok names) new =
-    (old.there.new ≡ true) × (old.there.cur ≡ true) × IsPermutation (names_of old.files) (bases_told names.items) × (new ≡ old)
+    (old.there.new ≡ true) × (old.there.cur ≡ true) × IsPermutation (names_of old.files) (bases_told names.items) × AllNamed old.files
+    × (new ≡ old)
 ListsAll old (Err Missing) new = ((old.there.new ≡ false) ⊎ (old.there.cur ≡ false)) × (new ≡ old)
 ListsAll old (Err Refused) new = new ≡ counted old
 ListsAll old (Err fault) new = ⊥
@@ -126,14 +186,9 @@ Checks old folder (Err Missing) new = (is_there old.there folder ≡ false) × (
 Checks old folder (Err Refused) new = new ≡ counted old
 Checks old folder (Err fault) new = ⊥
 
--- `flush`: nothing that calls see changes
-abbrev pub Flushes : {T : Type 0} → Maildir → Result T StoreFault → Maildir → Type 0
-Flushes old (Ok done) new = new ≡ old
-Flushes old (Err fault) new = new ≡ counted old
-
 -- `begin`: an empty file of this name is being written; after a fault none is
 abbrev pub Begins : {T : Type 0} → Maildir → List ℕ → Result T StoreFault → Maildir → Type 0
-Begins old name (Ok done) new = (old.there.tmp ≡ true) × (new ≡ record old { begun = Some (file name []) })
+Begins old name (Ok done) new = (old.there.tmp ≡ true) × (new ≡ record old { begun = Some (draft name []) })
 Begins old name (Err Missing) new = (old.there.tmp ≡ false) × (new ≡ old)
 Begins old name (Err Refused) new = new ≡ counted old
 Begins old name (Err fault) new = ⊥
@@ -142,24 +197,29 @@ Begins old name (Err fault) new = ⊥
 -- begun, with any bytes
 abbrev pub Adds : {T : Type 0} → Maildir → List ℕ → Result T StoreFault → Maildir → Type 0
 Adds old bytes (Ok done) new =
-    (f : File) → old.begun ≡ Some f → new ≡ record old { begun = Some (file f.name (f.content ++ bytes)) }
+    (d : Draft) → old.begun ≡ Some d → new ≡ record old { begun = Some (draft d.name (d.content ++ bytes)) }
 Adds old bytes (Err fault) new =
-    (f : File) → old.begun ≡ Some f
-    → (content : List ℕ) × (new ≡ counted (record old { begun = Some (file f.name content) }))
+    (d : Draft) → old.begun ≡ Some d
+    → (content : List ℕ) × (new ≡ counted (record old { begun = Some (draft d.name content) }))
 
--- `settle`: what was written is there under this name; a refused call leaves it out, or there and
--- whole
+-- the file came, and its bytes are durable, but its name needn't be
+abbrev pub MayHave : Maildir → File → Maildir → Type 0
+MayHave old f new = (is_named : Bool) × (new ≡ counted (with_file old (record f { is_named = is_named })))
+
+-- `settle`: what was written is there under this name, and durable; a refused call leaves it out, or there with
+-- durable bytes
 abbrev pub Settles : {T : Type 0} → Maildir → List ℕ → Result T StoreFault → Maildir → Type 0
-Settles old name (Ok done) new = (f : File) → old.begun ≡ Some f → new ≡ with_file old (mail name f.content)
+Settles old name (Ok done) new =
+    (d : Draft) → old.begun ≡ Some d → AfterFlushing old (λ risen. new ≡ with_file risen (mail name d.content))
 Settles old name (Err fault) new =
-    (f : File) → old.begun ≡ Some f
-    → (new ≡ counted (dropped old)) ⊎ (new ≡ counted (with_file old (mail name f.content)))
+    (d : Draft) → old.begun ≡ Some d
+    → (new ≡ counted (dropped old)) ⊎ AfterFlushing old (λ risen. MayHave risen (mail name d.content) new)
 
--- `deliver`: the file is there, or nothing changed, or, if refused, one of the two
+-- `deliver`: the file is there and durable, or nothing changed, or, if refused, one of the two
 abbrev pub Delivers : {T : Type 0} → Maildir → File → Result T StoreFault → Maildir → Type 0
-Delivers old f (Ok done) new = new ≡ with_file old f
+Delivers old f (Ok done) new = AfterFlushing old (λ risen. new ≡ with_file risen f)
 Delivers old f (Err Missing) new = (old.there.tmp ≡ false) × (new ≡ old)
-Delivers old f (Err Refused) new = (new ≡ counted (dropped old)) ⊎ (new ≡ counted (with_file old f))
+Delivers old f (Err Refused) new = (new ≡ counted (dropped old)) ⊎ AfterFlushing old (λ risen. MayHave risen f new)
 Delivers old f (Err NotMbox) new = ⊥
 Delivers old f (Err NoMemory) new = new ≡ old
 

@@ -1,56 +1,8 @@
 -- What outlives a loss of power, as each device defines it.
-use Rattle.std.specs.Prelude.{◌≡◌, ◌⊎◌, ◌<◌, ℕ, List, ◌++◌, bytes_eq, length, take, Bool, true, Option}
-use Rattle.std.specs.Prelude.{Some, option_map, Result, Ok, Err, Vec, String, string_bytes, Contains, filter}
-use Rattle.std.specs.List.{list_any}
+use Rattle.std.specs.Prelude.{◌≡◌, ◌⊎◌, ℕ, List, ◌++◌, length, take, Option, Some, option_map, Result, Err}
 use Rattle.mail_store.specs.declared.fault.StoreFault.{StoreFault}
 use Rattle.mail_store.specs.declared.fault.StoreFault.TheVariants.{Refused}
-use Rattle.mail_store.specs.Maildir.{Maildir, File, mail, names_of, bases_told}
-use Rattle.mail_store.specs.FileName.{stem}
 use Rattle.mail_store.specs.Settling.{MayBeLeft}
-
--- ---- a Maildir: names, without their marks, that stay in `new` or `cur`, and whole files that outlive a loss of power
-
--- what a loss of power would have left before, it would still leave
-abbrev pub KeepsMail : (List ℕ → Type 0) → (File → Type 0) → (List ℕ → Type 0) → (File → Type 0) → Type 0
-KeepsMail stays outlives stays' outlives' = ((name : List ℕ) → stays name → stays' name) × ((f : File) → outlives f → outlives' f)
-
--- how many files have this name, without its marks
-abbrev pub count_named : List ℕ → List File → ℕ
-count_named name files = length (filter (λ (f : File). bytes_eq name f.name) files)
-
--- fewer files have this name than before
-abbrev pub TookOne : List ℕ → List File → List File → Type 0
-TookOne name old new = count_named name new < count_named name old
-
--- `names` and `all_names`: the same, except for files that readers took away
-abbrev pub KeepsLeft : List File → List File → (List ℕ → Type 0) → (File → Type 0) → (List ℕ → Type 0) → (File → Type 0) → Type 0
-KeepsLeft old new stays outlives stays' outlives' =
-    ((name : List ℕ) → stays name → stays' name ⊎ TookOne name old new)
-    × ((f : File) → outlives f → outlives' f ⊎ TookOne f.name old new)
-
--- `all_names`: each name that is returned stays
-abbrev pub ToldStay : {A B : Type 0} → Result (Vec (String A) B) StoreFault → (List ℕ → Type 0) → Type 0
-ToldStay (Ok names) stays = (name : List ℕ) → Contains (bases_told names.items) name → stays name
-ToldStay (Err fault) stays = Unit {0}
-
--- `settle`: the file outlives a loss of power
-abbrev pub SettledOutlives : {T : Type 0} → Maildir → List ℕ → Result T StoreFault → (File → Type 0) → Type 0
-SettledOutlives old name (Ok done) outlives = (f : File) → old.begun ≡ Some f → outlives (mail name f.content)
-SettledOutlives old name (Err fault) outlives = Unit {0}
-
--- whether one of these texts is this one
-abbrev pub is_among : {A : Type 0} → List (String A) → List ℕ → Bool
-is_among texts text = list_any (λ other. bytes_eq text (string_bytes other)) texts
-
--- `flush`: of each name that stays and has one of these stems a file that is there outlives a loss of power
-abbrev pub FlushedOutlive : {A : Type 0} → Maildir → List (String A) → Result Bool StoreFault → (List ℕ → Type 0) → (File → Type 0) → Type 0
-FlushedOutlive maildir stems (Ok true) stays outlives = (name : List ℕ) → Contains (names_of maildir.files) name
-    → is_among stems (stem name) ≡ true → stays name → (f : File) × Contains maildir.files f × (f.name ≡ name) × outlives f
-FlushedOutlive maildir stems answer stays outlives = Unit {0}
-
--- each name that calls see stays
-abbrev pub AllStay : Maildir → (List ℕ → Type 0) → Type 0
-AllStay maildir stays = (name : List ℕ) → Contains (names_of maildir.files) name → stays name
 
 -- ---- a file: what a loss of power may leave of it, None for no file
 

@@ -16,6 +16,9 @@ pub use file::reading::{edges_of, read_piece};
 pub use maildir::delivery::deliver;
 pub use maildir::disk::{Folder, MaildirDisk};
 pub use maildir::held::{flags_tell_what_is_held, flush_held, held};
+pub use maildir::loss::{
+    calls_keep_files_flushed, calls_leave_no_more, losses_leave_what_is_durable,
+};
 pub use maildir::memory::MemoryMaildir;
 pub use maildir::names::{
     add_size, file_name, file_stem, marks_keep_the_base, names_are_bases, names_have_stems,

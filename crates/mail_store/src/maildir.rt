@@ -3,5 +3,6 @@
 pub mod delivery;
 pub mod disk;
 pub mod held;
+pub mod loss;
 pub mod memory;
 pub mod names;

@@ -3,7 +3,7 @@ use Rattle.std.proofs.Common.{◌≡◌, ◌≤◌, ◌<◌, ◌+◌, ◌-◌, �
 use Rattle.std.specs.Prelude.{bytes_eq, zip}
 use Rattle.std.specs.List.{filter, enumerate_from, AllByRecursion}
 use Rattle.std.proofs.lemmas.Bool.{cond_both, or_left, cases_Bool, false_from_ne_true}
-use Rattle.std.proofs.lemmas.List.{take-map, drop-map, append-nil, take_all, length-map}
+use Rattle.std.proofs.lemmas.List.{map-append, take-map, drop-map, append-nil, take_all, length-map}
 use Rattle.std.proofs.lemmas.List.Elements.{recursion_from_All, filter-append}
 use Rattle.std.proofs.lemmas.List.FromFn.{length-enumerate_from, get_or-enumerate_from}
 use Rattle.std.proofs.lemmas.Option.{same_Some, slice_get-get_or}
@@ -21,7 +21,7 @@ use Rattle.run_law.specs.Steps.{CanEnd, AreTexts, file_for, is_unheld, Effect, I
 use Rattle.run_law.specs.Promises.{BeginsWith, past_limit, is_past_count}
 use Rattle.run_law.proofs.Ids.{filter-map, filter-swap, any-map, all_map, all_take, all_filter, Distinct, are_distinct, front_is, filter-filter, filter_all, all_both, all_passing, all_parts, distinct_is, distinct_take, distinct_filter, ids_both, all_at, all_ids_at, bytes_self, bytes_same, members, other_id, each_text, whole_part}
 use Rattle.mail_store.specs.Held.{flags_of}
-use Rattle.run_law.specs.Accounts.{AccountMail}
+use Rattle.run_law.specs.Accounts.{AccountMail, without_flags}
 use Rattle.run_law.specs.Mboxes.{MboxCanEnd, MboxMail, settled, none_held, MboxStores}
 
 pub has_listed : {listing : List Item} (ms : List Message) → listing ≡ listing_of ms → (id : List ℕ) → has_item listing id ≡ has_id (ids_of ms) id
@@ -335,6 +335,10 @@ can_fetch filtered drop distinct now settings rows =
     let is : wanted settings rows (listing_of drop) ≡ map num_item (wants_by_number settings rows drop) = wanted_are settings rows filtered drop refl distinct in
     (rw is (simp length-map), record { listing = refl; texts = rw is (are_texts drop _ (wants_placed settings rows drop)) })
 
+made_same : (account : List ℕ) (pairs : List ((ℕ × Item) × List ℕ)) → without_flags (map (file_for account) pairs) ≡ map (file_for account) pairs
+made_same account [] = refl
+made_same account (p ∷ pairs) = ap (λ fs. file_for account p ∷ fs) (made_same account pairs)
+
 pub can_end : DistinctAreFiltered → CanEnd
 can_end filtered account before settings drop now distinct =
     let rows : List Row = merged before.rows (listing_of drop) (flags_of account before.maildir (listing_of drop)) now in
@@ -342,7 +346,7 @@ can_end filtered account before settings drop now distinct =
     let can = can_fetch filtered drop (distinct_is drop distinct) now settings rows in
     let after : AccountMail = record { rows = _; maildir = record before.maildir { files = _ } } in
     let stores : Stores settings account before effect after =
-    record { stored = length effect.texts; recorded = length effect.texts; order = omega arith; fetched = omega arith; came = refl; rows = inr refl; begun = tt; ended = λ e. omega (arith, can.0) } in
+    record { stored = length effect.texts; recorded = length effect.texts; order = omega arith; fetched = omega arith; came = map-append _ before.maildir.files _ ∙ ap (λ fs. without_flags before.maildir.files ++ fs) (made_same account _); rows = inr refl; begun = tt; ended = λ e. omega (arith, can.0) } in
     (effect, after, stores, can.1, refl)
 
 pub mbox_can_end : DistinctAreFiltered → MboxCanEnd

@@ -16,7 +16,7 @@ use Rattle.fetch_rules.specs.Record.{Row, is_delivered}
 use Rattle.mail_store.specs.FileName.{is_held, mail_file}
 use Rattle.mail_store.specs.Mboxrd.{entry_of}
 use Rattle.mail_terms.specs.UniqueId.{has_id}
-use Rattle.run_law.specs.Accounts.{AccountMail}
+use Rattle.run_law.specs.Accounts.{AccountMail, without_flags}
 use Rattle.run_law.specs.Steps.{Effect, Stores, file_for, is_unheld, ids_wanted, wanted_at, merged_rows, IsHonest, AreTexts}
 use Rattle.run_law.specs.Sessions.{SessionsAreServed, IsBegun, SendsOnly, Reads, Served}
 use Rattle.pop3_wire.specs.declared.command.Command.{Command}
@@ -171,7 +171,7 @@ module _ (settings : Settings) (account : List ℕ) (before : AccountMail) (effe
 pub sessions_are_safe : Below → SessionsAreSafe
 sessions_are_safe laws settings account before sent got effect after session = ⊎_elim (λ leaves. record {
   gained = [];
-  came = leaves.same ∙ sym (append-nil before.maildir.files);
+  came = ap without_flags leaves.same ∙ sym (append-nil (without_flags before.maildir.files));
   sends = sends_allowed effect (wanted_at settings account before effect) (IsKnown settings account before effect)
       (λ id text. IsAmong (mail_file account id text) []) 0 (rw leaves.begun tt) session.sends;
 }) (λ (stores, reads). record {

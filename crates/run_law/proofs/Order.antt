@@ -16,7 +16,7 @@ use Rattle.run_law.specs.Promises.{IsFront, Kept, Promised, EventsKeepPromises}
 use Rattle.run_law.specs.Order.{World, IsSound, world_after, KeepsOrder, HoldsAPrefix, Headline, NoneTaken, StaysAway}
 use Rattle.run_law.proofs.Ids.{all_filter, all_ids_at, all_map, all_parts, are_distinct, distinct_filter, distinct_is, front_is, is_some, no_texts, all_at}
 use Rattle.run_law.proofs.Core.{IsLegal, next_here, prefix_left, done_legal, done_distinct}
-use Rattle.run_law.proofs.Promised.{copies_both, copies_messages, held_copies, one_text, session_holds}
+use Rattle.run_law.proofs.Promised.{copies_came, copies_messages, held_copies, one_text, session_holds}
 
 -- all mail is a world
 pub as_world : (text : List ℕ → List ℕ) (all : List Message) → IsMaildrop text all → IsWorld all
@@ -134,7 +134,7 @@ stays_away laws law mail state (Fetched o) id account kept is new legal recorded
     let legal_came = all_map _ promises.new (λ m h. all_at (λ x. is_legal_id x ≡ true) o.maildrop (all_map _ is.maildrop.each (λ n k. k.is.legal)) h.shown) in
     let unlike = no_texts promises.came id (none_has promises.came (all_map _ promises.new (λ m h. h.unrecorded new))) in (
       promises.recorded id recorded,
-      held_copies mail.account o.after id ∙ ap is_some (ap (λ fs. copies fs (stem_of mail.account id)) promises.added ∙ copies_both (files state.account) _ (stem_of mail.account id)
+      held_copies mail.account o.after id ∙ ap is_some (copies_came (files state.account) (files o.after) _ (stem_of mail.account id) promises.added
           ∙ ap (λ c. copies (files state.account) (stem_of mail.account id) ++ c) (copies_messages laws mail.account account promises.came id legal legal_came ∙ unlike) ∙ append-nil (copies (files state.account) (stem_of mail.account id))) ∙ sym (held_copies mail.account state.account id) ∙ unheld,
     )
   where

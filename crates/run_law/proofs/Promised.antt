@@ -18,7 +18,7 @@ use Rattle.mail_store.specs.Maildir.{File}
 use Rattle.mail_terms.specs.MaildirName.{base}
 use Rattle.mail_store.specs.FileName.{names_id, name_of, stem, is_held, stem_of, IsAccountText}
 use Rattle.run_law.specs.Mails.{ids_of, item_of, listing_of, texts_of}
-use Rattle.run_law.specs.Accounts.{KeepsOthers, AccountMail, files, copies, count_files}
+use Rattle.run_law.specs.Accounts.{AccountMail, KeepsOthers, copies, count_files, files, without_flags}
 use Rattle.run_law.specs.Steps.{Effect, Leaves, Stores, IsHonest, wanted_at, merged_rows, ids_wanted}
 use Rattle.run_law.specs.Sessions.{SendsOnly, IsBegun, SessionsAreServed}
 use Rattle.run_law.specs.Below.{Below}
@@ -41,8 +41,19 @@ held_safe mail state after id held = or_left _ _ held
 
 -- ---- copies
 
-pub copies_both : (xs ys : List File) (front : List ℕ) → copies (xs ++ ys) front ≡ copies xs front ++ copies ys front
-copies_both xs ys front = rw (filter-append, map-append) refl
+-- whatever of the files is durable
+copies_same : (fs : List File) (front : List ℕ) → copies (without_flags fs) front ≡ copies fs front
+copies_same [] front = refl
+copies_same (f ∷ fs) front = grind (arith, copies_same fs front)
+
+count_same : (fs : List File) (name content : List ℕ) → count_files (without_flags fs) name content ≡ count_files fs name content
+count_same [] name content = refl
+count_same (f ∷ fs) name content = grind (arith, count_same fs name content)
+
+-- if these came
+pub copies_came : (old new added : List File) (front : List ℕ) → without_flags new ≡ without_flags old ++ added → copies new front ≡ copies old front ++ copies added front
+copies_came old new added front came = sym (copies_same new front) ∙ ap (λ fs. copies fs front) came
+    ∙ rw (filter-append, map-append) (ap (λ c. c ++ copies added front) (copies_same old front))
 
 module _ (laws : Below) (account : List ℕ) (text : IsAccountText account) where
   its_stem : (m : Message) → stem (base (name_of account m.uid (length m.text))) ≡ stem_of account m.uid
@@ -57,8 +68,9 @@ module _ (laws : Below) (account : List ℕ) (text : IsAccountText account) wher
 
   -- a delivery leaves the files of other names
   pub deliveries_keep : (before after : AccountMail) (ms : List Message) → AllByRecursion IsLegal ms
-      → files after ≡ files before ++ map (message_file account) ms → KeepsOthers account before after
-  deliveries_keep before after ms h is name content other = rw (is, filter-append, length-append, none ms h) (omega arith)
+      → without_flags (files after) ≡ without_flags (files before) ++ map (message_file account) ms → KeepsOthers account before after
+  deliveries_keep before after ms h is name content other = sym (count_same (files after) name content)
+      ∙ rw (is, filter-append, length-append, none ms h) (omega (arith, count_same (files before) name content))
     where
       none : (ms : List Message) → AllByRecursion IsLegal ms → count_files (map (message_file account) ms) name content ≡ 0
       none [] h = refl
@@ -184,12 +196,12 @@ module _ (laws : Below) {mail : Mail} (account_is : IsAccountText mail.account) 
   texts_got : (id : List ℕ) → has_id (ids_of got) id ≡ true → texts_of got id ≡ mail.text id ∷ []
   texts_got = one_text mail.text got (distinct_wanted fetch s.stored) (all_got (IsOf mail.text) is.each)
 
-  files_are : files o.after ≡ files state.account ++ map (message_file mail.account) came
+  files_are : without_flags (files o.after) ≡ without_flags (files state.account) ++ map (message_file mail.account) came
   files_are = s.came ∙ rw ((texts_are fetch s.fetched).0, stored_files mail.account state.account.maildir, taken_is fetch s.stored)
 
   copies_are : (id : List ℕ) → is_legal_id id ≡ true → copies (files o.after) (stem_of mail.account id)
       ≡ copies (files state.account) (stem_of mail.account id) ++ cond (not (held id)) (texts_of got id) []
-  copies_are id l = ap (λ fs. copies fs (stem_of mail.account id)) files_are ∙ copies_both (files state.account) (map (message_file mail.account) came) (stem_of mail.account id)
+  copies_are id l = copies_came (files state.account) (files o.after) (map (message_file mail.account) came) (stem_of mail.account id) files_are
       ∙ ap (λ c. copies (files state.account) (stem_of mail.account id) ++ c) (copies_messages laws mail.account account_is came id l legal_came ∙ texts_filtered (λ x. not (held x)) got id)
 
   held_now : (id : List ℕ) → is_legal_id id ≡ true → is_held mail.account o.after.maildir id ≡ (held id || has_id (ids_of got) id)
@@ -295,7 +307,7 @@ left_kept {mail} {state} o e kept left ended sends vanished = (
     left_out = λ uncut. absurd (both_ways e.ended left.ended (ended ∙ uncut));
     deletes = sends_such (λ id. is_safe mail (after_session mail state o) id ≡ true) o.maildrop e (inr left.begun) (rw left.begun tt) sends;
     came = [];
-    added = left.same ∙ sym (append-nil (files state.account));
+    added = ap without_flags left.same ∙ sym (append-nil (without_flags (files state.account)));
     new = tt;
     others = λ name content other. ap (λ fs. count_files fs name content) left.same;
     recorded = λ id recorded. rw left.rows recorded;
@@ -316,7 +328,7 @@ left_kept {mail} {state} o e kept left ended sends vanished = (
 
 -- what was held stays held
 pub session_holds : {mail : Mail} {state : State} {o : Occasion AccountMail} → Promises mail state o → (id : List ℕ) → is_held mail.account state.account.maildir id ≡ true → is_held mail.account o.after.maildir id ≡ true
-session_holds {mail} {state} {o} promises id held = held_copies mail.account o.after id ∙ ap is_some (ap (λ fs. copies fs (stem_of mail.account id)) promises.added ∙ copies_both (files state.account) _ (stem_of mail.account id))
+session_holds {mail} {state} {o} promises id held = held_copies mail.account o.after id ∙ ap is_some (copies_came (files state.account) (files o.after) _ (stem_of mail.account id) promises.added)
     ∙ some_both (copies (files state.account) (stem_of mail.account id)) _ ∙ or_left _ _ (sym (held_copies mail.account state.account id) ∙ held)
 
 -- ---- one event

@@ -3,7 +3,7 @@
 use Rattle.std.specs.Prelude.{◌≡◌, ◌&&◌, ℕ, true, false, List, map, length, bytes_eq}
 use Rattle.std.specs.List.{filter}
 use Rattle.fetch_rules.specs.Record.{Row}
-use Rattle.mail_store.specs.Maildir.{Maildir, File}
+use Rattle.mail_store.specs.Maildir.{File, Maildir, file}
 use Rattle.mail_store.specs.FileName.{stem, stem_of}
 use Rattle.mail_terms.specs.UniqueId.{is_legal_id}
 
@@ -15,6 +15,10 @@ pub record AccountMail : Type 0 where
 -- the files of `new` and `cur`; delivered files come last
 abbrev pub files : AccountMail → List File
 files account = account.maildir.files
+
+-- files by their names and bytes, whatever of them is durable
+abbrev pub without_flags : List File → List File
+without_flags fs = map (λ (f : File). file f.name f.content) fs
 
 -- the contents of the files whose names have this stem
 abbrev pub copies : List File → List ℕ → List (List ℕ)

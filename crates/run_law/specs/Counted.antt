@@ -3,12 +3,12 @@ use Rattle.std.specs.Prelude.{◌≡◌, ◌⊎◌, ◌+◌, ℕ, true, List, �
 use Rattle.std.specs.List.{filter, AllByRecursion}
 use Rattle.fetch_rules.specs.Record.{is_delivered, marked_all}
 use Rattle.rc_file.specs.declared.settings.Settings.{Settings}
-use Rattle.run_law.specs.Accounts.{AccountMail}
+use Rattle.run_law.specs.Accounts.{AccountMail, without_flags}
 use Rattle.run_law.specs.Steps.{Effect, Stores, file_for, is_unheld, wanted_at, merged_rows, ids_wanted}
 
 -- there came the files of the first n of the wanted messages that weren't held
 abbrev pub Adds : Settings → List ℕ → AccountMail → Effect → ℕ → AccountMail → Type 0
-Adds settings account before effect n after = after.maildir.files ≡ before.maildir.files
+Adds settings account before effect n after = without_flags after.maildir.files ≡ without_flags before.maildir.files
     ++ map (file_for account)
     (filter (is_unheld account before.maildir) (zip (take n (wanted_at settings account before effect)) effect.texts))
 

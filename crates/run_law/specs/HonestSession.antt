@@ -7,7 +7,7 @@ use Rattle.rc_file.specs.declared.settings.Settings.{Settings}
 use Rattle.mail_store.specs.Maildir.{File}
 use Rattle.mail_store.specs.FileName.{mail_file}
 use Rattle.run_law.specs.Mails.{listing_of}
-use Rattle.run_law.specs.Accounts.{AccountMail}
+use Rattle.run_law.specs.Accounts.{AccountMail, without_flags}
 use Rattle.run_law.specs.Steps.{Effect, Leaves}
 use Rattle.run_law.specs.Sessions.{Session}
 
@@ -22,7 +22,7 @@ pub record BringsMessages (account : List ℕ) (drop : List Message) (before : A
     (after : AccountMail) : Type 0 where
   pub listing : effect.listing ≡ listing_of drop
   pub gained : List File
-  pub came : after.maildir.files ≡ before.maildir.files ++ gained
+  pub came : without_flags after.maildir.files ≡ without_flags before.maildir.files ++ gained
   pub each : AllByRecursion (IsFileOf account drop) gained
 
 -- a law: if the conversation is honest, a session left the account as it was, or brought messages of the

@@ -12,7 +12,7 @@ use Rattle.pop3_wire.specs.declared.command.Command.{Command}
 use Rattle.pop3_wire.specs.declared.command.Command.TheVariants.{Dele}
 use Rattle.mail_store.specs.FileName.{is_held, mail_file, IsAccountText}
 use Rattle.run_law.specs.Mails.{ids_of}
-use Rattle.run_law.specs.Accounts.{AccountMail, files, KeepsOthers}
+use Rattle.run_law.specs.Accounts.{AccountMail, KeepsOthers, files, without_flags}
 use Rattle.run_law.specs.Sessions.{SendsOnly}
 use Rattle.run_law.specs.Events.{Mail, State, is_safe, IsSafe, HoldsEachOnce, Occasion, Event, Fetched, after_session, after_event, Happens}
 
@@ -68,7 +68,8 @@ pub record Promises (mail : Mail) (state : State) (occasion : Occasion AccountMa
   pub left_out : LeavesOut occasion (λ id. is_safe mail (after_session mail state occasion) id ≡ true)
   pub deletes : SendsOnly (DeletesOneOf occasion.maildrop (λ id. is_safe mail (after_session mail state occasion) id ≡ true)) occasion.sent
   pub came : List Message
-  pub added : files occasion.after ≡ files state.account ++ map (λ (m : Message). mail_file mail.account m.uid m.text) came
+  pub added : without_flags (files occasion.after) ≡ without_flags (files state.account)
+      ++ map (λ (m : Message). mail_file mail.account m.uid m.text) came
   pub new : AllByRecursion (IsNew mail state.account occasion) came
   pub others : KeepsOthers mail.account state.account occasion.after
   pub recorded : (id : List ℕ) → is_delivered state.account.rows id ≡ true → is_delivered occasion.after.rows id ≡ true

@@ -4,7 +4,7 @@ use Rattle.rc_file.specs.declared.settings.Settings.{Settings}
 use Rattle.fetch_rules.specs.Record.{is_delivered}
 use Rattle.mail_store.specs.Maildir.{File}
 use Rattle.mail_store.specs.FileName.{is_held, mail_file}
-use Rattle.run_law.specs.Accounts.{AccountMail}
+use Rattle.run_law.specs.Accounts.{AccountMail, without_flags}
 use Rattle.run_law.specs.Steps.{Effect, wanted_at}
 use Rattle.run_law.specs.Sessions.{SendsOnly, Session}
 use Rattle.pop3_wire.specs.declared.command.Command.{Command}
@@ -38,7 +38,7 @@ MayBeDeleted settings account before effect gained number id =
 pub record IsSafe (settings : Settings) (account : List ℕ) (before : AccountMail) (sent : List ℕ)
     (effect : Effect) (after : AccountMail) : Type 0 where
   pub gained : List File
-  pub came : after.maildir.files ≡ before.maildir.files ++ gained
+  pub came : without_flags after.maildir.files ≡ without_flags before.maildir.files ++ gained
   pub sends : SendsOnly (DeletesAllowed effect.listing (MayBeDeleted settings account before effect gained)) sent
 
 -- a law: every session is safe in this way, whatever its server says

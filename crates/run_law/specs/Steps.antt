@@ -11,7 +11,7 @@ use Rattle.mail_store.specs.Held.{flags_of}
 use Rattle.pop3_wire.specs.World.{Message}
 use Rattle.mail_terms.specs.Distinct.{AreDistinct}
 use Rattle.run_law.specs.Mails.{ids_of, listing_of}
-use Rattle.run_law.specs.Accounts.{AccountMail}
+use Rattle.run_law.specs.Accounts.{AccountMail, without_flags}
 use Rattle.run_law.specs.Readings.{IsNumbered}
 
 -- the parts of a session that the law over runs uses
@@ -60,7 +60,7 @@ pub record Stores (settings : Settings) (account : List ℕ) (before : AccountMa
   pub recorded : ℕ
   pub order : recorded ≤ stored
   pub fetched : stored ≤ length effect.texts
-  pub came : after.maildir.files ≡ before.maildir.files
+  pub came : without_flags after.maildir.files ≡ without_flags before.maildir.files
       ++ map (file_for account)
       (filter (is_unheld account before.maildir) (zip (take stored (wanted_at settings account before effect)) effect.texts))
   pub rows : (after.rows ≡ before.rows)

@@ -5,11 +5,15 @@ use Rattle.mail_store.specs.declared.fault.StoreFault.{StoreFault}
 use Rattle.mail_store.specs.declared.fault.StoreFault.TheVariants.{Missing, Refused}
 use Rattle.mail_store.specs.declared.maildir.disk.Folder.{Folder}
 use Rattle.mail_store.specs.Fault.{is_refusal}
-use Rattle.mail_store.specs.Maildir.{AfterTaking, Lists, ListsAll, Maildir, WereTaken}
+use Rattle.mail_store.specs.Maildir.{AfterTaking, AreReached, File, Lists, ListsAll, Maildir, WereTaken}
 use Rattle.mail_store.specs.Settling.{MayBeLeft}
 
+reached_same : (files : List File) → AreReached files files
+reached_same [] = tt
+reached_same (f ∷ files) = (record { name = refl; content = refl; named = λ is. is; flushed = λ is. is }, reached_same files)
+
 pub none_taken : (maildir : Maildir) → WereTaken maildir maildir
-none_taken maildir = record { gone = []; files = refl; is = rw append-nil refl }
+none_taken maildir = record { gone = []; files = reached_same maildir.files; is = rw append-nil refl }
 
 -- ---- names that a device told, and its fuse, which has a count of its own
 
@@ -30,7 +34,7 @@ module _ (n m : ℕ) (below : n < greatest_count) where
 
     lists_all : (left : Maildir) (r : Result (Vec (String A) B) StoreFault) → Tallies (refuses is_refusal r) n m → ListsAll left r new
         → ListsAll (record left { failures = n }) r (record new { failures = m })
-    lists_all left (Ok names) count (in_new, in_cur, told, same) = (in_new, in_cur, told, rw (same, count) refl)
+    lists_all left (Ok names) count (in_new, in_cur, told, named, same) = (in_new, in_cur, told, named, rw (same, count) refl)
     lists_all left (Err Missing) count (lacks, same) = (lacks, rw (same, count) refl)
     lists_all left (Err Refused) count same = rw (same, counted_one count) refl
     lists_all left (Err _) count never = absurd never

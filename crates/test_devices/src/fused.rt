@@ -107,18 +107,14 @@ impl<D: MaildirDisk> MaildirDisk for Fused<D> {
     ghost use Rattle.std.specs.Prelude.{◌≡◌, ◌<◌, false, true, IfErr, IsSome, Ok, OnErr, OnOk, Some, None};
     ghost use Rattle.mail_terms.specs.FailureCount.{Tallies, refuses, greatest_count};
     ghost use Rattle.mail_store.specs.Fault.{IsDeviceFault};
-    ghost use Rattle.mail_store.specs.Maildir.{AfterTaking, IsThere, Lists, ListsAll, Checks, Flushes, Begins, Adds, Settles};
+    ghost use Rattle.mail_store.specs.Loss.{Flushes};
+    ghost use Rattle.mail_store.specs.Maildir.{AfterTaking, IsThere, Lists, ListsAll, Checks, Begins, Adds, Settles};
     ghost use Rattle.mail_store.specs.Maildir.{dropped, name_begun};
-    ghost use Rattle.mail_store.specs.Devices.{DiskDoes, DiskKeeps};
-    ghost use Rattle.mail_store.specs.Power.{FlushedOutlive, KeepsLeft, KeepsMail, SettledOutlives, ToldStay};
+    ghost use Rattle.mail_store.specs.Devices.{DiskDoes};
     ghost use Rattle.test_devices.specs.StoreFuse.{device_of, passes_left, effect_is_due, refusals, fused_maildir};
     ghost use Rattle.test_devices.specs.StoreFuse.{FusedIsSound, Burns, Fuses, SettlesBehind};
 
     ghost maildir = { λ f. fused_maildir D.maildir f };
-
-    ghost stays = { λ f. D.stays (device_of f) };
-
-    ghost outlives = { λ f. D.outlives (device_of f) };
 
     ghost sound = { λ f. FusedIsSound D.sound f };
 
@@ -126,9 +122,6 @@ impl<D: MaildirDisk> MaildirDisk for Fused<D> {
         ensures lists { DiskDoes ⟦<Fused<D> as MaildirDisk>⟧ (λ old new.
             AfterTaking old (λ left. Lists left folder result new)) self.old self.new }
         ensures fault { IfErr result IsDeviceFault }
-        ensures lasts { FusedIsSound D.sound self.new → KeepsLeft (D.maildir (device_of self.old)).files
-            (D.maildir (device_of self.new)).files (D.stays (device_of self.old)) (D.outlives (device_of self.old))
-            (D.stays (device_of self.new)) (D.outlives (device_of self.new)) }
         ensures count { Tallies (refuses is_refusal result) (refusals self.old) (refusals self.new) }
         ensures fuse { Fuses (λ d. (D.maildir d).failures) self.old result self.new }
     {
@@ -141,10 +134,6 @@ impl<D: MaildirDisk> MaildirDisk for Fused<D> {
         ensures lists { DiskDoes ⟦<Fused<D> as MaildirDisk>⟧ (λ old new.
             AfterTaking old (λ left. ListsAll left result new)) self.old self.new }
         ensures fault { IfErr result IsDeviceFault }
-        ensures lasts { FusedIsSound D.sound self.new → KeepsLeft (D.maildir (device_of self.old)).files
-            (D.maildir (device_of self.new)).files (D.stays (device_of self.old)) (D.outlives (device_of self.old))
-            (D.stays (device_of self.new)) (D.outlives (device_of self.new))
-            × ToldStay result (D.stays (device_of self.new)) }
         ensures count { Tallies (refuses is_refusal result) (refusals self.old) (refusals self.new) }
         ensures fuse { Fuses (λ d. (D.maildir d).failures) self.old result self.new }
     {
@@ -156,7 +145,7 @@ impl<D: MaildirDisk> MaildirDisk for Fused<D> {
     fn check(&mut self, folder: Folder) -> Result<(), StoreFault>
         ensures checks { DiskDoes ⟦<Fused<D> as MaildirDisk>⟧ (λ old new. Checks old folder result new) self.old self.new }
         ensures fault { IfErr result IsDeviceFault }
-        ensures keeps { DiskKeeps ⟦<Fused<D> as MaildirDisk>⟧ self.old result self.new }
+        ensures count { Tallies (refuses is_refusal result) (refusals self.old) (refusals self.new) }
         ensures fuse { Fuses (λ d. (D.maildir d).failures) self.old result self.new }
     {
         self.pass()?;
@@ -166,11 +155,9 @@ impl<D: MaildirDisk> MaildirDisk for Fused<D> {
 
     fn flush(&mut self, stems: &[String], may_miss: bool) -> Result<bool, StoreFault>
         ensures misses { result ≡ Ok false → may_miss ≡ true }
-        ensures flushes { DiskDoes ⟦<Fused<D> as MaildirDisk>⟧ (λ old new. Flushes old result new) self.old self.new }
+        ensures flushes { DiskDoes ⟦<Fused<D> as MaildirDisk>⟧ (λ old new. Flushes old stems.now result new) self.old self.new }
         ensures fault { IfErr result (λ e. e ≡ StoreFault.Refused) }
-        ensures keeps { DiskKeeps ⟦<Fused<D> as MaildirDisk>⟧ self.old result self.new }
-        ensures lasts { FusedIsSound D.sound self.new → FlushedOutlive (fused_maildir D.maildir self.old) stems.now result
-            (D.stays (device_of self.old)) (D.outlives (device_of self.new)) }
+        ensures count { Tallies (refuses is_refusal result) (refusals self.old) (refusals self.new) }
         ensures fuse { Fuses (λ d. (D.maildir d).failures) self.old result self.new }
     {
         self.pass()?;
@@ -184,7 +171,7 @@ impl<D: MaildirDisk> MaildirDisk for Fused<D> {
         ensures begun { OnOk result (name_begun (D.maildir (device_of self.new)) ≡ Some name.now)
             × OnErr result ((D.maildir (device_of self.new)).begun ≡ (D.maildir (device_of self.old)).begun) }
         ensures fault { IfErr result IsDeviceFault }
-        ensures keeps { DiskKeeps ⟦<Fused<D> as MaildirDisk>⟧ self.old result self.new }
+        ensures count { Tallies (refuses is_refusal result) (refusals self.old) (refusals self.new) }
         ensures fuse { Fuses (λ d. (D.maildir d).failures) self.old result self.new }
     {
         self.pass()?;
@@ -197,7 +184,7 @@ impl<D: MaildirDisk> MaildirDisk for Fused<D> {
         ensures adds { DiskDoes ⟦<Fused<D> as MaildirDisk>⟧ (λ old new. Adds old bytes.now result new) self.old self.new }
         ensures begun { name_begun (D.maildir (device_of self.new)) ≡ name_begun (D.maildir (device_of self.old)) }
         ensures fault { IfErr result (λ e. e ≡ StoreFault.Refused) }
-        ensures keeps { DiskKeeps ⟦<Fused<D> as MaildirDisk>⟧ self.old result self.new }
+        ensures count { Tallies (refuses is_refusal result) (refusals self.old) (refusals self.new) }
         ensures fuse { Fuses (λ d. (D.maildir d).failures) self.old result self.new }
     {
         self.pass()?;
@@ -211,9 +198,7 @@ impl<D: MaildirDisk> MaildirDisk for Fused<D> {
         ensures settles { DiskDoes ⟦<Fused<D> as MaildirDisk>⟧ (λ old new. Settles old name.now result new) self.old self.new }
         ensures none_begun { (D.maildir (device_of self.new)).begun ≡ None }
         ensures fault { IfErr result (λ e. e ≡ StoreFault.Refused) }
-        ensures keeps { DiskKeeps ⟦<Fused<D> as MaildirDisk>⟧ self.old result self.new }
-        ensures lasts { FusedIsSound D.sound self.new
-            → SettledOutlives (fused_maildir D.maildir self.old) name.now result (D.outlives (device_of self.new)) }
+        ensures count { Tallies (refuses is_refusal result) (refusals self.old) (refusals self.new) }
         ensures fuse { (refusals self.old < greatest_count → Burns (λ d. (D.maildir d).failures) self.old result self.new)
             × (passes_left self.old ≡ 0 → FusedIsSound D.sound self.new
             → SettlesBehind (effect_is_due self.old) (D.maildir (device_of self.old)) name.now (D.maildir (device_of self.new))) }
@@ -233,8 +218,6 @@ impl<D: MaildirDisk> MaildirDisk for Fused<D> {
     fn abandon(&mut self)
         ensures drops { DiskDoes ⟦<Fused<D> as MaildirDisk>⟧ (λ old new. new ≡ dropped old) self.old self.new }
         ensures none_begun { (D.maildir (device_of self.new)).begun ≡ None }
-        ensures lasts { FusedIsSound D.sound self.new → KeepsMail (D.stays (device_of self.old)) (D.outlives (device_of self.old))
-            (D.stays (device_of self.new)) (D.outlives (device_of self.new)) }
         ensures count { refusals self.new ≡ refusals self.old }
         ensures fuse { self.new ≡ record self.old { device = self.new.device } }
     {

@@ -5,7 +5,7 @@ ghost use Rattle.std.specs.Prelude.{false, if◌then◌else◌, length, true, ma
 ghost use Rattle.std.specs.List.{filter};
 ghost use Rattle.mail_terms.specs.MaildirName.{base};
 ghost use Rattle.mail_store.specs.Maildir.{all_there};
-ghost use Rattle.mail_store.specs.Power.{is_among};
+ghost use Rattle.mail_store.specs.Loss.{is_among};
 ghost use Rattle.folder_store.specs.MailCalls.{flushed_by, named_by, without_taken};
 ghost use Rattle.folder_store.specs.MailFolders.{Moved, MovesFile, entries_in, is_in, is_taken, is_told, name_at, touches};
 ghost use Rattle.folder_store.specs.MailPower.{AreLeftAs, LosesMail};
@@ -17,7 +17,7 @@ use mail_terms::base;
 use std::alloc::{AllocError, Global};
 use std::marker::Model;
 
-/// A file of one of the folders, and what of it is on the disk.
+/// A file of one of the folders, and what of it is durable.
 #[derive(Drop)]
 struct StoredMail {
     is_new: bool,
@@ -50,7 +50,7 @@ pub enum MailLeft {
     Here,
     /// It is in the other folder, if it left that one since the names there were last flushed.
     Elsewhere,
-    /// It is gone, if no name of it is on the disk.
+    /// It is gone, if no name of it is durable.
     Gone,
     /// Its first octets, as many as this number, unless it was flushed.
     Front(usize),
@@ -110,7 +110,7 @@ fn names_in(alloc: Global, files: &[StoredMail], folder: Folder) -> Result<Vec<S
     Ok(names)
 }
 
-/// The files with what a flush of the names of a folder makes last.
+/// The files once the names of a folder were flushed.
 fn named_files(
     alloc: Global,
     files: &[StoredMail],
@@ -133,7 +133,7 @@ fn is_one_of(texts: &[String], text: &str) -> bool
     texts.iter().any(|other| other.as_str() == text)
 }
 
-/// The files with what a flush of those with these stems makes last.
+/// The files once those with these stems were flushed.
 fn flushed_files(
     alloc: Global,
     files: &[StoredMail],
@@ -249,7 +249,7 @@ impl StoredMail {
         }
     }
 
-    // Whether a flush of the names of the folder leaves a name of it on the disk.
+    // Whether some name of it is durable once the names of the folder were flushed.
     fn is_named_by(&self, folder: Folder) -> bool
         ensures { result ≡ (self.now.is_named || touches folder (mail_file self.now)) }
     {
@@ -284,7 +284,7 @@ impl StoredMail {
         Ok(copy)
     }
 
-    // Whether its bytes are on the disk once files with these stems were flushed.
+    // Whether its bytes are durable once files with these stems were flushed.
     fn is_flushed_by(&self, stems: &[String]) -> bool
         ensures { result ≡ (flushed_by stems.now (mail_file self.now)).is_flushed }
     {
@@ -319,7 +319,7 @@ impl StoredMail {
         })
     }
 
-    // The file after a loss of power, all of it on the disk.
+    // The file after a loss of power, all of it durable.
     fn left_with(&self, is_new: bool, content: Vec<u8>) -> Result<StoredMail, AllocError>
         ensures { IfOk result (λ stored. mail_file stored ≡ left_with is_new content.items (mail_file self.now)) }
     {

@@ -24,19 +24,13 @@ pub trait MaildirDisk {
     ghost use Rattle.std.specs.Prelude.{◌≡◌, ℕ, List, false, true, IfErr, IsSome, Ok, OnErr, OnOk, Some, None};
     ghost use Rattle.mail_terms.specs.FailureCount.{Tallies, refuses};
     ghost use Rattle.mail_store.specs.Fault.{is_refusal, IsDeviceFault};
-    ghost use Rattle.mail_store.specs.Maildir.{Maildir, AfterTaking, File, IsThere, Lists, ListsAll, Checks};
-    ghost use Rattle.mail_store.specs.Maildir.{Flushes, Begins, Adds, Settles, dropped, name_begun};
-    ghost use Rattle.mail_store.specs.Power.{FlushedOutlive, KeepsLeft, KeepsMail, SettledOutlives, ToldStay};
+    ghost use Rattle.mail_store.specs.Loss.{Flushes};
+    ghost use Rattle.mail_store.specs.Maildir.{Maildir, AfterTaking, IsThere, Lists, ListsAll, Checks};
+    ghost use Rattle.mail_store.specs.Maildir.{Begins, Adds, Settles, dropped, name_begun};
 
-    // What is known of the Maildir. Whether a file is begun, its name and the count of refusals are
-    // known even if the device isn't sound.
+    // What is known of the Maildir, and of what a loss of power leaves of it (see `LosesPower`). Whether
+    // a file is begun, its name and the count of refusals are known even if the device isn't sound.
     ghost maildir: { Self → Maildir };
-
-    // A loss of power leaves a file of this name, with whatever marks, in `new` or in `cur`.
-    ghost stays: { Self → List ℕ → Type 0 };
-
-    // A loss of power leaves this file in `new` or in `cur`, whole.
-    ghost outlives: { Self → File → Type 0 };
 
     // The premise: so far the device did what this trait says, and its count is below its greatest
     // value. If it holds after a call, it held before it.
@@ -49,8 +43,6 @@ pub trait MaildirDisk {
         ensures lists { sound self.new → sound self.old
             × AfterTaking (maildir self.old) (λ left. Lists left folder result (maildir self.new)) }
         ensures fault { IfErr result IsDeviceFault }
-        ensures lasts { sound self.new → KeepsLeft (maildir self.old).files (maildir self.new).files (stays self.old) (outlives self.old)
-            (stays self.new) (outlives self.new) }
         ensures count { Tallies (refuses is_refusal result) (maildir self.old).failures (maildir self.new).failures };
 
     /// The names of the files of `new` and `cur`, in any order: each file once, even if a reader
@@ -59,9 +51,6 @@ pub trait MaildirDisk {
         ensures lists { sound self.new → sound self.old
             × AfterTaking (maildir self.old) (λ left. ListsAll left result (maildir self.new)) }
         ensures fault { IfErr result IsDeviceFault }
-        ensures lasts { sound self.new → KeepsLeft (maildir self.old).files (maildir self.new).files (stays self.old) (outlives self.old)
-            (stays self.new) (outlives self.new)
-            × ToldStay result (stays self.new) }
         ensures count { Tallies (refuses is_refusal result) (maildir self.old).failures (maildir self.new).failures };
 
     /// Whether a folder is there: Missing if it isn't, else Refused. Its names aren't read or flushed.
@@ -69,7 +58,6 @@ pub trait MaildirDisk {
         ensures checks { sound self.new → sound self.old
             × Checks (maildir self.old) folder result (maildir self.new) }
         ensures fault { IfErr result IsDeviceFault }
-        ensures lasts { sound self.new → KeepsMail (stays self.old) (outlives self.old) (stays self.new) (outlives self.new) }
         ensures count { Tallies (refuses is_refusal result) (maildir self.old).failures (maildir self.new).failures };
 
     /// Flushes the bytes of the files whose names have one of these stems (see `stem`). False, only if
@@ -77,11 +65,9 @@ pub trait MaildirDisk {
     /// the others. The only fault is Refused.
     fn flush(&mut self, stems: &[String], may_miss: bool) -> Result<bool, StoreFault>
         ensures flushes { sound self.new → sound self.old
-            × Flushes (maildir self.old) result (maildir self.new) }
+            × Flushes (maildir self.old) stems.now result (maildir self.new) }
         ensures misses { result ≡ Ok false → may_miss ≡ true }
         ensures fault { IfErr result (λ e. e ≡ StoreFault.Refused) }
-        ensures lasts { sound self.new → KeepsMail (stays self.old) (outlives self.old) (stays self.new) (outlives self.new)
-            × FlushedOutlive (maildir self.old) stems.now result (stays self.old) (outlives self.new) }
         ensures count { Tallies (refuses is_refusal result) (maildir self.old).failures (maildir self.new).failures };
 
     /// Begins an empty file of this name in `tmp`; an older file of that name there is replaced. None
@@ -94,7 +80,6 @@ pub trait MaildirDisk {
         ensures begun { OnOk result (name_begun (maildir self.new) ≡ Some name.now) }
         ensures not_begun { OnErr result ((maildir self.new).begun ≡ (maildir self.old).begun) }
         ensures fault { IfErr result IsDeviceFault }
-        ensures lasts { sound self.new → KeepsMail (stays self.old) (outlives self.old) (stays self.new) (outlives self.new) }
         ensures count { Tallies (refuses is_refusal result) (maildir self.old).failures (maildir self.new).failures };
 
     /// Appends bytes to the file begun; there must be one, as after a good `begin`. The only fault
@@ -105,7 +90,6 @@ pub trait MaildirDisk {
             × Adds (maildir self.old) bytes.now result (maildir self.new) }
         ensures begun { name_begun (maildir self.new) ≡ name_begun (maildir self.old) }
         ensures fault { IfErr result (λ e. e ≡ StoreFault.Refused) }
-        ensures lasts { sound self.new → KeepsMail (stays self.old) (outlives self.old) (stays self.new) (outlives self.new) }
         ensures count { Tallies (refuses is_refusal result) (maildir self.old).failures (maildir self.new).failures };
 
     /// Puts the file begun into `new` under this name. No file of `new` or `cur` may have it, with
@@ -118,8 +102,6 @@ pub trait MaildirDisk {
             × Settles (maildir self.old) name.now result (maildir self.new) }
         ensures none_begun { (maildir self.new).begun ≡ None }
         ensures fault { IfErr result (λ e. e ≡ StoreFault.Refused) }
-        ensures lasts { sound self.new → KeepsMail (stays self.old) (outlives self.old) (stays self.new) (outlives self.new)
-            × SettledOutlives (maildir self.old) name.now result (outlives self.new) }
         ensures count { Tallies (refuses is_refusal result) (maildir self.old).failures (maildir self.new).failures };
 
     /// Gives up the file begun, if there is one.
@@ -127,7 +109,6 @@ pub trait MaildirDisk {
         ensures drops { sound self.new → sound self.old
             × (maildir self.new ≡ dropped (maildir self.old)) }
         ensures none_begun { (maildir self.new).begun ≡ None }
-        ensures lasts { sound self.new → KeepsMail (stays self.old) (outlives self.old) (stays self.new) (outlives self.new) }
         ensures count { (maildir self.new).failures ≡ (maildir self.old).failures };
 
     /// How many calls were refused.

@@ -7,8 +7,7 @@ ghost use Rattle.mail_store.specs.Fault.{is_refusal};
 ghost use Rattle.mail_store.specs.FileName.{stem, is_held};
 ghost use Rattle.mail_terms.specs.Listing.{Item, has_item, is_flagged};
 ghost use Rattle.mail_store.specs.Maildir.{AfterTaking, Maildir};
-ghost use Rattle.mail_store.specs.Held.{Finds, FoundOutlive, HasStems, any_name, flags_of, has_text};
-ghost use Rattle.mail_store.specs.Power.{AllStay, KeepsLeft};
+ghost use Rattle.mail_store.specs.Held.{Finds, FindsDurable, HasStems, any_name, flags_of, has_text};
 
 use crate::account::AccountId;
 use crate::fault::StoreFault;
@@ -104,8 +103,7 @@ pub fn flags_tell_what_is_held()
 /// Whether the id of each item of the listing is held: its stem is that of a name in `new` or `cur`,
 /// whatever follows the stem. The flags are in the listing's order. Missing if `new` or `cur` isn't
 /// there, Refused if the device refused, NoMemory if memory runs out. The Maildir stays as it was,
-/// but for files that readers took away; and if flags are returned, each of its names outlives a loss
-/// of power.
+/// but for files that readers took away; and if flags are returned, each of its names is durable.
 ///
 /// With m files and n items the time grows as (m + n) log m.
 pub fn held<D: MaildirDisk>(
@@ -116,9 +114,6 @@ pub fn held<D: MaildirDisk>(
 ) -> Result<Vec<bool>, StoreFault>
     ensures finds { D.sound disk.new → D.sound disk.old
         × AfterTaking (D.maildir disk.old) (λ left. Finds account.now left listing.now result (D.maildir disk.new)) }
-    ensures lasts { D.sound disk.new → KeepsLeft (D.maildir disk.old).files (D.maildir disk.new).files
-        (D.stays disk.old) (D.outlives disk.old) (D.stays disk.new) (D.outlives disk.new)
-        × OnOk result (AllStay (D.maildir disk.new) (D.stays disk.new)) }
     ensures count { Tallies (refuses is_refusal result) (D.maildir disk.old).failures (D.maildir disk.new).failures }
     ensures length { IfOk result (λ flags. vec_len flags ≡ length listing.now) }
     ensures fault { result ≢ Err StoreFault.NotMbox }
@@ -141,11 +136,7 @@ fn flush_within<D: MaildirDisk>(
 ) -> Result<Vec<bool>, StoreFault>
     requires { length flags.now ≡ length listing.now }
     ensures finds { D.sound disk.new → D.sound disk.old
-        × AfterTaking (D.maildir disk.old) (λ left. Finds account.now left listing.now result (D.maildir disk.new)) }
-    ensures lasts { D.sound disk.new → KeepsLeft (D.maildir disk.old).files (D.maildir disk.new).files
-        (D.stays disk.old) (D.outlives disk.old) (D.stays disk.new) (D.outlives disk.new)
-        × OnOk result (AllStay (D.maildir disk.new) (D.stays disk.new)
-        × FoundOutlive account.now (D.maildir disk.new) (D.outlives disk.new) listing.now flags.now) }
+        × AfterTaking (D.maildir disk.old) (λ left. FindsDurable account.now left listing.now flags.now result (D.maildir disk.new)) }
     ensures count { Tallies (refuses is_refusal result) (D.maildir disk.old).failures (D.maildir disk.new).failures }
     ensures length { IfOk result (λ flags. vec_len flags ≡ length listing.now) }
     ensures fault { result ≢ Err StoreFault.NotMbox }
@@ -173,11 +164,7 @@ pub fn flush_held<D: MaildirDisk>(
 ) -> Result<Vec<bool>, StoreFault>
     requires { length flags.now ≡ length listing.now }
     ensures finds { D.sound disk.new → D.sound disk.old
-        × AfterTaking (D.maildir disk.old) (λ left. Finds account.now left listing.now result (D.maildir disk.new)) }
-    ensures lasts { D.sound disk.new → KeepsLeft (D.maildir disk.old).files (D.maildir disk.new).files
-        (D.stays disk.old) (D.outlives disk.old) (D.stays disk.new) (D.outlives disk.new)
-        × OnOk result (AllStay (D.maildir disk.new) (D.stays disk.new)
-        × FoundOutlive account.now (D.maildir disk.new) (D.outlives disk.new) listing.now flags.now) }
+        × AfterTaking (D.maildir disk.old) (λ left. FindsDurable account.now left listing.now flags.now result (D.maildir disk.new)) }
     ensures count { Tallies (refuses is_refusal result) (D.maildir disk.old).failures (D.maildir disk.new).failures }
     ensures length { IfOk result (λ flags. vec_len flags ≡ length listing.now) }
     ensures fault { result ≢ Err StoreFault.NotMbox }

@@ -12,7 +12,8 @@ use mail_terms::FailureCount;
 use std::alloc::{AllocError, Global};
 use std::marker::Model;
 
-/// A Maildir in memory. Below the greatest count it refuses a call only if memory runs out.
+/// A Maildir in memory. As long as the program runs, no loss of power reaches it: all of its files count as
+/// durable. Below the greatest count it refuses a call only if memory runs out.
 #[derive(Drop)]
 pub struct MemoryMaildir {
     alloc: Global,
@@ -27,7 +28,7 @@ pub struct MemoryMaildir {
 
 impl Model for MemoryMaildir {
     ghost use Rattle.std.specs.Prelude.{[], ◌≡◌, length, map, option_map, true, false};
-    ghost use Rattle.mail_store.specs.Maildir.{Maildir, file_of, all_there};
+    ghost use Rattle.mail_store.specs.Maildir.{Maildir, all_there, draft_of, file_of};
     ghost use Rattle.mail_store.specs.MemoryMaildir.{TwoFolders, count, merged, shown};
 
     ghost Value = { TwoFolders };
@@ -36,7 +37,7 @@ impl Model for MemoryMaildir {
       maildir = record {
         there = all_there;
         files = map shown (merged d.are_new.items (map file_of d.in_new.items) (map file_of d.in_cur.items));
-        begun = option_map file_of d.begun;
+        begun = option_map draft_of d.begun;
         failures = d.failures;
         taken = [];
       };
@@ -192,11 +193,6 @@ impl MaildirDisk for MemoryMaildir {
 
     ghost maildir = { λ d. d.maildir };
 
-    // As long as the program runs, no loss of power reaches what is in memory.
-    ghost stays = { λ d name. Unit {0} };
-
-    ghost outlives = { λ d f. Unit {0} };
-
     ghost sound = { λ d. d.maildir.failures < greatest_count };
 
     fn names(&mut self, folder: Folder) -> Result<Vec<String>, StoreFault> {
@@ -219,6 +215,7 @@ impl MaildirDisk for MemoryMaildir {
         admit(&self.failures)
     }
 
+    #[tactic(auto, using(crate::proofs::MaildirLemmas::all_flushed))]
     fn flush(&mut self, _stems: &[String], _may_miss: bool) -> Result<bool, StoreFault> {
         admit(&self.failures)?;
         Ok(true)

@@ -16,15 +16,15 @@ returns-clause-proceeds g c = λ w d f.
     let entered = c.in_ok-listing.ensures.enters does.0 in
     let old = c.args.work.now in
     followed does entered.0 (g.met.W.Wire.leads_on _ _ _ entered.1 does.3) (λ left is.
-    dealt g.D.MaildirDisk g.F.FlatFile old.store old.ledger.file _ (target_of old.store c.args.terms.account.now) _ _ _ c.carry_out.result _ _ _ c.in_ok-listing.listing _ c.reserve.new.self.items c.carry_out.new.work.store c.carry_out.new.work.ledger.file
+    dealt g.F.FlatFile old.store old.ledger.file _ (target_of old.store c.args.terms.account.now) _ _ _ c.carry_out.result _ _ _ c.in_ok-listing.listing _ c.reserve.new.self.items c.carry_out.new.work.store c.carry_out.new.work.ledger.file
     (c.reserve.ensures.items ∙ c.requires.nothing.2) entered.2 c.len-counts.ensures.count is)
 
 pub returns-in_err-listing-clause-proceeds : goal.returns-in_err-listing-clause-proceeds
 returns-in_err-listing-clause-proceeds g c = rw (err_is c.from_residual.ensures.1) (link_alone (in_words g.W.Wire c.in_err-listing.ensures.enters (λ entered.
-    untaken _ (inl (record { why = c.in_err-listing.field-0.0; is = refl; enters = entered; same = search rules; nothing = search rules }), untouched _ _ _ _))))
+    untaken _ (inl (record { why = c.in_err-listing.field-0.0; is = refl; enters = entered; same = search rules; nothing = search rules }), untouched _ _))))
 
 pub returns-in_err-reserve-clause-proceeds : goal.returns-in_err-reserve-clause-proceeds
-returns-in_err-reserve-clause-proceeds g c = rw (err_is c.from_residual-in_err-reserve.ensures.1) (link_alone (in_words g.W.Wire c.in_ok-listing.ensures.enters (λ entered. untaken _ (inr (inl (search rules)), untouched _ _ _ _))))
+returns-in_err-reserve-clause-proceeds g c = rw (err_is c.from_residual-in_err-reserve.ensures.1) (link_alone (in_words g.W.Wire c.in_ok-listing.ensures.enters (λ entered. untaken _ (inr (inl (search rules)), untouched _ _))))
 
 -- ---- what calls leave as it was
 

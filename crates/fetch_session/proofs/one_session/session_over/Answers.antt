@@ -14,7 +14,7 @@ returns-in-Err-clause-session g c = λ w d f.
     let done = c.proceed.new in
     let inside = c.account.inside in
     rw (← c.account.view_is) (followed went went.0 (g.met.W.Wire.leads_on _ _ _ went.3 says.1) (λ left is.
-    left_session _ _ (Err c.in-Err.cut) _ (noted done.counts.total done.counts.skipped done.work.ledger.lines.items) (ap (λ (digits : List ℕ). target_of inside.work.store digits) c.account.invariant.1)
+    left_session inside.work.store _ _ (Err c.in-Err.cut) _ (noted done.counts.total done.counts.skipped done.work.ledger.lines.items) (ap (λ (digits : List ℕ). target_of inside.work.store digits) c.account.invariant.1)
     c.requires is (place_of g.W.Wire c.leave.new.client, says.2, refl) (rw c.replace-lines.ensures.value at c.report_of.ensures)))
 
 pub returns-clause-session : goal.returns-clause-session
@@ -23,7 +23,7 @@ returns-clause-session g c = λ w d f.
     let done = c.proceed.new in
     let inside = c.account.inside in
     rw (← c.account.view_is) (followed went went.0 went.3 (λ left is.
-    left_session _ _ (Ok tt) _ (noted done.counts.total done.counts.skipped done.work.ledger.lines.items) (ap (λ (digits : List ℕ). target_of inside.work.store digits) c.account.invariant.1)
+    left_session inside.work.store _ _ (Ok tt) _ (noted done.counts.total done.counts.skipped done.work.ledger.lines.items) (ap (λ (digits : List ℕ). target_of inside.work.store digits) c.account.invariant.1)
     c.requires is refl (rw c.replace-lines-2.ensures.value at c.report_of-2.ensures)))
 
 pub returns-in-Err-clause-bounded : goal.returns-in-Err-clause-bounded

@@ -1,7 +1,9 @@
-use Rattle.std.proofs.Common.{refl, ◌≡◌, ◌*◌, ℕ, List, [], ◌∷◌, ◌++◌, true, inl, arith, length, Result, Ok, Err, sym, ap, subst, ◌∙◌, append-nil}
+use Rattle.std.proofs.Common.{refl, ◌≡◌, ◌*◌, ℕ, List, [], ◌∷◌, ◌++◌, ◌⊎◌, All, true, inl, arith, length, Result, Ok, Err, sym, ap, subst, ◌∙◌, append-nil}
+use Rattle.mail_store.specs.Maildir.{AllNamed}
 use Rattle.mail_terms.specs.UniqueId.{IsLegalId}
-use Rattle.fetch_rules.specs.Plan.{planned}
+use Rattle.fetch_rules.specs.Plan.{IsQuiet, planned}
 use Rattle.fetch_rules.specs.Record.{has_row}
+use Rattle.fetch_rules.specs.declared.steps.Step.{Step}
 use Rattle.pop3_client.specs.Turns.{quit}
 use Rattle.fetch_session.proofs.TalkLemmas.{err_is}
 use Rattle.fetch_session.specs.Target.{AfterTakingIn, stores_of, target_of}
@@ -15,7 +17,7 @@ use Rattle.fetch_session.specs.Report.{Adds, HasRoom, skips_of}
 use Rattle.fetch_session.specs.Refusal.{TookTillCut, step_limit}
 use Rattle.fetch_session.specs.Parts.{RunsTasks, IsReadyFor, KeepsLink, KeepsStore, WhereWorkSound}
 use Rattle.fetch_session.proofs.ReadyLemmas.{flags_same, fresh_firsts, followed}
-use Rattle.fetch_session.proofs.SessionLemmas.{carried, in_kind}
+use Rattle.fetch_session.proofs.SessionLemmas.{named_ahead, carried, in_kind}
 use Rattle.fetch_session.proofs.PartLemmas.{runs_before, goes_on, link_idle, link_less, link_on_tail, link_with_tail, most_planned, planned_all, store_less, store_on}
 use Rattle.fetch_session.proofs.plan.carry_out.Goals.{After-deref-3, After-do_steps, In_ok-do_steps}
 use Rattle.fetch_session.proofs.plan.carry_out.Goals as goal
@@ -49,6 +51,7 @@ ready_to_do g c =
           rw (c.deref-2.ensures.value, c.deref-3.ensures.value, c.in_ok-ready.ensures.held kept, c.in_ok-ready.ensures.plans.steps, ← c.prepare.ensures.store.kind, flags_same g.D.MaildirDisk g.F.FlatFile c.prepare.new.work.store account items)
           (fresh_firsts account (stores_of g.D.MaildirDisk g.F.FlatFile c.prepare.new.work.store).maildir [] (planned c.args.terms.settings.now rows items c.args.terms.now) items
           (c.firsts_are_fetched.ensures c.args.terms.settings.now rows items c.args.terms.now) c.requires.legal);
+      named = λ kept. named_ahead steps items held (subst (λ (ss : List Step). All IsQuiet ss ⊎ AllNamed (stores_of g.D.MaildirDisk g.F.FlatFile c.prepare.new.work.store).maildir.files) (sym c.deref-2.ensures.value) (c.in_ok-ready.ensures.named kept));
     }
 
 pub do_steps-requires-clause-ready : goal.do_steps-requires-clause-ready
@@ -71,7 +74,7 @@ carries : (g : _) (c : After-deref-3 g) (r : Result (Unit {0}) Cut) {client : Cl
     (λ old new. AfterTakingIn old.store (λ left.
     (is : Carries c.args.terms.settings.now (target_of c.args.work.now.store c.args.terms.account.now) c.args.listing.now c.args.terms.now
     old.place left old.file old.lines r new.place new.store new.file new.lines c.skips_of.result)
-    × CarriesLast g.D.MaildirDisk g.F.FlatFile c.args.work.now.store c.args.work.now.ledger.file _ _ _ _ _ _ _ _ _ _ _ _ _ _ is work.store
+    × CarriesLast g.F.FlatFile c.args.work.now.store c.args.work.now.ledger.file _ _ _ _ _ _ _ _ _ _ _ _ _ _ is work.store
     work.ledger.file))
 carries g c r (keeps, does) = λ w d f.
     let done = does w d f in
@@ -82,7 +85,7 @@ carries g c r (keeps, does) = λ w d f.
     carried g.D.MaildirDisk g.F.FlatFile was.store before.store was.ledger.file before.ledger.file before.ledger.lines.items c.deref-2.result.now c.deref-3.result.now
     (ap (λ lines. lines.items) c.prepare.ensures.store.lines) is.readies c.deref-2.ensures.value c.deref-3.ensures.value
     (c.skips_of.ensures ∙ ap (skips_of c.args.terms.settings.now before.ledger.seen.rows c.args.listing.now c.args.terms.now) c.deref.ensures.value)
-    is.lasts (keeps.lasts d f).1 keeps.idle (in_kind before.store was.store c.args.terms.account.now c.prepare.ensures.store.kind done.4 (λ safe. safe)))
+    is.lasts keeps.idle (in_kind before.store was.store c.args.terms.account.now c.prepare.ensures.store.kind done.4 (λ safe. safe)))
 
 -- ---- what calls leave as it was
 

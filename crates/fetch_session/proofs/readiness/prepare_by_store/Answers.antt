@@ -1,7 +1,7 @@
 use Rattle.std.proofs.Common.{ap, inl, length, refl, ◌∙◌, Ok, Err}
 use Rattle.fetch_session.proofs.TalkLemmas.{err_is}
 use Rattle.fetch_session.specs.Target.{target_of}
-use Rattle.fetch_session.proofs.ReadyLemmas.{planned_length, all_have_rows, asked, not_found, ready, unready, left_found}
+use Rattle.fetch_session.proofs.ReadyLemmas.{planned_length, all_have_rows, asked, not_found, ready, unready}
 use Rattle.fetch_session.proofs.readiness.prepare_by_store.Goals as goal
 
 pub returns-clause-plans : goal.returns-clause-plans
@@ -14,11 +14,11 @@ returns-clause-plans g c = record {
 
 pub returns-in_err-found-clause-readies : goal.returns-in_err-found-clause-readies
 returns-in_err-found-clause-readies g c = rw (err_is c.from_residual.ensures.1) (λ d f. asked (c.in_err-found.ensures.finds d) f (λ left finds. record {
-  readies = not_found (target_of c.args.work.now.store c.args.terms.account.now) _ _ _ _ _ _ c.args.work.now.ledger.seen c.in_err-found.field-0.0 (c.requires.stands f) refl finds;
-  lasts = λ safe. record {
-    mail = left_found g.D.MaildirDisk g.F.FlatFile _ c.ask_store.new.store c.args.terms.account.now c.args.work.now.ledger.seen.intent c.args.listing.now (Err c.in_err-found.field-0.0) left finds (c.in_err-found.ensures.keeps d);
-    rows = inl (λ left may. may, refl);
+  readies = record {
+    cause = not_found (target_of c.args.work.now.store c.args.terms.account.now) _ _ _ _ _ c.args.work.now.ledger.seen c.in_err-found.field-0.0 (c.requires.stands f) finds;
+    content = inl refl;
   };
+  lasts = λ safe left may. may;
 }))
 
 pub returns-in_err-take_in-clause-readies : goal.returns-in_err-take_in-clause-readies
@@ -26,7 +26,6 @@ returns-in_err-take_in-clause-readies g c = rw (err_is c.from_residual-in_err-ta
     let merges = c.in_err-take_in.ensures.merges f in
     asked (c.in_ok-found.ensures.finds d) merges.0 (λ left finds.
     unready _ _ _ _ _ c.take_in.new.file c.args.terms.account.now _ _ _ left c.args.work.now.ledger.seen c.in_ok-found.found (c.requires.stands merges.0) finds
-    c.files_stand_for_one_record.ensures c.in_ok-found.ensures.kind (c.in_ok-found.ensures.keeps d) (λ safe. c.in_ok-found.ensures.lasts d safe.0)
     (Err c.in_err-take_in.field-0.0) merges.1 (λ safe. (c.in_err-take_in.ensures.lasts f safe.1).0)))
 
 pub returns-in_err-steps-clause-readies : goal.returns-in_err-steps-clause-readies
@@ -34,7 +33,6 @@ returns-in_err-steps-clause-readies g c = rw (err_is c.from_residual-in_err-step
     let merges = c.in_ok-take_in.ensures.merges f in
     asked (c.in_ok-found.ensures.finds d) merges.0 (λ left finds.
     unready _ _ _ _ _ c.take_in.new.file c.args.terms.account.now _ _ _ left c.args.work.now.ledger.seen c.in_ok-found.found (c.requires.stands merges.0) finds
-    c.files_stand_for_one_record.ensures c.in_ok-found.ensures.kind (c.in_ok-found.ensures.keeps d) (λ safe. c.in_ok-found.ensures.lasts d safe.0)
     (Ok tt) merges.1 (λ safe. (c.in_ok-take_in.ensures.lasts f safe.1).0)))
 
 pub returns-clause-readies : goal.returns-clause-readies
@@ -42,5 +40,4 @@ returns-clause-readies g c = λ d f.
     let merges = c.in_ok-take_in.ensures.merges f in
     asked (c.in_ok-found.ensures.finds d) merges.0 (λ left finds.
     ready _ _ _ _ _ c.take_in.new.file c.args.terms.account.now _ _ _ left c.args.work.now.ledger.seen c.in_ok-found.found (c.requires.stands merges.0) finds
-    c.files_stand_for_one_record.ensures c.in_ok-found.ensures.kind (c.in_ok-found.ensures.keeps d) (λ safe. c.in_ok-found.ensures.lasts d safe.0)
-    _ merges.1 c.in_ok-take_in.ensures.rows refl c.in_ok-steps.ensures.steps (λ safe. (c.in_ok-take_in.ensures.lasts f safe.1).1))
+    _ merges.1 c.in_ok-take_in.ensures.rows refl c.in_ok-steps.ensures.steps (λ safe. ((c.in_ok-take_in.ensures.lasts f safe.1).1, c.in_ok-found.ensures.lasts d safe.0)))

@@ -3,8 +3,9 @@ use Rattle.fetch_session.specs.declared.account.Store.TheVariants.{Maildir, Mbox
 use Rattle.fetch_session.specs.declared.account.Store.{Store}
 use Rattle.fetch_session.specs.Parts.{RunsTasks}
 use Rattle.fetch_session.specs.Task.{stores}
-use Rattle.fetch_session.proofs.SessionLemmas.{if_err, none_came, safe_store}
-use Rattle.fetch_session.proofs.PartLemmas.{runs_taking}
+use Rattle.fetch_session.proofs.SessionLemmas.{safe_store}
+use Rattle.fetch_session.proofs.PartLemmas.{on_err, runs_taking}
+use Rattle.fetch_session.proofs.SceneLemmas.{on_any}
 use Rattle.std.proofs.lemmas.Result.{on_ok_weaker}
 use Rattle.fetch_session.proofs.step.take.Goals as goal
 
@@ -13,12 +14,11 @@ returns-in-Maildir g c =
     let took = c.take_into_maildir in
     subst (λ (store : Store g.row.D.Denot g.row.F.Denot). RunsTasks g.W.Wire g.D.MaildirDisk g.F.FlatFile c.args.account.now (stores c.args.number c.args.uid.now ∷ []) c.args.client.now
     (record { store = store; ledger = c.args.work.now.ledger }) took.result took.new.client (record { store = Maildir took.new.disk; ledger = took.new.ledger })) (sym c.in-Maildir.is)
-    (runs_taking c.one_more_is_held.ensures c.args.number c.args.uid.now took.result c.requires.ready.written took.ensures.link took.ensures.ledger refl took.ensures.grows took.ensures.takes (λ d f.
-    let keeps = took.ensures.keeps d f in (
-      (keeps.0, λ bytes has is. is, keeps.1 c.args.work.now.ledger.seen.rows),
+    (runs_taking c.one_more_is_held.ensures c.args.number c.args.uid.now took.result c.requires.ready.written took.ensures.link took.ensures.ledger refl took.ensures.grows took.ensures.takes (λ d f. (
+      (λ bytes has is. is, took.ensures.keeps f c.args.work.now.ledger.seen.rows),
       λ safe.
           let lasts = took.ensures.lasts d f safe.0 in
-          (on_ok_weaker took.result (λ all. ((all.0, tt), all.1)) lasts.0, lasts.1),
+          (on_ok_weaker took.result (λ all. (all, tt)) lasts.0, lasts.1),
     )))
 
 pub returns-in-Mboxrd : goal.returns-in-Mboxrd
@@ -27,10 +27,10 @@ returns-in-Mboxrd g c =
     subst (λ (store : Store g.row.D.Denot g.row.F.Denot). RunsTasks g.W.Wire g.D.MaildirDisk g.F.FlatFile c.args.account.now (stores c.args.number c.args.uid.now ∷ []) c.args.client.now
     (record { store = store; ledger = c.args.work.now.ledger }) took.result took.new.client (record { store = Mboxrd took.new.mbox; ledger = took.new.ledger })) (sym c.in-Mboxrd.is)
     (runs_taking c.one_more_is_held.ensures c.args.number c.args.uid.now took.result c.requires.ready.written took.ensures.link took.ensures.ledger refl
-    (λ d. (took.ensures.before d, record { none_begun = refl; came = inl refl })) took.ensures.takes (λ d f. let keeps = took.ensures.keeps d f in (
-      ((λ name is. is, λ g is. is), keeps.0, keeps.1),
+    (λ d. (took.ensures.before d, record { none_begun = refl; came = inl refl }, on_any took.result tt)) took.ensures.takes (λ d f. (
+      took.ensures.keeps d f,
       λ safe. (
-        on_ok_weaker took.result (λ all. ((all.1, safe_store g.F.FlatFile took.new.mbox all.0), none_came g.D.MaildirDisk g.F.FlatFile (Mboxrd c.in-Mboxrd.mbox) (Mboxrd took.new.mbox) refl)) (took.ensures.lasts d f safe.1.0 safe.0),
-        if_err took.result (λ cut. tt),
+        on_ok_weaker took.result (λ all. (all.1, safe_store g.F.FlatFile took.new.mbox all.0)) (took.ensures.lasts d f safe.1.0 safe.0),
+        on_err took.result tt,
       ),
     )))

@@ -1,10 +1,9 @@
 use Rattle.std.proofs.Common.{⊎_elim, ◌≡◌, ◌≢◌, Ok, inr, ◌<◌, ◌+◌, [], ◌++◌, length, take, arith, sym, ap, ◌∙◌, inl, is_some, string_bytes, refl}
 use Rattle.std.proofs.lemmas.Bool.{false≢true}
-use Rattle.mail_store.specs.Maildir.{Maildir, counted, dropped, file}
+use Rattle.mail_store.specs.Maildir.{Maildir, counted, draft, dropped}
 use Rattle.pop3_wire.specs.declared.unstuffer.Spot.TheVariants.{Done}
 use Rattle.fetch_session.specs.Store.{Puts, begun_with}
 use Rattle.fetch_session.proofs.TextLemmas.{dropped_none_begun, settled, longer}
-use Rattle.fetch_session.proofs.SessionLemmas.{keeps_mail_on, lasts_settled}
 use Rattle.fetch_session.proofs.TalkLemmas.{and_then, before_cut, cut_by}
 use Rattle.fetch_session.proofs.storing.store_text.Goals.{After-put_piece}
 use Rattle.fetch_session.proofs.storing.store_text.Goals as goal
@@ -35,17 +34,17 @@ returns-in-Err-put_piece-clause-stores g c =
       λ d.
           let puts = c.in-Err-put_piece.ensures.puts d in
           let was = inv.2 puts.0 in
-          (was.0, inr (puts.1.0, inl ((rw was.1 at puts.1.1) (file (string_bytes c.args.stem) inv.0) refl))),
+          (was.0, inr (puts.1.0, inl ((rw was.1 at puts.1.1) (draft (string_bytes c.args.stem) inv.0) refl))),
       and_then g.W.Wire g.met.W.Wire.leads_on inv.3 c.in-Ok.ensures.takes (λ before took number start now. let more = took number start inv.0 (before number start now) in (more.0, λ done. more.1 (c.in-Ok.ensures.took.ended.1 done))),
     )
 
 -- the piece was appended to what was written before
 put : (g : _) (c : After-put_piece g) → g.D.MaildirDisk.sound c.pieces.disk × Puts (g.D.MaildirDisk.maildir c.pieces.disk) (take c.in-Ok.piece.put c.next_piece.new.out) (Ok tt) (g.D.MaildirDisk.maildir c.put_piece.new.disk)
-    → g.D.MaildirDisk.sound c.args.disk.now × (g.D.MaildirDisk.maildir c.put_piece.new.disk ≡ begun_with (g.D.MaildirDisk.maildir c.args.disk.now) (file (string_bytes c.args.stem) (c.pieces.invariant.2.0 ++ take c.in-Ok.piece.put c.next_piece.new.out)))
+    → g.D.MaildirDisk.sound c.args.disk.now × (g.D.MaildirDisk.maildir c.put_piece.new.disk ≡ begun_with (g.D.MaildirDisk.maildir c.args.disk.now) (draft (string_bytes c.args.stem) (c.pieces.invariant.2.0 ++ take c.in-Ok.piece.put c.next_piece.new.out)))
 put g c puts =
     let inv = c.pieces.invariant.2 in
     let was = inv.2 puts.0 in
-    (was.0, (rw was.1 at puts.1) (file (string_bytes c.args.stem) inv.0) refl)
+    (was.0, (rw was.1 at puts.1) (draft (string_bytes c.args.stem) inv.0) refl)
 
 long : (g : _) (c : After-put_piece g) → c.pieces.length + c.in-Ok.piece.put ≡ length (c.pieces.invariant.2.0 ++ take c.in-Ok.piece.put c.next_piece.new.out)
 long g c = longer c.pieces.length c.in-Ok.piece.put c.pieces.invariant.2.0 c.next_piece.new.out c.pieces.invariant.2.1 c.in-Ok.ensures.took.fits
@@ -57,6 +56,11 @@ pub settle_file-requires-clause-not_there : goal.settle_file-requires-clause-not
 settle_file-requires-clause-not_there g c = λ d there.
     let now = put g (goal.at.settle_file-requires-clause-not_there g c).After-put_piece (c.in_default-put_piece.ensures.puts d) in
     c.requires.not_there now.0 _ (rw now.1 at there)
+
+pub settle_file-requires-clause-named : goal.settle_file-requires-clause-named
+settle_file-requires-clause-named g c = λ d.
+    let now = put g (goal.at.settle_file-requires-clause-named g c).After-put_piece (c.in_default-put_piece.ensures.puts d) in
+    rw now.1 (c.requires.named now.0)
 
 pub returns-in-Ok-settle_file-clause-stores : goal.returns-in-Ok-settle_file-clause-stores
 returns-in-Ok-settle_file-clause-stores g c =
@@ -78,7 +82,7 @@ returns-in-Err-settle_file-clause-stores g c =
       λ d.
           let ends = c.in-Err-settle_file.ensures.ends d in
           let now = put g here (c.in_default-put_piece.ensures.puts ends.0) in
-          (now.0, inr (ends.1.0, ⊎_elim inl (λ is. inr (c.in-Ok.ensures.took.ended.0 c.if-piece.true, is)) ((rw (now.1, long g here) at ends.1.1) (file (string_bytes c.args.stem) _) refl))),
+          (now.0, inr (ends.1.0, ⊎_elim inl (λ is. inr (c.in-Ok.ensures.took.ended.0 c.if-piece.true, is)) ((rw (now.1, long g here) at ends.1.1) (draft (string_bytes c.args.stem) _) refl))),
       and_then g.W.Wire g.met.W.Wire.leads_on inv.3 c.in-Ok.ensures.takes (λ before took number start now. let more = took number start inv.0 (before number start now) in (more.0, λ done. more.1 c.if-piece.true)),
     )
 
@@ -99,28 +103,9 @@ pieces-preserved g c =
       ),
       c.in-Ok.ensures.counted ∙ c.pieces.invariant.3,
       c.in-Ok.ensures.link ∙ c.pieces.invariant.4,
-      λ d. keeps_mail_on (c.pieces.invariant.5 (c.put_piece.ensures.puts d).0) (c.put_piece.ensures.keeps d),
     )
 
 pub returns-in-Err-next_piece-clause-counted : goal.returns-in-Err-next_piece-clause-counted
 returns-in-Err-next_piece-clause-counted g c =
     rw c.from.ensures (before_cut (g.W.Wire.history c.args.client.now.wire.now) (g.W.Wire.history c.pieces.client.wire.now) (g.W.Wire.history c.next_piece.new.self.wire.now) _ c.pieces.invariant.3
     (cut_by c.in-Err-next_piece.fault (g.W.Wire.history c.pieces.client.wire.now) (g.W.Wire.history c.next_piece.new.self.wire.now) c.in-Err-next_piece.ensures.counted))
-
--- ---- what outlives a loss of power
-
-pub returns-in-Ok-settle_file-clause-keeps : goal.returns-in-Ok-settle_file-clause-keeps
-returns-in-Ok-settle_file-clause-keeps g c = λ d.
-    let ends = c.settle_file.ensures.ends d in
-    keeps_mail_on (c.pieces.invariant.5 (c.put_piece.ensures.puts ends.0).0) (keeps_mail_on (c.put_piece.ensures.keeps ends.0) (c.settle_file.ensures.keeps d))
-
-pub returns-in-Err-settle_file-clause-keeps : goal.returns-in-Err-settle_file-clause-keeps
-returns-in-Err-settle_file-clause-keeps g c = λ d.
-    let ends = c.settle_file.ensures.ends d in
-    keeps_mail_on (c.pieces.invariant.5 (c.put_piece.ensures.puts ends.0).0) (keeps_mail_on (c.put_piece.ensures.keeps ends.0) (c.settle_file.ensures.keeps d))
-
-pub returns-in-Ok-settle_file-clause-lasts : goal.returns-in-Ok-settle_file-clause-lasts
-returns-in-Ok-settle_file-clause-lasts g c = λ d.
-    let ends = c.in-Ok-settle_file.ensures.ends d in
-    let here = (goal.at.returns-in-Ok-settle_file-clause-lasts g c).After-put_piece in
-    lasts_settled (g.D.MaildirDisk.maildir c.args.disk.now) _ _ (string_bytes c.args.stem) _ _ (g.D.MaildirDisk.outlives c.settle_file.new.disk) (put g here (c.in_default-put_piece.ensures.puts ends.0)).1 (long g here) ends.1 (c.in-Ok-settle_file.ensures.lasts d)

@@ -5,8 +5,7 @@ use Rattle.pop3_client.specs.Client.{HasSameLink, place_of}
 use Rattle.pop3_wire.specs.declared.unstuffer.Spot.TheVariants.{Done}
 use Rattle.pop3_client.specs.Turns.{retr, text_limit}
 use Rattle.pop3_client.specs.Texts.{Fetching}
-use Rattle.mail_store.specs.Maildir.{file}
-use Rattle.mail_store.specs.Power.{KeepsMail}
+use Rattle.mail_store.specs.Maildir.{draft}
 use Rattle.fetch_session.specs.Store.{begun_with}
 use Rattle.fetch_session.proofs.storing.store_text.Given as goal
 
@@ -15,12 +14,11 @@ invariant-pieces g l =
     (l.rest.spot ≢ Done)
     × (l.length + 4097 * l.rest.left ≤ 4097 * text_limit)
     × ((text : List ℕ) × (l.length ≡ Rattle.std.specs.Prelude.length text)
-    × (g.D.MaildirDisk.sound l.disk → g.D.MaildirDisk.sound l.fn.disk × (g.D.MaildirDisk.maildir l.disk ≡ begun_with (g.D.MaildirDisk.maildir l.fn.disk) (file (string_bytes l.fn.stem) text)))
+    × (g.D.MaildirDisk.sound l.disk → g.D.MaildirDisk.sound l.fn.disk × (g.D.MaildirDisk.maildir l.disk ≡ begun_with (g.D.MaildirDisk.maildir l.fn.disk) (draft (string_bytes l.fn.stem) text)))
     × WhereSound g.W.Wire.sound g.W.Wire.leads_to l.fn.client.wire.now l.client.wire.now ((number : ℕ) (start : Place) → Fetching (retr number) start (place_of g.W.Wire l.fn.client) l.fn.body []
     → Fetching (retr number) start (place_of g.W.Wire l.client) l.rest text))
     × ((g.W.Wire.history l.client.wire.now).failures ≡ (g.W.Wire.history l.fn.client.wire.now).failures)
     × HasSameLink l.fn.client l.client
-    × (g.D.MaildirDisk.sound l.disk → KeepsMail (g.D.MaildirDisk.stays l.fn.disk) (g.D.MaildirDisk.outlives l.fn.disk) (g.D.MaildirDisk.stays l.disk) (g.D.MaildirDisk.outlives l.disk))
 
 abbrev pub decreases-pieces : goal.decreases-pieces
 decreases-pieces g l = l.rest.left

@@ -5,13 +5,12 @@ use Rattle.fetch_session.proofs.SceneLemmas.{held_is, all_sound, link_alone}
 use Rattle.pop3_client.specs.declared.fault.ClientFault.TheVariants.{NoMemory}
 use Rattle.pop3_client.specs.Turns.{most, retr}
 use Rattle.pop3_client.specs.Client.{link_of}
-use Rattle.mail_store.specs.Maildir.{IsThere, Maildir}
+use Rattle.mail_store.specs.Maildir.{IsThere}
 use Rattle.mail_store.specs.FileName.{sized, sized_file, stem_of}
 use Rattle.fetch_session.specs.Store.{MayGain}
 use Rattle.fetch_session.specs.Target.{AsFiles}
 use Rattle.fetch_session.proofs.SessionLemmas.{same_left}
-use Rattle.std.proofs.lemmas.List.{append_cancel_left}
-use Rattle.fetch_session.proofs.TextLemmas.{stores_grows, text_broken, text_stops, text_stored, text_not_saved}
+use Rattle.fetch_session.proofs.TextLemmas.{named_more, stores_grows, text_broken, text_stops, text_stored, text_not_saved}
 use Rattle.fetch_session.proofs.TalkLemmas.{took_talked, takes_stopped, before_cut, err_is, and_then, did_both, in_words}
 use Rattle.fetch_session.proofs.PartLemmas.{link_broke, link_idle, link_then_cut, marked_ledger, same_ledger}
 use Rattle.fetch_session.specs.Refusal.{TookTillCut}
@@ -45,7 +44,7 @@ returns-in_err-stem g c = rw (err_is c.from_residual.ensures.1) (record {
   grows = search rules;
   takes = link_alone (λ w. (w, g.met.W.Wire.leads_same c.args.client.now.wire.now, text_broken (AsFiles c.args.account.now) NoMemory refl (inr (inr (refl, refl, refl)))));
   keeps = search rules;
-  lasts = λ d f safe. (tt, inl (same_left g.F.FlatFile c.args.ledger.now.file safe (c.requires.ready.steady f), λ none. refl));
+  lasts = λ d f safe. (tt, inl (same_left g.F.FlatFile c.args.ledger.now.file safe (c.requires.ready.steady f)));
 })
 
 pub returns-in_err-body : goal.returns-in_err-body
@@ -55,7 +54,7 @@ returns-in_err-body g c = rw (err_is c.from_residual-in_err-body.ensures.1) (rec
   grows = search rules;
   takes = link_alone (in_words g.W.Wire c.in_err-body.ensures.opens (text_broken (AsFiles c.args.account.now) c.in_err-body.field-0.0 refl));
   keeps = search rules;
-  lasts = λ d f safe. (tt, inl (same_left g.F.FlatFile c.args.ledger.now.file safe (c.requires.ready.steady f), λ none. refl));
+  lasts = λ d f safe. (tt, inl (same_left g.F.FlatFile c.args.ledger.now.file safe (c.requires.ready.steady f)));
 })
 
 pub returns-in_err-length : goal.returns-in_err-length
@@ -69,11 +68,11 @@ returns-in_err-length g c =
         took = did_both g.W.Wire c.in_ok-body.ensures.opens stores.2 (λ opened link. takes_stopped c.conversations_are_paced.ensures c.args.number _ _ _ cut.fault cut.rest (link c.args.number _ opened));
       };
       ledger = same_ledger c.args.uid.now c.args.ledger.now _ c.requires.ready;
-      grows = grown g (goal.at.returns-in_err-length g c).After-store_text;
+      grows = λ d. let grew = grown g (goal.at.returns-in_err-length g c).After-store_text d in (grew.0, grew.1, tt);
       takes = all_sound (and_then g.W.Wire g.met.W.Wire.leads_on c.in_ok-body.ensures.opens stores.2 (λ opened link. link c.args.number _ opened)) stores.1 (λ f. (f, tt {0}))
           (λ link stored same. text_stops stores.0 (string_bytes c.in_ok-stem.stem) cut.fault cut.rest c.in_ok-stem.ensures.stem stored link);
-      keeps = λ d f. (c.store_text.ensures.keeps d, λ rows last. last);
-      lasts = λ d f safe. (tt, inl (same_left g.F.FlatFile c.args.ledger.now.file safe (c.requires.ready.steady f), λ none. ap (λ (m : Maildir). m.files) (rw none at (stores.1 d).1)));
+      keeps = λ f rows last. last;
+      lasts = λ d f safe. (tt, inl (same_left g.F.FlatFile c.args.ledger.now.file safe (c.requires.ready.steady f)));
     })
 
 -- the text was read
@@ -93,17 +92,11 @@ returns g c =
       link = stored g here.In_ok-length;
       ledger = marked_ledger (Ok tt) c.marked_keeps_rows.ensures refl (noted g here.After-note) (λ f. (marks.saves f).0) (marks.rows, record { closed = marks.closed; steady = λ f. (marks.steady f).1 })
           (λ f. (c.remember.ensures.keeps f).1);
-      grows = grown g here.After-store_text;
+      grows = λ d. let grew = grown g here.After-store_text d in (grew.0, grew.1, rw (stores.1 d).1.0 (named_more (g.D.MaildirDisk.maildir c.args.disk.now).files _ (c.requires.named grew.0) refl));
       takes = all_sound (and_then g.W.Wire g.met.W.Wire.leads_on c.in_ok-body.ensures.opens stores.2 (λ opened link. link c.args.number _ opened)) stores.1 marks.saves
           (λ link stored saved. text_stored c.in_ok-length.length stores.0 (string_bytes c.in_ok-stem.stem) c.in_ok-stem.ensures.stem stored link marks.rows (rw c.requires.ready.closed at saved) c.note.ensures.items);
-      keeps = λ d f. (c.store_text.ensures.keeps d, (c.remember.ensures.keeps f).0);
-      lasts = λ d f safe. let is = (stores.1 d).1.0 in (
-        (
-          marks.lasts f safe,
-          λ files came. rw (← append_cancel_left (g.D.MaildirDisk.maildir c.args.disk.now).files (sized_file (string_bytes c.in_ok-stem.stem) stores.0 ∷ []) files (rw is at came)) (c.in_ok-length.ensures.lasts d stores.0 is, tt),
-        ),
-        tt,
-      );
+      keeps = λ f. (c.remember.ensures.keeps f).0;
+      lasts = λ d f safe. (marks.lasts f safe, tt);
     }
 
 pub returns-in_err-remember : goal.returns-in_err-remember
@@ -114,10 +107,10 @@ returns-in_err-remember g c =
     rw (err_is c.from_residual-in_err-remember.ensures.1) (record {
       link = link_then_cut (stored g here.In_ok-length);
       ledger = marked_ledger (Err _) c.marked_keeps_rows.ensures refl (noted g here.After-note) (λ f. (marks.saves f).0) tt (λ f. (c.remember.ensures.keeps f).1);
-      grows = grown g here.After-store_text;
+      grows = λ d. let grew = grown g here.After-store_text d in (grew.0, grew.1, tt);
       takes = all_sound (and_then g.W.Wire g.met.W.Wire.leads_on c.in_ok-body.ensures.opens stores.2 (λ opened link. link c.args.number _ opened)) stores.1 marks.saves
           (λ link stored saved. text_not_saved c.in_ok-length.length stores.0 (string_bytes c.in_ok-stem.stem) c.in_err-remember.field-0.0 c.in_ok-stem.ensures.stem stored link
           (subst (λ (h : RecordState). Saves (g.F.FlatFile.stored c.args.ledger.now.file) h (none_open (marked c.args.ledger.now.seen.rows c.args.uid.now)) (Err c.in_err-remember.field-0.0) (g.F.FlatFile.stored c.remember.new.file)) (sym (held_is c.args.ledger.now.seen c.requires.ready.closed)) saved) c.note.ensures.items);
-      keeps = λ d f. (c.store_text.ensures.keeps d, (c.remember.ensures.keeps f).0);
-      lasts = λ d f safe. let is = (stores.1 d).1.0 in (tt, inr (sized_file (string_bytes c.in_ok-stem.stem) stores.0, rw is, c.in_ok-length.ensures.lasts d stores.0 is));
+      keeps = λ f. (c.remember.ensures.keeps f).0;
+      lasts = λ d f safe. (tt, inr (sized_file (string_bytes c.in_ok-stem.stem) stores.0, rw (stores.1 d).1.0 refl, (refl, refl)));
     })

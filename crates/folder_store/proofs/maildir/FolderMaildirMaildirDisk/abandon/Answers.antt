@@ -6,6 +6,3 @@ pub returns-then-is_some-clause-drops : goal.returns-then-is_some-clause-drops
 returns-then-is_some-clause-drops g c = rw c.take.ensures.after (λ s.
     let t = c.discard.ensures s.0 in
     ((t.0, s.1), maildir_dropped _ _ (option_map string_bytes c.args.self.now.begun) c.args.self.now.failures _ (gives_up _ _ t.1)))
-
-pub returns-then-is_some-clause-lasts : goal.returns-then-is_some-clause-lasts
-returns-then-is_some-clause-lasts g c = λ s. (gives_up _ _ (c.discard.ensures s.0).1).keeps

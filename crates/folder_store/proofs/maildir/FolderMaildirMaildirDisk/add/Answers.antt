@@ -1,5 +1,4 @@
-use Rattle.std.proofs.Common.{Ok, Err}
-use Rattle.folder_store.proofs.MailCalls.{added, not_added, writes_bring}
+use Rattle.folder_store.proofs.MailCalls.{added, not_added}
 use Rattle.folder_store.proofs.maildir.FolderMaildirMaildirDisk.add.Goals as goal
 
 pub returns-in-Ok-clause-adds : goal.returns-in-Ok-clause-adds
@@ -7,13 +6,7 @@ returns-in-Ok-clause-adds g c = λ s.
     let t = c.in-Ok.ensures s.0 in
     ((t.0, s.1), added _ _ _ _ _ t.1)
 
-pub returns-in-Ok-clause-lasts : goal.returns-in-Ok-clause-lasts
-returns-in-Ok-clause-lasts g c = λ s. (writes_bring _ _ _ (Ok tt) (c.in-Ok.ensures s.0).1).keeps
-
 pub returns-in-Err-clause-adds : goal.returns-in-Err-clause-adds
 returns-in-Err-clause-adds g c = λ s.
     let t = c.in-Err.ensures s.0 in
     ((t.0, c.in_ok-admit.ensures.admitted), not_added _ _ _ _ _ c.refuse-in-Err.ensures.counted t.1)
-
-pub returns-in-Err-clause-lasts : goal.returns-in-Err-clause-lasts
-returns-in-Err-clause-lasts g c = λ s. (writes_bring _ _ c.args.bytes.now (Err c.in-Err.field-0) (c.in-Err.ensures s.0).1).keeps

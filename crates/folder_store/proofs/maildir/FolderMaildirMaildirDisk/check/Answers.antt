@@ -1,6 +1,5 @@
 use Rattle.std.proofs.Common.{string_bytes, option_map}
 use Rattle.folder_store.proofs.MailCalls.{checked}
-use Rattle.folder_store.proofs.MailMoves.{leads_keep, moved_same}
 use Rattle.folder_store.proofs.maildir.FolderMaildirMaildirDisk.check.Goals as goal
 
 pub returns-clause-checks : goal.returns-clause-checks
@@ -10,6 +9,3 @@ returns-clause-checks g c = rw c.tally.ensures.same (λ s.
       (t.0, c.in_ok-admit.ensures.admitted),
       checked _ _ c.args.folder begun _ c.tally.new.failures c.check.result t.1 c.check.ensures.fault c.tally.ensures.counted,
     ))
-
-pub returns-clause-lasts : goal.returns-clause-lasts
-returns-clause-lasts g c = λ s. let t = (c.check.ensures.checks s.0).1 in leads_keep _ _ (moved_same _ t.0 _ t.1 t.2.0)

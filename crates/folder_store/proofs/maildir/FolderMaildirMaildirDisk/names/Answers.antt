@@ -1,5 +1,5 @@
 use Rattle.std.proofs.Common.{string_bytes, option_map}
-use Rattle.folder_store.proofs.MailCalls.{learns_keeps, told_those}
+use Rattle.folder_store.proofs.MailCalls.{told_those}
 use Rattle.folder_store.proofs.maildir.FolderMaildirMaildirDisk.names.Goals as goal
 
 pub returns-clause-lists : goal.returns-clause-lists
@@ -9,6 +9,3 @@ returns-clause-lists g c = rw c.tally.ensures.same (λ s.
       (t.0, c.in_ok-admit.ensures.admitted),
       told_those _ _ _ begun _ c.tally.new.failures c.told_names_of.result t.1 c.told_names_of.ensures.fault c.tally.ensures.counted,
     ))
-
-pub returns-clause-lasts : goal.returns-clause-lasts
-returns-clause-lasts g c = λ s. learns_keeps _ _ (c.told_names_of.ensures.tells s.0).1.0

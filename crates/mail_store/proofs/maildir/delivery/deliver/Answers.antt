@@ -2,15 +2,15 @@ use Rattle.std.proofs.Common.{◌≡◌, List, ℕ, [], length, rules, sym, refl
 use Rattle.std.proofs.lemmas.List.{nil_from_length}
 use Rattle.mail_store.specs.declared.fault.StoreFault.{StoreFault}
 use Rattle.mail_store.specs.declared.fault.StoreFault.TheVariants.{Refused}
-use Rattle.mail_store.specs.Maildir.{Maildir, Settles, Delivers, file, mail}
+use Rattle.mail_store.specs.Maildir.{Maildir, Settles, Delivers, draft, mail}
 use Rattle.mail_store.specs.FileName.{sized}
 use Rattle.mail_store.proofs.maildir.delivery.deliver.Goals as goal
 
 -- a file of these bytes was begun under any name, and settled under this one
 delivered : {T : Type 0} (old new : Maildir) (title name bytes : List ℕ) (r : Result T StoreFault) → IfErr r (λ e. e ≡ Refused)
-    → Settles (record old { begun = Some (file title bytes) }) name r new → Delivers old (mail name bytes) r new
-delivered old new title name bytes (Ok done) fault s = s (file title bytes) refl
-delivered old new title name bytes (Err Refused) fault s = s (file title bytes) refl
+    → Settles (record old { begun = Some (draft title bytes) }) name r new → Delivers old (mail name bytes) r new
+delivered old new title name bytes (Ok done) fault s = s (draft title bytes) refl
+delivered old new title name bytes (Err Refused) fault s = s (draft title bytes) refl
 delivered old new title name bytes r fault s = absurd (cc fault)
 
 pub returns-then-is_empty-clause-delivers : goal.returns-then-is_empty-clause-delivers
@@ -26,7 +26,7 @@ settle-requires-2-clause-not_there g c = λ k.
     let added = c.in_default.ensures.adds k in
     let begun = c.in_ok-begin.ensures.begins added.0 in
     let named : c.as_str-2.result.now ≡ sized c.args.stem.now (length c.args.text.now) = search rules in
-    rw ((rw begun.1.1 at added.1) (file c.args.stem.now []) refl, named) (c.requires.not_there begun.0)
+    rw ((rw begun.1.1 at added.1) (draft c.args.stem.now []) refl, named) (c.requires.not_there begun.0)
 
 pub returns-clause-delivers : goal.returns-clause-delivers
 returns-clause-delivers g c = λ k.
@@ -34,5 +34,5 @@ returns-clause-delivers g c = λ k.
     let added = c.in_default.ensures.adds settled.0 in
     let begun = c.in_ok-begin.ensures.begins added.0 in
     let named : c.as_str-2.result.now ≡ sized c.args.stem.now (length c.args.text.now) = search rules in
-    let written = rw ((rw begun.1.1 at added.1) (file c.args.stem.now []) refl) at settled.1 in
+    let written = rw ((rw begun.1.1 at added.1) (draft c.args.stem.now []) refl) at settled.1 in
     (begun.0, rw (← named) (delivered _ _ c.args.stem.now c.as_str-2.result.now c.args.text.now c.settle-2.result c.settle-2.ensures.fault written))

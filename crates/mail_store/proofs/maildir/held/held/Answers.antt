@@ -1,7 +1,5 @@
 use Rattle.std.proofs.Common.{◌≡◌, List, ℕ, refl, false}
-use Rattle.std.proofs.lemmas.List.Sorted.{Contains-permutation}
 use Rattle.mail_store.specs.Held.{has_text}
-use Rattle.mail_store.specs.Maildir.{bases_told, names_of}
 use Rattle.mail_store.proofs.MaildirLemmas.{flags_found}
 use Rattle.mail_store.proofs.maildir.held.held.Goals as goal
 
@@ -13,10 +11,4 @@ returns-clause-finds g c = λ k.
     let flags = rw (flags_found c.args.account.now told.0 c.args.listing.now (has_text c.add_digits.new.found) c.deref.result.now
     (λ q. rw (c.in_ok-add_digits.ensures q, none q, c.as_str.ensures.text) refl)
     (rw (← c.deref.ensures.value) at told.2.2)) at c.in_ok-flags_of.ensures.flags in
-    (lists.0, (told.0, told.1, (flags, told.2.3, told.2.0, told.2.1)))
-
-pub returns-clause-lasts : goal.returns-clause-lasts
-returns-clause-lasts g c = λ k.
-    let lasts = c.in_ok-names.ensures.lasts k in
-    let told = (c.in_ok-names.ensures.lists k).1 in
-    (lasts.0, λ name inside. lasts.1 name (Contains-permutation (names_of told.0.files) (bases_told c.in_ok-names.names.items) name told.2.2 (rw told.2.3 at inside)))
+    (lists.0, (told.0, told.1, (flags, told.2.4, told.2.0, told.2.1, told.2.3)))

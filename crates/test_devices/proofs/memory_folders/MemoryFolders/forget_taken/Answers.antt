@@ -1,11 +1,10 @@
-use Rattle.std.proofs.Common.{◌∙◌, ◌++◌, List, ap, map, option_map, refl, rules, filter}
+use Rattle.std.proofs.Common.{◌∙◌, ◌++◌, List, ap, map, option_map, refl, rules}
 use Rattle.std.proofs.lemmas.List.{map-append}
 use Rattle.std.proofs.lemmas.List.Elements.{filter_from_retain}
-use Rattle.folder_store.specs.MailCalls.{without_taken}
-use Rattle.folder_store.specs.MailFolders.{MailFile, files_at, is_left, mail_at}
+use Rattle.folder_store.specs.MailFolders.{MailFile, files_at, mail_at}
 use Rattle.test_devices.specs.declared.memory_folders.StoredMail.{StoredMail}
 use Rattle.test_devices.specs.MemoryFolders.{draft_of, mail_file}
-use Rattle.test_devices.proofs.MemoryMail.{not_gone, left_files, memory_dirs}
+use Rattle.test_devices.proofs.MemoryMail.{not_gone, left_files}
 use Rattle.test_devices.proofs.memory_folders.MemoryFolders.forget_taken.Goals as goal
 
 pub returns-clause-ok : goal.returns-clause-ok

@@ -14,5 +14,5 @@ returns c =
     rw c.self.view_is at (file_moves c.readers_move.ensures.one was.files.items c.args.place file (record file { is_gone = true }) was.new_rests c.still_rests-self-inside.result
     was.cur_rests c.still_rests-self-inside-2.result (option_map draft_of was.made) (files_at (map mail_file was.taken.items))
     (omega (arith, c.if-place-len.false, c.len.ensures)) c.index_mut-file.ensures.value
-    (record { keeps = record { title = refl; content = refl; flushed = λ h. h; named = λ h. h }; new = λ h. h; cur = λ h. h })
+    (record { keeps = record { title = refl; content = refl; flushed = λ h. h; named = λ h. h }; flushed = refl; named = refl; new = λ h. h; cur = λ h. h })
     c.still_rests-self-inside.ensures c.still_rests-self-inside-2.ensures)
