@@ -157,10 +157,11 @@ def test_order(sources):
 
 
 def test_what_is_not_opened(sources):
-    """A definition that isn't opened, or is known, brings nothing in."""
+    """A definition that isn't opened brings in what its type names, and one that is known nothing."""
     kept, hidden = Thing("high", "specs/Law.antt", "Kept"), Thing("high", "specs/Hidden.antt", "Hidden")
     assert named(statement.ordered(sources, [kept], [])) == ["Step", "Event", "unused", "Hidden", "Kept"]
     assert named(statement.ordered(sources, [kept], [hidden])) == ["Step", "Event", "Kept"]
+    assert named(statement.ordered(sources, [kept], [], [hidden])) == ["Step", "Event", "Hidden", "Kept"]
 
 
 def test_contracts(sources):
@@ -191,14 +192,15 @@ def test_axioms(sources):
 def test_this_tree():
     """In the text over this tree each name comes after what it names, once, and no name of the files' `use` is left out."""
     whole = statement.Statement(Sources())
-    read = set(whole.unopened)
+    read = set()
     for thing in [*whole.definitions, *(each for _, things in whole.traits for each in things), *whole.of_calls]:
         assert thing not in read, thing
-        late = [name for name in whole.sources.named(thing) if name not in read and not whole.sources.is_trait(name)]
+        named_by = whole.sources.named_in_type if thing in whole.unopened else whole.sources.named
+        late = [name for name in named_by(thing) if name not in read and not whole.sources.is_trait(name)]
         assert not late, f"{thing} names {late}, which comes later, or has a local name like that"
         read.add(thing)
         if thing.file.startswith("specs/"):
-            code = re.sub(r"--.*", "", "\n".join(whole.sources.lines(thing)))
+            code = re.sub(r"--.*", "", "\n".join(whole.lines(thing)))
             uses = whole.sources.definitions(thing.crate, thing.file).uses
             for word in re.findall(r"(?<![.\w'])[A-Z]\w*", code):
                 found = word in uses and whole.sources.found(*uses[word])

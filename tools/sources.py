@@ -157,6 +157,12 @@ class Sources:
         value = self.value(thing)
         return item if value is None else [*item, f"// contracts see it as {{{value}}}"]
 
+    def type_lines(self, thing):
+        """The lines of a definition up to its type, without what it is made of."""
+        lines = self.lines(thing)
+        body = re.compile(rf"{re.escape(thing.name)} .*=|{re.escape(thing.name)} =")
+        return lines[:next(at for at, line in enumerate(lines) if body.match(line))]
+
     def value(self, thing):
         """What contracts see of a type, if that isn't its fields."""
         model = re.search(rf"^impl\b[^{{]*\bModel for {thing.name}\b[^{{]*{{(.*?)^}}", self.text(thing.crate, thing.file),
@@ -166,13 +172,22 @@ class Sources:
     def named(self, thing):
         """What a definition, a type or a trait names, in the order in which it does."""
         if thing.file.startswith("specs/"):
-            uses, defined = self.definitions(thing.crate, thing.file)
-            words = [word for word in words_of(self.lines(thing)) if word != thing.name]
-            found = [self.found(*uses[word]) if word in uses else self.defined(thing.crate, thing.file, word)
-                     for word in words if word in uses or word in defined or word[0].isupper()]
+            found = self.named_in_lines(thing, self.lines(thing))
         else:
             found = self.named_in(thing, [self.value(thing)] if self.value(thing) else self.lines(thing))
         return [each for each in dict.fromkeys(found) if each and each != thing]
+
+    def named_in_type(self, thing):
+        """What the type of a definition names."""
+        found = self.named_in_lines(thing, self.type_lines(thing))
+        return [each for each in dict.fromkeys(found) if each and each != thing]
+
+    def named_in_lines(self, thing, lines):
+        """What lines of a definition name: other definitions of its file, and what its file uses."""
+        uses, defined = self.definitions(thing.crate, thing.file)
+        words = [word for word in words_of(lines) if word != thing.name]
+        return [self.found(*uses[word]) if word in uses else self.defined(thing.crate, thing.file, word)
+                for word in words if word in uses or word in defined or word[0].isupper()]
 
     def named_in(self, thing, lines):
         """What lines of the sources name: definitions that the file uses, and types of its own or of other files."""

@@ -11,34 +11,35 @@ import sys
 from sources import TOP, Sources, Thing
 
 # What is promised: crate and function.
-LAWS = ["fetch_runs:calls_keep_promises", "fetch_runs:mbox_calls_keep_promises"]
+LAWS = ["fetch_runs:calls_keep_promises", "fetch_runs:mbox_calls_keep_promises", "fetch_rules:files_stand_for_one_record"]
 # The calls that the laws are about, and what leads from their contracts to the laws. A third word is the only clause that
 # is printed.
 CALLS = ["fetch_runs:promised_session"]
 # The devices of a call, and those that the real ones are made over.
 TRAITS = ["pop3_wire:Wire", "mail_store:MaildirDisk", "mail_store:FlatFile",
           "folder_store:FileFolder", "folder_store:MailFolders"]
-# Definitions that a call's contract names, and that nobody has to read: what they are made of is left out.
-UNOPENED = ["fetch_session:Lasting:RunsSession"]
+# Definitions that nobody has to open: only what they are of is printed, and what they are made of is left out.
+UNOPENED = ["fetch_runs:Calls:WasMade", "fetch_rules:RecordMeaning:StandsFor"]
 
 INTRODUCTION = """\
 What is proved of fetching, from the sources: `make statement` prints this text. Each name is explained before it is
 used, except those of the standard library and of the kit's crates. docs/HEADLINE.md says how to read it."""
-NOT_OPENED = """\
-What the following definitions are made of is left out: a contract below says that they hold of each call, and a law
-what follows from that."""
+NOT_OPENED = "-- (what it is made of is left out: docs/HEADLINE.md says why)"
 
 
-def ordered(sources, roots, known):
+def ordered(sources, roots, known, unopened=()):
     """All that the roots name, each after what it names itself, without what is known and without traits."""
     order, seen = [], set(known)
+
+    def named(thing):
+        return sources.named_in_type(thing) if thing in unopened else sources.named(thing)
 
     def visit(thing):
         if thing in seen or sources.is_trait(thing):
             return
         seen.add(thing)
-        for named in sources.named(thing):
-            visit(named)
+        for each in named(thing):
+            visit(each)
         order.append(thing)
 
     for root in roots:
@@ -72,7 +73,7 @@ class Statement:
         self.calls = [contract_of(sources, name) for name in CALLS]
         self.unopened = [Thing(crate, f"specs/{module}.antt", name)
                          for crate, module, name in (each.split(":") for each in UNOPENED)]
-        self.known = list(self.unopened)
+        self.known = []
         self.definitions = self.learned(self.named_by(self.laws))
         self.traits = [(trait, self.learned(sources.named(trait)))
                        for trait in (sources.declared(*name.split(":")) for name in TRAITS)]
@@ -80,7 +81,7 @@ class Statement:
 
     def learned(self, roots):
         """What has to be read for these after all that was read before."""
-        order = ordered(self.sources, roots, self.known)
+        order = ordered(self.sources, roots, self.known, self.unopened)
         self.known += order
         return order
 
@@ -95,14 +96,19 @@ class Statement:
                 mark = "--" if thing.file.startswith("specs/") else "//"
                 yield from (f"{mark} ---------- crates/{thing.crate}/{thing.file}", "")
             last = thing.crate, thing.file
-            yield from (*self.sources.lines(thing), "")
+            yield from (*self.lines(thing), "")
+
+    def lines(self, thing):
+        if thing in self.unopened:
+            return [*self.sources.type_lines(thing), NOT_OPENED]
+        return self.sources.lines(thing)
 
     def printed_contracts(self):
         for thing, lines in [*self.laws, *self.calls]:
             yield from (f"// ---------- crates/{thing.crate}/{thing.file}", "", *lines, "")
 
     def length(self, things, folder="specs/"):
-        return sum(len(self.sources.lines(thing)) for thing in things if thing.file.startswith(folder))
+        return sum(len(self.lines(thing)) for thing in things if thing.file.startswith(folder))
 
     def counts(self):
         """How many lines there are of what. Those of comments count."""
@@ -119,12 +125,11 @@ class Statement:
 
     def text(self):
         traits = [line for trait, things in self.traits for line in self.printed([*things, trait])]
-        unopened = [NOT_OPENED, "", *self.printed(self.unopened)] if self.unopened else []
         return "\n".join([INTRODUCTION, "",
                           *heading(1, "What the laws are made of"), *self.printed(self.definitions),
                           *heading(2, "The devices: what each call of one does while `sound` holds of it"), *traits,
                           *heading(3, "The laws, and the contract by which a call meets them"), *self.printed(self.of_calls),
-                          *unopened, *self.printed_contracts(), *self.counts(), ""])
+                          *self.printed_contracts(), *self.counts(), ""])
 
 
 def text_of(top=TOP):

@@ -24,7 +24,7 @@ use Rattle.run_law.specs.Order.{StaysAway as StaysAwayIn}
 use Rattle.fetch_rules.specs.Wanted.{is_within}
 use Rattle.std.proofs.lemmas.List.Folds.{list_any-append}
 use Rattle.run_law.specs.Promises.{DeletesOneOf}
-use Rattle.fetch_runs.proofs.Lists.{all_append, all_ids_at, bytes_same, all_map, any_filter, is_some, same_rows}
+use Rattle.fetch_runs.proofs.Lists.{all_append, all_ids_at, bytes_same, all_map, any_filter, either, is_some, same_rows}
 use Rattle.fetch_runs.specs.Steps.{holds, IsStep, SessionIsAStep}
 use Rattle.fetch_runs.specs.Headline.{Promises, SayTheSentence, TakesNoneAway, Occasion, maildrop_at, IsSession, Follows, IsLastStored, by_rows, HoldsAPrefix, IsHeldAfter, Promised, IsKept, Headline, EmptyIsKept, HeadlineFromEmpty, IsRun, contents_of, IsRecorded, IsWordForWord, LeaveAway, HeadlineWordForWord, StaysAway, LostRecordsAreForgotten, NewProcessesAreBetween, StopsAreRuns, after_session, AreTaken, TakingsAreEvents}
 use Rattle.fetch_runs.proofs.Talk.{begins_of}
@@ -130,8 +130,12 @@ module _ (laws : Laws) (world : World) (state : State AccountFiles) (occasion : 
         λ id safe. then_held (is_held world.account state.account.maildir id) (is_held world.account occasion.after.maildir id) (has_id state.taken id)
         (came_held (names_id world.account id) state.account.maildir.files occasion.after.maildir.files _ promises.added) safe in (
           (
-            λ ended. ⊎_map (λ full. full) (all_map _ _ (λ m. ⊎_map (held_after m.uid) (λ large. ap (λ limit. is_within limit m.size) (sym is.settings.max_size) ∙ large)) (maildrop_at world.all state.gone occasion)) (promises.left_out (s.ended_is.1 ended)),
-            record { sent = s.sent; sent_is = s.sent_is; sends = sends_weaker _ _ s.sent (for_each _ (IsHeldAfter world state occasion) held_after (maildrop_at world.all state.gone occasion)) promises.deletes },
+            λ ended. either _ _ _ (all_map _ _ (λ m out. elim out [
+              | inl safe ↦ inl (inl (held_after m.uid safe.1))
+              | inr (inl large) ↦ inl (inr (ap (λ limit. is_within limit m.size) (sym is.settings.max_size) ∙ large))
+              | inr (inr past) ↦ inr (past.limit, past.full)
+            ]) (maildrop_at world.all state.gone occasion) (promises.left_out (s.ended_is.1 ended))),
+            record { sent = s.sent; sent_is = s.sent_is; sends = sends_weaker _ _ s.sent (for_each _ (IsHeldAfter world state occasion) (λ id safe. held_after id safe.1) (maildrop_at world.all state.gone occasion)) promises.deletes },
             promises.others,
             record { gained = _; came = promises.added },
             λ new id legal recorded.

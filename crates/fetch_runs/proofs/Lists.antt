@@ -1,10 +1,11 @@
 -- Filters and maps of lists, ids among others, what holds of each element, and the one record for which a file stands.
-use Rattle.std.proofs.Common.{◌≡◌, ℕ, zero, suc, List, [], ◌∷◌, ◌++◌, Bool, true, false, map, Some, refl, arith, length, inl, inr, sym, subst, Option}
+use Rattle.std.proofs.Common.{◌≡◌, ◌⊎◌, ℕ, zero, suc, List, [], ◌∷◌, ◌++◌, Bool, true, false, map, Some, refl, arith, length, inl, inr, sym, subst, Option}
 use Rattle.std.specs.Prelude.{slice_get, bytes_eq}
 use Rattle.std.specs.List.{filter, list_any, AllByRecursion}
 use Rattle.std.proofs.lemmas.Option.{same_Some}
 use Rattle.std.proofs.lemmas.Bool.{both_ways, or_cases}
 use Rattle.std.proofs.lemmas.Slice.Eq.{bytes_eq-Decides}
+use Rattle.std.proofs.Math.Logic.{⊎_elim}
 use Rattle.mail_terms.specs.UniqueId.{has_id}
 use Rattle.pop3_wire.specs.World.{Message}
 use Rattle.run_law.specs.Mails.{ids_of, texts_of}
@@ -39,6 +40,12 @@ any_filter p f (x ∷ xs) = grind (arith, any_filter p f xs)
 pub all_map : {X : Type 0} (P Q : X → Type 0) → ((x : X) → P x → Q x) → (xs : List X) → AllByRecursion P xs → AllByRecursion Q xs
 all_map P Q f [] h = tt
 all_map P Q f (x ∷ xs) h = (f x h.0, all_map P Q f xs h.1)
+
+-- one of them is the other, or all are the first
+pub either : {X : Type 0} (P : X → Type 0) (Q : Type 0) (xs : List X) → AllByRecursion (λ (x : X). P x ⊎ Q) xs → Q ⊎ AllByRecursion P xs
+either P Q [] all = inr tt
+either P Q (x ∷ xs) (inr other, all) = inl other
+either P Q (x ∷ xs) (inl is, all) = ⊎_elim inl (λ rest. inr (is, rest)) (either P Q xs all)
 
 pub all_mapped : {X Y : Type 0} (P : Y → Type 0) (f : X → Y) → ((x : X) → P (f x)) → (xs : List X) → AllByRecursion P (map f xs)
 all_mapped P f each [] = tt

@@ -21,7 +21,7 @@ use Rattle.run_law.specs.Steps.{Effect, Leaves}
 use Rattle.run_law.specs.Counted.{Counted, Records}
 use Rattle.run_law.specs.Sessions.{Session as Stepped}
 use Rattle.fetch_runs.specs.Conversations.{tail_behind}
-use Rattle.run_law.specs.Safety.{IsSafe}
+use Rattle.run_law.specs.Safety.{IsSafeSession}
 use Rattle.pop3_wire.specs.World.{Message}
 use Rattle.run_law.specs.HonestSession.{BringsMessages}
 use Rattle.mail_store.specs.FlatFile.{Stored}
@@ -97,7 +97,7 @@ AnyServer = (settings : Settings) (account : List ℕ) (now : ℕ) (link : Link)
     (rows : List Row) (report : Report) (link' : Link) (after : AccountFiles)
     → IsValid settings → KeepsRows before.file.content rows → Session settings account now link before report link' after
     → (step : IsStep settings account now link before rows report link' after)
-    × IsSafe settings account (holds rows before.maildir) step.sent step.effect (holds step.rows' after.maildir)
+    × IsSafeSession settings account (holds rows before.maildir) step.sent step.effect (holds step.rows' after.maildir)
 
 -- a law: if all that the link gained is honest for this maildrop, a session left the account as it was; or
 -- its joined listing is the maildrop's, and each file that it stored is that of one of the maildrop's

@@ -1,6 +1,6 @@
 //! Laws over what sessions sent and left, for the programs and crates above: a function here does
 //! nothing, and its contract is the law.
-ghost use Rattle.fetch_runs.specs.Calls.{CallsAreSessions, CallsKeepPromises, EmptyIsKept as EmptyAccountsAreKept};
+ghost use Rattle.fetch_runs.specs.Calls.{CallsAreSessions, CallsKeepPromises, EmptyAccountsAreKept};
 ghost use Rattle.fetch_runs.specs.Conversations.{MboxSessionsFollowPlans, SessionsAreConversations};
 ghost use Rattle.fetch_runs.specs.Fronts.{FrontsAreSessions, UncutSessionsDoTasks};
 ghost use Rattle.fetch_runs.specs.Headline.{EmptyIsKept, Headline, HeadlineFromEmpty, HeadlineWordForWord};
@@ -19,8 +19,9 @@ use fetch_rules::{
 };
 use fetch_session::{sessions_by_store, steady_files_keep, unsaved_files_keep};
 use mail_store::{
-    FlatFile, MaildirDisk, calls_keep_files_flushed, entries_add_texts, flags_tell_what_is_held,
-    losses_leave_what_is_durable, names_are_bases, names_have_stems, stems_differ,
+    FlatFile, MaildirDisk, account_texts_are_digits, calls_keep_files_flushed, entries_add_texts,
+    flags_tell_what_is_held, losses_leave_what_is_durable, names_are_bases, names_have_stems,
+    stems_differ,
 };
 use pop3_client::{conversations_are_paced, turns_join};
 use pop3_wire::{Wire, fronts_are_asked};
@@ -28,8 +29,8 @@ use run_law::{
     counted_stores, events_keep_promises, holds_exactly, holds_what_is_left, honest_is_granted,
     honest_sessions_append_messages, honest_sessions_bring_messages, kept_states,
     mbox_counted_stores, mbox_sessions_append, mbox_sessions_are_safe, mbox_starts,
-    one_more_is_last, sessions_are_safe, sessions_are_served, starts_kept, stays_away,
-    worlds_shrink,
+    one_more_is_last, others_leave_kept, sessions_are_safe, sessions_are_served, starts_kept,
+    stays_away, worlds_shrink,
 };
 
 /// What a link gains in a session is one conversation that follows the plan. What was sent is the
@@ -349,8 +350,10 @@ pub fn calls_are_sessions<W: Wire, D: MaildirDisk, F: FlatFile>()
 pub fn calls_keep_promises<W: Wire, D: MaildirDisk, F: FlatFile>()
     ensures { CallsKeepPromises W.Wire D.MaildirDisk F.FlatFile }
 {
+    account_texts_are_digits();
     calls_are_sessions::<W, D, F>();
     events_keep_promises();
+    others_leave_kept();
 }
 
 /// The statement may begin with an account without rows in its record and without a file of its own.

@@ -1,8 +1,9 @@
 -- Which messages are wanted, and that a session fetches the next of the selected ones if a prefix of them is done. Stores don't come in here.
-use Rattle.std.proofs.Common.{◌≡◌, ◌≤◌, ◌<◌, ◌+◌, ◌-◌, ℕ, zero, suc, List, [], ◌∷◌, ◌++◌, Bool, not, ◌&&◌, ◌||◌, ◌==◌, length, take, drop, map, refl, sym, ◌∙◌, ap, arith, append_assoc, take-append-drop, Some, slice_get, ◌⊎◌, inl, inr, true, false, None}
-use Rattle.std.specs.Prelude.{bytes_eq, zip}
+use Rattle.std.proofs.Common.{◌≡◌, ◌≤◌, ◌<◌, ◌+◌, ◌-◌, ℕ, zero, suc, List, [], ◌∷◌, ◌++◌, Bool, not, ◌&&◌, ◌||◌, ◌==◌, length, take, drop, map, refl, sym, ◌∙◌, ap, arith, append_assoc, take-append-drop, length-take, length-append, Some, slice_get, ◌⊎◌, inl, inr, true, false, None}
+use Rattle.std.specs.Prelude.{bytes_eq, if◌then◌else◌, nat_le, zip}
 use Rattle.std.specs.List.{filter, enumerate_from, AllByRecursion}
-use Rattle.std.proofs.lemmas.Bool.{cond_both, or_left, cases_Bool, false_from_ne_true}
+use Rattle.std.proofs.lemmas.Bool.{both_ways, cond_both, or_left, or_right, cases_Bool, false_from_ne_true}
+use Rattle.std.proofs.lemmas.Bool.Decides.{nat_tests}
 use Rattle.std.proofs.lemmas.List.{map-append, take-map, drop-map, append-nil, take_all, length-map}
 use Rattle.std.proofs.lemmas.List.Elements.{recursion_from_All, filter-append}
 use Rattle.std.proofs.lemmas.List.FromFn.{length-enumerate_from, get_or-enumerate_from}
@@ -18,7 +19,7 @@ use Rattle.mail_store.specs.FileName.{is_held, mail_file}
 use Rattle.mail_terms.specs.UniqueId.{has_id, is_legal_id}
 use Rattle.run_law.specs.Mails.{ids_of, item_of, listing_of, is_selected, selected, texts_of, without, WorldsShrink}
 use Rattle.run_law.specs.Steps.{CanEnd, AreTexts, file_for, is_unheld, Effect, IsHonest, ids_wanted, Stores}
-use Rattle.run_law.specs.Promises.{BeginsWith, past_limit, is_past_count}
+use Rattle.run_law.specs.Promises.{may_fetch, IsPastCount}
 use Rattle.run_law.proofs.Ids.{filter-map, filter-swap, any-map, all_map, all_take, all_filter, Distinct, are_distinct, front_is, filter-filter, filter_all, all_both, all_passing, all_parts, distinct_is, distinct_take, distinct_filter, ids_both, all_at, all_ids_at, bytes_self, bytes_same, members, other_id, each_text, whole_part}
 use Rattle.mail_store.specs.Held.{flags_of}
 use Rattle.run_law.specs.Accounts.{AccountMail, without_flags}
@@ -33,7 +34,7 @@ abbrev pub num_item : ℕ × Message → ℕ × Item
 num_item q = (q.0, item_of q.1)
 
 abbrev pub asked : Settings → List Row → Message → Bool
-asked settings rows m = is_within settings.max_size m.size && (settings.read_all || not (is_delivered rows m.uid))
+asked settings rows = may_fetch settings (is_delivered rows)
 
 abbrev pub offered : Settings → List Row → List Message → List Message
 offered settings rows ms = filter (asked settings rows) ms
@@ -123,15 +124,20 @@ stored_files account maildir (q ∷ qs) = grind (arith, stored_files account mai
 
 -- ---- prefixes
 
+-- the list begins with these
+abbrev pub BeginsWith : List Message → List Message → Type 0
+BeginsWith front all = (more : List Message) × (all ≡ front ++ more)
+
+-- what comes after the first `limit` of a list; 0 is no limit
+abbrev past_limit : {X : Type 0} → ℕ → List X → List X
+past_limit limit xs = if limit == 0 then [] else drop limit xs
+
 pub both_parts : {X : Type 0} (limit : ℕ) (xs : List X) → at_most limit xs ++ past_limit limit xs ≡ xs
 both_parts limit xs = grind (arith, append-nil xs, take-append-drop limit xs)
 
 pub begins : {X : Type 0} (n limit : ℕ) (xs : List X) → take n (at_most limit xs) ++ (drop n (at_most limit xs) ++ past_limit limit xs) ≡ xs
 begins n limit xs =
     rw (← append_assoc (take n (at_most limit xs)) (drop n (at_most limit xs)) (past_limit limit xs), take-append-drop n (at_most limit xs)) (both_parts limit xs)
-
-pub past-map : {X Y : Type 0} (f : X → Y) (n : ℕ) (xs : List X) → past_limit n (map f xs) ≡ map f (past_limit n xs)
-past-map f n xs = grind (arith, drop-map f n xs)
 
 -- the ids of the second part are distinct, and none is among those of the first
 pub parts_apart : (front rest : List Message) → Distinct (ids_of (front ++ rest))
@@ -201,6 +207,42 @@ pub record Fetch (settings : Settings) (rows : List Row) (drop' : List Message) 
   pub distinct : Distinct (ids_of drop')
   pub honest : IsHonest (wanted settings rows effect.listing) drop' effect
 
+-- ---- places in a filtered list
+
+-- it fails the test, or is one of the first n that pass, or n that pass come before it
+abbrev IsPlaced : (Message → Bool) → ℕ → List Message → Message → Type 0
+IsPlaced p n ms m = (p m ≡ false) ⊎ (has_id (ids_of (take n (filter p ms))) m.uid ≡ true)
+    ⊎ ((front behind : List Message) × (ms ≡ front ++ m ∷ behind) × (p m ≡ true) × (n ≤ length (filter p front)))
+
+in_first : (n : ℕ) (front behind : List Message) (m : Message) → length front < n → has_id (ids_of (take n (front ++ m ∷ behind))) m.uid ≡ true
+in_first zero front behind m l = absurd (omega (arith, l))
+in_first (suc n) [] behind m l = or_left _ _ (bytes_self m.uid)
+in_first (suc n) (x ∷ front) behind m l = or_right _ _ (in_first n front behind m (omega (arith, l)))
+
+placed : (p : Message → Bool) (n : ℕ) (front ms : List Message) → AllByRecursion (IsPlaced p n (front ++ ms)) ms
+placed p n front [] = tt
+placed p n front (m ∷ ms) = let later = placed p n (front ++ m ∷ []) ms in (
+  elim (cases_Bool (p m)) [
+    | inr fails ↦ inl fails
+    | inl passes ↦ elim (cases_Bool (nat_le n (length (filter p front)))) [
+      | inl enough ↦ inr (inr (front, ms, refl, passes, grind (arith, nat_tests, enough)))
+      | inr few ↦ inr (inl (rw (filter-append, passes) (in_first n (filter p front) (filter p ms) m (grind (arith, nat_tests, few)))))
+    ]
+  ],
+  rw (append_assoc front (m ∷ []) ms) at later,
+)
+
+more_pass : (p q : Message → Bool) (ms : List Message) → AllByRecursion (λ (m : Message). p m ≡ true → q m ≡ true) ms → length (filter p ms) ≤ length (filter q ms)
+more_pass p q [] h = omega arith
+more_pass p q (m ∷ ms) h = let more = more_pass p q ms h.1 in elim (cases_Bool (p m)) [
+  | inl passes ↦ rw (passes, h.0 passes) (omega (arith, more))
+  | inr fails ↦ elim (cases_Bool (q m)) [ inl yes' ↦ rw (fails, yes') (omega (arith, more)) | inr misses ↦ rw (fails, misses) more ]
+]
+
+positive : (n : ℕ) → (n == 0) ≡ false → 0 < n
+positive zero e = absurd (both_ways _ refl (sym e))
+positive (suc n) e = omega arith
+
 -- a message that passes a test keeps its id in the filtered list
 passing_in : (p : Message → Bool) (ms : List Message) → AllByRecursion (λ (m : Message). p m ≡ true → has_id (ids_of (filter p ms)) m.uid ≡ true) ms
 passing_in p [] = tt
@@ -249,19 +291,50 @@ module _ {settings : Settings} {rows : List Row} {drop' : List Message} {effect 
   -- ---- what an uncut session leaves out
 
   -- each message is among what was fetched, or is recorded, or too large, or past the limit on the number
-  pub left_out : (n : ℕ) → length (wanted settings rows effect.listing) ≤ n → AllByRecursion (λ (m : Message). (has_id (ids_of (take n ws)) m.uid ≡ true)
-      ⊎ (is_delivered rows m.uid ≡ true) ⊎ (is_within settings.max_size m.size ≡ false) ⊎ (is_past_count settings rows effect.listing m.uid ≡ true)) drop'
-  left_out n l = all_map _ (passing_in (asked settings rows) drop') (λ m h. grind (
-    arith,
-    h,
-    ap (λ ids. has_id ids m.uid) past_ids,
-    ids_both ws (past_limit settings.max_count os) m.uid,
-    both_parts settings.max_count os,
-    take_all n ws (rw (← wants_snd settings rows drop', length-map) (rw (wanted_is, length-map) at l)),
-  ))
-    where
-      past_ids : ids_wanted (past_limit settings.max_count (candidates settings rows effect.listing)) ≡ ids_of (past_limit settings.max_count os)
-      past_ids = rw (candidates_are settings rows is.filtered drop' is.honest.listing is.distinct, ← offered_snd settings rows drop') (simp (past-map, map-map))
+  module _ (is_known : List ℕ → Bool) (known : AllByRecursion (λ (m : Message). is_known m.uid ≡ true → is_delivered rows m.uid ≡ true) drop') (n retrieved : ℕ)
+      (l : length (wanted settings rows effect.listing) ≤ n) (counted : retrieved ≡ length (wanted settings rows effect.listing)) where
+    abbrev Out : Message → Type 0
+    Out m = (has_id (ids_of (take n ws)) m.uid ≡ true) ⊎ (is_delivered rows m.uid ≡ true) ⊎ (is_within settings.max_size m.size ≡ false) ⊎ IsPastCount settings is_known drop' retrieved m
+
+    length_is : length (wanted settings rows effect.listing) ≡ length ws
+    length_is = rw (wanted_is, length-map, ← wants_snd settings rows drop', length-map) refl
+
+    all_fetched : take n ws ≡ ws
+    all_fetched = take_all n ws (omega (arith, l, length_is))
+
+    unasked : (m : Message) → asked settings rows m ≡ false → Out m
+    unasked m none = elim (cases_Bool (is_within settings.max_size m.size)) [
+      | inr large ↦ inr (inr (inl large))
+      | inl within ↦ inr (inl (grind (arith, within, none)))
+    ]
+
+    may : AllByRecursion (λ (m : Message). asked settings rows m ≡ true → may_fetch settings is_known m ≡ true) drop'
+    may = all_map drop' known (λ m h asks. grind (arith, h, asks))
+
+    past : settings.max_count == 0 ≡ false → (m : Message) → IsPlaced (asked settings rows) settings.max_count drop' m → (asked settings rows m ≡ true → may_fetch settings is_known m ≡ true) → Out m
+    past some m (inl none) may_m = unasked m none
+    past some m (inr (inl got)) may_m = inl (rw (all_fetched, some) got)
+    past some m (inr (inr (front, behind, place, asks, enough))) may_m =
+        let more : length (filter (asked settings rows) front) ≤ length os = rw (place, filter-append, length-append) (omega arith) in
+        let all : length ws ≡ settings.max_count = rw (some, length-take) (omega (arith, enough, more)) in
+        inr (inr (inr (record {
+          may = may_m asks;
+          limit = positive settings.max_count some;
+          full = counted ∙ length_is ∙ all;
+          front = front;
+          behind = behind;
+          place = place;
+          before = let both = more_pass (asked settings rows) (may_fetch settings is_known) front (all_parts _ front _ (rw place at may)).0 in omega (arith, enough, both);
+        })))
+
+    pub left_out : AllByRecursion Out drop'
+    left_out = elim (cases_Bool (settings.max_count == 0)) [
+      | inl none ↦ all_map drop' (passing_in (asked settings rows) drop') (λ m h. elim (cases_Bool (asked settings rows m)) [
+        | inr none' ↦ unasked m none'
+        | inl asks ↦ inl (rw (all_fetched, none) (h asks))
+      ])
+      | inr some ↦ all_both drop' (placed (asked settings rows) settings.max_count [] drop') may (past some)
+    ]
 
 -- ---- what a session stores is the next
 

@@ -40,7 +40,7 @@ own_texts [] d = tt
 own_texts (m ∷ ms) d = (rw (bytes_self m.uid) refl, all_both ms (own_texts ms d.1) (members ms) (λ x e there. grind (arith, e, there, other_id m ms x.uid d.0)))
 
 are_mail : {world : World} → IsSound world → AllByRecursion (IsOf (text_in world.all)) world.all
-are_mail {world} is = all_both world.all is.mail.messages (own_texts world.all (distinct_is world.all is.mail.distinct)) (λ m h t. record { is = h; text = t })
+are_mail {world} is = all_both world.all is.mail.messages (own_texts world.all (distinct_is world.all is.mail.distinct)) (λ m h t. record { legal = h.legal; whole = h.whole; text = t })
 
 -- the texts of what isn't withdrawn stay
 pub text_left : (ids : List (List ℕ)) (ms : List Message) (id : List ℕ) → has_id ids id ≡ false → text_in (without ids ms) id ≡ text_in ms id

@@ -13,24 +13,24 @@ use Rattle.run_law.specs.Mboxes.{entries_of}
 use Rattle.run_law.specs.Events.{Fetched, Between, Expired, Withdrawn}
 use Rattle.run_law.specs.MboxEvents.{base_from, Stands, IsNext}
 use Rattle.run_law.specs.MboxPromises.{MboxSessionsAppend, MboxStarts}
-use Rattle.run_law.specs.MboxOrder.{MboxWorld, MboxState, HoldsAPrefix, IsUnbegun, MboxHeadline, MboxStartsInOrder, EntriesMeanTexts}
+use Rattle.run_law.specs.MboxOrder.{MboxWorld, MboxState, HoldsAMboxPrefix, IsUnbegun, MboxHeadline, MboxStartsInOrder, EntriesMeanTexts}
 use Rattle.run_law.proofs.Ids.{all_append, all_ids_at, all_map, bytes_self, ids_both}
 use Rattle.run_law.proofs.Core.{next_here, prefix_left}
 use Rattle.run_law.proofs.Order.{as_world, withdrawn}
 use Rattle.run_law.proofs.MboxPromised.{ends_whole, in_more}
 
-module _ (world : MboxWorld) (state : MboxState) (is : HoldsAPrefix world state) where
+module _ (world : MboxWorld) (state : MboxState) (is : HoldsAMboxPrefix world state) where
   open world use {base, max_size, all}
 
   -- what is recorded is the first of the selected messages
   recorded_is : (id : List ℕ) → is_delivered state.account.rows id ≡ has_id (ids_of (is.front.first ++ state.done)) id
   recorded_is id = is.holds.recorded id ∙ ap (λ b. b || has_id (ids_of state.done) id) (is.front.had id) ∙ sym (ids_both is.front.first state.done id)
 
-  expired : (ids : List (List ℕ)) → AllByRecursion (λ id. is_delivered state.account.rows id ≡ true) ids → HoldsAPrefix world (record state { gone = state.gone ++ ids })
+  expired : (ids : List (List ℕ)) → AllByRecursion (λ id. is_delivered state.account.rows id ≡ true) ids → HoldsAMboxPrefix world (record state { gone = state.gone ++ ids })
   expired ids all = record { holds = is.holds; front = is.front; gone = all_append _ _ _ is.gone (all_map _ all (λ id e. sym (is.holds.recorded id) ∙ e)) }
 
   -- what is entered is recorded, so it isn't withdrawn; nor is the next message, if its intent is open
-  without_these : (ids : List (List ℕ)) → AllByRecursion (IsUnbegun state.account) ids → HoldsAPrefix (record world { all = without ids all }) state
+  without_these : (ids : List (List ℕ)) → AllByRecursion (IsUnbegun state.account) ids → HoldsAMboxPrefix (record world { all = without ids all }) state
   without_these ids unbegun = record {
     holds = is.holds;
     front = record {
@@ -101,4 +101,4 @@ texts_stand adds file first (m ∷ ms) whole stands = simp append_assoc
 
 pub entries_mean_texts : EntryAddsText → EntriesMeanTexts
 entries_mean_texts adds base done account first holds closed stands =
-    rw (ends_whole base done account holds closed) (texts_stand adds base.start first done (all_map _ holds.are.each (λ m h. h.is.whole)) stands)
+    rw (ends_whole base done account holds closed) (texts_stand adds base.start first done (all_map _ holds.are.each (λ m h. h.whole)) stands)

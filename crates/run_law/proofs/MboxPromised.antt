@@ -23,14 +23,14 @@ use Rattle.run_law.specs.Mboxes.{IsClosed, IsOpen, MboxMail, settled, mbox_rows,
 use Rattle.run_law.specs.Mboxes.{entries_of}
 use Rattle.run_law.specs.Below.{Below}
 use Rattle.run_law.specs.Events.{IsOf, IsMaildrop, Occasion}
-use Rattle.run_law.specs.MboxEvents.{Base, is_entered, IsMboxSession, AreEntered, IsOpenFor, Stands, HoldsEntries, IsNext}
+use Rattle.run_law.specs.MboxEvents.{Base, is_entered, IsMboxSession, IsOpenFor, Stands, HoldsEntries, IsNext}
 use Rattle.run_law.specs.MboxPromises.{IsMboxFront, MboxPromises, Appends, MboxSessionsAppend, MboxStarts}
 use Rattle.run_law.specs.MboxSessions.{MboxSessionsAreServed}
-use Rattle.run_law.specs.Promises.{BeginsWith, ShowsNext}
+use Rattle.run_law.specs.Promises.{ShowsNext}
 use Rattle.run_law.specs.Sessions.{SendsOnly, IsBegun}
-use Rattle.run_law.proofs.Promised.{sends_such, leaves_out}
+use Rattle.run_law.proofs.Promised.{sends_such}
 use Rattle.run_law.proofs.Ids.{all_ids_at, distinct_filter, filter_all, other_id, bytes_self, Distinct, distinct_is, are_distinct, all_map, all_take, all_append, all_parts, all_mapped, members, ids_both, bytes_swap, delivered_unheld, delivered_one, delivered_all, rows_marked}
-use Rattle.run_law.proofs.Core.{next_in, added, added_begins, prefix_after, all_added, parts_apart, IsNumbered, num_item, Fetch, all_wanted, distinct_wanted, wanted_is, taken_is, texts_are, wanted_ids, none_recorded, left_out, qs, wants, wants_placed, has_listed}
+use Rattle.run_law.proofs.Core.{BeginsWith, next_in, added, added_begins, prefix_after, all_added, parts_apart, IsNumbered, num_item, Fetch, all_wanted, distinct_wanted, wanted_is, taken_is, texts_are, wanted_ids, none_recorded, left_out, qs, wants, wants_placed, has_listed}
 
 -- ---- distinct lists of messages
 
@@ -96,14 +96,20 @@ module _ (base : Base) where
   pub in_more : (done more : List Message) (id : List ℕ) → is_entered base (done ++ more) id ≡ (is_entered base done id || has_id (ids_of more) id)
   in_more done more id = ap (λ b. base.had id || b) (ids_both done more id) ∙ sym (or_assoc (base.had id) (has_id (ids_of done) id) (has_id (ids_of more) id))
 
+  -- a maildrop, and none of it was recorded before the first session
+  abbrev AreEntered : List Message → Type 0
+  AreEntered done = IsMaildrop base.text done × AllByRecursion (λ (m : Message). base.had m.uid ≡ false) done
+
   -- more messages that aren't recorded
-  grown : (done more : List Message) → AreEntered base done → AllByRecursion (IsOf base.text) more → Distinct (ids_of more) → AllByRecursion (λ (m : Message). is_entered base done m.uid ≡ false) more
-      → AreEntered base (done ++ more)
-  grown done more are each distinct fresh = record {
-    each = all_append _ _ _ are.each each;
-    distinct = are_distinct _ (distinct_both done more (distinct_is done are.distinct) distinct (all_map more fresh (λ m f. (or_parts _ _ f).1)));
-    new = all_append _ _ _ are.new (all_map more fresh (λ m f. (or_parts _ _ f).0));
-  }
+  grown : (done more : List Message) → AreEntered done → AllByRecursion (IsOf base.text) more → Distinct (ids_of more) → AllByRecursion (λ (m : Message). is_entered base done m.uid ≡ false) more
+      → AreEntered (done ++ more)
+  grown done more are each distinct fresh = (
+    record {
+      each = all_append _ _ _ are.0.each each;
+      distinct = are_distinct _ (distinct_both done more (distinct_is done are.0.distinct) distinct (all_map more fresh (λ m f. (or_parts _ _ f).1)));
+    },
+    all_append _ _ _ are.1 (all_map more fresh (λ m f. (or_parts _ _ f).0)),
+  )
 
   abbrev pub bytes_of : List Message → List ℕ
   bytes_of done = base.start ++ entries_of done
@@ -139,21 +145,23 @@ module _ (base : Base) where
   module _ (laws : Below) {done : List Message} {before : MboxMail} (kept : HoldsEntries base done before) where
     no_more : (listing : List Item) → (settled listing before).rows ≡ before.rows → (settled listing before).file ≡ bytes_of done
         → HoldsEntries base (done ++ []) (settled listing before) × ((settled listing before).file ≡ bytes_of (done ++ []))
-    no_more listing rows file = (rw append-nil (record { are = kept.are; recorded = rw rows kept.recorded; stands = inl (record { intent = refl; file = file }) }), rw append-nil file)
+    no_more listing rows file = (rw append-nil (record { are = kept.are; new = kept.new; recorded = rw rows kept.recorded; stands = inl (record { intent = refl; file = file }) }), rw append-nil file)
 
     settle_by : (listing : List Item) (stands : Stands base (bytes_of done) before) → Settled done (bytes_of done) before stands (settled listing before)
     settle_by listing (inl closed) = let same = no_more listing (rw closed.intent refl) (rw closed.intent closed.file) in ([], same.0, same.1, refl)
-    settle_by listing (inr o) = elim (settled_is laws listing o.is.is.whole o.opened) [
+    settle_by listing (inr o) = elim (settled_is laws listing o.is.whole o.opened) [
       | inr (rows, file) ↦ let same = no_more listing rows file in ([], same.0, same.1, inl refl)
       | inl (rows, file) ↦
           let longer : (settled listing before).file ≡ bytes_of (done ++ o.next ∷ []) = file ∙ rw (bytes_more done (o.next ∷ [])) (simp append-nil) in (
             o.next ∷ [],
-            record {
-              are = grown done (o.next ∷ []) kept.are (o.is, tt) (refl, tt) (sym (kept.recorded o.next.uid) ∙ o.unrecorded, tt);
-              recorded = λ id. ap (λ r. is_delivered r id) rows ∙ delivered_one laws before.rows o.next.uid id o.row ∙ ap (λ b. b || bytes_eq id o.next.uid) (kept.recorded id)
-                  ∙ ap (λ b. is_entered base done id || b) (sym (or-false (bytes_eq id o.next.uid))) ∙ sym (in_more done (o.next ∷ []) id);
-              stands = inl (record { intent = refl; file = longer });
-            },
+            let more = grown done (o.next ∷ []) (kept.are, kept.new) (o.is, tt) (refl, tt) (sym (kept.recorded o.next.uid) ∙ o.unrecorded, tt) in
+                record {
+                  are = more.0;
+                  new = more.1;
+                  recorded = λ id. ap (λ r. is_delivered r id) rows ∙ delivered_one laws before.rows o.next.uid id o.row ∙ ap (λ b. b || bytes_eq id o.next.uid) (kept.recorded id)
+                      ∙ ap (λ b. is_entered base done id || b) (sym (or-false (bytes_eq id o.next.uid))) ∙ sym (in_more done (o.next ∷ []) id);
+                  stands = inl (record { intent = refl; file = longer });
+                },
             longer,
             inr refl,
           )
@@ -176,11 +184,11 @@ module _ (base : Base) where
             | inl same ↦ opened o o.opened.front o.opened.behind o.opened.entry (same ∙ o.opened.file)
             | inr cut ↦ ⊎_elim (λ whole. opened o (entry_of o.next.text) [] (sym (append-nil _)) (cut ∙ whole.1))
                 (λ part. opened o [] (entry_of o.next.text) refl (cut ∙ part.1 ∙ sym (append-nil (bytes_of done))))
-                (settled_is laws did.listing o.is.is.whole o.opened)
+                (settled_is laws did.listing o.is.whole o.opened)
           ]
 
       pub left_kept : HoldsEntries base done v.after
-      left_kept = record { are = kept.are; recorded = rw h.rows kept.recorded; stands = left_stands kept.stands }
+      left_kept = record { are = kept.are; new = kept.new; recorded = rw h.rows kept.recorded; stands = left_stands kept.stands }
 
     -- ---- one session that stored something
 
@@ -209,6 +217,9 @@ module _ (base : Base) where
 
       pub known : (id : List ℕ) → is_delivered rows id ≡ is_entered base was id
       known id = delivered_unheld laws account.rows did.listing did.now id ∙ origin.1.recorded id
+
+      entered_known : (id : List ℕ) → is_entered base done id ≡ true → is_delivered rows id ≡ true
+      entered_known id entered = known id ∙ in_more done origin.0 id ∙ or_left _ _ entered
 
       fresh : (n : ℕ) → AllByRecursion (λ (m : Message). is_entered base was m.uid ≡ false) (new n)
       fresh n = all_take _ n _ (all_map _ (none_recorded fetch only_new) (λ m k. sym (known m.uid) ∙ k))
@@ -260,22 +271,23 @@ module _ (base : Base) where
       broken_more b = broken_taken b
 
       holds_after : HoldsEntries base (was ++ new s.stored) v.after
-      holds_after = record {
-        are = grown was (new s.stored) origin.1.are (all_new (IsOf base.text) s.stored is.each) (distinct_wanted fetch s.stored) (fresh s.stored);
+      holds_after = let more = grown was (new s.stored) (origin.1.are, origin.1.new) (all_new (IsOf base.text) s.stored is.each) (distinct_wanted fetch s.stored) (fresh s.stored) in record {
+        are = more.0;
+        new = more.1;
         recorded = recorded_after;
         stands = ⊎_elim (λ c. inl (record { intent = c.intent; file = c.file ∙ bytes_are })) (λ b. inr (broken b)) s.ending;
       }
 
       promises_after : did.ended ≡ v.ended → (v.ended ≡ true → v.retrieved ≡ length (mbox_wanted v.settings before did)) → SendsOnly (IsBegun did.listing did.begun) v.sent
-          → AllByRecursion (λ id. has_id did.begun id ≡ true) v.vanished → MboxPromises base (was ++ new s.stored) v
+          → AllByRecursion (λ id. has_id did.begun id ≡ true) v.vanished → MboxPromises base done (was ++ new s.stored) v
       promises_after ended counted sends vanished = record {
         closed = λ uncut. (s.ended (ended ∙ uncut)).1;
         whole = λ uncut. ends_whole (was ++ new s.stored) v.after holds_after (s.ended (ended ∙ uncut)).1;
-        left_out = λ uncut. leaves_out v rows did.listing (λ id. is_entered base (was ++ new s.stored) id ≡ true) (counted uncut) (all_map _ (left_out fetch s.stored (s.ended (ended ∙ uncut)).0) (λ m out. elim out [
+        left_out = λ uncut. all_map _ (left_out fetch (is_entered base done) (all_map _ (members v.maildrop) (λ m _. entered_known m.uid)) s.stored v.retrieved (s.ended (ended ∙ uncut)).0 (counted uncut)) (λ m out. elim out [
           | inl got ↦ inl (in_more was (new s.stored) m.uid ∙ or_right _ _ got)
           | inr (inl old) ↦ inl (in_more was (new s.stored) m.uid ∙ or_left _ _ (sym (known m.uid) ∙ old))
           | inr (inr out) ↦ inr out
-        ]));
+        ]);
         deletes = sends_such (λ id. is_entered base (was ++ new s.stored) id ≡ true) v.maildrop did (inl honest.listing) begun_entered sends;
         vanished = all_map _ vanished (λ id b. all_ids_at _ _ begun_entered b);
       }
@@ -329,7 +341,7 @@ module _ (base : Base) where
 
     -- what it leaves, with the entries of these messages
     abbrev Leaves : Occasion MboxMail → List Message → Type 0
-    Leaves v now = (holds : HoldsEntries base now v.after) × MboxPromises base now v
+    Leaves v now = (holds : HoldsEntries base now v.after) × MboxPromises base done now v
         × ((all : List Message) → (front : IsMboxFront base kept all) → ShowsNext v (front.first ++ done) front.rest → IsMboxFront base holds all)
 
     left_front : (v : Occasion MboxMail) (did : Effect) (h : MboxLeaves before did v.after) (all : List Message) → IsMboxFront base kept all → IsMboxFront base (left_kept v did h) all
@@ -373,7 +385,8 @@ sessions_append laws served base done before occasion holds is = appends base la
 
 pub starts : MboxStarts
 starts base account closed = record {
-  are = record { each = tt; distinct = are_distinct [] tt; new = tt };
+  are = record { each = tt; distinct = are_distinct [] tt };
+  new = tt;
   recorded = λ id. sym (or-false (is_delivered account.rows id));
   stands = inl (record { intent = closed; file = sym (append-nil account.file) });
 }

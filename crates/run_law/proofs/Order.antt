@@ -20,7 +20,7 @@ use Rattle.run_law.proofs.Promised.{copies_came, copies_messages, held_copies, o
 
 -- all mail is a world
 pub as_world : (text : List ℕ → List ℕ) (all : List Message) → IsMaildrop text all → IsWorld all
-as_world text all is = record { messages = all_map all is.each (λ m h. h.is); distinct = is.distinct }
+as_world text all is = record { messages = all_map all is.each (λ m h. record { legal = h.legal; whole = h.whole }); distinct = is.distinct }
 
 -- what is left of it is
 pub withdrawn : (text : List ℕ → List ℕ) (ids : List (List ℕ)) (all : List Message) → IsMaildrop text all → IsMaildrop text (without ids all)
@@ -63,7 +63,7 @@ module _ (world : World) (sound : IsSound world) (state : State) (kept : Kept wo
   }
 
   selected_legal : AllByRecursion IsLegal (selected max_size all)
-  selected_legal = all_filter _ (is_selected max_size) _ (all_map _ sound.all.each (λ m h. h.is.legal))
+  selected_legal = all_filter _ (is_selected max_size) _ (all_map _ sound.all.each (λ m h. h.legal))
 
   -- what an event leaves has a front
   front_after : (event : Event (Occasion AccountMail) AccountMail) → Promised mail state event → KeepsOrder world state event
@@ -131,7 +131,7 @@ none_taken law mail state (Withdrawn ids) account kept is takes none id = none i
 pub stays_away : Below → EventsKeepPromises → StaysAway
 stays_away laws law mail state (Fetched o) id account kept is new legal recorded unheld =
     let promises = (law mail state (Fetched o) account kept is).0 in
-    let legal_came = all_map _ promises.new (λ m h. all_at (λ x. is_legal_id x ≡ true) o.maildrop (all_map _ is.maildrop.each (λ n k. k.is.legal)) h.shown) in
+    let legal_came = all_map _ promises.new (λ m h. all_at (λ x. is_legal_id x ≡ true) o.maildrop (all_map _ is.maildrop.each (λ n k. k.legal)) h.shown) in
     let unlike = no_texts promises.came id (none_has promises.came (all_map _ promises.new (λ m h. h.unrecorded new))) in (
       promises.recorded id recorded,
       held_copies mail.account o.after id ∙ ap is_some (copies_came (files state.account) (files o.after) _ (stem_of mail.account id) promises.added

@@ -23,7 +23,7 @@ use Rattle.run_law.specs.Steps.{Effect, Leaves, Stores, IsHonest, wanted_at, mer
 use Rattle.run_law.specs.Sessions.{SendsOnly, IsBegun, SessionsAreServed}
 use Rattle.run_law.specs.Below.{Below}
 use Rattle.run_law.specs.Events.{Mail, IsOf, IsMaildrop, State, is_safe, IsSafe, state_with, Occasion, Fetched, Between, Expired, Withdrawn, after_session}
-use Rattle.run_law.specs.Promises.{past_limit, is_past_count, IsFull, DeletesOneOf, ShowsNext, IsFront, Promises, Kept, EventsKeepPromises}
+use Rattle.run_law.specs.Promises.{DeletesOneOf, ShowsNext, IsFront, Promises, Kept, EventsKeepPromises, OthersLeaveKept}
 use Rattle.run_law.proofs.Ids.{ids_both, ids_filtered, any_filter, same_tests, is_some, Distinct, distinct_is, each_text, all_map, all_filter, all_take, all_append, all_at, all_both, all_ids_at, all_passing, members, no_texts, has_texts, texts_filtered, taken_more, delivered_marked, delivered_merged, marks_stay, bytes_self, bytes_same}
 use Rattle.run_law.proofs.Core.{added, added_begins, prefix_after, Fetch, all_wanted, distinct_wanted, texts_are, taken_is, wanted_ids, none_recorded, left_out, IsLegal, wants, stored_files, message_file, has_listed}
 
@@ -124,36 +124,6 @@ sends_such P drop effect listed all sends = record {
   next = ⊎_map (λ none. none) (λ (command, unsent, is, begun). (command, unsent, is, for_such P drop effect listed all command begun)) sends.next;
 }
 
--- ---- what an uncut session leaves out
-
--- if a message is past a limit, as many come before it as the limit says
-some_past : (limit : ℕ) (messages : List (ℕ × Item)) (id : List ℕ) → has_id (ids_wanted (drop limit messages)) id ≡ true → length (take limit messages) ≡ limit
-some_past zero messages id past = refl
-some_past (suc limit) [] id past = absurd cc
-some_past (suc limit) (m ∷ messages) id past = ap suc (some_past limit messages id past)
-
-not_zero : (n : ℕ) → (suc n == 0) ≡ false
-not_zero n = grind (arith)
-
-full_past : (limit : ℕ) (messages : List (ℕ × Item)) (id : List ℕ) → has_id (ids_wanted (past_limit limit messages)) id ≡ true → (0 < limit) × (length (at_most limit messages) ≡ limit)
-full_past zero messages id past = absurd cc
-full_past (suc limit) messages id past = (omega (arith), rw (not_zero limit) (some_past (suc limit) messages id (rw (not_zero limit) at past)))
-
-either : {X : Type 0} (P : X → Type 0) (Full : Type 0) (xs : List X) → AllByRecursion (λ (x : X). P x ⊎ Full) xs → Full ⊎ AllByRecursion P xs
-either P Full [] all = inr tt
-either P Full (x ∷ xs) (inr full, all) = inl full
-either P Full (x ∷ xs) (inl is, all) = ⊎_elim inl (λ rest. inr (is, rest)) (either P Full xs all)
-
--- if a message was left out for the limit on their number, as many were retrieved as that says
-pub leaves_out : {Account : Type 0} (o : Occasion Account) (rows : List Row) (listing : List Item) (Is : List ℕ → Type 0) → o.retrieved ≡ length (at_most o.settings.max_count (candidates o.settings rows listing))
-    → AllByRecursion (λ (m : Message). Is m.uid ⊎ (is_within o.settings.max_size m.size ≡ false) ⊎ (is_past_count o.settings rows listing m.uid ≡ true)) o.maildrop
-    → IsFull o ⊎ AllByRecursion (λ (m : Message). Is m.uid ⊎ (is_within o.settings.max_size m.size ≡ false)) o.maildrop
-leaves_out o rows listing Is counted all = either _ (IsFull o) o.maildrop (all_map _ all (λ m out. elim out [
-  | inl is ↦ inl (inl is)
-  | inr (inl large) ↦ inl (inr large)
-  | inr (inr past) ↦ let full = full_past o.settings.max_count (candidates o.settings rows listing) m.uid past in inr (full.0, counted ∙ full.1)
-]))
-
 -- ---- one session
 
 module _ (laws : Below) {mail : Mail} (account_is : IsAccountText mail.account) {state : State} (o : Occasion AccountMail) (kept : Kept mail state) (e : Effect)
@@ -185,7 +155,7 @@ module _ (laws : Below) {mail : Mail} (account_is : IsAccountText mail.account) 
   all_got P h = all_take P s.stored ws (all_wanted fetch P h)
 
   legal_drop : AllByRecursion IsLegal o.maildrop
-  legal_drop = all_map o.maildrop is.each (λ m h. h.is.legal)
+  legal_drop = all_map o.maildrop is.each (λ m h. h.legal)
 
   legal_came : AllByRecursion IsLegal came
   legal_came = all_filter IsLegal _ got (all_got IsLegal legal_drop)
@@ -226,6 +196,13 @@ module _ (laws : Below) {mail : Mail} (account_is : IsAccountText mail.account) 
   known_parts : (id : List ℕ) → is_delivered rows id ≡ (is_delivered state.account.rows id || (has_item e.listing id && held id))
   known_parts = delivered_merged laws mail.account state.account.maildir state.account.rows e.listing e.now
 
+  -- what is known before is recorded after the merge, if it is listed
+  abbrev known : List ℕ → Bool
+  known id = is_delivered state.account.rows id || held id
+
+  known_listed : AllByRecursion (λ (m : Message). known m.uid ≡ true → is_delivered rows m.uid ≡ true) o.maildrop
+  known_listed = all_map _ (members o.maildrop) (λ m there before. grind (arith, before, there, known_parts m.uid, has_listed o.maildrop honest.listing m.uid))
+
   known_safe : (id : List ℕ) → is_delivered rows id ≡ true → IsSafe mail state id
   known_safe id d = ⊎_elim (kept.recorded id) (λ now'. let parts = and_parts _ _ now' in
       (all_at (λ x. is_legal_id x ≡ true) o.maildrop legal_drop (sym (has_listed o.maildrop honest.listing id) ∙ parts.0), or_left _ _ parts.1)) (or_cases _ _ (sym (known_parts id) ∙ d))
@@ -265,12 +242,12 @@ module _ (laws : Below) {mail : Mail} (account_is : IsAccountText mail.account) 
       → AllByRecursion (λ id. has_id e.begun id ≡ true) o.vanished → Promises mail state o × Kept mail after
   stored_kept ended counted sends vanished = (
     record {
-      left_out = λ uncut. leaves_out o rows e.listing (λ id. is_safe mail after id ≡ true) (counted uncut) (all_map _ (left_out fetch s.stored (s.ended (ended ∙ uncut))) (λ m out. elim out [
-        | inl got' ↦ inl (got_safe m.uid got').1
-        | inr (inl known) ↦ inl (still_safe mail state o.after m.uid (known_safe m.uid known)).1
+      left_out = λ uncut. all_map _ (left_out fetch known known_listed s.stored o.retrieved (s.ended (ended ∙ uncut)) (counted uncut)) (λ m out. elim out [
+        | inl got' ↦ inl (got_safe m.uid got')
+        | inr (inl old) ↦ inl (still_safe mail state o.after m.uid (known_safe m.uid old))
         | inr (inr out) ↦ inr out
-      ]));
-      deletes = sends_such (λ id. is_safe mail after id ≡ true) o.maildrop e (inl honest.listing) (all_map _ begun_safe (λ id h. h.1)) sends;
+      ]);
+      deletes = sends_such (IsSafe mail after) o.maildrop e (inl honest.listing) begun_safe sends;
       came = came;
       added = files_are;
       new = all_both _ shown_came (all_filter _ (λ (m : Message). not (held m.uid)) got unrecorded_got)
@@ -305,7 +282,7 @@ left_kept : {mail : Mail} {state : State} (o : Occasion AccountMail) (e : Effect
 left_kept {mail} {state} o e kept left ended sends vanished = (
   record {
     left_out = λ uncut. absurd (both_ways e.ended left.ended (ended ∙ uncut));
-    deletes = sends_such (λ id. is_safe mail (after_session mail state o) id ≡ true) o.maildrop e (inr left.begun) (rw left.begun tt) sends;
+    deletes = sends_such (IsSafe mail (after_session mail state o)) o.maildrop e (inr left.begun) (rw left.begun tt) sends;
     came = [];
     added = ap without_flags left.same ∙ sym (append-nil (without_flags (files state.account)));
     new = tt;
@@ -333,19 +310,19 @@ session_holds {mail} {state} {o} promises id held = held_copies mail.account o.a
 
 -- ---- one event
 
+pub others_leave_kept : OthersLeaveKept
+others_leave_kept mail state after kept is = record {
+  holds = is.holds;
+  recorded = λ id d. still_safe mail state after id (kept.recorded id (is.shows_no_more id d));
+  gone = all_map _ kept.gone (still_safe mail state after);
+}
+
 pub events_keep_promises : Below → SessionsAreServed → EventsKeepPromises
 events_keep_promises laws served mail state (Fetched o) account_is kept is =
     let step = served o.settings mail.account state.account o.sent o.got is.effect o.after o.maildrop o.vanished is.session is.served in
     ⊎_elim (λ left. left_kept o is.effect kept left is.ended is.session.sends step.1)
     (λ (stores, honest). stored_kept laws account_is o kept is.effect is.maildrop stores honest is.ended is.counted is.session.sends step.1) step.0
-events_keep_promises laws served mail state (Between after) account_is kept is = (
-  tt,
-  record {
-    holds = is.holds;
-    recorded = λ id d. still_safe mail state after id (kept.recorded id (is.shows_no_more id d));
-    gone = all_map _ kept.gone (still_safe mail state after);
-  },
-)
+events_keep_promises laws served mail state (Between after) account_is kept is = (tt, others_leave_kept mail state after kept is)
 events_keep_promises laws served mail state (Expired ids) account_is kept is =
     (tt, record { holds = kept.holds; recorded = kept.recorded; gone = all_append _ _ _ kept.gone is })
 events_keep_promises laws served mail state (Withdrawn ids) account_is kept is = (tt, kept)

@@ -35,4 +35,4 @@ IsOther account name = (id : List ℕ) → is_legal_id id ≡ true → bytes_eq 
 -- files of other names are the same as before, in whichever folder and with whatever marks
 abbrev pub KeepsOthers : List ℕ → AccountMail → AccountMail → Type 0
 KeepsOthers account before after = (name content : List ℕ) → IsOther account name
-    → count_files (files after) name content ≡ count_files (files before) name content
+    → count_files after.maildir.files name content ≡ count_files before.maildir.files name content

@@ -1,27 +1,29 @@
--- Sessions of an account with a Maildir, and what others do between them, in what its files mean: the rows of its record, and the
--- files of `new` and `cur`. A server may show any messages, in any order, and each session may have other limits: what stays is
--- that a unique-id names one text.
+-- Sessions of an account with a Maildir, and what others do between them, in what its files mean: the rows of its
+-- record, and the files of `new` and `cur`. A server may show any messages, in any order, and each session may have
+-- other limits: what stays is that a unique-id names one text.
 use Rattle.std.specs.Prelude.{◌≡◌, ◌⊎◌, ◌&&◌, ◌||◌, not, ℕ, Bool, true, List, [], ◌∷◌, ◌++◌, length}
 use Rattle.std.specs.List.{AllByRecursion}
 use Rattle.mail_terms.specs.Distinct.{AreDistinct}
+use Rattle.mail_terms.specs.Text.{IsWhole}
 use Rattle.mail_terms.specs.UniqueId.{is_legal_id}
 use Rattle.fetch_rules.specs.Record.{is_delivered}
 use Rattle.rc_file.specs.declared.settings.Settings.{Settings}
-use Rattle.pop3_wire.specs.World.{Message, IsMessage}
+use Rattle.pop3_wire.specs.World.{Message}
 use Rattle.mail_store.specs.FileName.{is_held, stem_of}
 use Rattle.run_law.specs.Mails.{ids_of}
-use Rattle.run_law.specs.Accounts.{AccountMail, files, copies}
+use Rattle.run_law.specs.Accounts.{AccountMail, copies}
 use Rattle.run_law.specs.Steps.{Effect, wanted_at}
 use Rattle.run_law.specs.Sessions.{Served, Session}
 
--- what stays throughout: the account's text, as it is in the names of its files, and the text that each unique-id names
+-- what stays throughout: the account's text, as it is in the names of its files, and the text that each id names
 pub record Mail : Type 0 where
   pub account : List ℕ
   pub text : List ℕ → List ℕ
 
--- a message whose text is the one that its id names; its size may be listed differently each time
+-- a message with a legal id, and the text that the id names; its size may be listed differently each time
 pub record IsOf (text_of : List ℕ → List ℕ) (message : Message) : Type 0 where
-  pub is : IsMessage message
+  pub legal : is_legal_id message.uid ≡ true
+  pub whole : IsWhole message.text
   pub text : message.text ≡ text_of message.uid
 
 -- a maildrop: any such messages, in any order, no two of which share an id
@@ -29,7 +31,7 @@ pub record IsMaildrop (text_of : List ℕ → List ℕ) (maildrop : List Message
   pub each : AllByRecursion (IsOf text_of) maildrop
   pub distinct : AreDistinct (ids_of maildrop)
 
--- an account; the ids that are gone from the server; and whether a message was held and isn't any more: a reader took it away
+-- an account; the ids that are gone from the server; and which messages were taken away: they were held and aren't
 pub record State : Type 0 where
   pub account : AccountMail
   pub gone : List (List ℕ)
@@ -45,10 +47,9 @@ IsSafe mail state id = (is_legal_id id ≡ true) × (is_safe mail state id ≡ t
 -- each message is in one file with its text, or in none
 abbrev pub HoldsEachOnce : Mail → AccountMail → Type 0
 HoldsEachOnce mail account = (id : List ℕ) → is_legal_id id ≡ true
-    → (copies (files account) (stem_of mail.account id) ≡ []) ⊎ (copies (files account) (stem_of mail.account id) ≡ mail.text id ∷ [])
+    → let texts = copies account.maildir.files (stem_of mail.account id) in (texts ≡ []) ⊎ (texts ≡ mail.text id ∷ [])
 
--- one session: its settings; the maildrop that its server showed; what it sent and got; how many texts it retrieved, and
--- whether it ended uncut; which ids its QUIT removed from the server; and the account that it left
+-- one session, with the maildrop that its server showed, the ids that its QUIT removed, and the account that it left
 pub record Occasion (Account : Type 0) : Type 0 where
   pub settings : Settings
   pub maildrop : List Message
@@ -68,8 +69,8 @@ pub record IsSession (mail : Mail) (before : AccountMail) (occasion : Occasion A
   pub ended : effect.ended ≡ occasion.ended
   pub counted : occasion.ended ≡ true → occasion.retrieved ≡ length (wanted_at occasion.settings mail.account before effect)
 
--- a session; what others do to the files and the record; and messages that are gone from the server without a session, after they
--- were held, or before. `Visit` and `After` are what is known of a session, and of what others left
+-- a session; what others do to the files and the record; and messages that are gone from the server without a
+-- session, after they were held, or before. `Visit` and `After` are what is known of a session, and of what others left
 pub data Event (Visit After : Type 0) : Type 0 where
   Fetched : Visit → Event Visit After
   Between : After → Event Visit After
@@ -84,9 +85,8 @@ state_with mail state after = record {
   taken = λ id. is_safe mail state id && not (is_held mail.account after.maildir id);
 }
 
--- what a session leaves
 abbrev pub after_session : Mail → State → Occasion AccountMail → State
-after_session mail state occasion = record (state_with mail state occasion.after) { gone = state.gone ++ occasion.vanished }
+after_session mail state o = record (state_with mail state o.after) { gone = state.gone ++ o.vanished }
 
 -- what an event leaves
 abbrev pub after_event : Mail → State → Event (Occasion AccountMail) AccountMail → State
@@ -95,8 +95,7 @@ after_event mail state (Between after) = state_with mail state after
 after_event mail state (Expired ids) = record state { gone = state.gone ++ ids }
 after_event mail state (Withdrawn ids) = state
 
--- others may begin new processes, move and mark files, take messages away and put them back, and lose the record or replace it
--- by an older one
+-- others may move, mark, take away and put back files, and lose the record or put back an older one
 pub record IsBetween (mail : Mail) (before after : AccountMail) : Type 0 where
   pub holds : HoldsEachOnce mail after
   pub shows_no_more : (id : List ℕ) → is_delivered after.rows id ≡ true → is_delivered before.rows id ≡ true

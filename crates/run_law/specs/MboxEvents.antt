@@ -4,7 +4,6 @@
 use Rattle.std.specs.Prelude.{◌≡◌, ◌⊎◌, ◌||◌, ℕ, Bool, true, false, List, ◌∷◌, ◌++◌, length}
 use Rattle.std.specs.List.{AllByRecursion}
 use Rattle.std.proofs.Common.{inl, inr}
-use Rattle.mail_terms.specs.Distinct.{AreDistinct}
 use Rattle.mail_terms.specs.UniqueId.{has_id}
 use Rattle.fetch_rules.specs.Record.{is_delivered, has_row}
 use Rattle.pop3_wire.specs.World.{Message}
@@ -15,7 +14,7 @@ use Rattle.run_law.specs.MboxSessions.{MboxSession}
 use Rattle.run_law.specs.Sessions.{Served}
 use Rattle.run_law.specs.Events.{IsOf, IsMaildrop, Occasion}
 
--- the file before the first session; whether an id was recorded as delivered then; and the text that each unique-id names
+-- the file before the first session; whether an id was recorded as delivered then; and the text that each id names
 pub record Base : Type 0 where
   pub start : List ℕ
   pub had : List ℕ → Bool
@@ -40,13 +39,7 @@ pub record IsMboxSession (text_of : List ℕ → List ℕ) (before : MboxMail) (
 abbrev pub base_from : Base → MboxMail → Base
 base_from base after = record base { start = after.file; had = λ id. is_delivered after.rows id }
 
--- messages whose texts are those of their ids, each once, none of which was recorded before the first session
-pub record AreEntered (base : Base) (done : List Message) : Type 0 where
-  pub each : AllByRecursion (IsOf base.text) done
-  pub distinct : AreDistinct (ids_of done)
-  pub new : AllByRecursion (λ (m : Message). base.had m.uid ≡ false) done
-
--- the intent to append the entry of a message that isn't recorded is open, and a prefix of its entry may follow these bytes
+-- the intent to append the entry of a message that isn't recorded is open, and a prefix of it may follow these bytes
 pub record IsOpenFor (base : Base) (bytes : List ℕ) (account : MboxMail) : Type 0 where
   pub next : Message
   pub is : IsOf base.text next
@@ -58,15 +51,16 @@ pub record IsOpenFor (base : Base) (bytes : List ℕ) (account : MboxMail) : Typ
 abbrev pub Stands : Base → List ℕ → MboxMail → Type 0
 Stands base bytes account = IsClosed bytes account ⊎ IsOpenFor base bytes account
 
--- the file is the one before the first session, followed by the entries of these messages, in this order, each once, and by a prefix
--- of another message's entry only if its intent is open. What is recorded is exactly these messages, and what was recorded before
--- the first session
+-- the file is the one before the first session, then the entries of these messages, in this order, each once, and then
+-- perhaps a prefix of another one's, whose intent is open. These are recorded, and what was before the first session
 pub record HoldsEntries (base : Base) (done : List Message) (account : MboxMail) : Type 0 where
-  pub are : AreEntered base done
+  pub are : IsMaildrop base.text done
+  pub new : AllByRecursion (λ (m : Message). base.had m.uid ≡ false) done
   pub recorded : (id : List ℕ) → is_delivered account.rows id ≡ is_entered base done id
   pub stands : Stands base (base.start ++ entries_of done) account
 
 -- an open intent is that of the first of these
-abbrev pub IsNext : (base : Base) (bytes : List ℕ) (account : MboxMail) → List Message → Stands base bytes account → Type 0
+abbrev pub IsNext : (base : Base) (bytes : List ℕ) (account : MboxMail) → List Message → Stands base bytes account
+    → Type 0
 IsNext base bytes account rest (inl closed) = Unit {0}
 IsNext base bytes account rest (inr o) = (more : List Message) × (rest ≡ o.next ∷ more)

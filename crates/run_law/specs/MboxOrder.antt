@@ -28,7 +28,7 @@ pub record MboxState : Type 0 where
 
 -- the entries are those of exactly a prefix of the selected messages, but for those that were recorded before the first session; what
 -- is gone from the server is entered
-pub record HoldsAPrefix (world : MboxWorld) (state : MboxState) : Type 0 where
+pub record HoldsAMboxPrefix (world : MboxWorld) (state : MboxState) : Type 0 where
   pub holds : HoldsEntries world.base state.done state.account
   pub front : IsMboxFront world.base holds (selected world.max_size world.all)
   pub gone : AllByRecursion (λ id. is_entered world.base state.done id ≡ true) state.gone
@@ -40,27 +40,27 @@ IsUnbegun account id = (is_delivered account.rows id ≡ false)
 
 -- a prefix is held; if the next event happens, a session keeps its promises, and a prefix is held after it; and so on. Between sessions
 -- others may write the file while no intent is open, if the record goes on to show a prefix of the selected messages
-abbrev pub HoldPrefixes : MboxWorld → MboxState → List (Event (Occasion MboxMail) MboxMail) → Type 0
-HoldPrefixes world state [] = HoldsAPrefix world state
-HoldPrefixes world state (Fetched occasion ∷ events) = HoldsAPrefix world state
+abbrev pub HoldMboxPrefixes : MboxWorld → MboxState → List (Event (Occasion MboxMail) MboxMail) → Type 0
+HoldMboxPrefixes world state [] = HoldsAMboxPrefix world state
+HoldMboxPrefixes world state (Fetched occasion ∷ events) = HoldsAMboxPrefix world state
     × (IsMboxSession world.base.text state.account occasion → occasion.settings.max_size ≡ world.max_size
     → (come : ℕ) → occasion.maildrop ≡ maildrop_of world.all come state.gone
-    → (more : List Message) × MboxPromises world.base (state.done ++ more) occasion
-    × HoldPrefixes world (record { account = occasion.after; done = state.done ++ more; gone = state.gone ++ occasion.vanished }) events)
-HoldPrefixes world state (Between after ∷ events) = HoldsAPrefix world state
+    → (more : List Message) × MboxPromises world.base state.done (state.done ++ more) occasion
+    × HoldMboxPrefixes world (record { account = occasion.after; done = state.done ++ more; gone = state.gone ++ occasion.vanished }) events)
+HoldMboxPrefixes world state (Between after ∷ events) = HoldsAMboxPrefix world state
     × ((first rest : List Message) → after.intent ≡ None → selected world.max_size world.all ≡ first ++ rest
     → ((id : List ℕ) → is_delivered after.rows id ≡ has_id (ids_of first) id)
     → AllByRecursion (λ id. has_id (ids_of first) id ≡ true) state.gone
-    → HoldPrefixes (record world { base = base_from world.base after }) (record { account = after; done = []; gone = state.gone }) events)
-HoldPrefixes world state (Expired ids ∷ events) = HoldsAPrefix world state
+    → HoldMboxPrefixes (record world { base = base_from world.base after }) (record { account = after; done = []; gone = state.gone }) events)
+HoldMboxPrefixes world state (Expired ids ∷ events) = HoldsAMboxPrefix world state
     × (AllByRecursion (λ id. is_delivered state.account.rows id ≡ true) ids
-    → HoldPrefixes world (record state { gone = state.gone ++ ids }) events)
-HoldPrefixes world state (Withdrawn ids ∷ events) = HoldsAPrefix world state
-    × (AllByRecursion (IsUnbegun state.account) ids → HoldPrefixes (record world { all = without ids world.all }) state events)
+    → HoldMboxPrefixes world (record state { gone = state.gone ++ ids }) events)
+HoldMboxPrefixes world state (Withdrawn ids ∷ events) = HoldsAMboxPrefix world state
+    × (AllByRecursion (IsUnbegun state.account) ids → HoldMboxPrefixes (record world { all = without ids world.all }) state events)
 
 abbrev pub MboxHeadline : Type 0
 MboxHeadline = (world : MboxWorld) (start : MboxState) (events : List (Event (Occasion MboxMail) MboxMail)) → IsMaildrop world.base.text world.all
-    → HoldsAPrefix world start → HoldPrefixes world start events
+    → HoldsAMboxPrefix world start → HoldMboxPrefixes world start events
 
 -- a law: it may begin with any file, and with a record that has no open intent and shows exactly a prefix of the selected messages as
 -- delivered, as an empty one does
@@ -68,7 +68,7 @@ abbrev pub MboxStartsInOrder : Type 0
 MboxStartsInOrder = (world : MboxWorld) (after : MboxMail) (gone : List (List ℕ)) (first rest : List Message) → after.intent ≡ None
     → selected world.max_size world.all ≡ first ++ rest → ((id : List ℕ) → is_delivered after.rows id ≡ has_id (ids_of first) id)
     → AllByRecursion (λ id. has_id (ids_of first) id ≡ true) gone
-    → HoldsAPrefix (record world { base = base_from world.base after }) (record { account = after; done = []; gone = gone })
+    → HoldsAMboxPrefix (record world { base = base_from world.base after }) (record { account = after; done = []; gone = gone })
 
 -- a law: if the first file holds texts, the file without an open intent holds the same, and then those of these messages
 abbrev pub EntriesMeanTexts : Type 0

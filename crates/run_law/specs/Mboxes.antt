@@ -65,8 +65,7 @@ pub record IsClosed (bytes : List ℕ) (account : MboxMail) : Type 0 where
   pub intent : account.intent ≡ None
   pub file : account.file ≡ bytes
 
--- the intent to append the entry of this text is open, and the file is these bytes and a prefix of the entry,
--- which may be empty or the whole entry
+-- the intent to append the entry of this text is open, and the file is these bytes and a prefix, or all, of the entry
 pub record IsOpen (bytes uid text : List ℕ) (account : MboxMail) : Type 0 where
   pub intent : account.intent ≡ Some (intent_of bytes uid text)
   pub front : List ℕ

@@ -1,52 +1,51 @@
 -- What a session of an account with a Maildir promises, and what holds before and after it.
-use Rattle.std.specs.Prelude.{◌≡◌, ◌⊎◌, ◌<◌, ◌-◌, ◌&&◌, ◌==◌, not, if◌then◌else◌, ℕ, Bool, true, false, List, [], ◌++◌, map, drop, Some, slice_get}
+use Rattle.std.specs.Prelude.{◌≡◌, ◌⊎◌, ◌<◌, ◌≤◌, ◌-◌, ◌&&◌, ◌||◌, not, ℕ, Bool, true, false, List, ◌∷◌, ◌++◌, map, length, Some, slice_get}
 use Rattle.std.specs.List.{AllByRecursion, filter}
 use Rattle.mail_terms.specs.UniqueId.{is_legal_id, has_id}
-use Rattle.fetch_rules.specs.Record.{Row, is_delivered}
-use Rattle.fetch_rules.specs.Wanted.{candidates, is_within}
-use Rattle.mail_terms.specs.Listing.{Item}
+use Rattle.fetch_rules.specs.Record.{is_delivered}
+use Rattle.fetch_rules.specs.Wanted.{is_within}
 use Rattle.rc_file.specs.declared.settings.Settings.{Settings}
-use Rattle.run_law.specs.Steps.{ids_wanted}
 use Rattle.pop3_wire.specs.World.{Message}
 use Rattle.pop3_wire.specs.declared.command.Command.{Command}
 use Rattle.pop3_wire.specs.declared.command.Command.TheVariants.{Dele}
 use Rattle.mail_store.specs.FileName.{is_held, mail_file, IsAccountText}
 use Rattle.run_law.specs.Mails.{ids_of}
-use Rattle.run_law.specs.Accounts.{AccountMail, KeepsOthers, files, without_flags}
+use Rattle.run_law.specs.Accounts.{AccountMail, KeepsOthers, without_flags}
 use Rattle.run_law.specs.Sessions.{SendsOnly}
-use Rattle.run_law.specs.Events.{Mail, State, is_safe, IsSafe, HoldsEachOnce, Occasion, Event, Fetched, after_session, after_event, Happens}
+use Rattle.run_law.specs.Events.{Mail, State, is_safe, IsSafe, HoldsEachOnce, Occasion, Event, Fetched, state_with, after_session, after_event, Happens, IsBetween}
 
--- what comes after the first `limit` of a list; 0 is no limit
-abbrev pub past_limit : {X : Type 0} → ℕ → List X → List X
-past_limit limit xs = if limit == 0 then [] else drop limit xs
+-- whether a session may fetch a message, if it knows those with such ids
+abbrev pub may_fetch : Settings → (List ℕ → Bool) → Message → Bool
+may_fetch settings is_known m = is_within settings.max_size m.size && (settings.read_all || not (is_known m.uid))
 
--- a message with this id could be fetched, by these rows, but comes after the first `max_count` that could; 0 is no limit
-abbrev pub is_past_count : Settings → List Row → List Item → List ℕ → Bool
-is_past_count settings rows listing id = has_id (ids_wanted (past_limit settings.max_count (candidates settings rows listing))) id
+-- the message is one of those that a session may fetch, and as many of them come before it as the limit on their
+-- number says, and as the session retrieved; 0 is no limit
+pub record IsPastCount (settings : Settings) (is_known : List ℕ → Bool) (maildrop : List Message) (retrieved : ℕ)
+    (m : Message) : Type 0 where
+  pub may : may_fetch settings is_known m ≡ true
+  pub limit : 0 < settings.max_count
+  pub full : retrieved ≡ settings.max_count
+  pub front : List Message
+  pub behind : List Message
+  pub place : maildrop ≡ front ++ m ∷ behind
+  pub before : settings.max_count ≤ length (filter (may_fetch settings is_known) front)
 
--- a session retrieved as many texts as the limit on their number says; 0 is no limit
-abbrev pub IsFull : {Account : Type 0} → Occasion Account → Type 0
-IsFull occasion = (0 < occasion.settings.max_count) × (occasion.retrieved ≡ occasion.settings.max_count)
-
--- a DELE gives the number, counted from 1, of a message of the maildrop whose id is of this kind; no other command deletes
+-- a DELE gives the number, counted from 1, of a message of the maildrop whose id is of this kind
 abbrev pub DeletesOneOf : List Message → (List ℕ → Type 0) → Command → Type 0
 DeletesOneOf maildrop Is (Dele number) = (0 < number) × (message : Message)
     × (slice_get maildrop (number - 1) ≡ Some message) × Is message.uid
 DeletesOneOf maildrop Is _ = Unit {0}
 
--- after an uncut session that isn't full each message of the maildrop is of this kind, or is larger than this session's limit
-abbrev pub LeavesOut : {Account : Type 0} → Occasion Account → (List ℕ → Type 0) → Type 0
-LeavesOut occasion Is = occasion.ended ≡ true → IsFull occasion
-    ⊎ AllByRecursion (λ (m : Message). Is m.uid ⊎ (is_within occasion.settings.max_size m.size ≡ false)) occasion.maildrop
-
--- the list begins with these
-abbrev pub BeginsWith : List Message → List Message → Type 0
-BeginsWith front all = (more : List Message) × (all ≡ front ++ more)
+-- after an uncut session each message of the maildrop is of this kind, or too large for it, or past its count
+abbrev pub LeavesOut : {Account : Type 0} → Occasion Account → (List ℕ → Bool) → (List ℕ → Type 0) → Type 0
+LeavesOut occasion is_known Is = occasion.ended ≡ true → AllByRecursion (λ (m : Message).
+    Is m.uid ⊎ (is_within occasion.settings.max_size m.size ≡ false)
+    ⊎ IsPastCount occasion.settings is_known occasion.maildrop occasion.retrieved m) occasion.maildrop
 
 -- what is within this session's limit and isn't done is the first of these
 abbrev pub ShowsNext : {Account : Type 0} → Occasion Account → List Message → List Message → Type 0
-ShowsNext occasion done rest = BeginsWith
-    (filter (λ (m : Message). is_within occasion.settings.max_size m.size && not (has_id (ids_of done) m.uid)) occasion.maildrop) rest
+ShowsNext occasion done rest = (more : List Message) × (rest ≡ filter (λ (m : Message).
+    is_within occasion.settings.max_size m.size && not (has_id (ids_of done) m.uid)) occasion.maildrop ++ more)
 
 -- those that are held or were taken away are exactly the first of these messages
 pub record IsFront (mail : Mail) (state : State) (all : List Message) : Type 0 where
@@ -61,20 +60,22 @@ pub record IsNew (mail : Mail) (before : AccountMail) (occasion : Occasion Accou
   pub unheld : is_held mail.account before.maildir m.uid ≡ false
   pub unrecorded : occasion.settings.read_all ≡ false → is_delivered before.rows m.uid ≡ false
 
--- each DELE, the last perhaps in part, is for a message that is held when the session returns, or was taken away before it began. No
--- file is lost, and only files of new messages come. What is recorded stays recorded. If the server shows the messages of a list
--- in their order, the first of these are held
+-- each DELE, the last perhaps in part, is for a message that is held when the session returns, or was taken away
+-- before it began. No file is lost, only files of new messages come, and what is recorded stays so
 pub record Promises (mail : Mail) (state : State) (occasion : Occasion AccountMail) : Type 0 where
-  pub left_out : LeavesOut occasion (λ id. is_safe mail (after_session mail state occasion) id ≡ true)
-  pub deletes : SendsOnly (DeletesOneOf occasion.maildrop (λ id. is_safe mail (after_session mail state occasion) id ≡ true)) occasion.sent
+  pub left_out : LeavesOut occasion (λ id. is_delivered state.account.rows id
+      || is_held mail.account state.account.maildir id) (IsSafe mail (after_session mail state occasion))
+  pub deletes : SendsOnly (DeletesOneOf occasion.maildrop (IsSafe mail (after_session mail state occasion)))
+      occasion.sent
   pub came : List Message
-  pub added : without_flags (files occasion.after) ≡ without_flags (files state.account)
+  pub added : without_flags occasion.after.maildir.files ≡ without_flags state.account.maildir.files
       ++ map (λ (m : Message). mail_file mail.account m.uid m.text) came
   pub new : AllByRecursion (IsNew mail state.account occasion) came
   pub others : KeepsOthers mail.account state.account occasion.after
   pub recorded : (id : List ℕ) → is_delivered state.account.rows id ≡ true → is_delivered occasion.after.rows id ≡ true
   pub in_order : (all : List Message) → AllByRecursion (λ (m : Message). is_legal_id m.uid ≡ true) all
-      → (front : IsFront mail state all) → ShowsNext occasion front.done front.rest → IsFront mail (after_session mail state occasion) all
+      → (front : IsFront mail state all) → ShowsNext occasion front.done front.rest
+      → IsFront mail (after_session mail state occasion) all
 
 -- nothing is promised of what others do
 abbrev pub Promised : Mail → State → Event (Occasion AccountMail) AccountMail → Type 0
@@ -91,3 +92,8 @@ pub record Kept (mail : Mail) (state : State) : Type 0 where
 abbrev pub EventsKeepPromises : Type 0
 EventsKeepPromises = (mail : Mail) (state : State) (event : Event (Occasion AccountMail) AccountMail) → IsAccountText mail.account
     → Kept mail state → Happens mail state event → Promised mail state event × Kept mail (after_event mail state event)
+
+-- a law: others leave a kept state
+abbrev pub OthersLeaveKept : Type 0
+OthersLeaveKept = (mail : Mail) (state : State) (after : AccountMail) → Kept mail state → IsBetween mail state.account after
+    → Kept mail (state_with mail state after)

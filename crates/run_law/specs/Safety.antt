@@ -35,7 +35,7 @@ MayBeDeleted settings account before effect gained number id =
 
 -- every file of `new` and `cur` is still there, with what it held; and each DELE that was sent, the last
 -- perhaps in part, asks for such a message
-pub record IsSafe (settings : Settings) (account : List ℕ) (before : AccountMail) (sent : List ℕ)
+pub record IsSafeSession (settings : Settings) (account : List ℕ) (before : AccountMail) (sent : List ℕ)
     (effect : Effect) (after : AccountMail) : Type 0 where
   pub gained : List File
   pub came : without_flags after.maildir.files ≡ without_flags before.maildir.files ++ gained
@@ -45,4 +45,4 @@ pub record IsSafe (settings : Settings) (account : List ℕ) (before : AccountMa
 abbrev pub SessionsAreSafe : Type 0
 SessionsAreSafe = (settings : Settings) (account : List ℕ) (before : AccountMail) (sent got : List ℕ) (effect : Effect)
     (after : AccountMail)
-    → Session settings account before sent got effect after → IsSafe settings account before sent effect after
+    → Session settings account before sent got effect after → IsSafeSession settings account before sent effect after

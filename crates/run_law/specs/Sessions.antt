@@ -43,7 +43,8 @@ pub record Reads (wanted : List (ℕ × Item)) (commands : List Command) (sent g
 
 -- nothing was sent, or a beginning of the line of one command of this kind
 abbrev pub BeginsOne : (Command → Type 0) → List ℕ → Type 0
-BeginsOne Is part = (part ≡ []) ⊎ ((command : Command) × (unsent : List ℕ) × (ended (line_of command) ≡ part ++ unsent) × Is command)
+BeginsOne Is part = (part ≡ [])
+    ⊎ ((command : Command) × (unsent : List ℕ) × (ended (line_of command) ≡ part ++ unsent) × Is command)
 
 -- each command that was sent, the last perhaps in part, is of this kind
 pub record SendsOnly (Is : Command → Type 0) (sent : List ℕ) : Type 0 where

@@ -15,7 +15,7 @@ ghost use Rattle.run_law.specs.MboxSessions.{MboxSessionsAreServed};
 ghost use Rattle.run_law.specs.Order.{Headline, NoneTaken, StaysAway};
 ghost use Rattle.run_law.specs.Mails.{WorldsShrink};
 ghost use Rattle.run_law.specs.Power.{OneMoreIsLast};
-ghost use Rattle.run_law.specs.Promises.{EventsKeepPromises};
+ghost use Rattle.run_law.specs.Promises.{EventsKeepPromises, OthersLeaveKept};
 ghost use Rattle.run_law.specs.Runs.{KeptHoldsWhatIsLeft, LikeStatesAreKept, LossesLeaveKept};
 ghost use Rattle.run_law.specs.Runs.{NothingTakenHoldsExactly, SessionsKeepOrder, StartsKept};
 ghost use Rattle.run_law.specs.Runs.{WithdrawnLeaveKept, WorldsShowMaildrops};
@@ -61,6 +61,12 @@ pub fn events_keep_promises()
     laws_below();
     sessions_are_served();
 }
+
+/// What readers and other programs leave is a kept state.
+#[tactic(auto, using(crate::proofs::Promised::others_leave_kept))]
+pub fn others_leave_kept()
+    ensures { OthersLeaveKept }
+{}
 
 /// The headline, over accounts: with a server that keeps its order and one limit on sizes, the Maildir
 /// holds exactly the first of the selected messages, each once, before and after each of a list of events.
