@@ -13,49 +13,62 @@
 #   make install    puts programs, man pages, completions, units and examples below PREFIX (/usr/local), and builds only
 #                   what bin/ lacks; `make uninstall` takes them away
 #   make dist       an archive and a Debian package of what bin/ has, for machines without the toolchain
+#                   (both refuse programs that were proved from other sources than these)
+#   make notices    prints the notices of the kit's crates that the programs contain: NOTICES
 #   make bench      builds the programs, then prints speed and memory as ratios; not in the gate
 
 SHELL := /bin/bash
 .SHELLFLAGS := -eu -o pipefail -c
 
-.PHONY: all demo check quick statement axioms test dist bench install uninstall clean getmail popd probe libraries
+.PHONY: all demo check quick statement axioms notices test dist bench install uninstall clean
+.PHONY: getmail popd probe libraries proved
 .PHONY: test-getmail test-popd test-probe test-libraries
 .PHONY: bench-getmail bench-popd bench-probe
 .NOTPARALLEL:
 
+# Each ends `make` with a line that says what is missing.
+need_sources = $(if $(wildcard crates),,$(error there are no sources here: only demo, install and uninstall can be made))
+need_rt = $(need_sources)$(if $(shell command -v rt),,$(error `rt`, which the Rattle kit has, is not on PATH: see README.md))
+
 all:
-	@./build.py getmail popd
+	@$(need_rt)./build.py getmail popd
 	install -D -m 755 -t bin crates/getmail/out/getmail crates/popd/out/popd
+	install -m 644 -t bin crates/getmail/out/getmail.sources crates/popd/out/popd.sources
 
 getmail popd:
-	@./build.py $@
+	@$(need_rt)./build.py $@
 	install -D -m 755 -t bin crates/$@/out/$@
+	install -m 644 -t bin crates/$@/out/$@.sources
 
 demo:
-	@python3 examples/demo/run.py
+	@$(if $(and $(wildcard bin/getmail),$(wildcard bin/popd)),,$(need_rt))python3 examples/demo/run.py
 
 check:
-	@tests/gate.sh
+	@$(need_rt)tests/gate.sh
 
 # `rattle` looks at the layout of all files at once, and `rt` only at a crate's.
 quick:
+	@$(need_rt)
 	@$$(dirname "$$(rt doc)")/bin/rattle fmt --check $$(find crates -name out -prune -o -name '*.rt' -print -o -name '*.antt' -print)
 	@python3 tests/check_edits.py
 	@python3 tests/test_documents.py
 	@python3 tests/test_tools.py
 
-statement axioms:
-	@python3 tools/$@.py
+statement:
+	@$(need_sources)python3 tools/$@.py
+
+axioms notices:
+	@$(need_rt)python3 tools/$@.py
 
 # The tests from outside and the benchmarks also run a small program that makes the libraries' calls one by one.
 probe:
-	@./build.py $@
+	@$(need_rt)./build.py $@
 
 libraries:
-	@./build.py tests
+	@$(need_rt)./build.py tests
 
 test:
-	@./build.py getmail popd probe tests
+	@$(need_rt)./build.py getmail popd probe tests
 	python3 tests/test_documents.py
 	python3 tests/test_tools.py
 	python3 tests/run.py
@@ -83,20 +96,23 @@ bench-probe: probe
 
 # The programs are built here only if they aren't there: a machine without the toolchain installs what it was given.
 bin/getmail bin/popd:
-	$(MAKE) --no-print-directory $(notdir $@)
+	@$(need_rt)$(MAKE) --no-print-directory $(notdir $@)
+
+proved: bin/getmail bin/popd
+	@$(if $(wildcard crates),./build.py --unchanged getmail popd)
 
 # DESTDIR comes before all of it.
 PREFIX ?= /usr/local
 export PREFIX DESTDIR
 
-install: bin/getmail bin/popd
+install: proved
 	./install.sh
 
 uninstall:
 	./install.sh --remove
 
-dist: bin/getmail bin/popd
-	packaging/dist.py
+dist: proved
+	@$(need_sources)packaging/dist.py
 
 clean:
 	rm -rf bin dist

@@ -1,7 +1,8 @@
 #!/usr/bin/env python3
 """Proves the crates that programs are made of, and builds the programs.
 
-    ./build.py getmail popd
+    ./build.py getmail popd               # `make` then copies each program, and its checksum, into bin/
+    ./build.py --unchanged getmail popd   # fails if bin/ has programs that were proved from other sources than these
 
 `rt ci` does both, in a copy that has these crates without their wrong bodies: as many at once as there are processors and memory.
 It keeps what it has proved beside the kit, for the next run here and for the gate. `tests` builds and runs the tests of the
@@ -9,6 +10,7 @@ libraries.
 """
 
 import contextlib
+import hashlib
 import os
 import re
 import shutil
@@ -21,6 +23,7 @@ from pathlib import Path
 
 TOP = Path(__file__).resolve().parent
 SECONDS_BETWEEN_LINES = 10
+NOT_PROVED_FROM = ("out", "must-fail")
 
 
 def crates_of(programs):
@@ -38,7 +41,24 @@ def copy_crates(crates, room):
     (room / "crates.txt").write_text("\n".join(crates.values()))
     shutil.copy(TOP / "HANDLES", room)
     for crate in crates:
-        shutil.copytree(TOP / "crates" / crate, room / "crates" / crate, ignore=shutil.ignore_patterns("out", "must-fail"))
+        shutil.copytree(TOP / "crates" / crate, room / "crates" / crate, ignore=shutil.ignore_patterns(*NOT_PROVED_FROM))
+
+
+def checksum(program, top=TOP):
+    """The SHA-256 of what a program is proved from: the lines of crates.txt and the files of its crates, and HANDLES."""
+    crates = crates_of([program])
+    files = [path for crate in crates for path in sorted((top / "crates" / crate).rglob("*"))
+             if path.is_file() and not set(NOT_PROVED_FROM) & set(path.relative_to(top).parts)]
+    sums = [f"{hashlib.sha256(path.read_bytes()).hexdigest()} {path.relative_to(top)}" for path in (top / "HANDLES", *files)]
+    return hashlib.sha256("\n".join([*crates.values(), *sums]).encode()).hexdigest()
+
+
+def refuse_changed(programs):
+    """Ends with a line that names the first program of bin/ that wasn't proved from these sources."""
+    for program in programs:
+        kept = TOP / "bin" / f"{program}.sources"
+        if not kept.is_file() or kept.read_text().strip() != checksum(program):
+            sys.exit(f"bin/{program} was not proved from these sources: `make` proves and builds it")
 
 
 def told(crates, room, text, seconds):
@@ -67,24 +87,28 @@ def prove(crates, room):
         sys.exit("".join([*(part for part in parts[:-1] if "NOT PROVED" in part), parts[-1]]))
 
 
-def keep(crate, room):
-    """Puts the built program into the crate's own folder."""
+def keep(crate, room, sources):
+    """Puts the built program, and the checksum of the sources that were proved, into the crate's own folder."""
     name = "tests_tests" if crate == "tests" else crate
     out = TOP / "crates" / crate / "out"
     out.mkdir(exist_ok=True)
     shutil.copy(room / "crates" / crate / "out" / name, out / f"{name}.new")
     os.replace(out / f"{name}.new", out / name)
+    (out / f"{name}.sources").write_text(f"{sources}\n")
 
 
 def main():
     signal.signal(signal.SIGTERM, lambda *_: sys.exit(1))
+    if sys.argv[1] == "--unchanged":
+        return refuse_changed(sys.argv[2:])
     programs = sys.argv[1:]
     crates = crates_of(programs)
     with tempfile.TemporaryDirectory(prefix="building-") as room:
         copy_crates(crates, Path(room))
+        sources = {program: checksum(program, Path(room)) for program in programs}
         prove(crates, Path(room))
         for program in programs:
-            keep(program, Path(room))
+            keep(program, Path(room), sources[program])
 
 
 if __name__ == "__main__":

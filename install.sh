@@ -7,6 +7,7 @@
 #
 # With DESTDIR every file goes below that folder. Nothing but these files is written.
 set -eu
+umask 022
 cd "$(dirname "$0")"
 
 prefix=${PREFIX:-/usr/local}
@@ -36,10 +37,10 @@ put() {
     chmod "$1" "$3"
 }
 
-# put_named FILE PLACE: a file that names the programs' folder gets the PREFIX
+# put_named FILE PLACE: a file that names the programs' folder gets the PREFIX; with /usr, PATH names it once
 put_named() {
     mkdir -p "$(dirname "$2")"
-    sed "s|/usr/local|$prefix|g" "$1" >"$2"
+    sed "s|/usr/local|$prefix|g; s|/usr/bin:/usr/bin|/usr/bin|" "$1" >"$2"
     chmod 644 "$2"
 }
 
@@ -62,13 +63,14 @@ each_file() {
     for unit in examples/*.service examples/*.timer examples/*.socket; do
         "$2" "$unit" "$units/$(basename "$unit")"
     done
-    for file in README.md CHANGELOG.md LICENSE docs/FROM-GETMAIL6.md docs/getmailrc.sample examples/stunnel.conf; do
+    for file in README.md CHANGELOG.md LICENSE NOTICES docs/FROM-GETMAIL6.md docs/getmailrc.sample examples/stunnel.conf; do
         "$1" 644 "$file" "$docs/$(basename "$file")"
     done
-    for name in from-getmail6.py from-mpop.py from-fetchmail.py; do
-        "$1" 755 "examples/$name" "$docs/$name"
+    for script in examples/*.py; do
+        mode=644
+        [ ! -x "$script" ] || mode=755
+        "$1" $mode "$script" "$docs/$(basename "$script")"
     done
-    "$1" 644 examples/make_record.py "$docs/make_record.py"
     "$2" examples/crontab "$docs/crontab"
 }
 

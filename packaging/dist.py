@@ -1,5 +1,5 @@
 #!/usr/bin/env python3
-"""Writes dist/getmail-VERSION-linux-ARCH.tar.gz and, if dpkg-deb is installed, dist/getmail_VERSION_ARCH.deb.
+"""Writes dist/getmail-VERSION-linux-ARCH.tar.gz and, if dpkg-deb is installed, dist/quailtuffet_VERSION_ARCH.deb.
 
 Both hold the programs of bin/, which have to be there and need only the C library. The archive installs itself by its
 own install.sh. The same files give the same octets: the time of each file is that of SOURCE_DATE_EPOCH, or of the last
@@ -20,20 +20,23 @@ from email.utils import formatdate
 from pathlib import Path
 
 TOP = Path(__file__).resolve().parent.parent
-CONTENT = ("bin/getmail", "bin/popd", "install.sh", "README.md", "CHANGELOG.md", "LICENSE", "man", "completions", "examples",
-           "docs/FROM-GETMAIL6.md", "docs/getmailrc.sample")
-# What demo runs leave in the repository, and what belongs to no machine without it.
-LEFT_OUT = re.compile(r"__pycache__|/seen-|/lock-|/demo(/|$)|\.pyc$")
+CONTENT = ("bin/getmail", "bin/popd", "Makefile", "install.sh", "README.md", "CHANGELOG.md", "LICENSE", "NOTICES", "man",
+           "completions", "examples", "docs/FROM-GETMAIL6.md", "docs/getmailrc.sample")
+# What demo runs leave in the repository.
+LEFT_OUT = re.compile(r"__pycache__|/seen-|/lock-|\.pyc$")
 MAINTAINER = "The Quailtuffet authors <maintainers@users.noreply.quailtuffet.example>"
+# Debian's getmail6 breaks every package `getmail` below version 6.7, so this one has a name of its own.
+NAME = "quailtuffet"
 CONTROL = """\
-Package: getmail
+Package: {name}
 Version: {version}
 Architecture: {arch}
 Maintainer: {maintainer}
 Installed-Size: {size}
 Depends: libc6 (>= {libc})
-Suggests: stunnel4, python3
-Conflicts: getmail4, getmail6
+Recommends: stunnel4
+Suggests: python3
+Conflicts: getmail, getmail4, getmail6
 Section: mail
 Priority: optional
 Description: POP3 fetcher and server with machine-checked proofs
@@ -41,23 +44,47 @@ Description: POP3 fetcher and server with machine-checked proofs
  run may be cut at any moment: no message is lost and none is stored twice.
  popd is a small POP3 server over one user's Maildir. A prover has checked the
  contracts of both; their CHANGELOG.md says what these promise.
+ .
+ The program getmail reads the rc files of getmail6 and takes its place; both
+ cannot be installed at once.
 """
-CHANGES = """\
-getmail ({version}) unstable; urgency=medium
+ENTRY = """\
+{name} ({version}) unstable; urgency=medium
 
-  * What is new is in /usr/share/doc/getmail/CHANGELOG.md.
+  {text}
 
  -- {maintainer}  {date}
+"""
+CHANGES = "* What is new is in /usr/share/doc/getmail/CHANGELOG.md."
+NEWS = """\
+The program getmail of this package takes the place of getmail6's, and the
+  package getmail6 is removed. Lines of cron, timers and scripts that started
+  getmail6 start this program from now on. It has a record of its own, so it
+  may fetch again what getmail6 has fetched: before its next run read
+  /usr/share/doc/getmail/FROM-GETMAIL6.md."""
+# What is said once, when the package is first installed.
+FIRST = """\
+#!/bin/sh
+set -e
+if [ "$1" = configure ] && [ -z "$2" ]; then
+    echo "{name}: what starts getmail6's program getmail, as cron does, now starts this one:" \\
+        "read /usr/share/doc/getmail/FROM-GETMAIL6.md before its next run" >&2
+fi
 """
 COPYRIGHT = """\
 Format: https://www.debian.org/doc/packaging-manuals/copyright-format/1.0/
 Upstream-Name: getmail
+Comment: {comment}
 
 Files: *
 Copyright: 2026 The Quailtuffet authors
 License: Expat
-{text}
-"""
+{text}"""
+LINKED = """
+Files: {files}
+Copyright: {holders}
+License: {licence}
+{text}"""
 
 
 def version():
@@ -106,6 +133,31 @@ def compress(path):
     path.unlink()
 
 
+def indented(text):
+    """A text as a field of a control file continues with it."""
+    return "".join(f" {line or '.'}\n" for line in text.strip().splitlines())
+
+
+def copyright_text():
+    """Debian's copyright file: the licence of the programs, and the notice of each crate that is linked in."""
+    licence = (TOP / "LICENSE").read_text().partition("\n\n")[2].partition("\n\n")[2]
+    first, *notices = re.split("^== ", (TOP / "NOTICES").read_text(), flags=re.MULTILINE)
+    text = COPYRIGHT.format(comment=indented(first).strip(), text=indented(licence))
+    for notice in notices:
+        crates, _, content = notice.partition("\n\n")
+        crates = crates.split(", ")
+        holders = re.findall(r"^Copyright (?:\([cC]\)|©) (.+)", content, re.MULTILINE)
+        text += LINKED.format(files=" ".join(f"kit/{crate}/*" for crate in crates),
+                              holders="\n ".join(holders or [f"the authors of {' and '.join(crates)}"]),
+                              licence=f"{'Unicode' if content.startswith('UNICODE') else 'Expat'}-{crates[0]}",
+                              text=indented(content))
+    return text
+
+
+def entry(text, seconds):
+    return ENTRY.format(name=NAME, version=version(), text=text, maintainer=MAINTAINER, date=formatdate(seconds))
+
+
 def fill_tree(tree, seconds):
     """Installs into the tree, as Debian wants it: compressed pages and change log, its copyright file, its zsh folder."""
     install = {**os.environ, "DESTDIR": str(tree), "PREFIX": "/usr"}
@@ -114,13 +166,14 @@ def fill_tree(tree, seconds):
         if shutil.which("strip"):
             subprocess.run(["strip", "--remove-section=.comment", "--remove-section=.note", tree / "usr/bin" / name],
                            check=True)
-    docs = tree / "usr/share/doc/getmail"
-    licence = (docs / "LICENSE").read_text().partition("\n\n")[2].partition("\n\n")[2]
-    indented = "".join(f" {line or '.'}\n" for line in licence.strip().splitlines())
-    (docs / "copyright").write_text(COPYRIGHT.format(text=indented))
-    (docs / "LICENSE").unlink()
-    (docs / "changelog").write_text(CHANGES.format(version=version(), maintainer=MAINTAINER, date=formatdate(seconds)))
-    for page in [docs / "changelog", *(tree / "usr/share/man").glob("man?/*")]:
+    docs = (tree / "usr/share/doc/getmail").rename(tree / "usr/share/doc" / NAME)
+    (tree / "usr/share/doc/getmail").symlink_to(NAME)
+    (docs / "copyright").write_text(copyright_text())
+    (docs / "changelog").write_text(entry(CHANGES, seconds))
+    (docs / "NEWS.Debian").write_text(entry(NEWS, seconds))
+    for name in ("LICENSE", "NOTICES"):
+        (docs / name).unlink()
+    for page in [docs / "changelog", docs / "NEWS.Debian", *(tree / "usr/share/man").glob("man?/*")]:
         compress(page)
     (tree / "usr/share/zsh/site-functions").rename(tree / "usr/share/zsh/vendor-completions")
 
@@ -132,17 +185,19 @@ def write_package(seconds):
         tree = Path(folder) / "tree"
         tree.mkdir(mode=0o755)
         fill_tree(tree, seconds)
-        files = sorted(path for path in tree.rglob("*") if path.is_file())
+        files = sorted(Path(folder, name) for folder, _, names in os.walk(tree) for name in names)
         (tree / "DEBIAN").mkdir()
         (tree / "DEBIAN/md5sums").write_text("".join(
             f"{hashlib.md5(path.read_bytes()).hexdigest()}  {path.relative_to(tree)}\n" for path in files))
+        (tree / "DEBIAN/postinst").write_text(FIRST.format(name=NAME))
+        (tree / "DEBIAN/postinst").chmod(0o755)
         (tree / "DEBIAN/control").write_text(CONTROL.format(
-            version=version(), arch=arch, maintainer=MAINTAINER, libc=oldest_libc(),
+            name=NAME, version=version(), arch=arch, maintainer=MAINTAINER, libc=oldest_libc(),
             size=sum(-(-path.stat().st_size // 1024) for path in files)))
         for path in (tree, *tree.rglob("*")):
             path.chmod(0o755 if path.is_dir() or path.stat().st_mode & 0o100 else 0o644)
             os.utime(path, (seconds, seconds))
-        path = TOP / "dist" / f"getmail_{version()}_{arch}.deb"
+        path = TOP / "dist" / f"{NAME}_{version()}_{arch}.deb"
         subprocess.run(["dpkg-deb", "--root-owner-group", "--build", tree, path], check=True, stdout=subprocess.DEVNULL,
                        env={**os.environ, "SOURCE_DATE_EPOCH": str(seconds)})
     return path

@@ -6,7 +6,7 @@ top or in any crate; `make WORD` is a target that the Makefile names after .PHON
 a definition, a test or a man page uses. Names in capitals stand for something else (`FILE`), and those in OTHERS aren't
 names of this repository.
 
-And the man page lists the line of each fault of getmail, and the documents are no longer than their limits.
+And the man page lists the line of each fault of getmail, and the README names the kit that the sources are proved with.
 """
 
 import re
@@ -24,8 +24,6 @@ NAME = re.compile(r"[A-Za-z_][A-Za-z0-9_]*")
 OTHERS = {"stunnel", "socat", "dovecot", "mutt", "fetchmail", "mpop", "Display", "BrokenUIDLPOP3Retriever", "killsize"}
 # The sources of the lines that report faults.
 TELLING = ("crates/getmail_setup/src/failure.rt", "crates/fetch_session/src/text.rt", "crates/rc_file/src/text.rt")
-# The most lines of a document.
-MOST_LINES = {"README.md": 100, "docs/PROVED.md": 350, "docs/ARCHITECTURE.md": 200}
 # Folders that a user, a build or an installation makes.
 MADE = ("~", "/", "bin/", "out/", "share/", "examples/demo/Maildir")
 
@@ -96,12 +94,11 @@ def told_without_help():
                 yield f"man/getmail.1 doesn't list '{line}' of {source}"
 
 
-def too_long():
-    """A line for each document that is too long."""
-    for name, most in MOST_LINES.items():
-        lines = len((TOP / name).read_text().splitlines())
-        if lines > most:
-            yield f"{name}: {lines} lines, at most {most}"
+def other_kits():
+    """A line if the README names another kit than docs/AXIOMS.txt, which the sources are proved with."""
+    kits = [set(re.findall(r"rattle-kit-\w+", (TOP / name).read_text())) for name in ("README.md", "docs/AXIOMS.txt")]
+    if kits[0] != kits[1]:
+        yield f"README.md names the kit as {kits[0]}, and docs/AXIOMS.txt as {kits[1]}"
 
 
 def main():
@@ -109,7 +106,7 @@ def main():
     words = words_of(paths)
     targets = set(" ".join(re.findall(r"^\.PHONY: (.*)", (TOP / "Makefile").read_text(), re.MULTILINE)).split())
     faults = [fault for document in DOCUMENTS for fault in faults_in(document, paths, words, targets)]
-    faults += [*told_without_help(), *too_long()]
+    faults += [*told_without_help(), *other_kits()]
     for fault in faults:
         print(fault)
     if not faults:

@@ -12,6 +12,7 @@ TOP = Path(__file__).resolve().parent.parent
 sys.path[:0] = [str(TOP / "tools")]
 
 import axioms  # noqa: E402 (the path has to be there first)
+import notices  # noqa: E402
 import statement  # noqa: E402
 from sources import Sources, Thing  # noqa: E402
 
@@ -209,10 +210,10 @@ def test_this_tree():
 
 def old_texts():
     """A line for each text in docs/ that isn't what its tool prints."""
-    for name, tool in (("STATEMENT", statement), ("AXIOMS", axioms)):
-        file = TOP / "docs" / f"{name}.txt"
+    for name, tool in (("docs/STATEMENT.txt", statement), ("docs/AXIOMS.txt", axioms), ("NOTICES", notices)):
+        file = TOP / name
         if not file.is_file() or file.read_text() != tool.text_of():
-            yield f"docs/{name}.txt is old: `make {name.lower()} > docs/{name}.txt` makes it anew"
+            yield f"{name} is old: `make {file.stem.lower()} > {name}` makes it anew"
 
 
 def main():
@@ -222,7 +223,7 @@ def main():
             test(sources)
     test_this_tree()
     faults = list(old_texts())
-    print(*faults or ["docs/STATEMENT.txt and docs/AXIOMS.txt are what the sources say"], sep="\n")
+    print(*faults or ["docs/STATEMENT.txt, docs/AXIOMS.txt and NOTICES are what the sources say"], sep="\n")
     return 1 if faults else 0
 
 

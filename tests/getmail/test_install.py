@@ -1,5 +1,6 @@
 """What `make install` and `make dist` put where, that `make uninstall` leaves nothing of it, and the line for cron."""
 
+import gzip
 import os
 import re
 import shutil
@@ -10,6 +11,7 @@ import tempfile
 import threading
 import unittest
 from pathlib import Path
+from unittest import mock
 
 from getmail.account import Account, RC
 from getmail.server import Server
@@ -23,16 +25,21 @@ COMPLETIONS = [path for name in ("getmail", "popd") for path in (
     f"share/fish/vendor_completions.d/{name}.fish")]
 UNITS = [f"lib/systemd/user/{name}" for name in (
     "getmail.service", "getmail.timer", "getmail@.service", "getmail@.timer", "getmail-tunnel.service",
-    "popd.service", "popd.socket", "popd@.service")]
+    "getmail-tunnel.socket", "popd.service", "popd.socket", "popd@.service")]
 DOCUMENTS = [f"share/doc/getmail/{name}" for name in (
-    "README.md", "CHANGELOG.md", "LICENSE", "FROM-GETMAIL6.md", "getmailrc.sample", "stunnel.conf", "crontab",
+    "README.md", "CHANGELOG.md", "LICENSE", "NOTICES", "FROM-GETMAIL6.md", "getmailrc.sample", "stunnel.conf", "crontab",
     "make_record.py")]
-SCRIPTS = [f"share/doc/getmail/from-{name}.py" for name in ("getmail6", "mpop", "fetchmail")]
+SCRIPTS = [f"share/doc/getmail/{path.name}" for path in (programs.ROOT / "examples").glob("*-*.py")]
 MESSAGE = b"Subject: one\n\nIt is.\n"
 AT_WORK = b"getmail: another getmail is at work for this account"
 # What the rules of `make install` and `make dist` read.
-PARTS = ("Makefile", "build.py", "crates.txt", "HANDLES", "install.sh", "README.md", "CHANGELOG.md", "LICENSE", "man", "completions",
-         "examples", "packaging", "docs/FROM-GETMAIL6.md", "docs/getmailrc.sample")
+PARTS = ("Makefile", "build.py", "crates.txt", "HANDLES", "install.sh", "README.md", "CHANGELOG.md", "LICENSE", "NOTICES", "man",
+         "completions", "examples", "packaging", "docs/FROM-GETMAIL6.md", "docs/getmailrc.sample")
+
+# What can be done without `rt` if the programs are there, and what can't.
+WITHOUT_RT = ("all", "getmail", "popd", "check", "quick", "axioms", "notices", "probe", "libraries", "test", "test-getmail",
+              "bench")
+SHELL_PROGRAMS = ("python3", "make", "bash", "sh", "mkdir", "install", "sleep", "ls", "cat", "cut")
 
 # What stands in for `rt try`, for each run of a program, and for `rt ci`: they use the built programs. The second writes down
 # what is in each crate's folder; the third proves one crate and fails at the next.
@@ -70,8 +77,14 @@ exit 1
 """
 
 
+def crates_in(top):
+    lines = [line.partition("#")[0] for line in (top / "crates.txt").read_text().splitlines()]
+    return [line.partition(":")[0] for line in lines if ":" in line]
+
+
 def copy_repository(top):
-    """Copies what is installed, and the programs as they were built last, into the folder."""
+    """Copies what is installed, and the programs as they were built last, into the folder, as if `make` had proved them there
+    from crates with one short file each."""
     for part in PARTS:
         source, target = programs.ROOT / part, top / part
         target.parent.mkdir(parents=True, exist_ok=True)
@@ -83,6 +96,13 @@ def copy_repository(top):
     (top / "bin").mkdir()
     for name in ("getmail", "popd"):
         shutil.copy(programs.path_of(name), top / "bin" / name)
+    for crate in crates_in(top):
+        (top / "crates" / crate / "src").mkdir(parents=True)
+        (top / "crates" / crate / "src/lib.rt").write_text(f"//! {crate}\n")
+    for name in ("getmail", "popd"):
+        shown = subprocess.run(["python3", "-Bc", f"import build; print(build.checksum('{name}'))"], cwd=top, check=True,
+                               stdout=subprocess.PIPE)
+        (top / "bin" / f"{name}.sources").write_bytes(shown.stdout)
 
 
 class Copied(unittest.TestCase):
@@ -95,10 +115,28 @@ class Copied(unittest.TestCase):
         self.place = Path(holder.name) / "place"
         copy_repository(self.top)
 
-    def make(self, *words, **changes):
+    def make(self, *words, top=None, **changes):
         """Runs `make` and answers what it printed."""
-        return subprocess.run(["make", *words], cwd=self.top, check=True, stdout=subprocess.PIPE, text=True,
+        return subprocess.run(["make", *words], cwd=top or self.top, check=True, stdout=subprocess.PIPE, text=True,
                               env=programs.environment(**changes), timeout=programs.SECONDS).stdout
+
+    def refusal(self, *words, top=None, **changes):
+        """Runs `make`, which fails, and answers its lines on standard error but for those about the failure itself."""
+        done = subprocess.run(["make", "--no-print-directory", *words], cwd=top or self.top, capture_output=True, text=True,
+                              env=programs.environment(**changes), timeout=programs.SECONDS)
+        self.assertNotEqual(done.returncode, 0)
+        return [line for line in done.stderr.splitlines() if not re.match(r"make(\[\d\])?: \*\*\* ", line)]
+
+    def path_with(self, rt=None):
+        """A folder with the few programs that are called, and with `rt` if its text is given."""
+        folder = self.top.parent / "path"
+        folder.mkdir()
+        for name in SHELL_PROGRAMS:
+            (folder / name).symlink_to(shutil.which(name))
+        if rt:
+            (folder / "rt").write_text(rt)
+            (folder / "rt").chmod(0o755)
+        return str(folder)
 
 
 class Install(Copied):
@@ -122,8 +160,9 @@ class Install(Copied):
             self.assertIn(f"{prefix}/bin/{name[:name.index('.')].removesuffix('@')}", started.split())
         page = (place / "share/man/man1/getmail.1").read_text()
         self.assertIn(f"install -m 600 {prefix}/share/doc/getmail/getmailrc.sample ", page)
+        first = "" if prefix == "/usr" else f"{prefix}/bin:"
         for text in (page, (place / "share/doc/getmail/crontab").read_text()):
-            self.assertIn(f"\nPATH={prefix}/bin:/usr/bin:/bin\n", text)
+            self.assertIn(f"\nPATH={first}/usr/bin:/bin\n", text)
 
     def test_each_file_has_its_place_and_is_taken_away(self):
         for words, prefix in (([], "usr/local"), (["PREFIX=/usr"], "usr"), (["PREFIX=/srv/mail"], "srv/mail")):
@@ -167,8 +206,7 @@ class Install(Copied):
     def test_what_is_missing_is_built_first(self):
         (self.top / "bin/popd").unlink()
         told = self.make("-n", "install")
-        self.assertIn("popd", told.split("./install.sh")[0])
-        self.assertNotIn("getmail", told.split("./install.sh")[0])
+        self.assertEqual(re.findall(r"^\./build\.py (\w+)$", told, re.MULTILINE), ["popd"])
 
     def test_the_installed_program_runs(self):
         self.make("install", f"PREFIX={self.place}")
@@ -177,10 +215,47 @@ class Install(Copied):
         self.assertEqual(help_text.stdout, programs.run("getmail", "--help").out)
 
     def test_the_sample_installed_is_an_rc_file(self):
-        """All of it is understood: the run ends when it looks for the server, which it doesn't find here."""
+        """All of it is understood: the run ends when it looks for the tunnel, which isn't here."""
         self.make("install", f"PREFIX={self.place}")
-        run = programs.run("getmail", "-r", str(self.place / "share/doc/getmail/getmailrc.sample"), HOME=str(self.place))
-        self.assertEqual((run.status, run.err), (1, b"getmail: cannot connect to mail.example.org:110\n"))
+        sample, port = self.place / "share/doc/getmail/getmailrc.sample", kernel.free_port()
+        sample.write_text(sample.read_text().replace("port = 11995", f"port = {port}"))
+        run = programs.run("getmail", "-r", str(sample), HOME=str(self.place))
+        self.assertEqual((run.status, run.err), (1, f"getmail: cannot connect to 127.0.0.1:{port}\n".encode()))
+
+    def test_folders_are_open_to_all_whatever_the_umask(self):
+        self.make("install", f"DESTDIR={self.place}")
+        usual = {path: path.stat().st_mode for path in self.place.rglob("*")}
+        self.assertEqual({stat.S_IMODE(mode) for mode in usual.values() if stat.S_ISDIR(mode)}, {0o755})
+        shutil.rmtree(self.place)
+        subprocess.run(["bash", "-c", 'umask 077; make install DESTDIR="$1"', "bash", self.place], cwd=self.top, check=True,
+                       stdout=subprocess.DEVNULL, env=programs.environment(), timeout=programs.SECONDS)
+        self.assertEqual({path: path.stat().st_mode for path in self.place.rglob("*")}, usual)
+
+    def test_programs_of_other_sources_are_refused(self):
+        """Those that were proved from other files, or of which nothing says so; wrong bodies and other crates don't count."""
+        for left in ("mail_store/must-fail/x.edit", "mail_store/out/x", "run_law/src/more.rt"):
+            (self.top / "crates" / left).parent.mkdir(exist_ok=True)
+            (self.top / "crates" / left).touch()
+        self.make("install", "dist", f"DESTDIR={self.place}")
+        for name in ("place", "repository/dist"):
+            shutil.rmtree(self.top.parent / name)
+        source, sources = self.top / "crates/folder_drop/src/lib.rt", self.top / "bin/getmail.sources"
+        refused = "bin/{} was not proved from these sources: `make` proves and builds it"
+        for program, change in (("popd", lambda: source.write_text("other\n")), ("getmail", sources.unlink)):
+            change()
+            for words in (["install", f"DESTDIR={self.place}"], ["dist"]):
+                self.assertEqual(self.refusal(*words), [refused.format(program)])
+        self.assertFalse(self.place.exists() or (self.top / "dist").exists())
+
+    def test_without_rt_a_line_says_what_is_missing(self):
+        path = self.path_with()
+        for words in (*WITHOUT_RT, "demo", "install", "dist"):
+            if words == "demo":
+                (self.top / "bin/popd").unlink()
+            with self.subTest(words):
+                line, = self.refusal(words, PATH=path)
+                missing = "`rt`, which the Rattle kit has, is not on PATH: see README.md."
+                self.assertRegex(line, rf"^Makefile:\d+: \*\*\* {missing}  Stop\.$")
 
 
 class EmptyRoot:
@@ -232,6 +307,19 @@ class Dist(Copied):
             return {path.name: path.read_bytes() for path in (self.top / "dist").iterdir()}
         self.assertEqual(written(), written())
 
+    def test_make_in_the_archive(self):
+        """It installs and removes; what it can't do without the sources, a line says."""
+        folder, place = self.unpacked(), self.place / "installed"
+        self.make("install", f"PREFIX={place}", top=folder)
+        self.assertEqual((place / "bin/getmail").read_bytes(), programs.path_of("getmail").read_bytes())
+        self.assertIn("\n== clap\n", (place / "share/doc/getmail/NOTICES").read_text())
+        self.make("uninstall", f"PREFIX={place}", top=folder)
+        self.assertEqual([path for path in place.rglob("*") if path.is_file()], [])
+        self.assertIn("1 messages (", self.make("demo", top=folder))
+        for words in ("all", "dist", "check"):
+            line, = self.refusal(words, top=folder)
+            self.assertIn("there are no sources here: only demo, install and uninstall can be made", line)
+
     def package(self):
         """The Debian package that `make dist` writes."""
         if not shutil.which("dpkg-deb"):
@@ -252,9 +340,50 @@ class Dist(Copied):
         subprocess.run(["dpkg-deb", "-x", package, self.place], check=True, timeout=programs.SECONDS)
         there = {str(path.relative_to(self.place / "usr")) for path in self.place.rglob("*") if path.is_file()}
         pages = {f"share/man/{PAGES[page.suffix[1:]]}/{page.name}.gz" for page in (programs.ROOT / "man").iterdir()}
-        self.assertLessEqual({"bin/getmail", "bin/popd", "share/doc/getmail/copyright", *pages, *UNITS}, there)
+        self.assertLessEqual({"bin/getmail", "bin/popd", "share/doc/quailtuffet/copyright", *pages, *UNITS}, there)
+        self.assertTrue((self.place / "usr/share/doc/getmail/getmailrc.sample").is_file())
         subprocess.run([self.place / "usr/bin/getmail", "--help"], check=True, stdout=subprocess.DEVNULL,
                        timeout=programs.SECONDS)
+
+    def test_the_package_takes_the_place_of_getmail6_and_says_so(self):
+        """Its name isn't `getmail`, which Debian's getmail6 breaks."""
+        package = self.package()
+        self.assertRegex(package.name, r"^quailtuffet_[0-9.]+_\w+\.deb$")
+        fields = [subprocess.run(["dpkg-deb", "-f", package, field], check=True, capture_output=True, text=True).stdout.strip()
+                  for field in ("Package", "Conflicts", "Recommends", "Replaces")]
+        self.assertEqual(fields, ["quailtuffet", "getmail, getmail4, getmail6", "stunnel4", ""])
+        subprocess.run(["dpkg-deb", "-R", package, self.place], check=True, timeout=programs.SECONDS)
+        for words, lines in ((["configure", ""], 1), (["configure", "0.0.9"], 0), (["abort-upgrade", "0.2"], 0)):
+            told = subprocess.run([self.place / "DEBIAN/postinst", *words], check=True, capture_output=True, text=True)
+            self.assertEqual((told.stdout, told.stderr.count("\n")), ("", lines))
+            self.assertEqual("FROM-GETMAIL6.md" in told.stderr, lines == 1)
+        news = gzip.decompress((self.place / "usr/share/doc/quailtuffet/NEWS.Debian.gz").read_bytes()).decode()
+        self.assertIn("FROM-GETMAIL6.md", news)
+
+    def test_the_notices_of_what_is_linked_in(self):
+        """Each crate of which the programs have symbols has its notice in Debian's copyright file, but for core and std."""
+        package = self.package()
+        subprocess.run(["dpkg-deb", "-x", package, self.place], check=True, timeout=programs.SECONDS)
+        text = (self.place / "usr/share/doc/quailtuffet/copyright").read_text()
+        named = set(re.findall(r"kit/(\w+)/\*", text))
+        linked = {found.decode() for name in ("getmail", "popd")
+                  for found in re.findall(rb"\x00([a-z_0-9]+)::", programs.path_of(name).read_bytes())}
+        own = {path.name for path in (programs.ROOT / "crates").iterdir()}
+        self.assertIn("clap", linked)
+        self.assertEqual({crate for crate in linked - own - named if not re.match("core$|std(_|$)|os$", crate)}, set())
+        self.assertLessEqual({"clap", "indexmap", "bstr", "memchr", "sha2", "hex", "itoa", "thiserror"}, named)
+
+    def test_the_package_is_open_to_all_whatever_the_umask(self):
+        def content():
+            told = subprocess.run(["dpkg-deb", "-c", self.package()], check=True, capture_output=True, text=True).stdout
+            archive, = (self.top / "dist").glob("*.tar.gz")
+            with tarfile.open(archive) as opened:
+                return told, [(entry.name, entry.mode) for entry in opened]
+        with mock.patch.dict(os.environ, SOURCE_DATE_EPOCH="1795348800"):
+            usual = content()
+            self.addCleanup(os.umask, os.umask(0o077))
+            self.assertEqual(content(), usual)
+        self.assertEqual(set(re.findall(r"^d\S+", usual[0], re.MULTILINE)), {"drwxr-xr-x"})
 
     def test_a_first_fetch_on_a_machine_with_the_c_library_alone(self):
         root = EmptyRoot(self.top.parent / "root")
@@ -304,17 +433,6 @@ class Dist(Copied):
 class Demo(Copied):
     """`make demo` with the programs built, and before that, and `make`; the last two with a stand-in for `rt`."""
 
-    def path_with(self, rt=None):
-        """A folder with the few programs that are called, and with `rt` if its text is given."""
-        folder = self.top.parent / "path"
-        folder.mkdir()
-        for name in ("python3", "make", "bash", "sh", "mkdir", "install", "sleep", "ls", "cat", "cut"):
-            (folder / name).symlink_to(shutil.which(name))
-        if rt:
-            (folder / "rt").write_text(rt)
-            (folder / "rt").chmod(0o755)
-        return str(folder)
-
     def check_told(self, told, *parts):
         """Each part is told, one after the other."""
         for part in parts:
@@ -334,21 +452,13 @@ class Demo(Copied):
     def test_before_any_proof_it_says_so_and_tries_the_programs(self):
         for name in ("getmail", "popd"):
             (self.top / "bin" / name).rename(self.top / f"{name}.built")
-            (self.top / "crates" / name).mkdir(parents=True)
         self.check_demo(self.path_with(TRY), "aren't proved yet", "`make` proves them")
-
-    def make_crates(self):
-        """Makes the folders of all crates, in which `make` finds nothing to compile."""
-        lines = [line.partition("#")[0] for line in (self.top / "crates.txt").read_text().splitlines()]
-        for line in lines:
-            if ":" in line:
-                (self.top / "crates" / line.partition(":")[0] / "src").mkdir(parents=True)
 
     def test_make_proves_the_crates_of_the_programs(self):
         """Those alone, without their wrong bodies and what was built before. It says how far it is."""
         for name in ("getmail", "popd"):
             (self.top / "bin" / name).rename(self.top / f"{name}.built")
-        self.make_crates()
+            (self.top / "bin" / f"{name}.sources").unlink()
         for name in ("must-fail", "out"):
             (self.top / "crates/mail_store" / name).mkdir()
         log = self.top.parent / "log"
@@ -361,9 +471,9 @@ class Demo(Copied):
         self.assertNotIn("run_law", {crate for crate, *_ in begun})
         for name in ("getmail", "popd"):
             self.assertTrue(os.access(self.top / "bin" / name, os.X_OK))
+        self.make("install", f"DESTDIR={self.place}")
 
     def test_make_shows_why_a_crate_is_not_proved(self):
-        self.make_crates()
         done = subprocess.run(["make"], cwd=self.top, capture_output=True, text=True, env=programs.environment(PATH=self.path_with(FAIL)),
                               timeout=programs.SECONDS)
         self.assertNotEqual(done.returncode, 0)
@@ -390,27 +500,35 @@ class Pages(unittest.TestCase):
         self.check("groff", "-mdoc", "-ww", "-Tutf8")
 
 
+def account_lines():
+    """The lines of the README that set up an account, and the one for cron."""
+    section = (programs.ROOT / "README.md").read_text().split("## A real account\n")[1].split("\n## ")[0]
+    *lines, cron = [line[4:] for line in section.splitlines() if line.startswith("    ")]
+    return lines, cron
+
+
 class Readme(unittest.TestCase):
-    """The lines of the README that set up a real account, except cron's, with a stand-in for the editor."""
+    """The lines of the README that set up a real account, with stand-ins for the editor and the tunnel."""
 
     def test_the_lines_that_set_up_an_account(self):
-        section = (programs.ROOT / "README.md").read_text().split("## A real account\n")[1].split("\n## ")[0]
-        lines = [line[4:] for line in section.splitlines() if line.startswith("    ")]
+        lines, cron = account_lines()
         self.assertEqual(len(lines), 6)
         messages = [(b"a", b"one\n"), (b"b", b"two\n")]
         with Server(messages) as server, tempfile.TemporaryDirectory() as home:
-            # One session for `--pretend`, and one that fetches.
-            thread = threading.Thread(target=lambda: [server.begin_session().join(programs.SECONDS) for _ in range(2)])
-            thread.start()
-            edits = f"sed -i -e s/mail.example.org/127.0.0.1/ -e s/^#.port.*/port={server.port}/"
-            path = f"{Path(programs.path_of('getmail')).parent}:{os.environ['PATH']}"
-            done = subprocess.run(["bash", "-euc", "\n".join(lines[:-1])], cwd=programs.ROOT, capture_output=True, text=True,
-                                  env=programs.environment(HOME=home, EDITOR=edits, PATH=path), timeout=programs.SECONDS)
+            thread = server.begin_session()
+            (Path(home) / "systemctl").write_text('#!/bin/sh\necho "$*" > "$HOME/started"\n')
+            (Path(home) / "systemctl").chmod(0o755)
+            path = f"{home}:{Path(programs.path_of('getmail')).parent}:{os.environ['PATH']}"
+            changes = {"HOME": home, "EDITOR": f"sed -i s/^port.*/port={server.port}/", "PATH": path}
+            done = subprocess.run(["bash", "-euc", "\n".join(lines)], cwd=programs.ROOT, capture_output=True, text=True,
+                                  env=programs.environment(**changes), timeout=programs.SECONDS)
             thread.join(programs.SECONDS)
             self.assertEqual((done.returncode, done.stderr), (0, ""))
             self.assertEqual(len(os.listdir(Path(home) / "Maildir/new")), len(messages))
             self.assertEqual(stat.S_IMODE((Path(home) / ".getmail/getmailrc").stat().st_mode), 0o600)
-        self.assertIn("*/10 * * * * $(command -v getmail) -q --why", lines[-1])
+            self.assertIn("\nconnect = pop.example.net:995\n", (Path(home) / ".getmail/stunnel.conf").read_text())
+            self.assertEqual((Path(home) / "started").read_text(), "--user enable --now getmail-tunnel.socket\n")
+        self.assertIn("*/10 * * * * $(command -v getmail) -q --why", cron)
 
 
 class Regular(unittest.TestCase):
@@ -420,6 +538,21 @@ class Regular(unittest.TestCase):
         path = f"{Path(programs.path_of('getmail')).parent}:{os.environ['PATH']}"
         return subprocess.Popen(words, stdin=subprocess.DEVNULL, stdout=subprocess.PIPE, stderr=subprocess.STDOUT,
                                 env={"HOME": str(account.home), "PATH": path, "SHELL": "/bin/sh"})
+
+
+class Units(unittest.TestCase):
+    """What each unit of a service leaves open, by systemd's own measure: at most 4.0 of 10."""
+
+    def test_what_units_leave_open(self):
+        if not shutil.which("systemd-analyze"):
+            self.skipTest("systemd-analyze is not installed")
+        units = sorted((programs.ROOT / "examples").glob("*.service"))
+        self.assertEqual(len(units), 5)
+        for unit in units:
+            with self.subTest(unit.name):
+                done = subprocess.run(["systemd-analyze", "security", "--offline=true", "--threshold=40", unit], text=True,
+                                      capture_output=True, timeout=programs.SECONDS)
+                self.assertEqual((done.returncode, done.stderr), (0, ""), done.stdout[-200:])
 
 
 class Timer(Regular):

@@ -1,13 +1,16 @@
 """`getmail` through stunnel, set up as `examples/stunnel.conf` has it, from a dovecot that speaks TLS alone."""
 
+import os
 import re
 import shutil
+import signal
 import subprocess
 import tempfile
 import unittest
 from pathlib import Path
 
 from getmail.account import Account
+from getmail.test_install import account_lines
 from harness import dovecot, kernel, programs
 from harness.maildir import make_maildir
 
@@ -110,6 +113,34 @@ class Tunnel(unittest.TestCase):
         self.assertEqual(account.held(), MESSAGES)
         again = account.run()
         self.assertTrue(again.out.endswith(b"0 messages (0 bytes) retrieved, 2 skipped, 0 deleted\n"), again.out)
+
+    def test_the_first_account_of_the_readme(self):
+        """Its six lines from an empty home, with stand-ins for the editor and for systemctl, which listens and starts
+        stunnel as the two units do."""
+        served, port = self.start_dovecot(*self.certificates.signed("pop.example.net")), kernel.free_port()
+        folder, home = self.folder / "path", self.folder / "home"
+        folder.mkdir()
+        home.mkdir()
+        for end, line in (("service", "ExecStart=/usr/bin/stunnel %h/.getmail/stunnel.conf"),
+                          ("socket", "ListenStream=127.0.0.1:11995")):
+            self.assertIn(f"\n{line}\n", (programs.ROOT / f"examples/getmail-tunnel.{end}").read_text())
+        listening = f"systemd-socket-activate -l 127.0.0.1:{port}" if shutil.which("systemd-socket-activate") else ""
+        changes = (f"s/127.0.0.1:11995/127.0.0.1:{port}/; s/pop.example.net:995/127.0.0.1:{served}/; "
+                   f"s|^CAfile.*|CAfile = {self.certificates.authority}|")
+        (folder / "systemctl").write_text(f"""#!/bin/bash
+            sed -i '{changes}' ~/.getmail/stunnel.conf
+            {listening} {STUNNEL} ~/.getmail/stunnel.conf > ~/log 2>&1 &
+            echo $! > ~/pid
+            until (exec 3<> /dev/tcp/127.0.0.1/{port}) 2> /dev/null; do sleep 0.05; done
+            """)
+        (folder / "systemctl").chmod(0o755)
+        self.addCleanup(lambda: os.kill(int((home / "pid").read_text()), signal.SIGTERM))
+        edits = f"sed -i -e s/fred/u/ -e s/secret/p/ -e s/11995/{port}/"
+        path = f"{folder}:{Path(programs.path_of('getmail')).parent}:{os.environ['PATH']}"
+        done = subprocess.run(["bash", "-euc", "\n".join(account_lines()[0])], cwd=programs.ROOT, capture_output=True, text=True,
+                              env=programs.environment(HOME=str(home), EDITOR=edits, PATH=path), timeout=programs.SECONDS)
+        self.assertEqual((done.returncode, done.stderr), (0, ""))
+        self.assertEqual({path.read_bytes() for path in (home / "Maildir/new").iterdir()}, {text for _, text in MESSAGES})
 
     def test_a_wrong_certificate_gives_no_mail(self):
         wrong = {"another server's": self.certificates.signed("other.example.org"),
