@@ -24,7 +24,7 @@ _getmail() {
                 case ${COMP_WORDS[index]} in -g | --getmaildir) dir=${COMP_WORDS[index + 1]/#\~\//$HOME/} ;; esac
             done
             mapfile -t COMPREPLY < <(cd -- "$dir" 2> /dev/null && shopt -s extglob &&
-                compgen -f -X '@(seen-*|lock|lock-*|stunnel.conf)' -- "$word")
+                compgen -f -X '@(seen-*|told-*|lock|lock-*|stunnel.conf)' -- "$word")
             _getmail_folders "$dir/"
             return ;;
         -g | --getmaildir)
@@ -33,6 +33,6 @@ _getmail() {
             return ;;
     esac
     mapfile -t COMPREPLY < <(compgen -W '-a --all -d --delete -g --getmaildir -h --help
-        -l --dont-delete -n --new --pretend -q --quiet -r --rcfile --trace -v --verbose -V --version --why' -- "$word")
+        -l --dont-delete -n --new --pretend -q --quiet -r --rcfile --trace --unattended -v --verbose -V --version --why' -- "$word")
 }
 complete -F _getmail getmail

@@ -15,7 +15,7 @@ function __getmail_rcfiles
         end
     end
     for file in $dir/*
-        string match -qr -- '/(seen-[^/]*|lock|lock-[^/]*|stunnel.conf)$' $file; or string replace -- "$dir/" '' $file
+        string match -qr -- '/(seen-[^/]*|told-[^/]*|lock|lock-[^/]*|stunnel.conf)$' $file; or string replace -- "$dir/" '' $file
     end
 end
 
@@ -30,6 +30,7 @@ complete -c getmail -s q -l quiet -d 'Write no report'
 complete -c getmail -n __getmail_has_path -s r -l rcfile -r -F -d 'Settings'
 complete -c getmail -n 'not __getmail_has_path' -s r -l rcfile -x -a '(__getmail_rcfiles)' -d 'Settings'
 complete -c getmail -l trace -d 'Show the conversation and refused calls'
+complete -c getmail -l unattended -d 'For cron: tell only what is new'
 complete -c getmail -s v -l verbose -d 'Report more'
 complete -c getmail -s V -l version -d 'Show the version'
 complete -c getmail -l why -d 'Say why a run failed'

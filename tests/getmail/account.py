@@ -30,17 +30,17 @@ read_all = false
 class Account:
     """The account of a user at a port of this machine, `u` in its rc file; removed with the `with` block."""
 
-    def __init__(self, port, options="", user="u", above=None):
-        """With `above` the home is a folder in that one."""
+    def __init__(self, port, options="", user="u", above=None, server=LOOPBACK):
+        """With `above` the home is a folder in that one; `server` may be the path of a socket."""
         self.holder = tempfile.TemporaryDirectory(dir=above)
         self.home = Path(self.holder.name)
         self.maildir = make_maildir(self.home / "Maildir")
         self.folder = self.home / ".getmail"
         self.folder.mkdir()
         self.rcfile = self.folder / "getmailrc"
-        self.rcfile.write_text(RC.format(server=LOOPBACK, port=port) + options)
+        self.rcfile.write_text(RC.format(server=server, port=port) + options)
         self.rcfile.chmod(0o600)
-        self.digest = hashlib.sha256(f"{LOOPBACK}\0{port}\0{user}".encode()).hexdigest()
+        self.digest = hashlib.sha256(f"{server}\0{port}\0{user}".encode()).hexdigest()
         self.record = self.folder / f"seen-{self.digest}"
         self.lock = self.folder / f"lock-{self.digest}"
 

@@ -81,7 +81,8 @@ class Server:
     def _serve(self):
         self.client, _ = self.socket.accept()
         self.client.settimeout(programs.SECONDS)
-        self.client.setsockopt(socket.IPPROTO_TCP, socket.TCP_NODELAY, 1)
+        if self.socket.family == socket.AF_INET:
+            self.client.setsockopt(socket.IPPROTO_TCP, socket.TCP_NODELAY, 1)
         self.marked = set()
         with self.client, self.client.makefile("rb") as given:
             try:
@@ -133,6 +134,18 @@ class Server:
         elif word == b"QUIT":
             self.messages = [message for _, message in self._left()]
         return b"+OK\r\n"
+
+
+class SocketServer(Server):
+    """A server at a Unix socket with this path, as a tunnel has one."""
+
+    def __init__(self, messages, path):
+        super().__init__(messages)
+        self.socket.close()
+        self.socket = socket.socket(socket.AF_UNIX)
+        self.socket.bind(str(path))
+        self.socket.listen()
+        self.socket.settimeout(programs.SECONDS)
 
 
 class MeddlingServer(Server):

@@ -234,3 +234,19 @@ class IntoMboxrd(Pretends, unittest.TestCase):
                 "the last entry of the mbox file is looked at first: if it is whole, its message is not fetched",
                 "msg 1/3 (5 octets) delivered before", "msg 2/3 (5 octets) would be fetched",
                 "msg 3/3 (7 octets) would be fetched", "2 of 3 messages would be fetched, 0 deleted"])
+
+    def test_what_a_run_settles_first(self):
+        """It is judged as a run judges it that settles the file: zeros that a loss of power left are cut off, and what others
+        wrote stays, which may leave no mbox."""
+        rows = record_of((b"a", 5, 1), (b"b", 5, 0), (b"c", 5, 0))
+        whole = entries([b"one\n"])
+        for content, start, fault in ((b"\0" * 40, 0, b""), (whole + b"\0" * 30, len(whole), b""), (whole + b"From MA", len(whole), b""),
+                                      (b"From x\n\nabc\n", 8, b"getmail: destination is no mbox\n"),
+                                      (whole + b"abc", len(whole), b"getmail: destination is no mbox\n"),
+                                      (b"abc\n\n" + whole, 5, b"getmail: destination is no mbox\n")):
+            with self.subTest(content):
+                self.account.record.write_bytes(rows + b"! b %d %d\n" % (start, len(whole)))
+                self.account.mbox.write_bytes(content)
+                self.check_run(1 if fault else 0, fault, ["QUIT"])
+                run = self.session("-q")
+                self.assertEqual((run.status, run.err), (1 if fault else 0, fault))

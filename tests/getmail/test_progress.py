@@ -1,5 +1,9 @@
 """The line that says how far a fetch is: on a terminal only, rewritten in place, and gone at the end."""
 
+import contextlib
+import os
+import pty
+import signal
 import subprocess
 import unittest
 
@@ -58,7 +62,8 @@ class Progress(unittest.TestCase):
 
     def test_the_line_is_gone_before_a_fault_is_told(self):
         status, _, shown = self.run_on_terminal(octets=200_000)
-        self.assertEqual((status, screen_of(shown)), (1, [b"getmail: connection ended by the server", b""]))
+        told = b"getmail: u@127.0.0.1:%d: it ended in the reply to RETR 2" % self.server.port
+        self.assertEqual((status, screen_of(shown)), (1, [b"getmail: connection ended by the server", told, b""]))
         self.assertIn(b"message 2 of 3", shown)
 
     def test_a_reply_that_is_not_understood(self):
@@ -80,6 +85,37 @@ class Progress(unittest.TestCase):
         self.run_on_terminal("-q")
         status, _, shown = self.run_on_terminal()
         self.assertEqual((status, shown), (0, b""))
+
+    def test_a_long_listing_is_shown(self):
+        """From the login on, also if nothing is to be fetched; and it is gone at the end."""
+        self.server.messages = [(b"%d" % number, b"") for number in range(2_500)]
+        self.account.record.write_bytes(b"getmail-seen 2\n" + b"".join(b"%d 5 1\n" % number for number in range(2_500)))
+        status, _, shown = self.run_on_terminal()
+        rows = dict.fromkeys(row.rstrip() for row in shown.split(b"\r"))
+        self.assertEqual([row for row in rows if row],
+                         [b"listed %d of 2500 messages" % number for number in (0, 500, 1000, 1500, 2000, 2500)])
+        self.assertEqual((status, screen_of(shown)), (0, [b""]))
+
+    def test_the_line_stays_if_the_run_is_killed(self):
+        """It says how far the run was."""
+        self.server.pause = 0.002
+        ours, theirs = pty.openpty()
+        thread = self.server.begin_session()
+        process = subprocess.Popen([programs.path_of("getmail")], stdin=subprocess.DEVNULL, stdout=subprocess.DEVNULL, stderr=theirs,
+                                   env=programs.environment(HOME=str(self.account.home)))
+        shown = b""
+        while b"message 2 of 3, 0 octets" not in shown:
+            shown += os.read(ours, 65536)
+        process.send_signal(signal.SIGINT)
+        process.wait(programs.SECONDS)
+        os.close(theirs)
+        with contextlib.suppress(OSError):
+            while piece := os.read(ours, 65536):
+                shown += piece
+        os.close(ours)
+        thread.join(programs.SECONDS)
+        self.assertEqual(process.returncode, -signal.SIGINT)
+        self.assertTrue(screen_of(shown)[-1].startswith(b"message 2 of 3, "), screen_of(shown))
 
     def test_nothing_is_shown_in_a_pipe_or_a_file(self):
         thread = self.server.begin_session()

@@ -77,6 +77,12 @@ class Stalls(unittest.TestCase):
         asked = self.check_stall(b"", [])
         self.assertEqual([row for row in asked if row[0] != "poll"], [("read", WAIT), ("write", WAIT), ("nodelay", 1)])
 
+    def test_the_reason_is_the_silence(self):
+        with SilentServer(b"+OK\r\n") as server, Account(server.port) as account:
+            run = self.run_quickly(account, "-q", "--why")
+            told = f"getmail: u@{LOOPBACK}:{server.port}: {LOOPBACK}:{server.port}: silent for 180 seconds\n"
+            self.assertEqual(run, programs.Run(1, b"", READING_FAILED + told.encode()))
+
     def test_half_a_line(self):
         self.check_stall(b"+OK\r\n+OK\r\n+O", [])
 

@@ -91,7 +91,7 @@ class Tunnel(unittest.TestCase):
         """Runs stunnel by the example, with its ports and its authority changed, and answers the port of its near end."""
         text = (programs.ROOT / "examples/stunnel.conf").read_text()
         port = kernel.free_port()
-        for old, new in (("accept = 127.0.0.1:11995", f"accept = 127.0.0.1:{port}"),
+        for old, new in (("accept = /run/user/1000/getmail/pop3s", f"accept = 127.0.0.1:{port}"),
                          (f"connect = {NAME}:995", f"connect = 127.0.0.1:{served}"),
                          ("CAfile = /etc/ssl/certs/ca-certificates.crt", f"CAfile = {self.certificates.authority}")):
             self.assertEqual(len(re.findall(f"^{re.escape(old)}$", text, re.MULTILINE)), 1, old)
@@ -117,25 +117,26 @@ class Tunnel(unittest.TestCase):
     def test_the_first_account_of_the_readme(self):
         """Its six lines from an empty home, with stand-ins for the editor and for systemctl, which listens and starts
         stunnel as the two units do."""
-        served, port = self.start_dovecot(*self.certificates.signed("pop.example.net")), kernel.free_port()
+        served, near = self.start_dovecot(*self.certificates.signed("pop.example.net")), self.folder / "pop3s"
         folder, home = self.folder / "path", self.folder / "home"
         folder.mkdir()
         home.mkdir()
         for end, line in (("service", "ExecStart=/usr/bin/stunnel %h/.getmail/stunnel.conf"),
-                          ("socket", "ListenStream=127.0.0.1:11995")):
+                          ("socket", "ListenStream=%t/getmail/pop3s")):
             self.assertIn(f"\n{line}\n", (programs.ROOT / f"examples/getmail-tunnel.{end}").read_text())
-        listening = f"systemd-socket-activate -l 127.0.0.1:{port}" if shutil.which("systemd-socket-activate") else ""
-        changes = (f"s/127.0.0.1:11995/127.0.0.1:{port}/; s/pop.example.net:995/127.0.0.1:{served}/; "
+        listening = f"systemd-socket-activate -l {near}" if shutil.which("systemd-socket-activate") else ""
+        moved = f"s|/run/user/{os.getuid()}/getmail|{self.folder}|"
+        changes = (f"{moved}; s/pop.example.net:995/127.0.0.1:{served}/; "
                    f"s|^CAfile.*|CAfile = {self.certificates.authority}|")
         (folder / "systemctl").write_text(f"""#!/bin/bash
             sed -i '{changes}' ~/.getmail/stunnel.conf
             {listening} {STUNNEL} ~/.getmail/stunnel.conf > ~/log 2>&1 &
             echo $! > ~/pid
-            until (exec 3<> /dev/tcp/127.0.0.1/{port}) 2> /dev/null; do sleep 0.05; done
+            until [ -S {near} ]; do sleep 0.05; done
             """)
         (folder / "systemctl").chmod(0o755)
         self.addCleanup(lambda: os.kill(int((home / "pid").read_text()), signal.SIGTERM))
-        edits = f"sed -i -e s/fred/u/ -e s/secret/p/ -e s/11995/{port}/"
+        edits = f"sed -i -e s/fred/u/ -e s/secret/p/ -e {moved}"
         path = f"{folder}:{Path(programs.path_of('getmail')).parent}:{os.environ['PATH']}"
         done = subprocess.run(["bash", "-euc", "\n".join(account_lines()[0])], cwd=programs.ROOT, capture_output=True, text=True,
                               env=programs.environment(HOME=str(home), EDITOR=edits, PATH=path), timeout=programs.SECONDS)

@@ -187,6 +187,29 @@ class BeforeSessions(unittest.TestCase):
                 self.put(old, new)
                 self.check_told(2, fault, told)
 
+    def test_keys_that_are_missing(self):
+        """A key of one letter more, less or other is named; else the file is."""
+        warning = f"{self.account.rcfile}"
+        for new, told in (("pasword", "line 6: pasword: is password meant?"), ("Passwords", "line 6: Passwords: is password meant?"),
+                          ("pass-word", "line 6: pass-word: is password meant?"), ("passwort", "line 6: passwort: is password meant?"),
+                          ("secret", warning), ("passwrd1", warning)):
+            with self.subTest(new), Account(1) as self.account:
+                self.put(b"password", new.encode())
+                self.check_told(2, "retriever.password missing", told.replace(warning, str(self.account.rcfile)))
+
+    def test_a_section_that_is_missing(self):
+        self.put(b"[destination]", b"[Destination]")
+        self.check_told(2, "section [destination] missing", str(self.account.rcfile))
+
+    def test_a_port_for_tls(self):
+        for port in (995, 993):
+            with self.subTest(port), Account(port, server="255.255.255.255") as account:
+                run = account.run("--why")
+                self.assertEqual(run.err.decode().splitlines()[:2],
+                                 [f"getmail: warning: port {port} is for TLS, which getmail doesn't speak: use a tunnel",
+                                  f"getmail: cannot connect to 255.255.255.255:{port}"])
+                self.assertEqual(account.run().err.decode(), f"getmail: cannot connect to 255.255.255.255:{port}\n")
+
     def test_no_line_of_a_password_is_shown(self):
         self.put(b"port = 1", b"port = 0")
         self.put(b"password = p\n", b"password = p\n  port = hidden\n")
@@ -253,7 +276,8 @@ class Table(unittest.TestCase):
         with preload.library("refuse_step") as refuse_step:
             for number, fault in ((2, "reading from"), (3, "writing to"), (6, "reading from"), (7, "writing to")):
                 with self.subTest(number):
-                    self.check_told(f"{fault} the server failed", f"{LOOPBACK}:{self.server.port}: Input/output error",
+                    log = ["the tunnel's own log says why"] if number == 2 else []
+                    self.check_told(f"{fault} the server failed", f"{LOOPBACK}:{self.server.port}: Input/output error", *log,
                                     LD_PRELOAD=str(refuse_step), STEP_REFUSED=str(number))
 
     def test_a_flush_that_a_system_does_not_have(self):
@@ -276,7 +300,56 @@ class Table(unittest.TestCase):
                 thread.join(programs.SECONDS)
             steps = [line.split("\t") for line in note.read_text().splitlines()]
             number = next(k for k, (step, path) in enumerate(steps, 1) if step == "write" and "/.getmail/" in path)
-            self.check_told("seen file refused", **below, STEP_REFUSED=str(number), STEP_EFFECT="zero")
+            self.check_told("seen file refused", f"{self.account.record}: the system gave no reason", **below,
+                            STEP_REFUSED=str(number), STEP_EFFECT="zero")
+
+    def test_a_connection_that_ends(self):
+        """Before the greeting, and from a server that is near, the tunnel has ended it."""
+        for octets, *told in ((0, "it ended before the greeting", "the tunnel's own log says why"),
+                              (12, "it ended in the reply to USER u"), (17, "it ended in the reply to PASS *"),
+                              (22, "it ended in the reply to STAT")):
+            server = Server(TWO)
+            self.addCleanup(server.socket.close)
+            with self.subTest(octets), Account(server.port) as account:
+                thread = server.begin_session(octets)
+                run = account.run("-q", "--why")
+                thread.join(programs.SECONDS)
+                self.assertEqual(run.err.decode().splitlines(),
+                                 ["getmail: connection ended by the server",
+                                  *(f"getmail: u@{LOOPBACK}:{server.port}: {line}" for line in told)])
+
+    def test_a_reply_whose_lines_are_wrong(self):
+        for command, reply, fault, told in (
+                ("UIDL", b"+OK\r\n1 a\r\nb\r\n", "listing not understood", "the reply to UIDL has the row: b"),
+                ("LIST", b"+OK\r\n1 5\r\n2 x\x1b\r\n", "listing not understood", "the reply to LIST has the row: 2 x\\x1b"),
+                ("LIST", b"+OK\r\n1 5\r\n.\r\n", "listings disagree",
+                 "the answer to STAT is +OK 2 10, UIDL has 2 rows and LIST 1"),
+                ("UIDL", b"+OK\r\n" + b"1" * 3000, "reply line too long", "2048 octets hold no whole line, in the reply to UIDL"),
+                ("STAT", b"+OK 100001 5\r\n", "too many messages", "100000 can be fetched; the answer to STAT is +OK 100001 5"),
+                ("STAT", b"+OK\r\n", "reply not understood", "the server said: +OK")):
+            with self.subTest(told):
+                self.answers[command] = reply
+                self.check_told(fault, told)
+                del self.answers[command]
+
+    def test_a_row_that_tells_of_the_password(self):
+        """It is hidden like an answer."""
+        self.answers["UIDL"] = b"+OK\r\n1 a\r\nthe password is p\r\n"
+        self.check_told("listing not understood", "the reply to UIDL has the row: *")
+
+    def test_a_record_that_is_not_understood(self):
+        self.account.record.write_bytes(b"getmail-seen 2\nx\n")
+        self.check_told("seen file not understood at line 2", f"{self.account.record}: a record has no such line")
+
+    def test_a_file_that_is_no_mbox(self):
+        with MboxAccount(self.server.port) as account:
+            account.mbox.write_bytes(b"abc\n")
+            thread = self.server.begin_session()
+            run = account.run("-q", "--why")
+            thread.join(programs.SECONDS)
+            self.assertEqual(run.err.decode().splitlines()[1:],
+                             [f"getmail: u@{LOOPBACK}:{self.server.port}: {account.mbox}: it isn't empty, and has no `From ` at "
+                              "its front or no empty line at its end"])
 
 
 del Sessions

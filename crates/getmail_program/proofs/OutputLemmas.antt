@@ -8,6 +8,7 @@ use Rattle.fetch_session.specs.declared.report.Outcome.{Outcome}
 use Rattle.getmail_setup.specs.declared.output.Output.{Output}
 use Rattle.getmail_setup.specs.declared.errors.Errors.{Errors}
 use Rattle.getmail_setup.specs.Output.{Puts, number_text}
+use Rattle.getmail_program.specs.Reasons.{reasons_said}
 use Rattle.getmail_program.specs.Telling.{TellsCut, fault_line, outcome_line}
 
 pub puts_both : {W : Type 0} (contents : W → Option (List ℕ)) (old mid new : Output W) (first second : List ℕ)
@@ -22,7 +23,7 @@ puts_both contents old mid new first second put more = record {
 -- a cut, what was written next, and what was written last
 pub said : {E : Type 0} (contents : E → Option (List ℕ)) (settings : Settings) (outcome : Outcome) (next : List ℕ)
     (old first : Errors E) (second : Output E) (more : List ℕ) (last : Output E) (cut : TellsCut contents settings outcome old first) → Puts contents first.err next second
-    → Puts contents second more last → Puts contents old.err (((outcome_line outcome ++ cut.reason) ++ next) ++ more) last
+    → Puts contents second more last → Puts contents old.err (((outcome_line outcome ++ reasons_said settings old.says_why outcome cut.found) ++ next) ++ more) last
 said contents settings outcome next old first second more last cut put left =
     puts_both contents old.err second last _ more (puts_both contents old.err first.err second _ _ cut.puts put) left
 

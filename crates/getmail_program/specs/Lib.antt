@@ -1,4 +1,5 @@
 pub mod Holding
+pub mod Reasons
 pub mod Rehearsal
 pub mod Teller
 pub mod Telling

@@ -1,7 +1,6 @@
 -- What is told at a session's end.
-use Rattle.std.specs.Prelude.{◌≡◌, ◌⊎◌, ℕ, Bool, true, false, ◌==◌, List, [], ◌++◌, Option, None, Some, codes, length, if◌then◌else◌}
+use Rattle.std.specs.Prelude.{◌≡◌, ℕ, Bool, true, false, ◌==◌, List, [], ◌++◌, Option, None, Some, codes, length, if◌then◌else◌}
 use Rattle.std.specs.Fmt.{decimal}
-use Rattle.std.specs.String.{string_bytes}
 use Rattle.rc_file.specs.declared.settings.Settings.{Settings}
 use Rattle.fetch_session.specs.declared.fault.Fault.{Fault}
 use Rattle.fetch_session.specs.declared.report.LeftOut.{LeftOut}
@@ -15,10 +14,12 @@ use Rattle.getmail_setup.specs.declared.output.Output.{Output}
 use Rattle.getmail_setup.specs.declared.output.Refusal.{Refusal}
 use Rattle.getmail_setup.specs.declared.output.Refusal.TheVariants.{NoMemory, Refused}
 use Rattle.getmail_program.specs.declared.ending.Fetched.{Fetched}
+use Rattle.getmail_program.specs.declared.findings.Findings.{Findings}
 use Rattle.getmail_program.specs.declared.told.Told.{Told}
 use Rattle.getmail_program.specs.declared.told.Told.TheVariants.{Done, Ahead}
 use Rattle.getmail_setup.specs.declared.errors.Errors.{Errors}
 use Rattle.getmail_setup.specs.Output.{Puts}
+use Rattle.getmail_program.specs.Reasons.{reason_line, reasons_said}
 
 -- ---- what a session says
 
@@ -53,12 +54,6 @@ fault_line fault = codes "getmail: " ++ (fault_text fault ++ codes "\n")
 abbrev pub outcome_line : Outcome → List ℕ
 outcome_line Ended = []
 outcome_line (Cut fault) = fault_line fault
-
--- the line of a reason: the account, and the reason
-abbrev pub reason_line : Settings → List ℕ → List ℕ
-reason_line settings reason =
-    ((codes "getmail: " ++ (string_bytes settings.username ++ (codes "@" ++ (string_bytes settings.server
-    ++ (codes ":" ++ (decimal settings.port ++ codes ": ")))))) ++ reason) ++ codes "\n"
 
 -- how many messages were left out for one reason, and its words
 abbrev pub count_text : ℕ → List ℕ → List ℕ
@@ -98,18 +93,11 @@ unwritten_line outcome (Some Refused) = codes "getmail: cannot write standard ou
 
 -- ---- what is written at a session's end
 
--- this is the line of a reason of an outcome, or nothing; a reason is given only of a cut, and only if it is asked for
-pub record IsReason (settings : Settings) (says_why : Bool) (outcome : Outcome) (text : List ℕ) : Type 0 where
-  pub line : (text ≡ []) ⊎ ((reason : List ℕ) × (text ≡ reason_line settings reason))
-  pub asked : says_why ≡ false → text ≡ []
-  pub cut : outcome ≡ Ended → text ≡ []
-
--- the line of the fault that cut a session, if one did, and its reason, were written
+-- the line of the fault that cut a session, if one did, and its reasons, from what was noted, were written
 pub record TellsCut {E : Type 0} (contents : E → Option (List ℕ)) (settings : Settings) (outcome : Outcome) (old new : Errors E)
     : Type 0 where
-  pub reason : List ℕ
-  pub is_reason : IsReason settings old.says_why outcome reason
-  pub puts : Puts contents old.err (outcome_line outcome ++ reason) new.err
+  pub found : Findings
+  pub puts : Puts contents old.err (outcome_line outcome ++ reasons_said settings old.says_why outcome found) new.err
   pub same : new.says_why ≡ old.says_why
 
 -- the exit status: 0 if the session ended and all was written
@@ -118,16 +106,15 @@ status_when Ended None = 0
 status_when Ended (Some why) = 1
 status_when (Cut fault) why = 1
 
--- to `err` were written the line of the fault that cut a session with its reason, the line of a text that wasn't written, and the line
+-- to `err` were written the line of the fault that cut a session with its reasons, the line of a text that wasn't written, and the line
 -- on messages that were left out
 pub record TellsErrors {E : Type 0} (contents : E → Option (List ℕ)) (settings : Settings) (told : Told)
     (refusal : Option Refusal) (old : Errors E) (fetched : Fetched) (new : Errors E) : Type 0 where
   pub idle : fetched.is_idle ≡ is_idle told
   pub status : fetched.status ≡ status_when (outcome_of told) refusal
-  pub reason : List ℕ
-  pub is_reason : IsReason settings old.says_why (outcome_of told) reason
-  pub said : Puts contents old.err (((outcome_line (outcome_of told) ++ reason) ++ unwritten_line (outcome_of told) refusal)
-      ++ left_out_said settings old.says_why told) new.err
+  pub found : Findings
+  pub said : Puts contents old.err (((outcome_line (outcome_of told) ++ reasons_said settings old.says_why (outcome_of told) found)
+      ++ unwritten_line (outcome_of told) refusal) ++ left_out_said settings old.says_why told) new.err
 
 -- what a session said was written to `out`, and nothing else; and the rest to `err`
 pub record TellsAll {O E : Type 0} (out_contents : O → Option (List ℕ)) (err_contents : E → Option (List ℕ)) (explains : Bool)

@@ -10,7 +10,7 @@ use crate::told::Manner;
 use fetch_rules::{Dest, Settings};
 use fetch_session::Store;
 use folder_store::{FolderMaildir, HostFile, HostFolder, HostFolders, ProcessMark};
-use getmail_setup::{Errors, Output, Paths, Setup, ShownWire, account_of};
+use getmail_setup::{Errors, Output, Paths, Setup, ShownWire, Subject, account_of};
 use mail_store::{FlatFile, MaildirDisk};
 use pop3_wire::Wire;
 use std::alloc::Global;
@@ -21,7 +21,7 @@ use std::time::{SystemTime, UNIX_EPOCH};
 use trace::System;
 
 /// Now, in seconds since 1970; 0 before that.
-fn seconds_now(rt: &impl Clock) -> u64 {
+pub fn seconds_now(rt: &impl Clock) -> u64 {
     match SystemTime::now(rt) {
         Ok(now) => match now.duration_since(UNIX_EPOCH) {
             Ok(passed) => passed.as_secs(),
@@ -194,12 +194,15 @@ pub fn fetch_at<
     let manner = Manner {
         now: seconds_now(rt),
         destination: paths.destination.as_str(),
+        record: paths.record.as_str(),
         pretends,
         explains: errors.explains,
     };
     let left = fetch_with(rt, parts, &mut wire, manner, out, &mut errors);
     tell_store(rt.alloc(), &left, paths.rests.as_str(), &mut errors);
+    errors.close(Subject::Notice);
     tell_unflushed(rt.alloc(), &left, &mut errors);
+    errors.close(Subject::Notice);
     if !left.fetched.is_idle {
         sweep(&left.settings, &left.store, &left.seen_file);
     }

@@ -4,12 +4,13 @@ ghost use Rattle.getmail_setup.specs.Output.{Puts};
 ghost use Rattle.getmail_program.specs.Telling.{TellsCut, TellsErrors, lacks_memory, outcome_line, status_when, unwritten_line};
 
 use crate::fault_line::put_fault;
+use crate::findings::findings_on;
 use crate::left_out::tell_left_out;
-use crate::reason::reason_line;
-use crate::told::Told;
+use crate::reason::reasons_said;
+use crate::told::{Manner, Told};
 use fetch_rules::Settings;
-use fetch_session::{Outcome, fault_number};
-use getmail_setup::{Errors, OUT_OF_MEMORY, Output, Refusal};
+use fetch_session::{LeftOut, Outcome, fault_number};
+use getmail_setup::{Counts, Errors, OUT_OF_MEMORY, Output, Refusal, Subject};
 use std::alloc::Global;
 use std::io::Write;
 
@@ -35,19 +36,23 @@ fn put_outcome<E: Write>(alloc: Global, outcome: &Outcome, err: &mut Output<E>)
     }
 }
 
-/// Writes the line of the fault that cut a session, if one did, and its reason, if that is known and asked
-/// for.
+/// Writes the line of the fault that cut a session, if one did, and its reasons, if they are asked for.
 fn tell_cut<E: Write>(
     alloc: Global,
     settings: &Settings,
+    manner: &Manner<'_>,
     outcome: &Outcome,
     errors: &mut Errors<'_, E>,
 )
     ensures { TellsCut E.contents settings.now outcome.now errors.old errors.new }
 {
-    let reason = reason_line(alloc, settings, outcome, errors);
+    let found = findings_on(alloc, outcome, manner, errors);
+    let reasons = reasons_said(alloc, settings, errors.says_why, outcome, &found);
     put_outcome(alloc, outcome, &mut errors.err);
-    errors.err.put(reason.as_slice());
+    match reasons {
+        Ok(lines) => errors.err.put(&lines),
+        Err(_) => errors.err.lack_memory(),
+    }
 }
 
 /// Whether a session was cut for want of memory, which the line of its fault says.
@@ -86,11 +91,35 @@ fn status_when(outcome: Outcome, refusal: Option<Refusal>) -> u8
     }
 }
 
-/// Writes to standard error the line of the fault that cut a session and its reason, whether what it says
+/// What was written last is how many messages a session left out.
+fn close_left_out<E>(told: &Told, errors: &Errors<'_, E>) {
+    if let Told::Done(report) = told {
+        let LeftOut {
+            too_large,
+            past_limit,
+            repeated,
+        } = report.left_out;
+        errors.close(Subject::LeftOut(Counts {
+            too_large,
+            past_limit,
+            repeated,
+        }));
+    }
+}
+
+/// Notes that an unattended run came to its end, if it did.
+fn note_end<E>(status: u8, errors: &Errors<'_, E>) {
+    if let (0, Some(journal)) = (status, errors.journal) {
+        journal.note_end();
+    }
+}
+
+/// Writes to standard error the line of the fault that cut a session and its reasons, whether what it says
 /// wasn't written, and how many messages were left out.
 pub fn tell_all<E: Write>(
     alloc: Global,
     settings: &Settings,
+    manner: &Manner<'_>,
     told: &Told,
     refusal: Option<Refusal>,
     errors: &mut Errors<'_, E>,
@@ -99,11 +128,15 @@ pub fn tell_all<E: Write>(
     ensures told { TellsErrors E.contents settings.now told.now refusal errors.old result errors.new }
 {
     let outcome = told.outcome();
-    tell_cut(alloc, settings, &outcome, errors);
+    tell_cut(alloc, settings, manner, &outcome, errors);
     errors.err.put(unwritten_line(&outcome, refusal).as_bytes());
+    errors.close(Subject::Fault);
     tell_left_out(alloc, settings, told, errors);
+    close_left_out(told, errors);
+    let status = status_when(outcome, refusal);
+    note_end(status, errors);
     Fetched {
-        status: status_when(outcome, refusal),
+        status,
         is_idle: told.is_idle(),
     }
 }

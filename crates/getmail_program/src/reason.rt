@@ -1,32 +1,167 @@
-//! The line after a fault's: the account, and the reason, if it is known.
-ghost use Rattle.std.specs.Prelude.{◌≡◌, IfOk};
-ghost use Rattle.getmail_program.specs.Telling.{IsReason, reason_line};
+//! The lines after a fault's: the account, and the reason.
+ghost use Rattle.std.specs.Prelude.{◌≡◌, ◌++◌, IfOk, codes};
+ghost use Rattle.std.specs.String.{string_bytes};
+ghost use Rattle.getmail_program.specs.Reasons.{hint_text, is_by_a_tunnel, is_near, line_with, or_else, place_in};
+ghost use Rattle.getmail_program.specs.Reasons.{reason_line, reason_text, reasons_of, reasons_said, rows_text};
 
+use crate::findings::Findings;
 use fetch_rules::Settings;
 use fetch_session::{Fault, Outcome, Why};
-use getmail_setup::{Errors, Reasons};
 use std::alloc::{AllocError, Global};
+use trace::Said;
 
-/// What the peer said.
-fn words_of(alloc: Global, answer: &[u8]) -> Option<Vec<u8>> {
-    let mut words = Vec::from_slice(alloc, b"the server said: ").ok()?;
-    words.extend_from_slice(answer).ok()?;
-    Some(words)
+/// Octets that follow each other.
+fn joined(alloc: Global, first: &[u8], second: &[u8]) -> Result<Vec<u8>, AllocError>
+    ensures { IfOk result (λ text. text.items ≡ first.now ++ second.now) }
+{
+    let mut text = Vec::from_slice(alloc, first)?;
+    text.extend_from_slice(second)?;
+    Ok(text)
 }
 
-/// The reason of a fault, if it is known: the server's words, or what was asked of the system and what
-/// it said.
-fn reason_of(alloc: Global, reasons: &Reasons, fault: &Fault) -> Option<Vec<u8>> {
-    let refused = match fault {
-        Fault::Refused(_) | Fault::BadReply => {
-            return words_of(alloc, reasons.answer.take()?.as_slice());
+/// Four texts that follow each other.
+fn joined_four(
+    alloc: Global,
+    first: &[u8],
+    second: &[u8],
+    third: &[u8],
+    fourth: &[u8],
+) -> Result<Vec<u8>, AllocError>
+    ensures { IfOk result (λ text. text.items ≡ first.now ++ (second.now ++ (third.now ++ fourth.now))) }
+{
+    let end = joined(alloc, third, fourth)?;
+    let end = joined(alloc, second, &end)?;
+    joined(alloc, first, &end)
+}
+
+/// The part of a conversation that was under way.
+fn place_in(alloc: Global, said: &Said) -> Result<Vec<u8>, AllocError>
+    ensures { IfOk result (λ place. place.items ≡ place_in said.now) }
+{
+    if said.command.is_empty() {
+        return Vec::from_slice(alloc, b"before the greeting");
+    }
+    joined(alloc, b"in the reply to ", &said.command)
+}
+
+/// Words, and the part of the conversation that was under way.
+fn at_place(alloc: Global, words: &[u8], said: &Said) -> Result<Vec<u8>, AllocError>
+    ensures { IfOk result (λ text. text.items ≡ words.now ++ place_in said.now) }
+{
+    let place = place_in(alloc, said)?;
+    joined(alloc, words, &place)
+}
+
+/// The first text, unless it is empty.
+fn or_else(alloc: Global, first: &[u8], second: Vec<u8>) -> Result<Vec<u8>, AllocError>
+    ensures { IfOk result (λ text. text.items ≡ or_else first.now second.items) }
+{
+    if first.is_empty() {
+        return Ok(second);
+    }
+    Vec::from_slice(alloc, first)
+}
+
+/// How many rows answered UIDL and LIST.
+fn rows_text(alloc: Global, said: &Said) -> Result<String, AllocError>
+    ensures { IfOk result (λ text. string_bytes text ≡ rows_text said.now) }
+{
+    let Said { uids, sizes, .. } = said;
+    format!(in alloc; ", UIDL has {uids} rows and LIST {sizes}")
+}
+
+/// What was refused at a path, which is told if nothing else was noted.
+fn refused_at(alloc: Global, found: &Findings, path: &str) -> Result<Vec<u8>, AllocError>
+    ensures { IfOk result (λ text. text.items ≡ or_else found.now.refused.items (path.now ++ codes ": the system gave no reason")) }
+{
+    let text = joined(alloc, path.as_bytes(), b": the system gave no reason")?;
+    or_else(alloc, &found.refused, text)
+}
+
+/// What an mboxrd file isn't.
+const NO_MBOX: &[u8] =
+    b": it isn't empty, and has no `From ` at its front or no empty line at its end";
+
+/// Where a fault is, with what the server said or the system refused, if that was noted: there is a text for
+/// each fault.
+fn reason_text(alloc: Global, fault: &Fault, found: &Findings) -> Result<Vec<u8>, AllocError>
+    ensures { IfOk result (λ text. text.items ≡ reason_text fault.now found.now) }
+{
+    let said = &found.said;
+    let command = said.command.as_slice();
+    match fault {
+        Fault::ConnectionEnded => at_place(alloc, b"it ended ", said),
+        Fault::ReadFailed | Fault::WriteFailed => {
+            or_else(alloc, &found.refused, at_place(alloc, b"it failed ", said)?)
         }
-        Fault::ReadFailed | Fault::WriteFailed => &reasons.link,
-        Fault::StoreRefused(Why::Missing | Why::Refused) => &reasons.store,
-        Fault::SeenRefused => &reasons.record,
-        _ => return None,
-    };
-    refused.take()?.text(alloc).ok()
+        Fault::ReplyTooLong => at_place(alloc, b"2048 octets hold no whole line, ", said),
+        Fault::BadReply => joined(alloc, b"the server said: ", &said.answer),
+        Fault::Refused(_) => joined(alloc, b"the server said: ", &said.denial),
+        Fault::BadListing => {
+            joined_four(
+                alloc,
+                b"the reply to ",
+                command,
+                b" has the row: ",
+                &said.row,
+            )
+        }
+        Fault::ListingsDisagree => {
+            let counts = joined(alloc, &said.count, rows_text(alloc, said)?.as_bytes())?;
+            joined(alloc, b"the answer to STAT is ", &counts)
+        }
+        Fault::TooMany => {
+            let words = b"100000 can be fetched; the answer to ";
+            joined_four(alloc, words, command, b" is ", &said.answer)
+        }
+        Fault::TextTooLong => at_place(alloc, b"268435456 octets hold no whole message, ", said),
+        Fault::StoreRefused(Why::NotMbox) => joined(alloc, found.destination.as_bytes(), NO_MBOX),
+        Fault::StoreRefused(_) => refused_at(alloc, found, found.destination.as_str()),
+        Fault::SeenRefused => refused_at(alloc, found, found.record.as_str()),
+        Fault::NoMemory => at_place(alloc, b"it ran out ", said),
+        Fault::BadSeen(_) => {
+            joined(
+                alloc,
+                found.record.as_bytes(),
+                b": a record has no such line",
+            )
+        }
+    }
+}
+
+/// Whether a server is on this machine, as a tunnel is: a socket's path, or a loopback address.
+fn is_near(server: &str) -> bool
+    ensures { result ≡ is_near server.now }
+{
+    let octets = server.as_bytes();
+    octets.starts_with(b"/")
+        || octets.starts_with(b"127.")
+        || server == "localhost"
+        || server == "::1"
+}
+
+/// Whether nothing was sent, and the server is on this machine.
+fn is_by_a_tunnel(settings: &Settings, found: &Findings) -> bool
+    ensures { result ≡ is_by_a_tunnel settings.now found.now }
+{
+    found.said.command.is_empty() && is_near(settings.server.as_str())
+}
+
+/// What else may help; empty if nothing is known to.
+fn hint_text(settings: &Settings, fault: &Fault, found: &Findings) -> &'static str
+    ensures { result.now ≡ hint_text settings.now fault.now found.now }
+{
+    match fault {
+        Fault::ConnectionEnded | Fault::ReadFailed => {
+            if is_by_a_tunnel(settings, found) {
+                "the tunnel's own log says why"
+            } else {
+                ""
+            }
+        }
+        Fault::TextTooLong => "max_message_size passes such a message over",
+        _ => "",
+    }
 }
 
 /// The line of a reason: `getmail: `, the account, and the reason.
@@ -46,22 +181,43 @@ pub fn line_of(alloc: Global, settings: &Settings, reason: &[u8]) -> Result<Vec<
     Ok(line)
 }
 
-/// The line of the reason of the fault that cut a session, if one did, it is known and it is to be written;
-/// else it is empty.
-pub fn reason_line<E>(
+/// Such a line, if it has words.
+fn line_with(alloc: Global, settings: &Settings, words: &str) -> Result<Vec<u8>, AllocError>
+    ensures { IfOk result (λ line. line.items ≡ line_with settings.now words.now) }
+{
+    if words.is_empty() {
+        return Ok(Vec::new(alloc));
+    }
+    line_of(alloc, settings, words.as_bytes())
+}
+
+/// The lines after that of a fault: its reason, and then a hint, if there is one.
+fn reasons_of(
     alloc: Global,
     settings: &Settings,
-    outcome: &Outcome,
-    errors: &Errors<'_, E>,
-) -> Vec<u8>
-    ensures { IsReason settings.now errors.now.says_why outcome.now result.items }
+    fault: &Fault,
+    found: &Findings,
+) -> Result<Vec<u8>, AllocError>
+    ensures { IfOk result (λ lines. lines.items ≡ reasons_of settings.now fault.now found.now) }
 {
-    if let (true, Outcome::Cut(fault)) = (errors.says_why, outcome) {
-        if let Some(reason) = reason_of(alloc, errors.reasons, fault) {
-            if let Ok(line) = line_of(alloc, settings, reason.as_slice()) {
-                return line;
-            }
-        }
+    let reason = reason_text(alloc, fault, found)?;
+    let line = line_of(alloc, settings, &reason)?;
+    let hint = line_with(alloc, settings, hint_text(settings, fault, found))?;
+    joined(alloc, &line, &hint)
+}
+
+/// What is said of an outcome, if reasons are asked for.
+pub fn reasons_said(
+    alloc: Global,
+    settings: &Settings,
+    says_why: bool,
+    outcome: &Outcome,
+    found: &Findings,
+) -> Result<Vec<u8>, AllocError>
+    ensures { IfOk result (λ lines. lines.items ≡ reasons_said settings.now says_why outcome.now found.now) }
+{
+    match (says_why, outcome) {
+        (true, Outcome::Cut(fault)) => reasons_of(alloc, settings, fault, found),
+        _ => Ok(Vec::new(alloc)),
     }
-    Vec::new(alloc)
 }

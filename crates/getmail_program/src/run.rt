@@ -49,7 +49,8 @@ pub fn fetch_over<
     let reasons = errors.reasons;
     let system = System::new(rt, &reasons.store);
     let told = hold(&system, account, wire, manner, out);
-    tell_all(rt.alloc(), account.settings(), &told, out.refusal(), errors)
+    let settings = account.settings();
+    tell_all(rt.alloc(), settings, &manner, &told, out.refusal(), errors)
 }
 
 /// What an account is made of.

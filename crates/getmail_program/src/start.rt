@@ -3,13 +3,15 @@ ghost use Rattle.std.specs.Prelude.{◌≡◌, ◌≤◌, true};
 ghost use Rattle.rc_file.specs.Settings.{IsValid};
 ghost use Rattle.getmail_setup.specs.Lock.{goes_on};
 
-use crate::devices::fetch_at;
+use crate::devices::{fetch_at, seconds_now};
+use crate::news::tell_news;
 use crate::rehearsal::rehearse;
 use fetch_rules::{RcFault, Settings};
 use folder_store::ProcessMark;
 use getmail_setup::{
-    Errors, Failure, Lock, Output, Peer, Reasons, Setup, Words, connect, explain, fail, failure_of,
-    home, link_over, peer_of, read_words, set_up, take_lock, tell,
+    Errors, Failure, Journal, Kept, Lock, Output, Peer, Reasons, Setup, Words, connect, explain,
+    fail, failure_of, home, is_long_held, link_over, other_list, peer_of, read_words, set_up,
+    take_lock, tell,
 };
 use std::env::{self, Env};
 use std::fs::File;
@@ -45,17 +47,18 @@ fn prepare<'a, R: RandomSource + AllocGlobal>(
 
 /// Connects, runs one session or only shows what it would do, and returns the exit status. A run of which
 /// another one has the lock does neither.
-fn fetch_with<R, O>(
+fn fetch_with<R, O, E>(
     rt: &R,
     setup: Setup,
     prepared: Prepared,
     _lock: &Lock,
     out: O,
-    errors: Errors<'_, Stderr>,
+    mut errors: Errors<'_, E>,
 ) -> u8
 where
-    R: Net<Stream = TcpStream> + Files + Clock + AllocGlobal + Eprint + Clone + Drop,
+    R: Net<Stream = TcpStream> + Files + Clock + AllocGlobal + Clone + Drop,
     O: Write + Drop,
+    E: Write + Copy + Drop,
     requires valid { IsValid setup.settings }
     requires turn { goes_on _lock.now ≡ true }
     ensures { result ≤ 2 }
@@ -65,56 +68,114 @@ where
     let server = settings.server.as_str();
     let stream = match connect(rt, &errors.reasons.before, server, settings.port) {
         Ok(stream) => stream,
-        Err(failure) => return fail(rt, failure, Some(settings), &errors),
+        Err(failure) => return fail(rt.alloc(), failure, Some(settings), &mut errors),
     };
     let link = link_over(rt.alloc(), &stream, peer, &errors);
     fetch_at(rt, setup, link, drawn, &mut Output::new(out), errors)
 }
 
+/// Whether an unattended run says nothing of another one that has the lock: not for the first hour.
+fn is_patient<E>(rt: &impl Clock, errors: &Errors<'_, E>) -> bool {
+    match (errors.journal, errors.reasons.held_since.get()) {
+        (Some(_), Some(since)) => !is_long_held(since, seconds_now(rt)),
+        _ => false,
+    }
+}
+
 /// Takes the lock, which is held to the end, then connects and runs one session or only shows what it would
 /// do, and returns the exit status.
-fn fetch<R, O>(rt: &R, process: Process, setup: Setup, out: O, errors: Errors<'_, Stderr>) -> u8
+fn fetch<R, O, E>(rt: &R, process: Process, setup: Setup, out: O, mut errors: Errors<'_, E>) -> u8
 where
     R: Net<Stream = TcpStream> + Files<File = File> + Clock + RandomSource + AllocGlobal,
-    R: Eprint + Clone + Drop,
+    R: Clone + Drop,
     O: Write + Drop,
+    E: Write + Copy + Drop,
     requires { IsValid setup.settings }
     ensures { result ≤ 2 }
 {
+    if let Some(list) = other_list(rt, &setup) {
+        let failure = Failure::OtherList(list.as_str(), setup.paths.record.as_str());
+        return fail(rt.alloc(), failure, None, &mut errors);
+    }
     let prepared = match prepare(rt, process, &setup.settings) {
         Ok(prepared) => prepared,
-        Err(failure) => return fail(rt, failure, None, &errors),
+        Err(failure) => return fail(rt.alloc(), failure, None, &mut errors),
     };
-    let lock = take_lock(rt, &setup, &errors);
+    let lock = take_lock(rt, &setup, &mut errors);
     if let Lock::Elsewhere = &lock {
-        return fail(rt, Failure::AtWork, Some(&setup.settings), &errors);
+        if is_patient(rt, &errors) {
+            return 0;
+        }
+        return fail(
+            rt.alloc(),
+            Failure::AtWork,
+            Some(&setup.settings),
+            &mut errors,
+        );
     }
     fetch_with(rt, setup, prepared, &lock, out, errors)
 }
 
 /// Sets a run up, and runs it. Returns the exit status.
-fn run<R, O>(rt: &R, process: Process, words: &Words, out: O, errors: Errors<'_, Stderr>) -> u8
+fn run<R, O, E>(rt: &R, process: Process, words: &Words, out: O, mut errors: Errors<'_, E>) -> u8
 where
     R: Net<Stream = TcpStream> + Files<File = File> + Env + Clock,
-    R: RandomSource + AllocGlobal + Eprint + Clone + Drop,
+    R: RandomSource + AllocGlobal + Clone + Drop,
     O: Write + Drop,
+    E: Write + Copy + Drop,
     ensures { result ≤ 2 }
 {
     let home = match home(rt) {
         Ok(home) => home,
-        Err(failure) => return fail(rt, failure, None, &errors),
+        Err(failure) => return fail(rt.alloc(), failure, None, &mut errors),
     };
-    match set_up(rt, home.as_deref(), words, &errors) {
+    match set_up(rt, home.as_deref(), words, &mut errors) {
         Ok(setup) => fetch(rt, process, setup, out, errors),
-        Err(failure) => fail(rt, failure, None, &errors),
+        Err(failure) => fail(rt.alloc(), failure, None, &mut errors),
     }
+}
+
+/// Where an unattended run says what it says: in a journal.
+fn errors_kept<'a>(journal: &'a Journal, reasons: &'a Reasons) -> Errors<'a, Kept<'a>> {
+    let err = Output::new(Kept(journal));
+    let journal = Some(journal);
+    Errors {
+        err,
+        shows_progress: false,
+        says_why: true,
+        explains: true,
+        reasons,
+        journal,
+    }
+}
+
+/// Runs with what is said kept in a journal, and tells of it what no earlier run told. Returns the exit status.
+fn run_unattended<R, O>(
+    rt: &R,
+    process: Process,
+    words: &Words,
+    out: O,
+    err: Stderr,
+    reasons: &Reasons,
+) -> u8
+where
+    R: Net<Stream = TcpStream> + Files<File = File> + Env + Clock,
+    R: RandomSource + AllocGlobal + Clone + Drop,
+    O: Write + Drop,
+    ensures { result ≤ 2 }
+{
+    let journal = Journal::new(rt.alloc());
+    let errors = errors_kept(&journal, reasons);
+    let status = run(rt, process, words, out, errors);
+    tell_news(rt, process, words, &journal, err);
+    status
 }
 
 /// Does what these words ask for, and returns the exit status.
 fn obey<R, I, O>(rt: &R, process: Process, words: &Words, streams: (I, O), mut err: Stderr) -> u8
 where
     R: Net<Stream = TcpStream> + Files<File = File> + Env + Clock,
-    R: RandomSource + AllocGlobal + Eprint + Clone + Drop,
+    R: RandomSource + AllocGlobal + Clone + Drop,
     I: Read + Drop,
     O: Write + IsTerminal + Drop,
     ensures { result ≤ 2 }
@@ -122,19 +183,28 @@ where
     let is_terminal = err.is_terminal();
     let trace = if words.trace { Some(err) } else { None };
     let reasons = Reasons::new(rt.alloc(), trace);
-    let errors = Errors {
+    if words.unattended && !words.pretend {
+        return run_unattended(rt, process, words, streams.1, err, &reasons);
+    }
+    let mut errors = Errors {
         err: Output::new(err),
         shows_progress: is_terminal && !words.trace,
-        says_why: words.why || is_terminal,
+        says_why: words.why || words.unattended || is_terminal,
         explains: words.why || streams.1.is_terminal(),
         reasons: &reasons,
+        journal: None,
     };
     if !words.rehearse {
         return run(rt, process, words, streams.1, errors);
     }
     let status = rehearse(rt.alloc(), words.flags, streams, &mut err, trace);
     if status == 2 {
-        return fail(rt, Failure::Rc(RcFault::Contradiction), None, &errors);
+        return fail(
+            rt.alloc(),
+            Failure::Rc(RcFault::Contradiction),
+            None,
+            &mut errors,
+        );
     }
     status
 }
@@ -168,10 +238,10 @@ where
 {
     let arguments = match arguments(rt) {
         Ok(arguments) => arguments,
-        Err(failure) => return tell(rt, failure),
+        Err(failure) => return tell(rt.alloc(), failure, &mut Output::new(err)),
     };
     match read_words(rt.alloc(), arguments.as_slice()) {
         Ok(words) => obey(rt, process, &words, streams, err),
-        Err(error) => explain(rt, &error),
+        Err(error) => explain(rt, &error, &mut Output::new(err)),
     }
 }

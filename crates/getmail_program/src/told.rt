@@ -33,6 +33,8 @@ pub struct Manner<'a> {
     pub now: u64,
     /// The destination's path.
     pub destination: &'a str,
+    /// The record's path.
+    pub record: &'a str,
     /// Whether nothing is to be done but to say what would be.
     pub pretends: bool,
     /// Whether the report says why messages are passed over.
@@ -200,7 +202,7 @@ fn hold_preview<
     let preview = pretend(account, wire, manner.now);
     wire.wipe();
     let settings = account.settings();
-    let said = said_ahead(system, &settings.dest, manner.destination, preview);
+    let said = said_ahead(system, &settings.dest, &manner, preview);
     put_preview(system.alloc(), &said, settings, out);
     Told::Ahead(said)
 }

@@ -1,5 +1,5 @@
 -- The command line: its options and flags, and what words ask for.
-use Rattle.std.specs.Prelude.{◌≡◌, List, codes, option_map}
+use Rattle.std.specs.Prelude.{◌≡◌, ◌&&◌, ◌||◌, Bool, List, codes, not, option_map}
 use Rattle.std.specs.String.{string_bytes}
 use Rattle.clap.specs.Words.{App, Row, count_of, first_of, with_rule}
 use Rattle.command_line.specs.Rules.{flag_rule, is_given, long_flag_rule, program, value_rule}
@@ -10,11 +10,12 @@ use Rattle.getmail_setup.specs.declared.words.Words.{Words}
 abbrev pub with_places : App → App
 with_places app = with_rule (with_rule app (value_rule (codes "rcfile") 114)) (value_rule (codes "getmaildir") 103)
 
--- -v, -q, --why, --trace
+-- -v, -q, --why, --trace, --unattended
 abbrev pub with_loudness : App → App
 with_loudness app =
-    with_rule (with_rule (with_rule (with_rule app
-    (flag_rule (codes "verbose") 118)) (flag_rule (codes "quiet") 113)) (long_flag_rule (codes "why"))) (long_flag_rule (codes "trace"))
+    with_rule (with_rule (with_rule (with_rule (with_rule app
+    (flag_rule (codes "verbose") 118)) (flag_rule (codes "quiet") 113)) (long_flag_rule (codes "why"))) (long_flag_rule (codes "trace")))
+    (long_flag_rule (codes "unattended"))
 
 -- -a, -n, -d, -l
 abbrev pub with_choices : App → App
@@ -27,14 +28,18 @@ getmail =
     with_rule (with_rule (with_choices (with_loudness (with_places (program (codes "getmail")))))
     (long_flag_rule (codes "pretend"))) (long_flag_rule (codes "rehearse"))
 
--- the flags that were given
+-- nobody waits for what is written, unless it is a rehearsal
+abbrev pub is_unattended : List Row → Bool
+is_unattended rows = is_given (codes "unattended") rows && not (is_given (codes "rehearse") rows)
+
+-- the flags that were given; --unattended stands for --quiet
 abbrev pub flags_in : List Row → Flags
 flags_in rows = record {
   all = is_given (codes "all") rows;
   new_only = is_given (codes "new") rows;
   delete = is_given (codes "delete") rows;
   dont_delete = is_given (codes "dont-delete") rows;
-  quiet = is_given (codes "quiet") rows;
+  quiet = is_given (codes "quiet") rows || is_unattended rows;
   verbose = count_of (codes "verbose") rows;
 }
 
@@ -46,4 +51,5 @@ pub record AsksFor (rows : List Row) (words : Words) : Type 0 where
   pub rehearse : words.rehearse ≡ is_given (codes "rehearse") rows
   pub pretend : words.pretend ≡ is_given (codes "pretend") rows
   pub why : words.why ≡ is_given (codes "why") rows
+  pub unattended : words.unattended ≡ is_unattended rows
   pub trace : words.trace ≡ is_given (codes "trace") rows

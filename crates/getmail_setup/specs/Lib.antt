@@ -1,6 +1,7 @@
 pub mod CommandLine
 pub mod Failures
 pub mod Lock
+pub mod Memory
 pub mod Output
 pub mod Places
 pub mod Progress

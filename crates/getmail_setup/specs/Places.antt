@@ -1,5 +1,6 @@
 -- Paths of the program's files.
-use Rattle.std.specs.Prelude.{◌≡◌, ℕ, Bool, false, Ok, ◌||◌, nat_eq, List, ◌++◌, drop, Option, Some, None, option_map, codes, if◌then◌else◌}
+use Rattle.std.specs.Prelude.{◌≡◌, ℕ, Bool, false, Ok, ◌||◌, nat_eq, List, [], ◌++◌, drop, Option, Some, None, option_map, codes, if◌then◌else◌}
+use Rattle.std.specs.Fmt.{decimal}
 use Rattle.std.specs.List.{starts_with, ends_with}
 use Rattle.std.specs.String.{string_bytes}
 use Rattle.rc_file.specs.RcMeaning.{Warned, rc_meaning}
@@ -44,6 +45,14 @@ abbrev pub rc_path : Option (List ℕ) → List ℕ → Option (List ℕ) → Op
 rc_path home folder None = Some (joined folder (codes "getmailrc"))
 rc_path home folder (Some path) = if stands_alone path then whole_path home path else Some (joined folder path)
 
+-- a server is the absolute path of a socket
+abbrev pub is_socket : List ℕ → Bool
+is_socket server = starts_with nat_eq server (codes "/")
+
+-- what a connection is called in a trace: a socket's path, or an address with its port
+abbrev pub peer_name : List ℕ → ℕ → List ℕ
+peer_name server port = if is_socket server then server else server ++ (codes ":" ++ decimal port)
+
 -- the digits that tell the account of the settings apart
 abbrev pub digits_of : Settings → List ℕ
 digits_of settings = account_text (string_bytes settings.server) settings.port (string_bytes settings.username)
@@ -70,6 +79,14 @@ pub record AreFor (home : Option (List ℕ)) (words : Words) (settings : Setting
   pub record_is : string_bytes paths.record ≡ account_path folder (codes "seen-") settings
   pub lock_is : string_bytes paths.lock ≡ account_path folder (codes "lock-") settings
   pub rests_is : string_bytes paths.rests ≡ string_bytes paths.record ++ codes ".rest"
+
+-- a path is in the folder that the words name, and its name has the digits of the rc file's path
+pub record IsToldPath (home : Option (List ℕ)) (words : Words) (path : List ℕ) : Type 0 where
+  pub folder : List ℕ
+  pub folder_is : folder_path home (option_map string_bytes words.dir) ≡ Some folder
+  pub rc : List ℕ
+  pub rc_is : rc_path home folder (option_map string_bytes words.rcfile) ≡ Some rc
+  pub is : path ≡ joined folder (codes "told-" ++ account_text rc 0 [])
 
 -- a run's settings and paths are those that an rc file, the words and the home mean
 pub record IsSetUp (home : Option (List ℕ)) (words : Words) (setup : Setup) : Type 0 where

@@ -1,7 +1,8 @@
-//! The TCP connection to the server.
+//! The connection to the server: over TCP, or to a Unix socket on which a tunnel listens.
 ghost use Rattle.std.specs.Prelude.{◌≡◌, IfOk};
 ghost use Rattle.std.specs.String.{string_bytes};
 ghost use Rattle.trace.specs.Wire.{Hides};
+ghost use Rattle.getmail_setup.specs.Places.{is_socket, peer_name};
 
 use crate::errors::Errors;
 use crate::failure::{Failure, failure_of};
@@ -10,6 +11,8 @@ use pop3_wire::StreamWire;
 use std::alloc::{AllocError, Global};
 use std::io::{self, Stderr};
 use std::net::{Net, SocketAddr, TcpStream, ToSocketAddrs};
+use std::os::fd::OwnedFd;
+use std::os::unix::net::UnixStream;
 use std::time::Duration;
 use trace::{Noted, Refusals, TracedWire};
 
@@ -20,7 +23,10 @@ const CONNECT_SECONDS: u64 = 60;
 /// lasts for ever.
 const WAIT_SECONDS: u64 = 180;
 
-/// A connection, or one end of it, whose refused calls are noted.
+/// Why a read or a write failed that waited as long.
+pub const SILENT: &str = "silent for 180 seconds";
+
+/// One end of a connection, whose refused calls are noted.
 type End<'a> = Noted<'a, &'a TcpStream>;
 
 /// The link over a connection.
@@ -43,8 +49,41 @@ fn note_refused(alloc: Global, refusals: &Refusals, address: SocketAddr, error: 
     }
 }
 
-/// Connects to the first of the server's addresses that takes the connection.
+/// Connects to a socket, and limits how long reads and writes wait. What reads and writes a stream is the same for
+/// either kind.
+fn connect_to_socket<R: Net<Stream = TcpStream>>(net: &R, path: &str) -> io::Result<TcpStream> {
+    let stream = UnixStream::connect(net, path)?;
+    let wait = Some(Duration::from_secs(WAIT_SECONDS));
+    stream.set_read_timeout(wait)?;
+    stream.set_write_timeout(wait)?;
+    Ok(TcpStream::from(OwnedFd::from(stream)))
+}
+
+/// Whether a server is the absolute path of a socket.
+pub fn is_socket(server: &str) -> bool
+    ensures { result ≡ is_socket server.now }
+{
+    server.as_bytes().starts_with(b"/")
+}
+
+/// Connects to the server's socket, or to the first of its addresses that takes the connection.
 pub fn connect<'a, R: Net<Stream = TcpStream> + AllocGlobal>(
+    rt: &R,
+    refusals: &Refusals,
+    server: &'a str,
+    port: u16,
+) -> Result<TcpStream, Failure<'a>> {
+    if !is_socket(server) {
+        return connect_over_tcp(rt, refusals, server, port);
+    }
+    match refusals.noted("connect", server, connect_to_socket(rt, server)) {
+        Ok(stream) => Ok(stream),
+        Err(error) => Err(failure_of(error, Failure::CannotConnect(server, port))),
+    }
+}
+
+/// Connects to the first of the server's addresses that takes the connection.
+fn connect_over_tcp<'a, R: Net<Stream = TcpStream> + AllocGlobal>(
     rt: &R,
     refusals: &Refusals,
     server: &'a str,
@@ -71,6 +110,16 @@ pub struct Peer {
     password: Vec<u8>,
 }
 
+/// The peer's name: a socket's path, or an address with its port.
+fn peer_name(alloc: Global, server: &str, port: u16) -> Result<String, AllocError>
+    ensures { IfOk result (λ name. string_bytes name ≡ peer_name server.now port) }
+{
+    if is_socket(server) {
+        return String::from_str(alloc, server);
+    }
+    format!(in alloc; "{server}:{port}")
+}
+
 /// What the link needs. It is made before there is a connection, so that want of memory doesn't end one.
 pub fn peer_of(alloc: Global, settings: &Settings) -> Result<Peer, AllocError>
     ensures { IfOk result (λ peer. peer.password.items ≡ string_bytes settings.now.password) }
@@ -78,18 +127,18 @@ pub fn peer_of(alloc: Global, settings: &Settings) -> Result<Peer, AllocError>
     let server = settings.server.as_str();
     let port = settings.port;
     Ok(Peer {
-        name: format!(in alloc; "{server}:{port}")?,
+        name: peer_name(alloc, server, port)?,
         password: Vec::from_slice(alloc, settings.password.as_bytes())?,
     })
 }
 
-/// The link over a connection to the server. Its conversation is shown if there is a trace, and the first
-/// denial is kept if reasons are written; neither has the password.
-pub fn link_over<'a>(
+/// The link over a connection to the server. Its conversation is shown if there is a trace, and what was said
+/// is kept if reasons are written; neither has the password.
+pub fn link_over<'a, E>(
     alloc: Global,
     stream: &'a TcpStream,
     peer: Peer,
-    errors: &Errors<'a, Stderr>,
+    errors: &Errors<'a, E>,
 ) -> Link<'a>
     ensures { Hides result peer.password.items }
 {
@@ -100,10 +149,10 @@ pub fn link_over<'a>(
         Noted::new(alloc, stream, name, &reasons.link),
         Noted::new(alloc, stream, name, &reasons.link),
     );
-    let denial = if errors.says_why {
-        Some(&reasons.answer)
+    let talk = if errors.says_why {
+        Some(&reasons.talk)
     } else {
         None
     };
-    TracedWire::new(alloc, wire, reasons.link.trace(), Some(password), denial)
+    TracedWire::new(alloc, wire, reasons.link.trace(), Some(password), talk)
 }

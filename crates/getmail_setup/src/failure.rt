@@ -5,11 +5,12 @@ ghost use Rattle.clap.specs.Values.{kind_of};
 ghost use Rattle.command_line.specs.Rules.{is_asked_for};
 ghost use Rattle.getmail_setup.specs.Failures.{status_of};
 
+use crate::output::Output;
 use clap::Error;
 use command_line::show;
 use fetch_rules::{RcFault, rc_text};
 use std::alloc::{AllocError, AllocFailed, Global};
-use std::io::{self, ErrorKind};
+use std::io::{self, ErrorKind, Write};
 
 /// The line of want of memory, which needs none.
 pub const OUT_OF_MEMORY: &str = "getmail: out of memory\n";
@@ -23,6 +24,8 @@ pub enum Failure<'a> {
     CannotRead,
     /// The rc file or the flags are wrong.
     Rc(RcFault),
+    /// This file lists what getmail6 fetched, and there is no record at this path.
+    OtherList(&'a str, &'a str),
     /// Another run of the account is at work.
     AtWork,
     /// No address of this server takes a connection to this port.
@@ -77,33 +80,52 @@ pub fn failure_of<'a>(error: io::Error, failure: Failure<'a>) -> Failure<'a>
 }
 
 /// Writes the line of an rc file's fault.
-fn tell_rc_fault<R: Eprint + AllocGlobal>(rt: &R, fault: &RcFault) {
-    let alloc: Global = rt.alloc();
-    let _ = match rc_text(alloc, fault) {
-        Ok(text) => rt.eprintln(format_args!("getmail: {text}")),
-        Err(_) => rt.eprintln("getmail: out of memory"),
-    };
+fn tell_rc_fault<E: Write>(alloc: Global, fault: &RcFault, err: &mut Output<E>) {
+    match rc_text(alloc, fault) {
+        Ok(text) => {
+            err.put(b"getmail: ");
+            err.put(text.as_bytes());
+            err.put(b"\n");
+        }
+        Err(_) => err.put(OUT_OF_MEMORY.as_bytes()),
+    }
 }
 
-/// Writes a failure's line to standard error and returns the exit status: 1 if another run
-/// is at work or there was no connection, 2 for all that is found before. A line that can't be written changes nothing.
-pub fn tell<R: Eprint + AllocGlobal>(rt: &R, failure: Failure<'_>) -> u8
+/// Writes the line of a first run in getmail6's place, which would fetch all mail again.
+fn tell_other_list<E: Write>(list: &str, record: &str, err: &mut Output<E>) {
+    err.put(b"getmail: ");
+    err.put(list.as_bytes());
+    err.put(
+        b" lists what getmail6 fetched: make a record of it with from-getmail6.py, or an empty file ",
+    );
+    err.put(record.as_bytes());
+    err.put(b" to fetch all mail\n");
+}
+
+/// Writes the line of a server that takes no connection.
+fn tell_unconnected<E: Write>(server: &str, port: u16, err: &mut Output<E>) {
+    err.put(b"getmail: cannot connect to ");
+    err.put(server.as_bytes());
+    err.put(b":");
+    err.put_number(Some(u32::from(port)));
+    err.put(b"\n");
+}
+
+/// Writes a failure's line and returns the exit status: 1 if another run is at work or there was no
+/// connection, 2 for all that is found before. A line that can't be written changes nothing.
+pub fn tell<E: Write>(alloc: Global, failure: Failure<'_>, err: &mut Output<E>) -> u8
     ensures status { result ≡ status_of failure.entry }
     ensures within { result ≤ 2 }
 {
-    let _ = match failure {
-        Failure::NoHome => rt.eprintln("getmail: HOME is not set"),
-        Failure::CannotRead => rt.eprintln("getmail: cannot read rc file"),
-        Failure::Rc(fault) => {
-            tell_rc_fault(rt, &fault);
-            Ok(())
-        }
-        Failure::AtWork => rt.eprintln("getmail: another getmail is at work for this account"),
-        Failure::CannotConnect(server, port) => {
-            rt.eprintln(format_args!("getmail: cannot connect to {server}:{port}"))
-        }
-        Failure::NoMemory => rt.eprintln("getmail: out of memory"),
-    };
+    match failure {
+        Failure::NoHome => err.put(b"getmail: HOME is not set\n"),
+        Failure::CannotRead => err.put(b"getmail: cannot read rc file\n"),
+        Failure::Rc(fault) => tell_rc_fault(alloc, &fault, err),
+        Failure::OtherList(list, record) => tell_other_list(list, record, err),
+        Failure::AtWork => err.put(b"getmail: another getmail is at work for this account\n"),
+        Failure::CannotConnect(server, port) => tell_unconnected(server, port, err),
+        Failure::NoMemory => err.put(OUT_OF_MEMORY.as_bytes()),
+    }
     match failure {
         Failure::AtWork | Failure::CannotConnect(_, _) => 1,
         _ => 2,
@@ -112,13 +134,17 @@ pub fn tell<R: Eprint + AllocGlobal>(rt: &R, failure: Failure<'_>) -> u8
 
 /// Shows why there are no words, and returns the exit status: 0 for help or the version that was written,
 /// 1 for one that wasn't, 2 for a mistake or if memory ran out.
-pub fn explain<R: Print + Eprint + AllocGlobal>(rt: &R, error: &Error) -> u8
+pub fn explain<R: Print + Eprint + AllocGlobal, E: Write>(
+    rt: &R,
+    error: &Error,
+    err: &mut Output<E>,
+) -> u8
     ensures text { is_asked_for (kind_of error.now) ≡ true → result ≤ 1 }
     ensures other { is_asked_for (kind_of error.now) ≡ false → result ≡ 2 }
     ensures within { result ≤ 2 }
 {
     match show(rt, "getmail", error) {
         Some(status) => status,
-        None => tell(rt, Failure::NoMemory),
+        None => tell(rt.alloc(), Failure::NoMemory, err),
     }
 }

@@ -4,7 +4,10 @@
 mod connection;
 mod errors;
 mod failure;
+mod in_place;
+mod journal;
 mod lock;
+mod memory;
 mod output;
 mod place;
 mod progress;
@@ -13,12 +16,15 @@ mod setup;
 mod shown_wire;
 mod words;
 
-pub use connection::{Link, Peer, connect, link_over, peer_of};
+pub use connection::{Link, Peer, SILENT, connect, is_socket, link_over, peer_of};
 pub use errors::{Errors, Reasons, fail};
 pub use failure::{Failure, OUT_OF_MEMORY, explain, failure_of, tell};
+pub use in_place::other_list;
+pub use journal::{Journal, Kept, Part, Subject};
 pub use lock::{Lock, take_lock};
+pub use memory::{Counts, Telling, Times, after, counts_after, has_more, is_long_held, told_of};
 pub use output::{Output, Refusal, refusal_of};
 pub use place::{home, joined};
-pub use setup::{Paths, Setup, account_of, set_up};
+pub use setup::{Paths, Setup, account_of, set_up, told_path};
 pub use shown_wire::ShownWire;
 pub use words::{Words, read_words};

@@ -2,12 +2,13 @@
 ghost use Rattle.std.specs.Prelude.{◌≡◌, true};
 ghost use Rattle.getmail_setup.specs.Lock.{lock_of};
 
-use crate::errors::{Errors, tell_unlocked};
+use crate::errors::{Errors, Reasons, tell_unlocked};
 use crate::setup::Setup;
 use std::fs::{File, OpenOptions, TryLockError};
-use std::io::{self, ErrorKind};
+use std::io::{self, ErrorKind, Write};
 use std::os::unix::fs::OpenOptionsExt;
-use std::rt::Files;
+use std::rt::{Clock, Files};
+use std::time::{SystemTime, UNIX_EPOCH};
 use trace::System;
 
 /// What became of a run's lock.
@@ -54,15 +55,33 @@ fn lock_of(file: File, answer: &Result<(), TryLockError>) -> Lock
     }
 }
 
+/// Marks a locked file with the time, for a run that finds it locked. Nothing rests on it.
+fn mark_time<R: Files<File = File> + Clock>(rt: &R, file: &File) {
+    if let Ok(now) = SystemTime::now(rt) {
+        let _ = file.set_modified(now);
+    }
+}
+
+/// The second since 1970 at which a file was marked.
+fn time_of(file: &File) -> Option<u64> {
+    let marked = file.metadata().ok()?.modified().ok()?;
+    Some(marked.duration_since(UNIX_EPOCH).ok()?.as_secs())
+}
+
 /// Tries to lock a file, without waiting. Why it isn't locked is noted.
-fn try_lock<R: Files<File = File> + AllocGlobal>(system: &System<'_, R>, path: &str) -> Lock {
+fn try_lock<R: Files<File = File> + Clock + AllocGlobal>(
+    system: &System<'_, R>,
+    path: &str,
+    reasons: &Reasons,
+) -> Lock {
     let Ok(file) = open_lock(system, path) else {
         return Lock::Without;
     };
     let answer = file.try_lock();
     match &answer {
-        Ok(()) => {}
+        Ok(()) => mark_time(system.rt, &file),
         Err(TryLockError::WouldBlock) => {
+            reasons.held_since.set(time_of(&file));
             let _ = system
                 .refusals
                 .refuse(path, "another process has locked it");
@@ -78,20 +97,21 @@ fn try_lock<R: Files<File = File> + AllocGlobal>(system: &System<'_, R>, path: &
 
 /// Takes the lock of a run's account, unless the run changes nothing. If none is to be had, the run goes on
 /// without: that is told, if reasons are to be written.
-pub fn take_lock<R: Files<File = File> + Eprint + AllocGlobal, E>(
+pub fn take_lock<R: Files<File = File> + Clock + AllocGlobal, E: Write>(
     rt: &R,
     setup: &Setup,
-    errors: &Errors<'_, E>,
+    errors: &mut Errors<'_, E>,
 ) -> Lock
     ensures { setup.now.pretends ≡ true → result ≡ Lock.Without }
 {
     if setup.pretends {
         return Lock::Without;
     }
-    let system = System::new(rt, &errors.reasons.before);
-    let lock = try_lock(&system, setup.paths.lock.as_str());
+    let reasons = errors.reasons;
+    let system = System::new(rt, &reasons.before);
+    let lock = try_lock(&system, setup.paths.lock.as_str(), reasons);
     if let Lock::Without = &lock {
-        tell_unlocked(rt, &setup.settings, errors);
+        tell_unlocked(rt.alloc(), &setup.settings, errors);
     }
     lock
 }

@@ -9,11 +9,16 @@ use std::alloc::{AllocError, Global};
 /// How many octets of a message come before the line is shown again.
 const STEP: u64 = 65_536;
 
+/// How many rows of listings come before it is; a listing with fewer messages isn't shown.
+const ROWS: u32 = 1_000;
+
 /// What the reply to the last command holds.
 #[derive(Clone, Copy, Debug, PartialEq, Eq)]
 enum Asked {
     /// The number of messages.
     Count,
+    /// The rows of a listing.
+    Rows,
     /// A message.
     Message,
     /// Nothing that the line shows.
@@ -24,6 +29,7 @@ enum Asked {
 #[derive(Clone, Copy)]
 pub struct Progress {
     total: u32,
+    rows: u32,
     number: u32,
     octets: u64,
     due: u64,
@@ -42,6 +48,7 @@ impl Progress {
     pub fn new() -> Progress {
         Progress {
             total: 0,
+            rows: 0,
             number: 0,
             octets: 0,
             due: 0,
@@ -53,6 +60,7 @@ impl Progress {
     fn ask(&mut self, command: Command) {
         match command {
             Command::Stat => self.asked = Asked::Count,
+            Command::UidlAll | Command::ListAll => self.asked = Asked::Rows,
             Command::Retr(number) => {
                 self.asked = Asked::Message;
                 self.number = number;
@@ -79,30 +87,45 @@ impl Progress {
             }
             Note::Body { octets, .. } => {
                 self.octets = self.octets.saturating_add(octets as u64);
+                if self.asked == Asked::Rows {
+                    self.rows = self.rows.saturating_add(1);
+                }
             }
         }
     }
 
-    /// Whether the line is to be shown now: a message has begun, or much more of it came since the last
-    /// time.
+    /// Whether the line is to be shown now: a message or a long listing has begun, or much more of it came since
+    /// the last time.
     pub fn is_due(&mut self) -> bool {
-        if self.asked != Asked::Message || self.octets < self.due {
-            return false;
+        match self.asked {
+            Asked::Other => false,
+            Asked::Count | Asked::Rows => self.total >= ROWS && self.rows % ROWS == 0,
+            Asked::Message => {
+                if self.octets < self.due {
+                    return false;
+                }
+                self.due = self.octets.saturating_add(STEP);
+                true
+            }
         }
-        self.due = self.octets.saturating_add(STEP);
-        true
     }
 
-    /// The text of the line.
+    /// The text of the line. UIDL and LIST each have a row for each message.
     pub fn text(&self, alloc: Global) -> Result<String, AllocError>
         ensures { IfOk result (λ text. string_bytes text ≡ progress_text self.now) }
     {
         let Progress {
             total,
+            rows,
             number,
             octets,
+            asked,
             ..
         } = *self;
-        format!(in alloc; "message {number} of {total}, {octets} octets")
+        if asked == Asked::Message {
+            return format!(in alloc; "message {number} of {total}, {octets} octets");
+        }
+        let listed = rows / 2;
+        format!(in alloc; "listed {listed} of {total} messages")
     }
 }

@@ -2,27 +2,32 @@
 ghost use Rattle.std.specs.Prelude.{◌≡◌, ◌++◌, Some, IfOk, codes, option_map};
 ghost use Rattle.std.specs.String.{string_bytes};
 ghost use Rattle.rc_file.specs.Settings.{IsValid};
-ghost use Rattle.getmail_setup.specs.Places.{AreAsked, AreFor, IsSetUp, account_path, digits_of, path_in, whole_path};
+ghost use Rattle.getmail_setup.specs.Places.{AreAsked, AreFor, IsSetUp, IsToldPath, account_path, digits_of, path_in, whole_path};
 
+use crate::connection::is_socket;
 use crate::errors::Errors;
 use crate::failure::{Failure, failure_of};
+use crate::journal::Subject;
 use crate::place::{folder, joined, rc_file, whole_path};
-use crate::rc_reason::keep_reason;
+use crate::rc_reason::{RcFile, keep_reason};
 use crate::words::Words;
 use fetch_rules::{Dest, Flags, Settings, Warning, override_with, read_rc, warning_text};
 use mail_store::{AccountId, account_id};
 use std::alloc::{AllocError, Global};
-use std::io::{self, Read};
+use std::fs;
+use std::io::{self, Read, Write};
 use std::os::unix::fs::PermissionsExt;
 use std::rt::Files;
-use std::{fs, str};
 use trace::{System, line_text};
 
 /// One octet more than an rc file may have, so that a longer one is noticed.
 const RC_ROOM: u64 = 65_537;
 
 /// The warning of a file that others may read, before its path.
-const OTHERS: &str = "getmail: warning: others than its owner may read or write ";
+const OTHERS: &str = "warning: others than its owner may read or write ";
+
+/// What the warning of a port for TLS ends with.
+const NO_TLS: &str = "which getmail doesn't speak: use a tunnel";
 
 /// The paths of a run.
 #[derive(Drop)]
@@ -55,14 +60,23 @@ fn read_file<R: Files + AllocGlobal>(system: &System<'_, R>, path: &str) -> io::
     Ok(bytes)
 }
 
+/// Writes a warning.
+fn put_warning<E: Write>(text: &[u8], errors: &mut Errors<'_, E>) {
+    errors.err.put(b"getmail: ");
+    errors.err.put(text);
+    errors.err.put(b"\n");
+    errors.close(Subject::Notice);
+}
+
 /// Writes the rc file's warnings.
-fn tell_warnings<'a, R: Eprint + AllocGlobal>(
-    rt: &R,
+fn tell_warnings<'a, E: Write>(
+    alloc: Global,
     warnings: &[Warning],
+    errors: &mut Errors<'_, E>,
 ) -> Result<(), Failure<'a>> {
     for warning in warnings {
-        let text = warning_text(rt.alloc(), warning)?;
-        let _ = rt.eprintln(format_args!("getmail: {text}"));
+        let text = warning_text(alloc, warning)?;
+        put_warning(text.as_bytes(), errors);
     }
     Ok(())
 }
@@ -76,39 +90,52 @@ fn is_others_too<R: Files>(rt: &R, path: &str) -> bool {
 }
 
 /// Warns if others may read or write the rc file, which has a password.
-fn warn_of_others<R: Files + Eprint + AllocGlobal>(rt: &R, path: &str) {
+fn warn_of_others<R: Files + AllocGlobal, E: Write>(
+    rt: &R,
+    path: &str,
+    errors: &mut Errors<'_, E>,
+) {
     if !is_others_too(rt, path) {
         return;
     }
-    let Ok(line) = line_text(rt.alloc(), OTHERS, path.as_bytes()) else {
+    if let Ok(line) = line_text(rt.alloc(), OTHERS, path.as_bytes()) {
+        put_warning(line.trim_ascii_end(), errors);
+    }
+}
+
+/// Warns of a port that servers have for TLS. A socket has no port.
+fn warn_of_port<E: Write>(alloc: Global, settings: &Settings, errors: &mut Errors<'_, E>) {
+    let port = settings.port;
+    if is_socket(settings.server.as_str()) || (port != 993 && port != 995) {
         return;
-    };
-    if let Ok(line) = str::from_utf8(line.as_slice()) {
-        let _ = rt.eprintln(line.trim_end());
+    }
+    if let Ok(text) = format!(in alloc; "warning: port {port} is for TLS, {NO_TLS}") {
+        put_warning(text.as_bytes(), errors);
     }
 }
 
 /// The settings that an rc file of these octets means, changed by the flags. Its warnings are written.
-fn meaning_of<'a, R: Eprint + AllocGlobal>(
-    rt: &R,
+fn meaning_of<'a, E: Write>(
+    alloc: Global,
     bytes: &[u8],
     flags: Flags,
+    errors: &mut Errors<'_, E>,
 ) -> Result<Settings, Failure<'a>>
     ensures valid { IfOk result IsValid }
     ensures asked { IfOk result (AreAsked flags) }
 {
-    let (settings, warnings) = read_rc(rt.alloc(), bytes)?;
-    tell_warnings(rt, warnings.as_slice())?;
+    let (settings, warnings) = read_rc(alloc, bytes)?;
+    tell_warnings(alloc, warnings.as_slice(), errors)?;
     Ok(override_with(settings, flags)?)
 }
 
 /// Reads the rc file, writes its warnings, and returns its settings, changed by the flags. The reason of a
 /// fault is kept, and a file that others may read is warned of, if reasons are to be written.
-fn settings_of<'a, R: Files + Eprint + AllocGlobal, E>(
+fn settings_of<'a, R: Files + AllocGlobal, E: Write>(
     rt: &R,
     path: &str,
     words: &Words,
-    errors: &Errors<'_, E>,
+    errors: &mut Errors<'_, E>,
 ) -> Result<Settings, Failure<'a>>
     ensures valid { IfOk result IsValid }
     ensures asked { IfOk result (AreAsked words.now.flags) }
@@ -117,13 +144,17 @@ fn settings_of<'a, R: Files + Eprint + AllocGlobal, E>(
         Ok(bytes) => bytes,
         Err(error) => return Err(failure_of(error, Failure::CannotRead)),
     };
-    let settings = meaning_of(rt, bytes.as_slice(), words.flags);
+    let alloc = rt.alloc();
+    let settings = meaning_of(alloc, bytes.as_slice(), words.flags, errors);
     if errors.says_why {
         match &settings {
-            Ok(_) => warn_of_others(rt, path),
+            Ok(settings) => {
+                warn_of_others(rt, path, errors);
+                warn_of_port(alloc, settings, errors);
+            }
             Err(Failure::Rc(fault)) => {
-                let (alloc, reasons) = (rt.alloc(), errors.reasons);
-                keep_reason(alloc, reasons, fault, bytes.as_slice(), words.flags)
+                let bytes = bytes.as_slice();
+                keep_reason(alloc, errors.reasons, fault, RcFile { path, bytes }, words)
             }
             Err(_) => {}
         }
@@ -201,14 +232,31 @@ fn places<'a>(
     })
 }
 
+/// The path of the file that keeps what unattended runs with an rc file told. Its name has the digits of an account
+/// whose server is that file's path, with port 0, which no account has.
+pub fn told_path<'a>(
+    alloc: Global,
+    home: Option<&str>,
+    words: &Words,
+) -> Result<String, Failure<'a>>
+    ensures { IfOk result (λ path. IsToldPath (option_map (λ text. text.now) home.entry) words.now (string_bytes path)) }
+{
+    let folder = folder(alloc, home, words.dir.as_deref())?;
+    let path = rc_file(alloc, home, folder.as_str(), words.rcfile.as_deref())?;
+    let digest = account_id(path.as_str(), 0, "");
+    let digest = digest.as_str();
+    let name = format!(in alloc; "told-{digest}")?;
+    Ok(joined(alloc, folder.as_str(), name.as_str())?)
+}
+
 /// The settings and the paths of a run, or the first of these failures: HOME is needed and not known,
 /// the rc file can't be read or is wrong, the flags are opposite. The reason is kept if reasons are to be
 /// written.
-pub fn set_up<'a, R: Files + Eprint + AllocGlobal, E>(
+pub fn set_up<'a, R: Files + AllocGlobal, E: Write>(
     rt: &R,
     home: Option<&str>,
     words: &Words,
-    errors: &Errors<'_, E>,
+    errors: &mut Errors<'_, E>,
 ) -> Result<Setup, Failure<'a>>
     ensures { IfOk result (IsSetUp (option_map (λ text. text.now) home.entry) words.now) }
 {

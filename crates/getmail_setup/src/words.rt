@@ -2,7 +2,7 @@
 ghost use Rattle.std.specs.Prelude.{◌≡◌, IfOk, map};
 ghost use Rattle.std.specs.String.{string_bytes};
 ghost use Rattle.clap.specs.Words.{FailsBy, app_of, fault_of, found_of, matches_of, rows_of};
-ghost use Rattle.getmail_setup.specs.CommandLine.{AsksFor, flags_in, getmail};
+ghost use Rattle.getmail_setup.specs.CommandLine.{AsksFor, flags_in, getmail, is_unattended};
 
 use clap::{ArgMatches, Command, Error};
 use command_line::{add, flag, is_given, long_flag, program, text, value_option};
@@ -24,6 +24,8 @@ pub struct Words {
     pub pretend: bool,
     /// Whether reasons are written, also if standard error is no terminal.
     pub why: bool,
+    /// Whether nobody waits for what is written: what was told in an earlier run is left out.
+    pub unattended: bool,
     /// Whether the conversation and refused calls of the system are traced.
     pub trace: bool,
 }
@@ -42,6 +44,9 @@ const VERBOSE: &str = "Report more, each time by one, up to 2";
 const QUIET: &str = "Write no report";
 
 const WHY: &str = "Say why a run failed, also if standard error is no terminal";
+
+const UNATTENDED: &str =
+    "For cron and timers: write no report, say why, and nothing that was told before";
 
 const TRACE: &str = "Show the conversation and refused calls of the system on standard error";
 
@@ -69,6 +74,7 @@ fn command<'a>(alloc: Global) -> Result<Command<'a>, AllocError>
     let command = add(command, flag(alloc, "quiet", 'q', QUIET))?;
     let command = add(command, long_flag(alloc, "why", WHY))?;
     let command = add(command, long_flag(alloc, "trace", TRACE))?;
+    let command = add(command, long_flag(alloc, "unattended", UNATTENDED))?;
     let command = add(command, flag(alloc, "all", 'a', ALL))?;
     let command = add(command, flag(alloc, "new", 'n', NEW))?;
     let command = add(command, flag(alloc, "delete", 'd', DELETE))?;
@@ -76,6 +82,13 @@ fn command<'a>(alloc: Global) -> Result<Command<'a>, AllocError>
     let command = add(command, long_flag(alloc, "pretend", PRETEND))?;
     // For developers: getmail(1) explains it.
     add(command, long_flag(alloc, "rehearse", REHEARSE).hide(true))
+}
+
+/// Whether nobody waits for what is written. A rehearsal is held by somebody.
+fn is_unattended(matches: &ArgMatches<'_>) -> bool
+    ensures { result ≡ is_unattended (rows_of (found_of matches.now)) }
+{
+    is_given(matches, "unattended") && !is_given(matches, "rehearse")
 }
 
 /// The flags in clap's matches.
@@ -87,7 +100,7 @@ fn flags_of(matches: &ArgMatches<'_>) -> Flags
         new_only: is_given(matches, "new"),
         delete: is_given(matches, "delete"),
         dont_delete: is_given(matches, "dont-delete"),
-        quiet: is_given(matches, "quiet"),
+        quiet: is_given(matches, "quiet") || is_unattended(matches),
         verbose: matches.get_count("verbose"),
     }
 }
@@ -103,6 +116,7 @@ fn words_of(alloc: Global, matches: &ArgMatches<'_>) -> Result<Words, AllocError
         rehearse: is_given(matches, "rehearse"),
         pretend: is_given(matches, "pretend"),
         why: is_given(matches, "why"),
+        unattended: is_unattended(matches),
         trace: is_given(matches, "trace"),
     })
 }

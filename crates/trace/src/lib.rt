@@ -3,20 +3,20 @@
 #![tactic(auto)]
 
 mod command;
-mod denial;
 mod line;
 mod masking;
 mod noted;
 mod refusal;
 mod refusals;
 mod system;
+mod talk;
 mod wire;
 
 pub use command::{commands_hide_passwords, shown_command};
-pub use denial::Denial;
 pub use line::line_text;
 pub use noted::Noted;
 pub use refusal::refusal_text;
 pub use refusals::{Refusal, Refusals};
 pub use system::System;
+pub use talk::{Said, Talk};
 pub use wire::TracedWire;

@@ -1,12 +1,14 @@
 //! A link that is traced.
-ghost use Rattle.std.specs.Prelude.{◌≡◌, ◌-◌, ℕ, List, Some, OnOk, codes, option_map};
-ghost use Rattle.trace.specs.Line.{count_text};
+ghost use Rattle.std.specs.Prelude.{◌≡◌, ◌-◌, ℕ, List, Some, OnOk, codes, option_map, take};
+ghost use Rattle.trace.specs.Command.{shown_command};
+ghost use Rattle.trace.specs.Line.{count_text, most_shown};
+ghost use Rattle.trace.specs.Masking.{is_login};
 ghost use Rattle.trace.specs.Wire.{Adds, Hides, ShowsAnswer, ShowsPart};
 
 use crate::command::shown_command;
-use crate::denial::Denial;
 use crate::line::{count_text, cut, write_line};
 use crate::masking::{Shown, is_login};
+use crate::talk::Talk;
 use pop3_wire::{Note, Wire, WireDown};
 use std::alloc::Global;
 use std::io::{self, Write};
@@ -15,12 +17,12 @@ use std::io::{self, Write};
 const END_MARK: u64 = 3;
 
 /// Where a conversation is shown: each command, the first line of each answer, and how much followed it; and
-/// where the first denial is kept.
+/// where it is kept what was said.
 #[derive(Drop)]
 struct Trace<'a, E> {
     alloc: Global,
     err: Option<E>,
-    denial: Option<&'a Denial>,
+    talk: Option<&'a Talk>,
     /// The password, if answers are searched for it.
     password: Option<Vec<u8>>,
     /// Whether the last command was one for whose answer the password is searched row by row.
@@ -48,8 +50,8 @@ impl<'a, E: Write> Trace<'a, E> {
         self.lines = 0;
         self.octets = 0;
         let answer = Shown::new(self.alloc, self.to_login, answer, self.password.as_deref())?;
-        if let Some(denial) = self.denial {
-            denial.note(self.alloc, answer);
+        if let Some(talk) = self.talk {
+            talk.hear(answer);
         }
         self.show("S: ", answer.front())
     }
@@ -75,16 +77,35 @@ impl<'a, E: Write> Trace<'a, E> {
         self.octets = self.octets.saturating_add(octets as u64);
     }
 
+    /// Keeps a part of a body, if it is a row of a listing and there is a place for it.
+    fn keep_row(&self, text: &[u8]) -> io::Result<()> {
+        if let Some(talk) = self.talk {
+            talk.list(Shown::new(self.alloc, false, cut(text), self.password.as_deref())?);
+        }
+        Ok(())
+    }
+
+    /// Shows a command.
+    fn show_command(&mut self, command: &[u8]) -> io::Result<()>
+        ensures shown { OnOk result ((self.new.to_login ≡ is_login command.now)
+            × Adds E.contents self.old.err self.new.err (codes "C: ") (take most_shown (shown_command command.now))) }
+        ensures same { self.new.password ≡ self.old.password }
+    {
+        self.to_login = is_login(command);
+        let command = cut(shown_command(command));
+        if let Some(talk) = self.talk {
+            talk.ask(command);
+        }
+        self.show("C: ", command)
+    }
+
     /// Shows a part of the conversation, unless it is within a body.
     fn note(&mut self, part: Note<'_>) -> io::Result<()>
         ensures shown { OnOk result (ShowsPart E.contents self.old part.entry self.new) }
         ensures same { self.new.password ≡ self.old.password }
     {
         match part {
-            Note::Command(command) => {
-                self.to_login = is_login(command);
-                self.show("C: ", cut(shown_command(command)))
-            }
+            Note::Command(command) => self.show_command(command),
             Note::Reply(answer) => self.show_answer(answer),
             Note::Body {
                 text,
@@ -92,7 +113,11 @@ impl<'a, E: Write> Trace<'a, E> {
                 ended,
             } => {
                 self.count(text, octets);
-                if ended { self.show_count() } else { Ok(()) }
+                if ended {
+                    self.show_count()
+                } else {
+                    self.keep_row(text)
+                }
             }
         }
     }
@@ -100,8 +125,8 @@ impl<'a, E: Write> Trace<'a, E> {
 
 /// A link that passes each call on. If there is a writer, it gets a line for each command, for the first
 /// line of each answer, and for how much followed it: `C: ` or `S: `, then at most 512 octets. Passwords
-/// aren't shown. A line that can't be written, or for which there is no memory, is left out. The first answer
-/// that isn't positive is kept, if there is a place for it.
+/// aren't shown. A line that can't be written, or for which there is no memory, is left out. What was said is
+/// kept, if there is a place for it.
 #[derive(Drop)]
 pub struct TracedWire<'a, W, E> {
     wire: W,
@@ -115,18 +140,18 @@ impl<'a, W: Wire, E: Write + Drop> TracedWire<'a, W, E> {
         wire: W,
         err: Option<E>,
         password: Option<Vec<u8>>,
-        denial: Option<&'a Denial>,
+        talk: Option<&'a Talk>,
     ) -> TracedWire<'a, W, E>
         ensures wire { result.wire ≡ wire }
         ensures hides { (secret : List ℕ) → option_map (λ p. p.items) password ≡ Some secret → Hides result secret }
     {
-        if err.is_none() && denial.is_none() {
+        if err.is_none() && talk.is_none() {
             return TracedWire { wire, trace: None };
         }
         let trace = Some(Trace {
             alloc,
             err,
-            denial,
+            talk,
             password,
             to_login: false,
             lines: 0,

@@ -10,8 +10,7 @@ returns-clause-told g c =
     let left = rw c.tell_cut.ensures.same at c.tell_left_out.ensures in
     record {
       idle = c.is_idle.ensures;
-      status = c.status_when.ensures.status ∙ ap (λ outcome. status_when outcome c.args.refusal) c.outcome-outcome.ensures;
-      reason = cut.reason;
-      is_reason = cut.is_reason;
+      status = c.status_when-status.ensures.status ∙ ap (λ outcome. status_when outcome c.args.refusal) c.outcome-outcome.ensures;
+      found = cut.found;
       said = said _ _ _ _ _ _ _ (left_out_said c.args.settings.now c.args.errors.now.says_why c.args.told.now) c.tell_left_out.new.errors.err cut unwritten left;
     }

@@ -11,10 +11,11 @@ returns c =
     let a4 = c.in_ok-command-4.ensures ∙ ap₂ with_rule a3 c.flag-2.ensures.rule in
     let a5 = c.in_ok-command-5.ensures ∙ ap₂ with_rule a4 c.long_flag.ensures.rule in
     let a6 = c.in_ok-command-6.ensures ∙ ap₂ with_rule a5 c.long_flag-2.ensures.rule in
-    let a7 = c.in_ok-command-7.ensures ∙ ap₂ with_rule a6 c.flag-3.ensures.rule in
-    let a8 = c.in_ok-command-8.ensures ∙ ap₂ with_rule a7 c.flag-4.ensures.rule in
-    let a9 = c.in_ok-command-9.ensures ∙ ap₂ with_rule a8 c.flag-5.ensures.rule in
-    let a10 = c.in_ok-command-10.ensures ∙ ap₂ with_rule a9 c.flag-6.ensures.rule in
-    let a11 = c.in_ok-command-11.ensures ∙ ap₂ with_rule a10 c.long_flag-3.ensures.rule in
-    let hidden = ap rule_of c.hide.ensures ∙ c.long_flag-4.ensures.rule in
-    IfOk-weaker c.add-12.result _ _ (λ command added. added ∙ ap₂ with_rule a11 hidden) c.add-12.ensures
+    let a7 = c.in_ok-command-7.ensures ∙ ap₂ with_rule a6 c.long_flag-3.ensures.rule in
+    let a8 = c.in_ok-command-8.ensures ∙ ap₂ with_rule a7 c.flag-3.ensures.rule in
+    let a9 = c.in_ok-command-9.ensures ∙ ap₂ with_rule a8 c.flag-4.ensures.rule in
+    let a10 = c.in_ok-command-10.ensures ∙ ap₂ with_rule a9 c.flag-5.ensures.rule in
+    let a11 = c.in_ok-command-11.ensures ∙ ap₂ with_rule a10 c.flag-6.ensures.rule in
+    let a12 = c.in_ok-command-12.ensures ∙ ap₂ with_rule a11 c.long_flag-4.ensures.rule in
+    let hidden = ap rule_of c.hide.ensures ∙ c.long_flag-5.ensures.rule in
+    IfOk-weaker c.add-13.result _ _ (λ command added. added ∙ ap₂ with_rule a12 hidden) c.add-13.ensures

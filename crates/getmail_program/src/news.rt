@@ -1,0 +1,205 @@
+//! What an unattended run tells of what it says: what no earlier run told.
+use crate::devices::seconds_now;
+use crate::news_file::{Memory, keep_at, memory_at};
+use folder_store::ProcessMark;
+use getmail_setup::{
+    Counts, Journal, Output, Part, Subject, Telling, Times, Words, after, counts_after, has_more,
+    home, told_of, told_path,
+};
+use httpdate::{HttpDate, fmt_http_date};
+use mail_store::{AccountId, account_id};
+use std::alloc::{AllocError, Global};
+use std::env::Env;
+use std::io::Write;
+use std::process::Process;
+use std::random::RandomSource;
+use std::rt::{Clock, Files};
+use std::str;
+use std::time::{Duration, UNIX_EPOCH};
+use trace::{Refusals, System};
+
+/// What is told, and what is kept of it.
+#[derive(Drop)]
+struct News {
+    alloc: Global,
+    now: u64,
+    memory: Memory,
+    is_changed: bool,
+    text: Vec<u8>,
+}
+
+/// Octets as text; empty if they aren't UTF-8.
+fn text_in(octets: &[u8]) -> &str {
+    str::from_utf8(octets).unwrap_or("")
+}
+
+/// The front of a path up to a mark of one process, which is another one in each run.
+fn unmarked(path: &str) -> &str {
+    match path.split_once(".P") {
+        Some((front, rest))
+            if rest
+                .bytes()
+                .next()
+                .is_some_and(|octet| octet.is_ascii_digit()) => { front }
+        _ => path,
+    }
+}
+
+/// What a fault is known by: its line, without the lines of its reason, and the path that it is about.
+fn key_of(part: &Part) -> AccountId {
+    let line = text_in(&part.text).split('\n').next().unwrap_or("");
+    account_id(line, 0, unmarked(text_in(&part.place)))
+}
+
+/// A date as a reader knows it; the second since 1970 if it is past the year 9999.
+fn date_of(alloc: Global, second: u64) -> Result<String, AllocError> {
+    if let Some(time) = UNIX_EPOCH.checked_add(Duration::from_secs(second)) {
+        if let Ok(date) = HttpDate::try_from(time) {
+            return fmt_http_date(alloc, date);
+        }
+    }
+    format!(in alloc; "{second}")
+}
+
+impl News {
+    /// A fault: when it is first seen, and then once a day with since when and in how many runs it was.
+    fn add_fault(&mut self, part: &Part) -> Result<(), AllocError> {
+        let key = key_of(part);
+        let known = self.memory.times_of(key.as_str());
+        let times = after(known, self.now);
+        let telling = told_of(known, self.now);
+        if telling != Telling::Nothing {
+            self.text.extend_from_slice(&part.text)?;
+        }
+        if telling == Telling::Again {
+            let Times { since, runs, .. } = times;
+            let date = date_of(self.alloc, since)?;
+            let line = format!(in self.alloc; "getmail: so since {date}, in {runs} runs\n")?;
+            self.text.extend_from_slice(line.as_bytes())?;
+        }
+        let key = String::from_str(self.alloc, key.as_str())?;
+        self.is_changed = true;
+        self.memory.keep_fault(key, times)
+    }
+
+    /// A notice: once.
+    fn add_notice(&mut self, part: &Part) -> Result<(), AllocError> {
+        let key = account_id(text_in(&part.text), 0, "");
+        if self.memory.has_told(key.as_str()) {
+            return Ok(());
+        }
+        self.text.extend_from_slice(&part.text)?;
+        let key = String::from_str(self.alloc, key.as_str())?;
+        self.is_changed = true;
+        self.memory.keep_notice(key)
+    }
+
+    /// How many messages were left out: if they are more than before.
+    fn add_left_out(&mut self, part: &Part, counts: Counts) -> Result<(), AllocError> {
+        if has_more(self.memory.left, counts) {
+            self.text.extend_from_slice(&part.text)?;
+        }
+        Ok(())
+    }
+
+    /// Adds what is to be told of a part.
+    fn add(&mut self, part: &Part) -> Result<(), AllocError> {
+        match part.subject {
+            Subject::Fault => self.add_fault(part),
+            Subject::Notice => self.add_notice(part),
+            Subject::LeftOut(counts) => self.add_left_out(part, counts),
+        }
+    }
+
+    /// So many messages were left out in this run.
+    fn count(&mut self, counts: Counts, has_ended: bool) {
+        let left = counts_after(self.memory.left, counts, has_ended);
+        self.is_changed = self.is_changed || left != self.memory.left;
+        self.memory.left = left;
+    }
+
+    /// The run came to its end: that is told once, if earlier ones didn't.
+    fn end(&mut self) -> Result<(), AllocError> {
+        let Some(since) = self.memory.failing_since() else {
+            return Ok(());
+        };
+        let date = date_of(self.alloc, since)?;
+        let line = format!(in self.alloc; "getmail: works again: runs had failed since {date}\n")?;
+        self.text.extend_from_slice(line.as_bytes())?;
+        self.memory.faults.clear();
+        self.is_changed = true;
+        Ok(())
+    }
+}
+
+/// How many messages were left out, as the parts say.
+fn counts_in(parts: &[Part]) -> Counts {
+    for part in parts {
+        if let Subject::LeftOut(counts) = part.subject {
+            return counts;
+        }
+    }
+    Counts {
+        too_large: 0,
+        past_limit: 0,
+        repeated: 0,
+    }
+}
+
+/// The path of the file that keeps what was told, if it is known.
+fn path_of<R: Env + AllocGlobal>(rt: &R, words: &Words) -> Option<String> {
+    let home = home(rt).ok()?;
+    told_path(rt.alloc(), home.as_deref(), words).ok()
+}
+
+/// Tells what is new of what a run said. What there is no memory for is told.
+fn news_of(journal: &Journal, news: &mut News, err: &mut Output<impl Write>) {
+    let parts = journal.take();
+    for part in &parts {
+        if news.add(part).is_err() {
+            err.put(&part.text);
+        }
+    }
+    let has_ended = journal.has_ended();
+    news.count(counts_in(&parts), has_ended);
+    if has_ended {
+        let _ = news.end();
+    }
+    err.put(&news.text);
+}
+
+/// Tells what no earlier run told of what this one said, and keeps that in a file, unless it couldn't be written:
+/// then the next run tells it.
+pub fn tell_news<R, E: Write + Drop>(
+    rt: &R,
+    process: Process,
+    words: &Words,
+    journal: &Journal,
+    err: E,
+)
+where
+    R: Files + Env + Clock + RandomSource + AllocGlobal + Clone + Drop,
+{
+    let alloc = rt.alloc();
+    let refusals = Refusals::new(alloc, None);
+    let system = System::new(rt, &refusals);
+    let path = path_of(rt, words);
+    let memory = match &path {
+        Some(path) => memory_at(&system, path.as_str()),
+        None => Memory::new(alloc),
+    };
+    let mut news = News {
+        alloc,
+        now: seconds_now(rt),
+        memory,
+        is_changed: false,
+        text: Vec::new(alloc),
+    };
+    let mut err = Output::new(err);
+    news_of(journal, &mut news, &mut err);
+    if let (Some(path), true, None) = (&path, news.is_changed, err.refusal()) {
+        if let Ok(mark) = ProcessMark::new(process, rt) {
+            keep_at(&system, path.as_str(), mark, &news.memory);
+        }
+    }
+}

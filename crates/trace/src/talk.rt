@@ -1,0 +1,122 @@
+//! What was said in a conversation, to tell where it went wrong.
+use crate::command::is_word;
+use crate::line::shown;
+use crate::masking::Shown;
+use std::alloc::Global;
+use std::cell::Cell;
+
+/// What was said, as a trace shows it; what wasn't said is empty. Without memory less is kept.
+#[derive(Drop)]
+pub struct Said {
+    /// The last command.
+    pub command: Vec<u8>,
+    /// The answer to it.
+    pub answer: Vec<u8>,
+    /// The last row of the listing that it asked for.
+    pub row: Vec<u8>,
+    /// The first answer that wasn't positive: what the peer says later isn't the reason of a fault.
+    pub denial: Vec<u8>,
+    /// The answer to STAT.
+    pub count: Vec<u8>,
+    /// How many rows answered UIDL.
+    pub uids: u32,
+    /// How many rows answered LIST.
+    pub sizes: u32,
+}
+
+impl Said {
+    /// Nothing was said.
+    pub fn new(alloc: Global) -> Said {
+        Said {
+            command: Vec::new(alloc),
+            answer: Vec::new(alloc),
+            row: Vec::new(alloc),
+            denial: Vec::new(alloc),
+            count: Vec::new(alloc),
+            uids: 0,
+            sizes: 0,
+        }
+    }
+
+    /// A command was sent, which is shown in this way.
+    fn ask(&mut self, alloc: Global, command: &[u8]) {
+        self.command = text_of(alloc, command);
+        self.answer = Vec::new(alloc);
+        self.row = Vec::new(alloc);
+    }
+
+    /// An answer came.
+    fn hear(&mut self, alloc: Global, answer: Shown<'_>) {
+        let answer = answer.front();
+        self.answer = text_of(alloc, answer);
+        if self.denial.is_empty() && !answer.starts_with(b"+OK") {
+            self.denial = text_of(alloc, answer);
+        }
+        if is_word(&self.command, b"STAT") {
+            self.count = text_of(alloc, answer);
+        }
+    }
+
+    /// A row of a listing came, unless what came is a part of a message.
+    fn list(&mut self, alloc: Global, row: Shown<'_>) {
+        if is_word(&self.command, b"UIDL") {
+            self.uids = self.uids.saturating_add(1);
+        } else if is_word(&self.command, b"LIST") {
+            self.sizes = self.sizes.saturating_add(1);
+        } else {
+            return;
+        }
+        self.row = text_of(alloc, row.front().trim_ascii_end());
+    }
+}
+
+/// What is shown of octets; nothing if there is no memory for it.
+fn text_of(alloc: Global, octets: &[u8]) -> Vec<u8> {
+    match shown(alloc, octets) {
+        Ok(text) => text,
+        Err(_) => Vec::new(alloc),
+    }
+}
+
+/// Where it is kept what was said, until it is asked for.
+#[derive(Drop)]
+pub struct Talk {
+    alloc: Global,
+    said: Cell<Said>,
+}
+
+impl Talk {
+    /// Nothing was said yet.
+    pub fn new(alloc: Global) -> Talk {
+        Talk {
+            alloc,
+            said: Cell::new(Said::new(alloc)),
+        }
+    }
+
+    /// A command was sent, which is shown in this way.
+    pub(crate) fn ask(&self, command: &[u8]) {
+        let mut said = self.take();
+        said.ask(self.alloc, command);
+        self.said.set(said);
+    }
+
+    /// An answer came.
+    pub(crate) fn hear(&self, answer: Shown<'_>) {
+        let mut said = self.take();
+        said.hear(self.alloc, answer);
+        self.said.set(said);
+    }
+
+    /// A row of a listing came, or a part of a message.
+    pub(crate) fn list(&self, row: Shown<'_>) {
+        let mut said = self.take();
+        said.list(self.alloc, row);
+        self.said.set(said);
+    }
+
+    /// What was said. It is taken out.
+    pub fn take(&self) -> Said {
+        self.said.replace(Said::new(self.alloc))
+    }
+}

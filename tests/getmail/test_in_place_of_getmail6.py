@@ -1,0 +1,74 @@
+"""A first run where getmail6 has fetched: it would fetch all mail again, and says what to do instead."""
+
+import unittest
+
+from getmail.account import Account
+from getmail.server import Server
+from harness import programs
+
+TWO = [(b"a", b"one\n"), (b"b", b"two\n")]
+GOOD = programs.Run(0, b"", b"")
+
+
+class InPlaceOfGetmail6(unittest.TestCase):
+    def setUp(self):
+        self.server = self.enterContext(Server(TWO))
+        self.account = self.enterContext(Account(self.server.port))
+
+    def list_as(self, name, content=b"a\x001600000000\n"):
+        path = self.account.folder / name
+        path.write_bytes(content)
+        return path
+
+    def check_stopped(self, path, *words):
+        told = (f"getmail: {path} lists what getmail6 fetched: make a record of it with from-getmail6.py, or an empty file "
+                f"{self.account.record} to fetch all mail\n")
+        self.assertEqual(self.account.run("-q", *words), programs.Run(2, b"", told.encode()))
+        self.assertEqual(self.account.held(), [])
+        self.assertFalse(self.account.record.exists() or self.account.lock.exists())
+
+    def check_fetches(self, *words):
+        thread = self.server.begin_session()
+        self.assertEqual(self.account.run("-q", *words), GOOD)
+        thread.join(programs.SECONDS)
+        self.assertEqual(self.account.held(), TWO)
+
+    def test_nothing_is_fetched(self):
+        path = self.list_as("oldmail-mail.example.org-995-u")
+        for words in ((), ("--pretend",), ("-n",), ("--unattended",)):
+            with self.subTest(words):
+                self.check_stopped(path, *words)
+
+    def test_an_empty_record_is_the_way_out(self):
+        self.list_as("oldmail-mail.example.org-995-u")
+        self.account.record.touch()
+        self.check_fetches()
+
+    def test_all_mail_is_wanted(self):
+        self.list_as("oldmail-mail.example.org-995-u")
+        self.check_fetches("-a")
+
+    def test_lists_of_others(self):
+        for name in ("oldmail-mail.example.org-995-fred", "oldmail-mail.example.org-995-a-u", "oldmail-mail.example.org-u",
+                     "oldmail--995-u", "oldmail-995-u", "old-mail.example.org-995-u", "oldmail-mail.example.org-995-uu"):
+            self.list_as(name)
+        (self.account.folder / "oldmail-mail.example.org-996-u").mkdir()
+        self.list_as("oldmail-mail.example.org-995-u", b"")
+        self.check_fetches()
+
+    def test_a_name_with_marks(self):
+        """getmail6 writes `-` for `/` and `:`."""
+        self.account.rcfile.write_bytes(self.account.rcfile.read_bytes().replace(b"username = u", b"username = a/b:c"))
+        path = self.list_as("oldmail-127.0.0.1-110-a-b-c")
+        run = self.account.run()
+        self.assertEqual(run.status, 2)
+        self.assertTrue(run.err.startswith(f"getmail: {path} lists what getmail6 fetched".encode()), run.err)
+
+    def test_later_runs(self):
+        self.check_fetches()
+        self.list_as("oldmail-mail.example.org-995-u")
+        self.check_fetches()
+
+
+if __name__ == "__main__":
+    unittest.main()

@@ -1,0 +1,288 @@
+"""`--unattended`: for cron and timers. It tells what is new, once, and what goes on once a day."""
+
+import os
+import resource
+import stat
+import threading
+import time
+import unittest
+
+from getmail.account import Account
+from getmail.server import Server
+from getmail.shared_server import SharedServer
+from harness import preload, programs
+from harness.kernel import LOOPBACK
+
+TWO = [(b"a", b"one\n"), (b"b", b"two\n")]
+SILENT = programs.Run(0, b"", b"")
+START = 1_700_000_000
+DATE = "Tue, 14 Nov 2023 22:13:20 GMT"
+HOUR, DAY = 3_600, 86_400
+
+
+class Unattended(unittest.TestCase):
+    def setUp(self):
+        self.server = self.enterContext(Server(TWO))
+        self.account = self.enterContext(Account(self.server.port))
+        self.clock = self.enterContext(preload.library("clock"))
+        self.now = START
+
+    def run_getmail(self, *words, **changes):
+        path = self.account.home / "clock"
+        path.write_text(str(self.now))
+        preloaded = " ".join(filter(None, (str(self.clock), changes.pop("LD_PRELOAD", ""))))
+        return self.account.run("--unattended", *words, LD_PRELOAD=preloaded, CLOCK=str(path), **changes)
+
+    def session(self, *words, seconds=600, **changes):
+        """A run with a session, so many seconds after the last one; its lines."""
+        self.now += seconds
+        thread = self.server.begin_session()
+        run = self.run_getmail(*words, **changes)
+        thread.join(programs.SECONDS)
+        self.assertEqual(run.out, b"")
+        return run.status, run.err.decode().splitlines()
+
+    def line(self, reason):
+        return f"getmail: u@{LOOPBACK}:{self.server.port}: {reason}"
+
+    def told(self):
+        return [path for path in self.account.folder.iterdir() if path.name.startswith("told-")]
+
+    def refuse(self, *commands):
+        self.server.refuses = commands
+
+    def test_a_good_run_is_silent(self):
+        """And nothing is kept of it."""
+        for _ in range(2):
+            self.assertEqual(self.session(), (0, []))
+        self.assertEqual(self.account.held(), TWO)
+        self.assertEqual(self.told(), [])
+
+    def test_an_outage(self):
+        """Its fault is told at first, once a day with since when and how often, and when it is over."""
+        self.refuse("UIDL")
+        fault = ["getmail: server refused UIDL", self.line("the server said: -ERR refused")]
+        self.assertEqual(self.session(seconds=0), (1, fault))
+        for _ in range(3):
+            self.assertEqual(self.session(), (1, []))
+        self.assertEqual(self.session(seconds=DAY), (1, [*fault, f"getmail: so since {DATE}, in 5 runs"]))
+        self.assertEqual(self.session(), (1, []))
+        self.refuse()
+        self.assertEqual(self.session(), (0, [f"getmail: works again: runs had failed since {DATE}"]))
+        self.assertEqual(self.session(), (0, []))
+        self.refuse("UIDL")
+        self.assertEqual(self.session(), (1, fault))
+
+    def test_the_same_fault_whatever_the_server_says(self):
+        self.server._answer = lambda command: b"-ERR try at %d\r\n" % self.now
+        self.assertEqual(self.session()[1][0], "getmail: server refused USER")
+        self.assertEqual(self.session(), (1, []))
+
+    def test_faults_that_take_turns(self):
+        """Each is told once."""
+        for told in (True, False, False):
+            for command in ("UIDL", "LIST"):
+                self.refuse(command)
+                self.assertEqual(bool(self.session()[1]), told)
+
+    def test_a_clock_that_is_set_back(self):
+        self.refuse("UIDL")
+        self.session(seconds=DAY)
+        self.assertEqual(len(self.session(seconds=-HOUR)[1]), 3)
+
+    def test_what_is_left_out(self):
+        """It is told when it is more."""
+        options = b"max_message_size = 5\nmax_messages_per_session = 1\n"
+        self.account.rcfile.write_bytes(self.account.rcfile.read_bytes() + options)
+        large = [(b"l%d" % number, b"a long message\n") for number in range(3)]
+        self.server.messages = [*large[:2], *TWO]
+        self.assertEqual(self.session(), (0, [self.line("left out: 2 too large, 1 past the limit")]))
+        self.assertEqual(self.session(), (0, []))
+        self.assertEqual(self.session(), (0, []))
+        self.server.messages = [*large, *TWO]
+        self.assertEqual(self.session(), (0, [self.line("left out: 3 too large")]))
+        self.refuse("USER u")
+        self.session()
+        self.refuse()
+        self.assertEqual(len(self.session()[1]), 1)
+
+    def test_warnings_are_told_once(self):
+        self.account.rcfile.write_bytes(self.account.rcfile.read_bytes() + b"received = true\n")
+        self.account.rcfile.chmod(0o644)
+        warnings = ["getmail: warning: line 14: options.received has no effect",
+                    f"getmail: warning: others than its owner may read or write {self.account.rcfile}"]
+        self.assertEqual(self.session(), (0, warnings))
+        self.assertEqual(self.session(), (0, []))
+        self.account.rcfile.write_bytes(self.account.rcfile.read_bytes() + b"timeout = 5\n")
+        self.assertEqual(self.session(), (0, ["getmail: warning: line 15: options.timeout has no effect"]))
+
+    def test_an_rc_file_that_is_wrong(self):
+        good = self.account.rcfile.read_bytes()
+        self.account.rcfile.write_bytes(good.replace(b"port = ", b"port = x"))
+        self.assertEqual(self.run_getmail().status, 2)
+        self.assertEqual(self.run_getmail(), programs.Run(2, b"", b""))
+        self.account.rcfile.write_bytes(good)
+        self.assertEqual(self.session(), (0, [f"getmail: works again: runs had failed since {DATE}"]))
+
+    def test_a_server_that_cannot_be_reached(self):
+        self.server.socket.close()
+        run = self.run_getmail()
+        self.assertEqual((run.status, len(run.err.splitlines())), (1, 2))
+        self.assertEqual(self.run_getmail(), programs.Run(1, b"", b""))
+
+    def test_a_full_disk(self):
+        """The file that can't be written has another name in each run, and is the same fault."""
+        self.server.messages = [(b"a", b"a long line of text\n" * 100)]
+        _, hard = resource.getrlimit(resource.RLIMIT_FSIZE)
+        for lines in (2, 0, 0):
+            resource.setrlimit(resource.RLIMIT_FSIZE, (500, hard))
+            thread = self.server.begin_session()
+            try:
+                process = self.account.start("--unattended", restore_signals=False)
+            finally:
+                resource.setrlimit(resource.RLIMIT_FSIZE, (hard, hard))
+            _, err = process.communicate(timeout=programs.SECONDS)
+            thread.join(programs.SECONDS)
+            self.assertEqual((process.returncode, len(err.splitlines())), (1, lines), err)
+
+    def test_a_disk_without_any_room(self):
+        """What can't be kept is told each time, and what was kept stays."""
+        self.refuse("UIDL")
+        self.session()
+        path, = self.told()
+        before = path.read_bytes()
+        _, hard = resource.getrlimit(resource.RLIMIT_FSIZE)
+        self.refuse("LIST")
+        for _ in range(2):
+            resource.setrlimit(resource.RLIMIT_FSIZE, (10, hard))
+            thread = self.server.begin_session()
+            try:
+                process = self.account.start("--unattended", restore_signals=False)
+            finally:
+                resource.setrlimit(resource.RLIMIT_FSIZE, (hard, hard))
+            _, err = process.communicate(timeout=programs.SECONDS)
+            thread.join(programs.SECONDS)
+            self.assertEqual((process.returncode, len(err.splitlines())), (1, 2), err)
+            self.assertEqual((path.read_bytes(), self.told()), (before, [path]))
+
+    def test_its_file(self):
+        """Nobody else may read it, and it has neither the password nor the server's words."""
+        self.account.rcfile.write_bytes(self.account.rcfile.read_bytes().replace(b"password = p\n", b"password = secret-words\n"))
+        self.server._answer = lambda command: b"-ERR no such secret-words here\r\n"
+        self.session()
+        path, = self.told()
+        self.assertEqual(stat.S_IMODE(path.stat().st_mode), 0o600)
+        self.assertNotIn(b"secret", path.read_bytes())
+        self.assertNotIn(b"no such", path.read_bytes())
+        self.assertLess(path.stat().st_size, 500)
+
+    def test_odd_contents(self):
+        """All is told again."""
+        self.refuse("UIDL")
+        self.session()
+        path, = self.told()
+        whole = path.read_bytes()
+        for content in (b"", b"\0" * 5000, whole[:-1], whole[5:], whole + b"x", whole.replace(b"fault ", b"fault -"),
+                        b"getmail-told 1\n" + b"said x\n" * 100_000 + b"end", b"\xff" * 300):
+            with self.subTest(content[:40]):
+                path.write_bytes(content)
+                self.assertEqual(len(self.session()[1]), 2)
+                self.assertEqual(self.session(), (1, []))
+        path.unlink()
+        os.mkfifo(path)
+        self.assertEqual(len(self.session()[1]), 2)
+
+    def test_a_file_that_cannot_be_written(self):
+        self.refuse("UIDL")
+        self.session()
+        path, = self.told()
+        path.unlink()
+        path.mkdir()
+        for _ in range(2):
+            self.assertEqual(len(self.session()[1]), 2)
+
+    def test_what_cannot_be_written_is_told_later(self):
+        self.refuse("UIDL")
+        thread = self.server.begin_session()
+        with open("/dev/full", "wb") as full:
+            programs.run("getmail", "--unattended", err=full, HOME=str(self.account.home))
+        thread.join(programs.SECONDS)
+        self.assertEqual(len(self.session()[1]), 2)
+
+    def test_flags(self):
+        self.assertEqual(self.session("-q", "--why"), (0, []))
+        run = self.account.run("--unattended", "-v")
+        self.assertEqual((run.status, run.err), (2, b"getmail: opposite flags\ngetmail: --unattended and --verbose\n"))
+        run = programs.run("getmail", "--rehearse", "--unattended", "-v", given=b"-ERR\r\n")
+        self.assertEqual((run.status, run.out, run.err), (1, b"C: QUIT\ncut 6\n", b""))
+
+    def test_a_preview_keeps_nothing(self):
+        self.refuse("UIDL")
+        for _ in range(2):
+            thread = self.server.begin_session()
+            run = self.account.run("--unattended", "--pretend")
+            thread.join(programs.SECONDS)
+            self.assertEqual(len(run.err.splitlines()), 2)
+        self.assertEqual(self.told(), [])
+
+    def test_the_usual_runs_are_as_ever(self):
+        """They read nothing of what was told, and change nothing of it."""
+        self.refuse("UIDL")
+        self.session()
+        path, = self.told()
+        before = path.read_bytes()
+        thread = self.server.begin_session()
+        run = self.account.run("-q")
+        thread.join(programs.SECONDS)
+        self.assertEqual((run.status, run.err, path.read_bytes()), (1, b"getmail: server refused UIDL\n", before))
+
+
+class Beside(unittest.TestCase):
+    """A run beside another one, which waits for its first text."""
+
+    def setUp(self):
+        self.server = SharedServer(TWO)
+        self.addCleanup(self.server.close)
+        self.account = self.enterContext(Account(self.server.port))
+        asked, self.over = threading.Event(), threading.Event()
+
+        def give(session, say, octets):
+            asked.set()
+            self.over.wait(programs.SECONDS)
+            say(octets)
+
+        self.server.give = give
+        self.first = self.account.start("-q")
+        self.addCleanup(self.end)
+        self.assertTrue(asked.wait(programs.SECONDS))
+
+    def end(self):
+        self.over.set()
+        self.first.communicate(timeout=programs.SECONDS)
+
+    def test_another_run_is_nothing_new(self):
+        """Until it has been at work for an hour."""
+        self.assertEqual(self.account.run("--unattended"), SILENT)
+        then = time.time() - HOUR - 1
+        os.utime(self.account.lock, (then, then))
+        run = self.account.run("--unattended")
+        self.assertEqual((run.status, run.err.splitlines()[0]), (1, b"getmail: another getmail is at work for this account"))
+        self.assertEqual(self.account.run("--unattended"), programs.Run(1, b"", b""))
+        self.assertEqual(self.account.run("-q").status, 1)
+
+
+class TwoAtOnce(unittest.TestCase):
+    def test_two_runs_leave_a_whole_file(self):
+        with Account(1) as account:
+            for _ in range(20):
+                runs = [account.start("--unattended") for _ in range(2)]
+                for run in runs:
+                    run.communicate(timeout=programs.SECONDS)
+                path, = (path for path in account.folder.iterdir() if path.name.startswith("told-"))
+                self.assertTrue(path.read_bytes().startswith(b"getmail-told 1\n"))
+                self.assertTrue(path.read_bytes().endswith(b"\nend"))
+            self.assertEqual(account.run("--unattended"), programs.Run(1, b"", b""))
+
+
+if __name__ == "__main__":
+    unittest.main()
