@@ -2,6 +2,7 @@
 
 import os
 import subprocess
+from pathlib import Path
 
 import measure  # noqa: F401 (the modules of the harness can be imported once this one is)
 from harness import dovecot, kernel
@@ -27,6 +28,11 @@ class Dovecot:
         if not kernel.wait_for_listener(self.process, self.port):
             raise SystemExit("dovecot does not listen")
         return self
+
+    def processes(self):
+        """The numbers of all its processes."""
+        children = Path(f"/proc/{self.process.pid}/task/{self.process.pid}/children").read_text().split()
+        return [self.process.pid, *map(int, children)]
 
     def __exit__(self, *_):
         """Ends dovecot and all its processes, and answers what processor time they took, in seconds."""

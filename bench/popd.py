@@ -6,8 +6,9 @@ write replies made before. For both: messages and octets a second and their rati
 after the other; for `popd` the peak of memory too. To be reached: faster than that server on small messages, and
 at most 8 MiB of memory for messages of any size.
 
-Beside dovecot, if that is installed: logins, listings, TOP and RETR over the same files. With valgrind, if that is
-installed: how many instructions refused passwords take that differ from the right one in different places.
+Beside dovecot, if that is installed: logins, listings, TOP and RETR over the same files, and the memory of logins. With
+valgrind, if that is installed: how many instructions refused passwords take that differ from the right one in different
+places.
 """
 
 import os
@@ -30,6 +31,7 @@ TURNS = 9
 VISITS = 4
 SECONDS = 60
 SETTLED_SECONDS = 4
+SECONDS_BETWEEN_LOGINS = 0.3
 MOST_MEMORY = 8 * measure.MEBIBYTE
 LETTER_HEAD = b"From: Ada <ada@example.org>\nSubject: a letter\n\n"
 LETTER_LINE = b"A line of a common length, as a letter to somebody has them.\n"
@@ -209,6 +211,9 @@ def visit(port, count):
 class Popd:
     """`popd` over a Maildir."""
 
+    def processes(self):
+        return [self.process.pid]
+
     def __init__(self, maildir):
         self.maildir = maildir
 
@@ -258,6 +263,55 @@ def measure_beside_dovecot(folder, name, count, octets):
           f"({measure.verdict(ratios[0] < 1)}), LIST and UIDL {ratios[1]:.2f}, TOP {ratios[2]:.2f} "
           f"({measure.verdict(ratios[2] <= 2)}), RETR {ratios[3]:.2f}, processor time "
           f"{ours.processor / theirs.processor:.2f}", flush=True)
+
+
+@dataclass(frozen=True)
+class Login:
+    """The processor time of all processes of a server for one login, and the greatest peak of memory of one of them after
+    both listings."""
+
+    processor: float
+    memory: int
+
+
+def log_in_and_list(server):
+    before = {process: kernel.processor_time(process) for process in server.processes()}
+    client = Client(server.port)
+    client.log_in()
+    # Dovecot answers PASS before it opens the Maildir.
+    client.ask(b"STAT\r\n")
+    taken = sum(kernel.processor_time(process) - before.get(process, 0) for process in server.processes())
+    for command in (b"LIST\r\n", b"UIDL\r\n"):
+        client.ask(command, b"\r\n.\r\n")
+    memory = max(kernel.peak_of_memory(process) for process in server.processes())
+    client.ask(b"QUIT\r\n")
+    client.socket.close()
+    time.sleep(SECONDS_BETWEEN_LOGINS)
+    return Login(taken, memory)
+
+
+def print_logins(name, server, logins):
+    """Prints the row of a server: its first login, the best of the later ones, and the greatest peak."""
+    costs = logins[0].processor, min(one.processor for one in logins[1:]), max(one.memory for one in logins)
+    measure.print_row(name, server, f"{costs[0] * 1e3:.0f} ms", f"{costs[1] * 1e3:.1f} ms", f"{costs[2] / measure.MEBIBYTE:.1f} MiB")
+    return costs
+
+
+def measure_logins(folder, name, count, most_memory):
+    """Logins to `popd` and to dovecot over the same files: their processor times, and the peaks of memory."""
+    maildir = make_maildir(folder, count, 400)
+    time.sleep(SETTLED_SECONDS)
+    with Popd(maildir) as ours:
+        our_logins = [log_in_and_list(ours) for _ in range(VISITS)]
+    measure.print_head("messages", "server", "first login", "later", "peak of memory")
+    mine = print_logins(name, "`popd`", our_logins)
+    if not dovecot.is_there():
+        return
+    with dovecot.Dovecot(folder, maildir) as theirs:
+        logins = [log_in_and_list(theirs) for _ in range(VISITS)]
+    first, later, memory = (a / b for a, b in zip(mine, print_logins("", "dovecot", logins)))
+    print(f"  {name}: of dovecot's processor time at the first login {first:.2f}, at later ones {later:.2f}, of its peak of "
+          f"memory {memory:.2f} ({measure.verdict(memory <= most_memory)})", flush=True)
 
 
 def peak_for(maildir, command):
@@ -317,6 +371,9 @@ def main():
     for name, count, octets in (("2,000 of 2 KB", 2_000, 2_000), ("20,000 of 2 KB", 20_000, 2_000), ("20 of 5 MB", 20, 5_000_000)):
         with tempfile.TemporaryDirectory() as folder:
             measure_beside_dovecot(folder, name, count, octets)
+    for name, count, most_memory in (("20,000 of 400 octets", 20_000, 1.0), ("100,000 of 400 octets", 100_000, 1.3)):
+        with tempfile.TemporaryDirectory() as folder:
+            measure_logins(folder, name, count, most_memory)
     with tempfile.TemporaryDirectory() as folder:
         measure_greatest(folder)
     with tempfile.TemporaryDirectory() as folder:

@@ -40,6 +40,11 @@ def is_tmpfs(path):
     return any(row[1] == path and row[2] == "tmpfs" for row in rows)
 
 
+def processor_time(process):
+    """The processor time that the running process of that number has taken so far, in seconds; it has one thread."""
+    return int(Path(f"/proc/{process}/schedstat").read_text().split()[0]) / 1e9
+
+
 def peak_of_memory(process):
     """The most memory that the running process of that number has had so far, in octets."""
     status = Path(f"/proc/{process}/status").read_text()

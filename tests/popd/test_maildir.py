@@ -13,6 +13,8 @@ from popd.service import Maildir, Service, long_lines_allowed
 
 FOX = "The quick brown fox jumps over the lazy dog"
 FOX_ID = b"d7a8fbb307d7809469ca9abcb0082e4f8d5651e46d3cdb762d02d0bf37c9e592"
+TAB = "tab\there"
+TAB_ID = "5b8765931ded06ac39c11c47f83f7457636af4780d72900c1a0131f4ccb96c85"
 LETTER = b"From: Ada <ada@example.org>\nSubject: %s\n\nHello,\n.\n..\n.dot\n\nAda\n"
 
 FILES = (
@@ -41,7 +43,9 @@ FILES = (
     ("cur", "two:2,S", b"nor is the later of two in cur\n"),
     ("cur", "two:2,R", b"the earlier one is\n"),
     ("cur", "~", b"the last octet that an id may have\n"),
-    ("cur", "tab\there", b"an octet that no id may have\n"),
+    ("cur", TAB, b"an octet that no id may have, and not listed, since the next one has its id\n"),
+    ("new", TAB_ID, b"comes before it\n"),
+    ("new", FOX_ID.decode(), b"not listed either, since the fox comes before it\n"),
 )
 NOT_LISTED = (
     ("new", ".hidden", b"a name with a full stop before it\n"),
@@ -73,12 +77,14 @@ class WholeMaildir(unittest.TestCase):
     def test_what_is_listed(self):
         """The listing that the other tests take as given has what the table of files says."""
         uids = [message.uid for message in self.messages]
-        self.assertEqual(len(uids), len(FILES) - 2)
+        self.assertEqual(len(uids), len(FILES) - 4)
         self.assertIn(FOX_ID, uids)
         self.assertLess(uids.index(b"B"), uids.index(b"a"))
         texts = {message.uid: message.text for message in self.messages}
         self.assertEqual(texts[b"twice"], b"the one in cur comes first\n")
         self.assertEqual(texts[b"two"], b"the earlier one is\n")
+        self.assertEqual(texts[FOX_ID], b"a name that is no id\n")
+        self.assertEqual(texts[TAB_ID.encode()], b"comes before it\n")
 
     def test_every_message_byte_for_byte(self):
         with Service(self.maildir, "--connections", "1") as service, long_lines_allowed():

@@ -1,25 +1,61 @@
--- The ids that were listed so far, as a set of byte strings.
-use Rattle.std.specs.Prelude.{◌≡◌, ℕ, Bool, true, false, List, map, Vec, bytes_eq}
+-- Files of messages with different ids: those of a listing, and those that were listed so far.
+use Rattle.std.specs.Prelude.{◌≡◌, ◌≤◌, ◌<◌, ◌-◌, ℕ, Bool, true, false, List, Option, Some, None, Vec, All, AllPairs, bytes_eq, get_or, length, map}
 use Rattle.std.specs.List.{Contains}
 use Rattle.std.specs.HashSet.{HashSet, contains}
+use Rattle.std.specs.Cmp.Lexicographic.{slice_cmp}
+use Rattle.std.specs.Ordering.{nat_cmp}
+use Rattle.std.specs.declared.cmp.Ordering.TheVariants.{Less}
 use Rattle.mail_terms.specs.Distinct.{AreDistinct}
-use Rattle.pop3_server.specs.Maildrop.{Listed}
-use Rattle.folder_drop.specs.RealMaildir.{HaveIds, id_of_name, uid_of}
+use Rattle.mail_terms.specs.MaildirName.{base}
+use Rattle.pop3_server.specs.Maildrop.{max_count, max_size}
+use Rattle.folder_drop.specs.declared.folders_look.FoldersLook.{FoldersLook}
+use Rattle.folder_drop.specs.declared.listed_file.ListedFile.{ListedFile}
+use Rattle.folder_drop.specs.MaildirNames.{digest_length, IsKey, id_of}
+use Rattle.folder_drop.specs.RealMaildir.{id_of_name, names_of}
 
--- two of them are the same by their bytes
+-- they have different ids, and keep the limits
+pub record AreMessages (files : List ListedFile) : Type 0 where
+  pub distinct : AreDistinct (map id_of_name (names_of files))
+  pub count : length files ≤ max_count
+  pub sizes : All (λ (file : ListedFile). file.size ≤ max_size) files
+
+-- a listing: its files in their order, and the look at the folders after which they were found
+pub record FileListing : Type 0 where
+  pub look : FoldersLook
+  pub files : List ListedFile
+
+-- two ids are the same by their bytes
 abbrev pub same_key : {Z : Type 0} → Vec ℕ Z → Vec ℕ Z → Bool
 same_key a b = bytes_eq a.items b.items
 
--- each of these ids is in the set
+-- one base comes before another in the order of their bytes
+abbrev pub IsBefore : List ℕ → List ℕ → Type 0
+IsBefore a b = slice_cmp nat_cmp a b ≡ Less
+
+abbrev pub bases_of : List ListedFile → List (List ℕ)
+bases_of files = map base (names_of files)
+
+-- the set has each of these ids that is as long as a digest
 abbrev pub AreSeen : {Z S : Type 0} → HashSet (Vec ℕ Z) S → List (List ℕ) → Type 0
-AreSeen {Z} {S} seen ids = (key : Vec ℕ Z) → Contains ids key.items → contains same_key seen key ≡ true
+AreSeen {Z} {S} seen ids = (key : Vec ℕ Z) → Contains ids key.items → length key.items ≡ digest_length → contains same_key seen key ≡ true
 
--- these messages have ids of their own, those of their files' names, and the set has them
-abbrev pub AreListed : {Z S : Type 0} → HashSet (Vec ℕ Z) S → List Listed → List (List ℕ) → Type 0
-AreListed seen entries names = HaveIds entries names × AreDistinct (map uid_of entries) × AreSeen seen (map uid_of entries)
+-- the files of messages are in the order of their bases, and the set has their ids that are as long as a digest
+pub record AreListed {Z S : Type 0} (seen : HashSet (Vec ℕ Z) S) (files : List ListedFile) : Type 0 where
+  pub messages : AreMessages files
+  pub ascending : AllPairs IsBefore (bases_of files)
+  pub keys : AreSeen seen (map id_of_name (names_of files))
 
--- the id is that of the file's name, and the set doesn't have it
-pub record IsNew {Z S : Type 0} (seen : HashSet (Vec ℕ Z) S) (key : Vec ℕ Z) (uid name : List ℕ) : Type 0 where
-  pub copied : key.items ≡ uid
-  pub of_name : uid ≡ id_of_name name
-  pub fresh : contains same_key seen key ≡ false
+-- the base comes after that of the last of these files
+abbrev pub IsBehind : List ListedFile → List ℕ → Type 0
+IsBehind files name = (last : List ℕ) → 0 < length files → IsBefore (get_or (bases_of files) (length files - 1) last) name
+
+-- the set doesn't have the key, if there is one
+abbrev pub IsUnseen : {Z S : Type 0} → HashSet (Vec ℕ Z) S → Option (Vec ℕ Z) → Type 0
+IsUnseen seen None = Unit {0}
+IsUnseen seen (Some key) = contains same_key seen key ≡ false
+
+-- a file of this base may be listed next: the base comes after that of the last one, and no listed file has its id
+pub record IsNext {Z S : Type 0} (seen : HashSet (Vec ℕ Z) S) (files : List ListedFile) (key : Option (Vec ℕ Z)) (name : List ℕ) : Type 0 where
+  pub behind : IsBehind files name
+  pub is_key : IsKey key (id_of name)
+  pub unseen : IsUnseen seen key

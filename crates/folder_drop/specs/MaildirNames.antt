@@ -1,5 +1,5 @@
 -- The folders of a Maildir, and the unique-id for a file's name.
-use Rattle.std.specs.Prelude.{ℕ, List, codes, if◌then◌else◌}
+use Rattle.std.specs.Prelude.{◌≡◌, ◌≢◌, ℕ, List, Option, None, Some, Vec, codes, length, if◌then◌else◌}
 use Rattle.hex.specs.Hex.{encode_lower}
 use Rattle.sha2.specs.Sha256.{sha256}
 use Rattle.mail_terms.specs.UniqueId.{is_legal_id}
@@ -13,3 +13,12 @@ folder_name New = codes "new"
 -- the base itself if it is a legal id, else its digest in lower-case hexadecimal
 abbrev pub id_of : List ℕ → List ℕ
 id_of base = if is_legal_id base then base else encode_lower (sha256 base)
+
+-- how many characters a digest has in hexadecimal
+abbrev pub digest_length : ℕ
+digest_length = 64
+
+-- the key is this id, if that is as long as a digest; ids of other lengths have none
+abbrev pub IsKey : {Z : Type 0} → Option (Vec ℕ Z) → List ℕ → Type 0
+IsKey None id = length id ≢ digest_length
+IsKey (Some key) id = (key.items ≡ id) × (length id ≡ digest_length)

@@ -3,6 +3,7 @@
 
 mod folders_look;
 mod listed_file;
+mod listing;
 mod maildir_drop;
 mod maildir_folders;
 mod maildir_names;

@@ -1,15 +1,13 @@
 //! The files of a Maildir whose messages are listed, and their sizes as messages.
-ghost use Rattle.std.specs.Prelude.{◌≡◌, [], IsTrue, IfSome, IfOk, map};
+ghost use Rattle.std.specs.Prelude.{◌≡◌, IsTrue, IfSome};
 ghost use Rattle.std.specs.String.{string_bytes};
-ghost use Rattle.folder_drop.specs.declared.folders_look.FoldersLook.{FoldersLook};
-ghost use Rattle.folder_drop.specs.FoldersLook.{IsUnchanged};
-ghost use Rattle.folder_drop.specs.ListedFiles.{WasCounted, found_place, listed_place};
+ghost use Rattle.mail_terms.specs.MaildirName.{base as base_of};
+ghost use Rattle.folder_drop.specs.ListedFiles.{WasCounted};
+ghost use Rattle.folder_drop.specs.RealMaildir.{name_of};
 
-use crate::folders_look::FoldersLook;
-use crate::maildir_names::{Folder, MailFile, PlacedFile, Stamp};
+use crate::maildir_names::{Folder, PlacedFile, Stamp};
 use mail_terms::base;
 use pop3_server::SizeCount;
-use std::alloc::{AllocError, Global};
 use std::fs::Metadata;
 use std::io::{self, Read};
 use std::time::UNIX_EPOCH;
@@ -28,14 +26,15 @@ pub struct ListedFile {
 }
 
 impl ListedFile {
-    /// A file that was found, and its size.
-    pub fn of(found: MailFile, size: u64) -> ListedFile
-        ensures { result ≡ record { folder = found.folder; name = found.name; stamp = found.stamp; size = size } }
+    /// A file that was found, its stamp and its size.
+    pub fn of(found: PlacedFile, stamp: Stamp, size: u64) -> ListedFile
+        ensures { result ≡ record { folder = found.folder; name = found.name; stamp = stamp; size = size } }
     {
+        let PlacedFile { folder, name, .. } = found;
         ListedFile {
-            folder: found.folder,
-            name: found.name,
-            stamp: found.stamp,
+            folder,
+            name,
+            stamp,
             size,
         }
     }
@@ -51,18 +50,23 @@ impl ListedFile {
         }
     }
 
+    /// The base of its name.
+    pub fn base(&self) -> &str
+        ensures { result.now ≡ base_of (name_of self.now) }
+    {
+        base(self.name.as_str())
+    }
+
     /// Whether its place is that of a file that was found.
-    fn is_same(&self, found: &MailFile) -> bool
+    fn is_same(&self, found: &PlacedFile) -> bool
         ensures { IsTrue result → (self.now.folder ≡ found.now.folder) × (string_bytes self.now.name ≡ string_bytes found.now.name) }
     {
         self.folder == found.folder && self.name.as_str() == found.name.as_str()
     }
 
     /// Whether it comes before a file that was found.
-    fn is_before(&self, found: &MailFile) -> bool {
-        let name = self.name.as_str();
-        let place = (base(name).as_bytes(), self.folder, name);
-        place < (found.base.as_slice(), found.folder, found.name.as_str())
+    fn is_before(&self, found: &PlacedFile) -> bool {
+        (self.base(), self.folder, self.name.as_str()) < found.place()
     }
 }
 
@@ -82,52 +86,6 @@ pub fn stamp_of(metadata: &Metadata) -> Stamp {
     stamp
 }
 
-/// The files found in a Maildir, in the order in which their messages are listed, and the look at the
-/// folders after which they were found.
-#[derive(Drop)]
-pub struct FoundFiles {
-    pub look: FoldersLook,
-    pub files: Vec<MailFile>,
-}
-
-/// The files of the listed messages, in their order, and the look at the folders after which they were
-/// found.
-#[derive(Drop)]
-pub struct Listing {
-    pub look: FoldersLook,
-    pub files: Vec<ListedFile>,
-}
-
-impl Listing {
-    /// No listing; it is never valid.
-    pub fn none(alloc: Global) -> Listing
-        ensures files { result.files.items ≡ [] }
-        ensures never { (later : FoldersLook) → IsUnchanged result.look later → ⊥ }
-    {
-        Listing {
-            look: FoldersLook::none(),
-            files: Vec::new(alloc),
-        }
-    }
-
-    /// The listed files as they were found.
-    pub fn found(&self, alloc: Global) -> Result<FoundFiles, AllocError>
-        ensures look { IfOk result (λ found. found.look ≡ self.now.look) }
-        ensures files { IfOk result (λ found. map found_place found.files.items ≡ map listed_place self.now.files.items) }
-    {
-        let mut files = Vec::with_capacity(alloc, self.files.len())?;
-        for file in self.files.as_slice() {
-            let name = String::from_str(alloc, file.name.as_str())?;
-            let placed = PlacedFile::of(alloc, file.folder, name)?;
-            files.push(MailFile::of(placed, file.stamp))?;
-        }
-        Ok(FoundFiles {
-            look: self.look,
-            files,
-        })
-    }
-}
-
 /// Sizes that were counted for an earlier listing, in the order in which files are listed. They have to
 /// be asked for in that order too.
 #[derive(Drop)]
@@ -143,14 +101,14 @@ impl<'a> CountedSizes<'a> {
         CountedSizes { files }
     }
 
-    /// The counted size of a file that was found, if there is one and the file is as it was then. Files
-    /// that come before it are skipped.
-    pub fn size_of(&mut self, found: &MailFile) -> Option<u64>
-        ensures { IfSome result (λ size. WasCounted self.old.files.now found.now size) }
+    /// The counted size of a file that was found with this stamp, if there is one and the file is as it was
+    /// then. Files that come before it are skipped.
+    pub fn size_of(&mut self, found: &PlacedFile, stamp: Stamp) -> Option<u64>
+        ensures { IfSome result (λ size. WasCounted self.old.files.now found.now stamp size) }
     {
         while let [file, rest @ ..] = self.files {
             if file.is_same(found) {
-                return file.size_at(found.stamp);
+                return file.size_at(stamp);
             }
             if !file.is_before(found) {
                 return None;

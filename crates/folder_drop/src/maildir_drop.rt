@@ -10,8 +10,7 @@ ghost use Rattle.folder_drop.specs.RealMaildir.{RealMaildir, mail_of, names_of, 
 mod listing;
 mod texts;
 
-use crate::listed_file::Listing;
-use crate::maildir_drop::listing::ListedMessages;
+use crate::listing::Listing;
 use crate::maildir_folders::MaildirFolders;
 use crate::removal::TwoMessages;
 use crate::seen_files::SeenFiles;
@@ -59,7 +58,7 @@ impl<'a, R: Files + AllocGlobal + Clone + Drop> Model for MaildirDrop<'a, R> {
 
     ghost view = { λ d. record {
       path = d.folders;
-      names = names_of d.listing.files.items;
+      names = names_of d.listing.files;
       failures = d.failures;
       removals = d.removals;
     } };
@@ -84,25 +83,28 @@ impl<'a, R: Files + Clock + RandomSource + AllocGlobal + Clone + Drop> MaildirDr
         }
     }
 
-    /// The same Maildir for another server, as at the start, except that the folders aren't searched
-    /// again while the last listing is valid, and the sizes of unchanged files aren't counted again.
+    /// The same Maildir for another server, as at the start, except that removals are counted on, that the
+    /// folders aren't searched again while the last listing is valid, and that the sizes of unchanged files
+    /// aren't counted again.
     pub fn renewed(self) -> MaildirDrop<'a, R>
-        ensures { result ≡ record { path = self.entry.path; names = []; failures = 0; removals = 0 } }
+        ensures { result ≡ record { path = self.entry.path; names = []; failures = 0; removals = self.entry.removals } }
     {
         let MaildirDrop {
             system,
             folders,
             listing,
             earlier,
+            removals,
             ..
         } = self;
-        let earlier = if listing.files.is_empty() {
+        let earlier = if listing.files().is_empty() {
             earlier
         } else {
             listing
         };
         MaildirDrop {
             earlier,
+            removals,
             ..MaildirDrop::at(system, folders.into_path())
         }
     }
@@ -159,11 +161,9 @@ impl<'a, R: Files + Clock + RandomSource + AllocGlobal + Clone + Drop> Maildrop
         }
         let mut last_seen = SeenFiles::none();
         self.system.refusals.forget();
-        match self.look(&mut last_seen) {
-            Ok(ListedMessages { entries, listing }) => {
-                self.listing = listing;
+        match self.list_messages(&mut last_seen) {
+            Ok(entries) => {
                 self.last_seen = last_seen;
-                self.earlier = Listing::none(self.system.alloc());
                 Ok(entries)
             }
             Err(error) => {

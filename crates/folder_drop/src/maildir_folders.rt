@@ -110,7 +110,7 @@ impl<'a, R: Files + Clock + AllocGlobal + Clone + Drop> MaildirFolders<'a, R> {
         let path = self.folder_path(folder)?;
         let listed = list_names(self.system, path.as_str())?;
         for name in listed.names {
-            files.push(PlacedFile::of(self.system.alloc(), folder, name)?)?;
+            files.push(PlacedFile::of(folder, name))?;
         }
         Ok(ChangeTime::of(&listed.folder))
     }
@@ -124,7 +124,7 @@ impl<'a, R: Files + Clock + AllocGlobal + Clone + Drop> MaildirFolders<'a, R> {
         if self.change_of(Folder::New)? != change {
             return Ok(None);
         }
-        files.sort()?;
+        files.sort_unstable_by(|a, b| a.place().cmp(&b.place()));
         Ok(Some(files))
     }
 
@@ -150,7 +150,7 @@ impl<'a, R: Files + Clock + AllocGlobal + Clone + Drop> MaildirFolders<'a, R> {
     fn path_now(
         &self,
         seen: &mut SeenFiles,
-        base: &[u8],
+        base: &str,
         tried: &str,
     ) -> io::Result<Option<String>> {
         if let Some(file) = seen.with_base(base, 0) {
@@ -184,7 +184,7 @@ impl<'a, R: Files + Clock + AllocGlobal + Clone + Drop> MaildirFolders<'a, R> {
                 Err(error) if error.kind() == ErrorKind::NotFound => {}
                 Err(error) => return Err(error),
             }
-            match self.path_now(seen, base(name).as_bytes(), path.as_str())? {
+            match self.path_now(seen, base(name), path.as_str())? {
                 Some(now) => path = now,
                 None => return Ok(None),
             }
@@ -244,7 +244,7 @@ impl<'a, R: Files + Clock + AllocGlobal + Clone + Drop> MaildirFolders<'a, R> {
     fn namesakes(&self, seen: &SeenFiles, listed: &ListedFile) -> io::Result<Vec<Namesake>> {
         let mut files = Vec::new(self.system.alloc());
         for place in 0..usize::MAX {
-            let Some(file) = seen.with_base(base(listed.name.as_str()).as_bytes(), place) else {
+            let Some(file) = seen.with_base(base(listed.name.as_str()), place) else {
                 break;
             };
             if let Some(file) = self.namesake(file, listed)? {

@@ -4,14 +4,17 @@ ghost use Rattle.std.specs.List.{list_all};
 ghost use Rattle.std.specs.String.{string_bytes};
 ghost use Rattle.mail_terms.specs.MaildirName.{base as base_of};
 ghost use Rattle.mail_terms.specs.UniqueId.{is_legal_id, is_id_byte};
-ghost use Rattle.folder_drop.specs.MaildirNames.{folder_name, id_of};
+ghost use Rattle.folder_drop.specs.MaildirNames.{folder_name, id_of, IsKey};
 ghost use Rattle.hex.specs.Hex.{encode_lower};
 ghost use Rattle.sha2.specs.Sha256.{sha256};
 
 use mail_terms::base;
-use pop3_wire::{Bytes, is_legal_id};
+use pop3_wire::is_legal_id;
 use sha2::{Digest, Sha256};
 use std::alloc::{AllocError, Global};
+
+/// How many characters a digest has in hexadecimal.
+const DIGEST_LENGTH: usize = 64;
 
 /// A folder of a Maildir whose files are messages.
 #[derive(Clone, Copy, PartialEq, Eq, PartialOrd, Ord)]
@@ -40,51 +43,40 @@ pub struct Stamp {
     pub nanoseconds: u32,
 }
 
-/// The place of a file in a Maildir. Files are ordered by the bytes of their base, then `cur` before
-/// `new`, then by their whole name.
-#[derive(PartialEq, Eq, PartialOrd, Ord, Drop)]
+/// The place of a file in a Maildir.
+#[derive(Drop)]
 pub struct PlacedFile {
-    pub base: Vec<u8>,
     pub folder: Folder,
     pub name: String,
+    /// How long its base is, kept for the many comparisons of a sort.
+    base_length: usize,
 }
 
 impl PlacedFile {
     /// The file of this name.
-    pub fn of(alloc: Global, folder: Folder, name: String) -> Result<PlacedFile, AllocError>
-        ensures base { IfOk result (λ file. file.base.items ≡ base_of (string_bytes name)) }
-        ensures place { IfOk result (λ file. (file.folder ≡ folder) × (file.name ≡ name)) }
+    pub fn of(folder: Folder, name: String) -> PlacedFile
+        ensures { (result.folder ≡ folder) × (result.name ≡ name) }
     {
-        Ok(PlacedFile {
-            base: Vec::from_slice(alloc, base(name.as_str()).as_bytes())?,
+        let base_length = base(name.as_str()).len();
+        PlacedFile {
             folder,
             name,
-        })
-    }
-}
-
-/// A file of a Maildir, in the same order.
-#[derive(PartialEq, Eq, PartialOrd, Ord, Drop)]
-pub struct MailFile {
-    pub base: Vec<u8>,
-    pub folder: Folder,
-    pub name: String,
-    /// Its length and time of change.
-    pub stamp: Stamp,
-}
-
-impl MailFile {
-    /// A file at this place.
-    pub fn of(placed: PlacedFile, stamp: Stamp) -> MailFile
-        ensures { result ≡ record { base = placed.base; folder = placed.folder; name = placed.name; stamp = stamp } }
-    {
-        let PlacedFile { base, folder, name } = placed;
-        MailFile {
-            base,
-            folder,
-            name,
-            stamp,
+            base_length,
         }
+    }
+
+    /// The base of its name.
+    pub fn base(&self) -> &str
+        ensures { result.now ≡ base_of (string_bytes self.now.name) }
+    {
+        base(self.name.as_str())
+    }
+
+    /// What files are ordered by: the bytes of their base, then `cur` before `new`, then their whole name.
+    pub fn place(&self) -> (&str, Folder, &str) {
+        let name = self.name.as_str();
+        let base = name.get(..self.base_length).unwrap_or(name);
+        (base, self.folder, name)
     }
 }
 
@@ -112,13 +104,23 @@ fn digest(base: &[u8]) -> [u8; 64]
 
 /// The unique-id of a base: the base itself if that is a legal id, else its SHA-256 in lower-case
 /// hexadecimal.
-pub fn unique_id(alloc: Global, base: &[u8]) -> Result<Bytes, AllocError>
-    ensures value { IfOk result (λ id. id ≡ id_of base.now) }
-    ensures legal { IfOk result (λ id. IsTrue (is_legal_id id)) }
+pub fn unique_id(alloc: Global, base: &[u8]) -> Result<Vec<u8>, AllocError>
+    ensures value { IfOk result (λ id. id.items ≡ id_of base.now) }
+    ensures legal { IfOk result (λ id. IsTrue (is_legal_id id.items)) }
 {
     if is_legal_id(base) {
-        return Ok(Bytes::from_vec(Vec::from_slice(alloc, base)?));
+        return Vec::from_slice(alloc, base);
     }
-    let digest = digest(base);
-    Ok(Bytes::from_vec(Vec::from_slice(alloc, digest.as_slice())?))
+    Vec::from_slice(alloc, digest(base).as_slice())
+}
+
+/// The unique-id of a base if it is as long as a digest: it may be that of another base too, which any other id
+/// can't be.
+pub fn long_id(alloc: Global, base: &[u8]) -> Result<Option<Vec<u8>>, AllocError>
+    ensures { IfOk result (λ key. IsKey key (id_of base.now)) }
+{
+    if base.len() != DIGEST_LENGTH && is_legal_id(base) {
+        return Ok(None);
+    }
+    Ok(Some(unique_id(alloc, base)?))
 }

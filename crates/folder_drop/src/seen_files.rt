@@ -1,5 +1,7 @@
 //! Where the files of a Maildir were last seen, for those that aren't where they were listed.
 ghost use Rattle.std.specs.Prelude.{◌≡◌, ◌&&◌, if◌then◌else◌, None, Some, false, not, true, is_some, IfSome};
+ghost use Rattle.std.specs.String.{string_bytes};
+ghost use Rattle.mail_terms.specs.MaildirName.{base as base_of};
 
 use crate::maildir_names::PlacedFile;
 
@@ -31,16 +33,16 @@ impl SeenFiles {
     }
 
     /// A file that was seen with this base, in their order: the first one at 0.
-    pub fn with_base(&self, base: &[u8], place: usize) -> Option<&PlacedFile>
-        ensures { IfSome result (λ file. file.now.base.items ≡ base.now) }
+    pub fn with_base(&self, base: &str, place: usize) -> Option<&PlacedFile>
+        ensures { IfSome result (λ file. base_of (string_bytes file.now.name) ≡ base.now) }
     {
         let files = match &self.files {
             Some(files) => files.as_slice(),
             None => return None,
         };
-        let i = files.partition_point(|file| file.base.as_slice() < base);
+        let i = files.partition_point(|file| file.base() < base);
         match files.get(i.saturating_add(place)) {
-            Some(file) if file.base.as_slice() == base => Some(file),
+            Some(file) if file.base() == base => Some(file),
             _ => None,
         }
     }

@@ -1,5 +1,5 @@
 //! Serves standard input and output, or TCP connections one after the other.
-ghost use Rattle.std.specs.Prelude.{◌≡◌, ◌⊎◌, true, IfErr};
+ghost use Rattle.std.specs.Prelude.{◌≡◌, ◌⊎◌, true, false, IfOk, IfErr};
 ghost use Rattle.pop3_server.specs.ServerMachine.{is_open};
 
 use crate::account::Account;
@@ -93,23 +93,74 @@ where
     }
 }
 
-/// Serves the account's Maildir over standard input and output.
-pub fn serve_maildir<R, I, O>(
+/// What was served over a Maildir.
+#[derive(Drop)]
+pub struct Visit<'a, R: Files + AllocGlobal + Clone + Drop> {
+    /// How the session ended.
+    pub served: Result<(), ServerFault>,
+    /// Whether it came to QUIT.
+    pub has_quit: bool,
+    /// The Maildir after it.
+    pub maildir: MaildirDrop<'a, R>,
+}
+
+/// Serves the account's Maildir over two named streams, and warns of what couldn't be read or removed.
+fn serve_account<'a, R, J, I, O>(
+    system: &System<'_, R>,
+    account: Account,
+    maildir: MaildirDrop<'a, R>,
+    journal: &mut J,
+    input: (I, &str),
+    output: (O, &str),
+) -> Visit<'a, R>
+where
+    R: Files + Clock + RandomSource + AllocGlobal + Eprint + Clone + Drop,
+    J: Journal,
+    I: Read + Drop,
+    O: Write + Drop,
+    ensures { result.has_quit ≡ false → result.maildir.removals ≡ maildir.entry.removals }
+{
+    let mut server = account.into_server(system.alloc(), maildir);
+    let served = serve_traced(system, &mut server, journal, input, output);
+    let has_quit = !server.is_open();
+    let maildir = server.into_drop();
+    warn_of_maildir(system.rt, &maildir);
+    Visit {
+        served,
+        has_quit,
+        maildir,
+    }
+}
+
+/// Serves the account's Maildir over standard input and output, and tells what happens there if `verbose` asks
+/// for it. Nothing is removed unless the session came to QUIT.
+pub fn serve_maildir<'a, R, I, O>(
     system: &System<'_, R>,
     account: Account,
     verbose: bool,
     streams: (I, O),
-) -> Result<(), ServerFault>
+    maildir: MaildirDrop<'a, R>,
+) -> Visit<'a, R>
 where
     R: Files + Clock + RandomSource + AllocGlobal + Eprint + Clone + Drop,
     I: Read + Drop,
     O: Write + Drop,
+    ensures { result.has_quit ≡ false → result.maildir.removals ≡ maildir.entry.removals }
 {
-    let maildir = account.open_maildir(system)?;
-    let mut server = account.into_server(system.alloc(), maildir);
-    let served = serve_streams(system, &mut server, verbose, streams);
-    warn_of_maildir(system.rt, &server.into_drop());
-    served
+    let mut telling = Telling {
+        rt: system.rt,
+        verbose,
+        peer: Peer::StandardInput,
+    };
+    let (input, output) = streams;
+    serve_account(
+        system,
+        account,
+        maildir,
+        &mut telling,
+        (input, "standard input"),
+        (output, "standard output"),
+    )
 }
 
 /// What a connection that was just accepted needs besides the Maildir: its account, its stream and the
@@ -130,78 +181,95 @@ fn begin<'a, R: Clock + AllocGlobal>(
 }
 
 /// Serves one connection with limited waits, over the Maildir as it is now, and gives the Maildir
-/// back for the next one.
+/// back for the next one. Nothing is removed unless the session came to QUIT.
 fn serve_connection<'a, R>(
     system: &System<'_, R>,
     telling: &mut Telling<'_, R>,
     stream: &TcpStream,
     account: &Account,
     maildir: MaildirDrop<'a, R>,
-) -> (Result<(), ServerFault>, MaildirDrop<'a, R>)
+) -> Visit<'a, R>
 where
     R: Files + Clock + RandomSource + AllocGlobal + Eprint + Clone + Drop,
+    ensures { result.has_quit ≡ false → result.maildir.removals ≡ maildir.entry.removals }
 {
     let (account, bounded, name) = match begin(system, stream, telling.peer, account) {
         Ok(connection) => connection,
-        Err(fault) => return (Err(fault), maildir),
+        Err(fault) => {
+            return Visit {
+                served: Err(fault),
+                has_quit: false,
+                maildir,
+            };
+        }
     };
     // Without it the connection works too, only slower.
     let _ = stream.set_nodelay(true);
-    let mut server = account.into_server(system.alloc(), maildir);
     let mut journal = LoginJournal {
         stream: &bounded,
         journal: telling,
     };
     let (input, output) = ((&bounded, name.as_str()), (&bounded, name.as_str()));
-    let served = serve_traced(system, &mut server, &mut journal, input, output);
-    let maildir = server.into_drop();
-    warn_of_maildir(system.rt, &maildir);
-    (served, maildir.renewed())
+    let visit = serve_account(system, account, maildir, &mut journal, input, output);
+    Visit {
+        maildir: visit.maildir.renewed(),
+        ..visit
+    }
 }
 
 /// Accepts the next client and serves it, and reports a fault. If none can be accepted, that is reported
-/// after a pause. Gives the Maildir back for the client after it.
+/// after a pause. Gives the Maildir back for the client after it. Nothing is removed unless the session came
+/// to QUIT.
 fn serve_next<'a, R>(
     system: &System<'_, R>,
-    (listener, address): (&TcpListener, &str),
+    listener: (&TcpListener, &str),
     verbose: bool,
     account: &Account,
     maildir: MaildirDrop<'a, R>,
-) -> MaildirDrop<'a, R>
+) -> Visit<'a, R>
 where
     R: Files + Clock + RandomSource + AllocGlobal + Eprint + Clone + Drop,
+    ensures { result.has_quit ≡ false → result.maildir.removals ≡ maildir.entry.removals }
 {
     let rt = system.rt;
+    let (listener, address) = listener;
     let Ok((stream, client)) = system.refusals.noted("accept", address, listener.accept()) else {
         thread::sleep(rt, Duration::from_secs(PAUSE_SECONDS));
         tell(rt, Failure::Fault(ServerFault::ReadFailed));
-        return maildir;
+        return Visit {
+            served: Err(ServerFault::ReadFailed),
+            has_quit: false,
+            maildir,
+        };
     };
     let mut telling = Telling {
         rt,
         verbose,
         peer: Peer::Address(client),
     };
-    let (served, left) = serve_connection(system, &mut telling, &stream, account, maildir);
-    if let Err(fault) = served {
+    let visit = serve_connection(system, &mut telling, &stream, account, maildir);
+    if let Err(fault) = visit.served {
         tell(rt, Failure::Fault(fault));
         warn(rt, Warning::Cut(client, fault));
     }
-    left
+    visit
 }
 
-/// Serves connections to an address, one after the other, as many as the words say. A fault of one of
-/// them, or in accepting it, is reported, and the next one is served.
-pub fn listen<'a, R>(
+/// Serves connections to an address over the account's Maildir, one after the other, as many as the words say.
+/// A fault of one of them, or in accepting it, is reported, and the next one is served. Returns whether one
+/// came to QUIT, and the Maildir after all of them; nothing is removed unless one did.
+pub fn listen<'a, 'b, R>(
     system: &System<'_, R>,
     address: &'a str,
     words: &Words,
     account: &Account,
-) -> Result<(), Failure<'a>>
+    maildir: MaildirDrop<'b, R>,
+) -> Result<(bool, MaildirDrop<'b, R>), Failure<'a>>
 where
     R: Net<Listener = TcpListener, Stream = TcpStream> + Files + Clock,
     R: RandomSource + AllocGlobal + Eprint + Copy + Drop,
-    ensures { IfErr result (λ f. (f ≡ Failure.CannotListen address.entry) ⊎ (f ≡ Failure.Fault ServerFault.NoMemory)) }
+    ensures err { IfErr result (λ f. (f ≡ Failure.CannotListen address.entry) ⊎ (f ≡ Failure.Fault ServerFault.NoMemory)) }
+    ensures removals { IfOk result (λ left. left.0 ≡ false → left.1.removals ≡ maildir.entry.removals) }
 {
     let bound = TcpListener::bind(system.rt, address);
     let listener = match system.refusals.noted("bind", address, bound) {
@@ -211,10 +279,13 @@ where
     if words.verbose {
         tell_listening(system.rt, &listener);
     }
-    let mut maildir = account.open_maildir(system)?;
+    let mut has_quit = false;
+    let mut left = maildir;
     for _ in 0..words.connections {
         let next = (&listener, address);
-        maildir = serve_next(system, next, words.verbose, account, maildir);
+        let visit = serve_next(system, next, words.verbose, account, left);
+        has_quit = has_quit || visit.has_quit;
+        left = visit.maildir;
     }
-    Ok(())
+    Ok((has_quit, left))
 }

@@ -57,9 +57,13 @@ where
     }
     let account = read_account(system, words)?;
     warn_of(system, &account, words.passfile.as_deref())?;
+    let maildir = account.open_maildir(system)?;
     match &words.listen {
-        Some(address) => listen(system, address.as_str(), words, &account),
-        None => Ok(serve_maildir(system, account, words.verbose, streams)?),
+        Some(address) => {
+            listen(system, address.as_str(), words, &account, maildir)?;
+            Ok(())
+        }
+        None => Ok(serve_maildir(system, account, words.verbose, streams, maildir).served?),
     }
 }
 

@@ -18,7 +18,7 @@ impl<'a, R: Files + Clock + RandomSource + AllocGlobal + Clone + Drop> MaildirDr
     fn open_file(&mut self, i: usize) -> io::Result<Noted<'a, R::File>>
         ensures same { self.new ≡ self.old }
     {
-        let Some(listed) = self.listing.files.get(i) else {
+        let Some(listed) = self.listing.files().get(i) else {
             return Err(missing());
         };
         let name = listed.name.as_str();
@@ -35,7 +35,7 @@ impl<'a, R: Files + Clock + RandomSource + AllocGlobal + Clone + Drop> MaildirDr
         ensures same { self.new ≡ self.old }
     {
         let mut file = self.open_file(i)?;
-        let length = match self.listing.files.get(i) {
+        let length = match self.listing.files().get(i) {
             Some(listed) => listed.stamp.length,
             None => 0,
         };
@@ -99,7 +99,7 @@ impl<'a, R: Files + Clock + RandomSource + AllocGlobal + Clone + Drop> MaildirDr
     pub(crate) fn remove_file(&mut self, i: usize) -> io::Result<()>
         ensures same { self.new ≡ self.old }
     {
-        let Some(listed) = self.listing.files.get(i) else {
+        let Some(listed) = self.listing.files().get(i) else {
             return Err(missing());
         };
         if self.last_seen.begin_removals() {

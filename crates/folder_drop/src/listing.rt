@@ -1,0 +1,161 @@
+//! The listing of a Maildir: the files of the messages, which have different ids.
+ghost use Rattle.std.specs.Prelude.{◌≡◌, ◌≤◌, ◌<◌, [], IsTrue, IsFalse, IfOk, OnOk, length, map, vec_len};
+ghost use Rattle.folder_drop.specs.declared.folders_look.FoldersLook.{FoldersLook};
+ghost use Rattle.folder_drop.specs.FoldersLook.{IsUnchanged};
+ghost use Rattle.mail_terms.specs.Distinct.{AreDistinct};
+ghost use Rattle.mail_terms.specs.MaildirName.{base as base_of};
+ghost use Rattle.pop3_server.specs.Maildrop.{max_size};
+ghost use Rattle.folder_drop.specs.ListedIds.{AreListed, IsBehind, IsNext, IsUnseen};
+ghost use Rattle.folder_drop.specs.RealMaildir.{name_of, names_of, uid_of, HaveIds};
+
+use crate::folders_look::FoldersLook;
+use crate::listed_file::ListedFile;
+use crate::maildir_names::unique_id;
+use pop3_server::{Entry, MAX_COUNT};
+use pop3_wire::Bytes;
+use std::alloc::{AllocError, Global};
+use std::collections::HashSet;
+use std::hash::RandomState;
+use std::marker::Model;
+
+/// The files of the listed messages, in their order, and the look at the folders after which they were
+/// found.
+#[derive(Drop)]
+pub struct Listing {
+    look: FoldersLook,
+    files: Vec<ListedFile>,
+}
+
+impl Model for Listing {
+    ghost use Rattle.folder_drop.specs.ListedIds.{AreMessages, FileListing};
+
+    ghost Value = { FileListing };
+
+    ghost view = { λ l. record { look = l.look; files = l.files.items } };
+
+    ghost invariant = { λ l. AreMessages l.files.items };
+}
+
+impl Listing {
+    /// No listing; it is never valid.
+    pub fn none(alloc: Global) -> Listing
+        ensures files { result.files ≡ [] }
+        ensures never { (later : FoldersLook) → IsUnchanged result.look later → ⊥ }
+    {
+        Listing {
+            look: FoldersLook::none(),
+            files: Vec::new(alloc),
+        }
+    }
+
+    /// The look at the folders after which the files were found.
+    pub fn look(&self) -> &FoldersLook
+        ensures { result.now ≡ self.now.look }
+    {
+        &self.look
+    }
+
+    /// The files.
+    pub fn files(&self) -> &[ListedFile]
+        ensures { result.now ≡ self.now.files }
+    {
+        self.files.as_slice()
+    }
+
+    /// The messages, each with its id and the size of its file.
+    pub fn entries(&self, alloc: Global) -> Result<Vec<Entry>, AllocError>
+        ensures within { IfOk result (λ entries. vec_len entries ≤ MAX_COUNT) }
+        ensures distinct { IfOk result (λ entries. AreDistinct (map uid_of entries.items)) }
+        ensures names { IfOk result (λ entries. HaveIds entries.items (names_of self.now.files)) }
+    {
+        let mut entries = Vec::with_capacity(alloc, self.files.len())?;
+        for file in self.files.as_slice() {
+            let uid = Bytes::from_vec(unique_id(alloc, file.base().as_bytes())?);
+            entries.push(Entry::new(uid, file.size))?;
+        }
+        Ok(entries)
+    }
+}
+
+/// The files that are listed so far, and those of their ids that are as long as a digest. All other ids are bases,
+/// and these differ, since files are listed in their order.
+#[derive(Drop)]
+pub struct ListedFiles {
+    pub files: Vec<ListedFile>,
+    pub long_ids: HashSet<Vec<u8>, RandomState>,
+}
+
+impl ListedFiles {
+    /// None yet, with room for so many.
+    pub fn with_capacity(
+        alloc: Global,
+        capacity: usize,
+        hasher: RandomState,
+    ) -> Result<ListedFiles, AllocError>
+        ensures { IfOk result (λ listed. AreListed listed.long_ids listed.files.items) }
+    {
+        Ok(ListedFiles {
+            files: Vec::with_capacity(alloc, capacity)?,
+            long_ids: HashSet::with_hasher(alloc, hasher),
+        })
+    }
+
+    /// Whether as many messages are listed as may be.
+    pub fn is_full(&self) -> bool
+        ensures { IsFalse result → vec_len self.now.files < MAX_COUNT }
+    {
+        self.files.len() >= MAX_COUNT
+    }
+
+    /// Whether a base comes after those of all files that are listed.
+    fn is_behind(&self, base: &str) -> bool
+        ensures { IsTrue result → IsBehind self.now.files.items base.now }
+    {
+        match self.files.last() {
+            Some(last) => last.base() < base,
+            None => true,
+        }
+    }
+
+    /// Whether an id isn't one of the long ones that are listed.
+    fn is_unseen(&self, long_id: &Option<Vec<u8>>) -> bool
+        ensures { IsTrue result → IsUnseen self.now.long_ids long_id.now }
+    {
+        match long_id {
+            Some(id) => !self.long_ids.contains(id),
+            None => true,
+        }
+    }
+
+    /// Whether a file of this base may be listed next, whose id is this one if that is as long as a digest.
+    pub fn admit(&self, base: &str, long_id: &Option<Vec<u8>>) -> bool
+        ensures behind { IsTrue result → IsBehind self.now.files.items base.now }
+        ensures unseen { IsTrue result → IsUnseen self.now.long_ids long_id.now }
+    {
+        self.is_behind(base) && self.is_unseen(long_id)
+    }
+
+    /// Lists one more file.
+    pub fn add(&mut self, long_id: Option<Vec<u8>>, file: ListedFile) -> Result<(), AllocError>
+        ensures { OnOk result (IsNext self.old.long_ids self.old.files.items long_id (base_of (name_of file))
+            → vec_len self.old.files < MAX_COUNT → file.size ≤ max_size
+            → AreListed self.old.long_ids self.old.files.items → AreListed self.new.long_ids self.new.files.items) }
+    {
+        if let Some(id) = long_id {
+            self.long_ids.insert(id)?;
+        }
+        self.files.push(file)?;
+        Ok(())
+    }
+
+    /// The listing of these files, found after this look.
+    pub fn into_listing(self, look: FoldersLook) -> Listing
+        requires { AreListed self.long_ids self.files.items }
+        ensures { result ≡ record { look = look; files = self.files.items } }
+    {
+        Listing {
+            look,
+            files: self.files,
+        }
+    }
+}
