@@ -130,20 +130,24 @@ class Unattended(unittest.TestCase):
         self.assertEqual((run.status, len(run.err.splitlines())), (1, 2))
         self.assertEqual(self.run_getmail(), programs.Run(1, b"", b""))
 
+    def session_with_room(self, octets):
+        """A session in which no file may be longer: the status, and how many lines it tells."""
+        _, hard = resource.getrlimit(resource.RLIMIT_FSIZE)
+        resource.setrlimit(resource.RLIMIT_FSIZE, (octets, hard))
+        thread = self.server.begin_session()
+        try:
+            process = self.account.start("--unattended", restore_signals=False)
+        finally:
+            resource.setrlimit(resource.RLIMIT_FSIZE, (hard, hard))
+        _, err = process.communicate(timeout=programs.SECONDS)
+        thread.join(programs.SECONDS)
+        return process.returncode, len(err.splitlines())
+
     def test_a_full_disk(self):
         """The file that can't be written has another name in each run, and is the same fault."""
         self.server.messages = [(b"a", b"a long line of text\n" * 100)]
-        _, hard = resource.getrlimit(resource.RLIMIT_FSIZE)
         for lines in (2, 0, 0):
-            resource.setrlimit(resource.RLIMIT_FSIZE, (500, hard))
-            thread = self.server.begin_session()
-            try:
-                process = self.account.start("--unattended", restore_signals=False)
-            finally:
-                resource.setrlimit(resource.RLIMIT_FSIZE, (hard, hard))
-            _, err = process.communicate(timeout=programs.SECONDS)
-            thread.join(programs.SECONDS)
-            self.assertEqual((process.returncode, len(err.splitlines())), (1, lines), err)
+            self.assertEqual(self.session_with_room(500), (1, lines))
 
     def test_a_disk_without_any_room(self):
         """What can't be kept is told each time, and what was kept stays."""
@@ -151,18 +155,9 @@ class Unattended(unittest.TestCase):
         self.session()
         path, = self.told()
         before = path.read_bytes()
-        _, hard = resource.getrlimit(resource.RLIMIT_FSIZE)
         self.refuse("LIST")
         for _ in range(2):
-            resource.setrlimit(resource.RLIMIT_FSIZE, (10, hard))
-            thread = self.server.begin_session()
-            try:
-                process = self.account.start("--unattended", restore_signals=False)
-            finally:
-                resource.setrlimit(resource.RLIMIT_FSIZE, (hard, hard))
-            _, err = process.communicate(timeout=programs.SECONDS)
-            thread.join(programs.SECONDS)
-            self.assertEqual((process.returncode, len(err.splitlines())), (1, 2), err)
+            self.assertEqual(self.session_with_room(10), (1, 2))
             self.assertEqual((path.read_bytes(), self.told()), (before, [path]))
 
     def test_its_file(self):
