@@ -12,7 +12,12 @@ program name = record { top = record (new_app name).top { has_version = true }; 
 
 -- an option with a value, given at most once
 abbrev pub value_rule : List ℕ → ℕ → Rule
-value_rule name short = record (new_rule name) { long = Some name; short = Some short; value_names = 1; action = Some Set }
+value_rule name short = record (new_rule name) {
+  long = Some name;
+  short = Some short;
+  value_names = 1;
+  action = Some Set;
+}
 
 -- the same with no short form
 abbrev pub long_value_rule : List ℕ → Rule

@@ -13,7 +13,8 @@ pub fn text(
     matches: &ArgMatches<'_>,
     name: &str,
 ) -> Result<Option<String>, AllocError>
-    ensures { IfOk result (λ owned. option_map string_bytes owned ≡ first_of name.now (rows_of (found_of matches.now))) }
+    ensures { IfOk result (λ owned. option_map string_bytes owned
+        ≡ first_of name.now (rows_of (found_of matches.now))) }
 {
     match matches.get_str(name) {
         None => Ok(None),

@@ -5,7 +5,7 @@ use Rattle.mail_terms.specs.UniqueId.{has_id}
 use Rattle.std.proofs.Math.Bool.{and-false, or-false, or-true, or_assoc}
 use Rattle.std.proofs.lemmas.Bool.{OnFalse_at, OnTrue_at, and_parts, cases_Bool, cond_both, or_cases, or_from, or_left, or_parts, or_right, true_from_ne_false, and_from, eq-eqb}
 use Rattle.std.proofs.lemmas.Cmp.{nat_list_eq_equiv}
-use Rattle.std.proofs.lemmas.List.{length-map, map-append, map_more, flat_map_more, length-take, take_more}
+use Rattle.std.proofs.lemmas.List.{ext_get_or, get_or-map, length-map, map-append, map_more, flat_map_more, length-take, take_more}
 use Rattle.std.proofs.lemmas.List.Elements.{All-from_recursion, recursion_from_All, filter-append}
 use Rattle.std.proofs.lemmas.List.Folds.{Any-from_list_any, list_any-append, list_any_more, map_fixed}
 use Rattle.std.proofs.lemmas.Map.Made.{alike_from_same, is_member-filter, length-le_from_is_member}
@@ -205,6 +205,44 @@ known_merge rows items held now is all =
     known : (uid : List ℕ) → has_item items uid ≡ true → is_delivered rows uid ≡ true
     known uid listed = let there = Any-from_list_any (λ (item : Item). bytes_eq uid item.uid) items listed in
         rw (same_from_test uid there.1.uid there.4) (rw there.3 at (all there.0 there.1 there.2))
+
+-- ---- a merge of flags that are alike for all other ids is the same
+
+-- the row of an id that is new
+abbrev undelivered_or : (List ℕ → Bool) → ℕ → List ℕ → Row
+undelivered_or f now uid = record { uid = uid; first_seen = now; delivered = f uid }
+
+module _ (f g : List ℕ → Bool) (rows : List Row) (is : IsRecord rows) (alike : (uid : List ℕ) → is_delivered rows uid ≡ false → f uid ≡ g uid) where
+  with_alike : map (λ (row : Row). with_delivered (f row.uid) row) rows ≡ map (λ (row : Row). with_delivered (g row.uid) row) rows
+  with_alike =
+      let none : Row = record { uid = []; first_seen = 0; delivered = false } in
+      let by_f : Row → Row = λ row. with_delivered (f row.uid) row in
+      let by_g : Row → Row = λ row. with_delivered (g row.uid) row in
+      ext_get_or none (map by_f rows) (map by_g rows) (length-map rows by_f ∙ sym (length-map rows by_g)) (λ i inside.
+      let within : i < length rows = omega (arith, inside, length-map rows by_f) in
+      let row = get_or rows i none in
+      get_or-map by_f rows i none none within ∙ same_with row (is_delivered-at rows i none is within) ∙ sym (get_or-map by_g rows i none none within))
+    where
+      same_with : (row : Row) → is_delivered rows row.uid ≡ row.delivered → with_delivered (f row.uid) row ≡ with_delivered (g row.uid) row
+      same_with row shown = elim (cases_Bool row.delivered) [
+        | inl done ↦ rw done refl
+        | inr new ↦ ap (λ (also : Bool). with_delivered also row) (alike row.uid (shown ∙ new))
+      ]
+
+  new_alike : (now : ℕ) (ids : List (List ℕ)) → map (λ (uid : List ℕ). undelivered_or f now uid) (filter (λ uid. not (has_row rows uid)) ids)
+      ≡ map (λ (uid : List ℕ). undelivered_or g now uid) (filter (λ uid. not (has_row rows uid)) ids)
+  new_alike now [] = refl
+  new_alike now (id ∷ ids) = elim (cases_Bool (has_row rows id)) [
+    | inl has ↦ rw has (new_alike now ids)
+    | inr none ↦ rw (none, alike id (none_of (λ state. state.delivered) id rows none), new_alike now ids) refl
+  ]
+
+pub merged_alike : (rows : List Row) (listing : List Item) (held others : List Bool) (now : ℕ) → IsRecord rows
+    → ((uid : List ℕ) → is_delivered rows uid ≡ false → is_flagged listing held uid ≡ is_flagged listing others uid)
+    → merged rows listing held now ≡ merged rows listing others now
+merged_alike rows listing held others now is alike =
+    ap₂ (λ (front behind : List Row). front ++ behind) (with_alike (is_flagged listing held) (is_flagged listing others) rows is alike)
+    (new_alike (is_flagged listing held) (is_flagged listing others) rows is alike now (distinct_ids (map (λ (item : Item). item.uid) listing)))
 
 -- ---- a loop over the flagged items
 
@@ -428,4 +466,4 @@ merge_updates rows longer new listing held now longer_is new_is is short =
     let good : IsRecord (merged rows listing held now) = subst IsRecord all is in
     rw all (updates rows (merged rows listing held now) good (GrewFrom-more (λ (row : Row). is_flagged listing held row.uid) rows _) (omega (arith, short, merge_is_short rows listing held now good)))
 
-pub ruleset merge_laws = (delivered-merged, has_row-merged, known_merge, known_has_row, delivered-marked, has_row-marked)
+pub ruleset merge_laws = (delivered-merged, merged_alike, has_row-merged, known_merge, known_has_row, delivered-marked, has_row-marked)

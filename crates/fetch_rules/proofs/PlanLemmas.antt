@@ -23,10 +23,10 @@ use Rattle.std.proofs.lemmas.Slice.Eq.{bytes_eq-Decides}
 use Rattle.std.specs.Cmp.Lexicographic.{slice_cmp}
 use Rattle.std.specs.List.{enumerate_from, list_any}
 use Rattle.fetch_rules.specs.Due.{is_due, may_delete}
-use Rattle.fetch_rules.specs.Laws.{FetchesFirsts}
+use Rattle.fetch_rules.specs.Laws.{FetchesAsked, FetchesFirsts}
 use Rattle.fetch_rules.specs.Plan.{has_number, is_deleted, planned, retrieved, step_of}
 use Rattle.fetch_rules.specs.Record.{Row}
-use Rattle.fetch_rules.specs.Wanted.{candidates, at_most, is_asked_for, is_candidate, wanted, DistinctAreFiltered}
+use Rattle.fetch_rules.specs.Wanted.{candidates, at_most, is_asked_for, is_candidate, is_within, wanted, DistinctAreFiltered}
 use Rattle.fetch_rules.specs.declared.steps.Step.{Step}
 use Rattle.fetch_rules.proofs.RowLemmas.{test_from_other}
 
@@ -167,23 +167,39 @@ never_due settings now since never = grind arith
 
 -- ---- A plan fetches only messages whose id no earlier message has
 
--- the plan fetches only such messages
+-- the plan fetches only such messages, of those that are asked for
 first_of : (settings : Settings) (rows : List Row) (front is : List Item) (i : Item) (now : ℕ)
-    → (step_of settings rows (front ++ i ∷ is) now (length front + 1, i)).retrieve ≡ true → has_item front i.uid ≡ false
+    → (step_of settings rows (front ++ i ∷ is) now (length front + 1, i)).retrieve ≡ true
+    → (has_item front i.uid ≡ false) × (is_asked_for settings rows (length front + 1, i) ≡ true)
 first_of settings rows front is i now fetched =
     let inside : length front < length (front ++ i ∷ is) = omega (arith, length-append front (i ∷ is)) in
     let here : get_or (numbered (front ++ i ∷ is)) (length front) (0, i) ≡ (length front + 1, i) = rw (message_at (front ++ i ∷ is) (length front) i inside, get_or-append_seam front i is i) refl in
     let candidate = (and_parts (is_candidate settings rows (front ++ i ∷ is) (get_or (numbered (front ++ i ∷ is)) (length front) (0, i))) _
     (sym (has_number-at_most (is_candidate settings rows (front ++ i ∷ is)) settings.max_count (length front) (front ++ i ∷ is) (0, i) inside) ∙ fetched)).0 in
-    rw (take_at front (i ∷ is) (length front + 1 - 1) (omega arith)) at (not-true (has_item (take (length front + 1 - 1) (front ++ i ∷ is)) i.uid)
-    (and_parts (is_first (front ++ i ∷ is) (length front + 1, i)) (is_asked_for settings rows (length front + 1, i)) (rw here at candidate)).0)
+    let both = and_parts (is_first (front ++ i ∷ is) (length front + 1, i)) (is_asked_for settings rows (length front + 1, i)) (rw here at candidate) in
+    (rw (take_at front (i ∷ is) (length front + 1 - 1) (omega arith)) at (not-true (has_item (take (length front + 1 - 1) (front ++ i ∷ is)) i.uid) both.0), both.1)
+
+first_at : (settings : Settings) (rows : List Row) (listing front rest : List Item) (i : Item) (now k : ℕ) → listing ≡ front ++ i ∷ rest → k ≡ length front + 1
+    → (step_of settings rows listing now (k, i)).retrieve ≡ true → (has_item front i.uid ≡ false) × (is_asked_for settings rows (length front + 1, i) ≡ true)
+first_at settings rows listing front rest i now k is at fetched = first_of settings rows front rest i now
+    (ap (λ (l : List Item). (step_of settings rows l now (length front + 1, i)).retrieve) (sym is) ∙ ap (λ (n : ℕ). (step_of settings rows listing now (n, i)).retrieve) (sym at) ∙ fetched)
+
+asked_from : (settings : Settings) (rows : List Row) (listing front rest : List Item) (now k : ℕ) → listing ≡ front ++ rest → k ≡ length front + 1
+    → FetchesAsked settings rows (map (step_of settings rows listing now) (enumerate_from k rest)) rest
+asked_from settings rows listing front [] now k is at = tt
+asked_from settings rows listing front (i ∷ rest) now k is at = (
+  λ fetched. (and_parts (is_within settings.max_size i.size) _ (first_at settings rows listing front rest i now k is at fetched).1).1,
+  asked_from settings rows listing (front ++ i ∷ []) rest now (k + 1) (is ∙ sym (append_assoc front (i ∷ []) rest)) (omega (arith, at, length-append front (i ∷ []))),
+)
+
+pub asked_planned : (settings : Settings) (rows : List Row) (listing : List Item) (now : ℕ) → FetchesAsked settings rows (planned settings rows listing now) listing
+asked_planned settings rows listing now = asked_from settings rows listing [] listing now 1 refl (omega arith)
 
 firsts_from : (settings : Settings) (rows : List Row) (listing front rest : List Item) (now k : ℕ) → listing ≡ front ++ rest → k ≡ length front + 1
     → FetchesFirsts front (map (step_of settings rows listing now) (enumerate_from k rest)) rest
 firsts_from settings rows listing front [] now k is at = tt
 firsts_from settings rows listing front (i ∷ rest) now k is at = (
-  λ fetched. first_of settings rows front rest i now
-      (ap (λ (l : List Item). (step_of settings rows l now (length front + 1, i)).retrieve) (sym is) ∙ ap (λ (n : ℕ). (step_of settings rows listing now (n, i)).retrieve) (sym at) ∙ fetched),
+  λ fetched. (first_at settings rows listing front rest i now k is at fetched).0,
   firsts_from settings rows listing (front ++ i ∷ []) rest now (k + 1) (is ∙ sym (append_assoc front (i ∷ []) rest)) (omega (arith, at, length-append front (i ∷ []))),
 )
 
@@ -334,7 +350,7 @@ joined_once n uids sizes a b p q = ext_get_or nobody a b (p.count ∙ sym q.coun
     let sizes' = same_at (λ (row : ScanRow). row.number) (λ row. row.size) sizes n k (λ j. (get_or a j nobody).size) (λ j. (get_or b j nobody).size) p.agree.1 within (λ j row below. p.octets j row below nobody) (λ j row below. q.octets j row below nobody) in
     λ i. record { uid = ids i; size = sizes' i })
 
-pub ruleset plan_laws = (firsts_planned, retrieved-planned, candidates-distinct)
+pub ruleset plan_laws = (firsts_planned, asked_planned, retrieved-planned, candidates-distinct)
 
 -- ---- ids in a set that compares them
 

@@ -1,12 +1,15 @@
 -- The lines of the record's file and the reader's place among them, as the code has them.
-use Rattle.std.specs.Prelude.{◌≡◌, ℕ, zero, suc, ◌≤◌, List, Bool, true, false, Option, Some, None, length, take, option_map}
+use Rattle.std.specs.Prelude.{◌≡◌, ℕ, zero, suc, ◌≤◌, List, Bool, true, false, Option, Some, None, length, take}
+use Rattle.std.specs.Prelude.{option_map}
 use Rattle.fetch_rules.specs.Record.{Row, Intent}
 use Rattle.fetch_rules.specs.RecordFile.{Version, One, Two, RowLine, GroupLine, IntentLine, Line as FileLine}
-use Rattle.fetch_rules.specs.RecordMeaning.{Progress, InBase, BetweenGroups, InGroup, Stands, Fails, after_line, line_after, Means, Rows}
+use Rattle.fetch_rules.specs.RecordMeaning.{Progress, InBase, BetweenGroups, InGroup, Stands, Fails, after_line}
+use Rattle.fetch_rules.specs.RecordMeaning.{line_after, Means, Rows}
 use Rattle.fetch_rules.specs.Rows.{row_from}
 use Rattle.fetch_rules.specs.declared.seen.SeenFault.{SeenFault}
 use Rattle.fetch_rules.specs.declared.seen.line.Line.{Line}
-use Rattle.fetch_rules.specs.declared.seen.line.Line.TheVariants.{Row as TheRow, Group as TheGroup, Opening as TheIntent}
+use Rattle.fetch_rules.specs.declared.seen.line.Line.TheVariants.{Row as TheRow, Group as TheGroup}
+use Rattle.fetch_rules.specs.declared.seen.line.Line.TheVariants.{Opening as TheIntent}
 use Rattle.fetch_rules.specs.declared.seen.line.Intent.{Intent as ReadIntent}
 use Rattle.fetch_rules.specs.declared.seen.reading.Part.{Part}
 use Rattle.fetch_rules.specs.declared.seen.reading.Part.TheVariants.{Base, Between, Within}
@@ -28,7 +31,8 @@ line_seen (TheRow row) = RowLine (row_from row.uid.now row.state)
 line_seen (TheGroup count) = GroupLine count
 line_seen (TheIntent intent) = IntentLine (intent_seen intent)
 
--- how far the lines have come in a part of the file, with the open intent, and the rows before the part if it is a group
+-- how far the lines have come in a part of the file, with the open intent, and the rows before the part if it is a
+-- group
 abbrev pub progress_of : Part → Option Intent → List Row → List Row → Progress
 progress_of Base intent before rows = InBase rows
 progress_of Between intent before rows = BetweenGroups rows intent

@@ -1,4 +1,5 @@
--- When a record's file has grown so much that it is to be written anew: its groups and intents outweigh the rows after its header.
+-- When a record's file has grown so much that it is to be written anew: its groups and intents outweigh the rows after
+-- its header.
 use Rattle.std.specs.Prelude.{◌≡◌, ◌≢◌, ◌⊎◌, ℕ, ◌≤◌, ◌<◌, List, ◌++◌, Bool, false, length, flat_map, All, nat_lt}
 use Rattle.fetch_rules.specs.Record.{Row, IsRow}
 use Rattle.fetch_rules.specs.RecordFile.{Version, header, line_of}

@@ -44,8 +44,8 @@ pub record RecordState : Type 0 where
 abbrev pub none_open : List Row → RecordState
 none_open rows = record { rows = rows; intent = None }
 
--- a record in memory: its rows, the intent that is open, and whether its file must be written anew before something may be
--- appended to it
+-- a record in memory: its rows, the intent that is open, and whether its file must be written anew before something may
+-- be appended to it
 pub record Loaded : Type 0 where
   pub rows : List Row
   pub intent : Option Intent
@@ -105,7 +105,8 @@ with_held listing held rows = map (λ row. with_delivered (is_flagged listing he
 abbrev pub merged : List Row → List Item → List Bool → ℕ → List Row
 merged rows listing held now =
     with_held listing held rows
-    ++ map (λ uid. record { uid = uid; first_seen = now; delivered = is_flagged listing held uid }) (new_ids rows listing)
+    ++ map (λ uid. record { uid = uid; first_seen = now; delivered = is_flagged listing held uid })
+    (new_ids rows listing)
 
 -- an open intent has a legal id and numbers of 64 bits, and its id has a row
 abbrev pub IntentHasRow : List Row → Option Intent → Type 0

@@ -30,7 +30,8 @@ group_line count = codes "+ " ++ (decimal count ++ codes "\n")
 -- the line of an intent
 abbrev pub intent_line : Intent → List ℕ
 intent_line intent =
-    codes "! " ++ (intent.uid ++ (codes " " ++ (decimal intent.start ++ (codes " " ++ (decimal intent.len ++ codes "\n")))))
+    codes "! " ++ (intent.uid ++
+    (codes " " ++ (decimal intent.start ++ (codes " " ++ (decimal intent.len ++ codes "\n")))))
 
 abbrev pub last_line : Option Intent → List ℕ
 last_line None = []
@@ -48,7 +49,8 @@ group_of group = group_line (length group) ++ flat_map line_of group
 abbrev pub changed : List Row → List Row → List Row
 changed [] new = new
 changed (row ∷ old) [] = []
-changed (row ∷ old) (next ∷ new) = if next.delivered && not row.delivered then (next ∷ changed old new) else changed old new
+changed (row ∷ old) (next ∷ new) = if next.delivered && not row.delivered then (next ∷ changed old new)
+    else changed old new
 
 -- the group of these rows; empty if there are none
 abbrev pub written : List Row → List ℕ

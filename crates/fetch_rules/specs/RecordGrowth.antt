@@ -1,5 +1,6 @@
 -- How a record's file grows by appended groups and intents, and what is kept if an append is cut short.
-use Rattle.std.specs.Prelude.{◌≡◌, ◌≢◌, ◌⊎◌, ℕ, ◌≤◌, List, [], ◌∷◌, ◌++◌, false, Bool, Option, Some, None, length, All, IsTrue}
+use Rattle.std.specs.Prelude.{◌≡◌, ◌≢◌, ◌⊎◌, ℕ, ◌≤◌, List, [], ◌∷◌, ◌++◌, false, Bool, Option, Some, None, length, All}
+use Rattle.std.specs.Prelude.{IsTrue}
 use Rattle.mail_terms.specs.Listing.{message_limit}
 use Rattle.fetch_rules.specs.Record.{Row, Intent, IsRow, IsIntent, IsRecord, IntentHasRow, has_row}
 use Rattle.fetch_rules.specs.RecordFile.{Version, One, Two, header, file_of, group_of, intent_line}
@@ -21,14 +22,16 @@ pub record IsGroup (rows group : List Row) : Type 0 where
   pub count : (1 ≤ length group) × (length group ≤ message_limit)
   pub follows : MayFollow rows group
 
--- what an update of the rows appends to a file: nothing if rows and intent stay, else one group, which ends an open intent
+-- what an update of the rows appends to a file: nothing if rows and intent stay, else one group, which ends an open
+-- intent
 abbrev pub Updates : List Row → Option Intent → List ℕ → List Row → Option Intent → Type 0
 Updates old before bytes new after =
     ((bytes ≡ []) × (new ≡ old) × (after ≡ before))
     ⊎ ((group : List Row) × IsGroup old group × (bytes ≡ group_of group) × (new ≡ taken_all old group) × (after ≡ None))
 
 -- what is appended when an intent is opened: its line
-pub record Opens (old : List Row) (before : Option Intent) (bytes : List ℕ) (new : List Row) (after : Option Intent) : Type 0 where
+pub record Opens (old : List Row) (before : Option Intent) (bytes : List ℕ) (new : List Row)
+    (after : Option Intent) : Type 0 where
   pub intent : Intent
   pub is_one : IsIntent intent
   pub row : IsTrue (has_row old intent.uid)

@@ -7,7 +7,8 @@ use Rattle.std.specs.Prelude.{◌≡◌, ◌≢◌, ◌⊎◌, ℕ, zero, suc, �
 use Rattle.std.specs.Prelude.{not, ◌&&◌, ◌||◌, if◌then◌else◌, Option, Some, None, length, min, flat_map, All}
 use Rattle.std.specs.List.{list_any}
 use Rattle.fetch_rules.specs.Record.{Row, Intent, is_of, has_row, marked}
-use Rattle.fetch_rules.specs.RecordFile.{Version, One, Two, header, Line, RowLine, GroupLine, IntentLine, IsLine, text_of}
+use Rattle.fetch_rules.specs.RecordFile.{Version, One, Two, header, Line, RowLine, GroupLine, IntentLine, IsLine}
+use Rattle.fetch_rules.specs.RecordFile.{text_of}
 use Rattle.fetch_rules.specs.declared.seen.SeenFault.{SeenFault}
 use Rattle.fetch_rules.specs.declared.seen.SeenFault.TheVariants.{BadHeader, BadRow, RepeatedId}
 
@@ -139,7 +140,8 @@ pub record ByLines (bytes : List ℕ) (meaning : Meaning) : Type 0 where
 abbrev pub Means : List ℕ → Meaning → Type 0
 Means bytes meaning =
     ((bytes ≡ []) × (meaning ≡ Rows Two [] None false))
-    ⊎ (((bytes ≢ []) × ((version : Version) (rest : List ℕ) → bytes ≢ header version ++ rest) × (meaning ≡ Fault BadHeader))
+    ⊎ (((bytes ≢ []) × ((version : Version) (rest : List ℕ) → bytes ≢ header version ++ rest)
+    × (meaning ≡ Fault BadHeader))
     ⊎ ByLines bytes meaning)
 
 -- the bytes stand for this record, whatever their version, torn end or not

@@ -2,12 +2,13 @@
 //! contract is the law.
 #![tactic(auto, using(crate::proofs::PlanLemmas::plan_laws, crate::proofs::MergeLemmas::merge_laws, crate::proofs::MeaningLemmas::file_laws))]
 
-ghost use Rattle.std.specs.Prelude.{◌≡◌, ℕ, ◌&&◌, ◌||◌, Bool, true, List, [], All, bytes_eq};
+ghost use Rattle.std.specs.Prelude.{◌≡◌, ℕ, ◌&&◌, ◌||◌, Bool, false, true, List, [], All, bytes_eq};
 ghost use Rattle.mail_terms.specs.Listing.{Item, Joins, has_item, is_flagged};
-ghost use Rattle.fetch_rules.specs.Laws.{FetchesFirsts};
+ghost use Rattle.fetch_rules.specs.Laws.{FetchesAsked, FetchesFirsts};
 ghost use Rattle.fetch_rules.specs.Plan.{planned, retrieved};
 ghost use Rattle.fetch_rules.specs.Record.{Row, IsRecord, has_row, is_delivered, marked, merged};
-ghost use Rattle.fetch_rules.specs.RecordGrowth.{AppendedCounts, BytesStand, CutIsIgnored, OneIsRead, OneMeaning, OneRecord, OpenHasRow};
+ghost use Rattle.fetch_rules.specs.RecordGrowth.{AppendedCounts, BytesStand, CutIsIgnored, OneIsRead, OneMeaning};
+ghost use Rattle.fetch_rules.specs.RecordGrowth.{OneRecord, OpenHasRow};
 ghost use Rattle.fetch_rules.specs.RecordTorn.{TornIsIgnoredOrSeen};
 ghost use Rattle.fetch_rules.specs.Wanted.{DistinctAreFiltered, wanted};
 
@@ -18,6 +19,12 @@ use rc_file::Settings;
 pub fn firsts_are_fetched()
     ensures { (settings : Settings) (rows : List Row) (listing : List Item) (now : ℕ)
         → FetchesFirsts [] (planned settings rows listing now) listing }
+{}
+
+/// A plan fetches only messages that aren't recorded as delivered, unless all are to be read.
+pub fn plans_fetch_what_is_asked_for()
+    ensures { (settings : Settings) (rows : List Row) (listing : List Item) (now : ℕ)
+        → FetchesAsked settings rows (planned settings rows listing now) listing }
 {}
 
 /// The messages that a plan's steps fetch are those that are wanted.
@@ -42,6 +49,14 @@ pub fn listed_has_row()
 pub fn known_listings_change_nothing()
     ensures { (rows : List Row) (listing : List Item) (held : List Bool) (now : ℕ) → IsRecord rows
         → All (λ (item : Item). is_delivered rows item.uid ≡ true) listing → merged rows listing held now ≡ rows }
+{}
+
+/// A merge doesn't depend on whether ids that are recorded as delivered are held.
+pub fn merges_ask_only_for_new_ids()
+    ensures { (rows : List Row) (listing : List Item) (held others : List Bool) (now : ℕ) → IsRecord rows
+        → ((uid : List ℕ) → is_delivered rows uid ≡ false
+        → is_flagged listing held uid ≡ is_flagged listing others uid)
+        → merged rows listing held now ≡ merged rows listing others now }
 {}
 
 /// An id that is recorded as delivered has a row.

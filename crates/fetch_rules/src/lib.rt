@@ -14,8 +14,9 @@ pub use laws::{
     appended_counts, bytes_have_one_meaning, bytes_stand, cut_is_ignored, delivered_has_row,
     distinct_messages_are_filtered, files_stand_for_one_record, firsts_are_fetched,
     held_is_delivered, known_listings_change_nothing, listed_has_row, marked_is_delivered,
-    marked_keeps_rows, older_files_are_read, open_intents_have_rows, plans_fetch_wanted,
-    rows_join_in_one_way, torn_is_ignored_or_seen,
+    marked_keeps_rows, merges_ask_only_for_new_ids, older_files_are_read, open_intents_have_rows,
+    plans_fetch_wanted, plans_fetch_what_is_asked_for, rows_join_in_one_way,
+    torn_is_ignored_or_seen,
 };
 pub use mail_terms::{
     Listing, ListingFault, MESSAGE_LIMIT, ScanRow, UidRow, have_legal_ids, is_legal_id,

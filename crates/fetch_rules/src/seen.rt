@@ -1,9 +1,12 @@
 //! The record: which messages of a maildrop were seen, since when, and whether they were delivered.
 
-ghost use Rattle.std.specs.Prelude.{◌≡◌, ◌≢◌, ◌&&◌, ◌||◌, ◌↔◌, not, true, All, IsTrue, Some, None, length, OnErr, OnOk, IfOk, IfErr};
+ghost use Rattle.std.specs.Prelude.{◌≡◌, ◌≢◌, ◌&&◌, ◌||◌, ◌↔◌, not, true, All, IsTrue, Some, None, length, OnErr, OnOk};
+ghost use Rattle.std.specs.Prelude.{IfOk, IfErr};
 ghost use Rattle.std.specs.Bool.{OnTrue, OnFalse};
-ghost use Rattle.fetch_rules.specs.Record.{IsRecord, IntentHasRow, Loaded, empty, has_row, is_delivered, first_seen_of, marked, merged};
-ghost use Rattle.fetch_rules.specs.Intents.{ReadAs, IsNoneOrOf, intent_of, intent_in, has_intent, is_older, closed_rows};
+ghost use Rattle.fetch_rules.specs.Record.{IsRecord, IntentHasRow, Loaded, empty, has_row, is_delivered, first_seen_of};
+ghost use Rattle.fetch_rules.specs.Record.{marked, merged};
+ghost use Rattle.fetch_rules.specs.Intents.{ReadAs, IsNoneOrOf, intent_of, intent_in, has_intent, is_older};
+ghost use Rattle.fetch_rules.specs.Intents.{closed_rows};
 ghost use Rattle.fetch_rules.specs.Lines.{open_seen, intent_seen, version_of};
 ghost use Rattle.fetch_rules.specs.RecordFile.{changed, marking, written, file_of, intent_line};
 ghost use Rattle.fetch_rules.specs.RecordMeaning.{Means, Fault};
@@ -203,8 +206,10 @@ impl<H: BuildHasher> Seen<H> {
     pub fn intend(&mut self, uid: &[u8], start: u64, len: u64) -> Result<Vec<u8>, AllocError>
         requires row { has_row self.old.rows uid.now ≡ true }
         requires closed { self.old.intent ≡ None }
-        ensures after { OnOk result (self.new ≡ record self.old { intent = Some (record { uid = uid.now; start = start; len = len }) }) }
-        ensures line { IfOk result (λ bytes. bytes.items ≡ intent_line (record { uid = uid.now; start = start; len = len })) }
+        ensures after { OnOk result
+            (self.new ≡ record self.old { intent = Some (record { uid = uid.now; start = start; len = len }) }) }
+        ensures line { IfOk result
+            (λ bytes. bytes.items ≡ intent_line (record { uid = uid.now; start = start; len = len })) }
         ensures err { OnErr result (self.new ≡ self.old) }
     {
         let _ = self.rows.state(uid);
@@ -228,7 +233,10 @@ impl<H: BuildHasher> Seen<H> {
     /// Ends the open intent, if any, and records its id as delivered if the entry is whole.
     /// `needs_rewrite` doesn't change.
     pub fn close(&mut self, whole: bool)
-        ensures after { self.new ≡ record self.old { rows = closed_rows whole self.old.rows self.old.intent; intent = None } }
+        ensures after { self.new ≡ record self.old {
+          rows = closed_rows whole self.old.rows self.old.intent;
+          intent = None;
+        } }
         ensures is_record { IsRecord self.new.rows }
     {
         let _ = self.rows.len();
@@ -303,9 +311,12 @@ impl<H: BuildHasher> Seen<H> {
     #[tactic(auto, using(crate::proofs::RowLemmas::unmarked_none, crate::proofs::RowLemmas::marked_delivered, crate::proofs::RowLemmas::has_row_none, crate::proofs::RowLemmas::none_written, crate::proofs::MeaningLemmas::none_without_row))]
     pub fn mark_rows(&mut self, uid: &[u8]) -> Result<Vec<u8>, AllocError>
         requires { IsNoneOrOf uid.now self.old.intent }
-        ensures after { OnOk result (self.new ≡ record self.old { rows = marked self.old.rows uid.now; intent = None }) }
-        ensures group { IfOk result (λ bytes. bytes.items ≡ written (marking self.old.intent uid.now self.old.rows self.new.rows)) }
-        ensures updates { IfOk result (λ bytes. Updates self.old.rows self.old.intent bytes.items self.new.rows self.new.intent) }
+        ensures after { OnOk result
+            (self.new ≡ record self.old { rows = marked self.old.rows uid.now; intent = None }) }
+        ensures group { IfOk result
+            (λ bytes. bytes.items ≡ written (marking self.old.intent uid.now self.old.rows self.new.rows)) }
+        ensures updates { IfOk result
+            (λ bytes. Updates self.old.rows self.old.intent bytes.items self.new.rows self.new.intent) }
         ensures err { OnErr result (self.new ≡ self.old) }
         ensures is_record { IsRecord self.new.rows }
     {
@@ -332,7 +343,8 @@ impl<H: BuildHasher> Seen<H> {
     pub fn merge(&mut self, listing: &Listing, held: &[bool], now: u64) -> Result<bool, AllocError>
         requires lengths { length held.now ≡ length listing.now }
         requires closed { self.old.intent ≡ None }
-        ensures after { OnOk result (self.new ≡ record self.old { rows = merged self.old.rows listing.now held.now now }) }
+        ensures after { OnOk result
+            (self.new ≡ record self.old { rows = merged self.old.rows listing.now held.now now }) }
         ensures changed { IfOk result (λ changed. OnTrue changed (self.new ≢ self.old)) }
         ensures unchanged { IfOk result (λ changed. OnFalse changed (self.new ≡ self.old)) }
         ensures err { OnErr result (self.new ≡ self.old) }
@@ -358,7 +370,8 @@ impl<H: BuildHasher> Seen<H> {
     ) -> Result<Vec<u8>, AllocError>
         requires lengths { length held.now ≡ length listing.now }
         requires closed { self.old.intent ≡ None }
-        ensures after { OnOk result (self.new ≡ record self.old { rows = merged self.old.rows listing.now held.now now }) }
+        ensures after { OnOk result
+            (self.new ≡ record self.old { rows = merged self.old.rows listing.now held.now now }) }
         ensures group { IfOk result (λ bytes. bytes.items ≡ written (changed self.old.rows self.new.rows)) }
         ensures updates { IfOk result (λ bytes. Updates self.old.rows None bytes.items self.new.rows None) }
         ensures err { OnErr result (self.new ≡ self.old) }

@@ -1,6 +1,7 @@
 //! Which messages of a listing are fetched, and which are deleted.
 
-ghost use Rattle.std.specs.Prelude.{◌≡◌, ◌==◌, false, nat_lt, ◌+◌, ◌<◌, ◌&&◌, ◌||◌, ◌↔◌, true, length, map, All, IsTrue, HoldsAt, IfOk};
+ghost use Rattle.std.specs.Prelude.{◌≡◌, ◌==◌, false, nat_lt, ◌+◌, ◌<◌, ◌&&◌, ◌||◌, ◌↔◌, true, length, map, All};
+ghost use Rattle.std.specs.Prelude.{IsTrue, HoldsAt, IfOk};
 ghost use Rattle.mail_terms.specs.Listing.{numbered, is_last};
 ghost use Rattle.fetch_rules.specs.Record.{is_delivered};
 ghost use Rattle.fetch_rules.specs.Wanted.{is_asked_for, wanted};
@@ -53,7 +54,8 @@ fn lasts_where_asked(
     listing: &Listing,
 ) -> Result<Vec<bool>, AllocError>
     ensures count { IfOk result (λ flags. length flags.items ≡ length listing.now) }
-    ensures flags { may_delete settings.now ≡ true → IfOk result (λ flags. flags.items ≡ map (is_last listing.now) (numbered listing.now)) }
+    ensures flags { may_delete settings.now ≡ true
+        → IfOk result (λ flags. flags.items ≡ map (is_last listing.now) (numbered listing.now)) }
 {
     if may_delete(settings) {
         return are_last(alloc, listing);
@@ -72,7 +74,8 @@ fn is_candidate<H: BuildHasher>(
     i: u32,
 ) -> bool
     requires { i < length listing.now }
-    ensures { HoldsAt (λ item. result ≡ (first && is_asked_for settings.now seen.now.rows (i + 1, item))) listing.now i }
+    ensures { HoldsAt (λ item. result ≡ (first && is_asked_for settings.now seen.now.rows (i + 1, item)))
+        listing.now i }
 {
     first
         && (settings.max_size == 0 || listing.size(i) <= settings.max_size)
@@ -125,7 +128,8 @@ pub fn plan<H: BuildHasher>(
     ensures steps { IfOk result (λ steps. steps.items ≡ planned settings.now seen.now.rows listing.now now) }
 
     // What is fetched is, in order, the wanted messages: the first `max_count` of the candidates.
-    ensures fetched { IfOk result (λ steps. retrieved steps.items listing.now ≡ wanted settings.now seen.now.rows listing.now) }
+    ensures fetched { IfOk result
+        (λ steps. retrieved steps.items listing.now ≡ wanted settings.now seen.now.rows listing.now) }
 {
     let firsts = are_first(alloc, listing)?;
     let lasts = lasts_where_asked(alloc, settings, listing)?;

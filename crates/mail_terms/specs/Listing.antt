@@ -57,7 +57,8 @@ pub record Joins (n : ℕ) (uids : List UidRow) (sizes : List ScanRow) (items : 
   pub octets : All (λ row. HoldsAt (λ item. item.size ≡ row.size) items (row.number - 1)) sizes
 
 -- each item has the id of the row of UIDL, and the size of the row of LIST, at its place
-pub record AreAt (uids : List UidRow) (uid_places : List ℕ) (sizes : List ScanRow) (size_places : List ℕ) (items : List Item) : Type 0 where
+pub record AreAt (uids : List UidRow) (uid_places : List ℕ) (sizes : List ScanRow) (size_places : List ℕ)
+    (items : List Item) : Type 0 where
   pub ids : (k : ℕ) (item : Item) (row : UidRow) → k < length items
       → (slice_index_or items k item).uid ≡ (slice_index_or uids (slice_index uid_places k) row).uid.items
   pub octets : (k : ℕ) (item : Item) (row : ScanRow) → k < length items

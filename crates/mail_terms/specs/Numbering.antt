@@ -1,5 +1,6 @@
 -- The numbers 1 to n, each once and in any order, and their places in a list.
-use Rattle.std.specs.Prelude.{◌≡◌, ℕ, ◌<◌, ◌≤◌, ◌+◌, ◌-◌, List, Option, Some, None, length, slice_index, slice_index_or, All, Contains}
+use Rattle.std.specs.Prelude.{◌≡◌, ℕ, ◌<◌, ◌≤◌, ◌+◌, ◌-◌, List, Option, Some, None, length, slice_index, slice_index_or}
+use Rattle.std.specs.Prelude.{All, Contains}
 use Rattle.mail_terms.specs.Distinct.{AreDistinct}
 
 -- the list holds each number of 1 to n once, and no other number
@@ -14,7 +15,8 @@ pub record HasPlaces (n : ℕ) (numbers : List ℕ) (i : ℕ) (slots : List (Opt
   pub room : length slots ≡ n
   pub within : (place : ℕ) → place < i → (1 ≤ slice_index numbers place) × (slice_index numbers place ≤ n)
   pub found : (place : ℕ) → place < i → slice_index_or slots (slice_index numbers place - 1) None ≡ Some place
-  pub back : (slot place : ℕ) → slice_index_or slots slot None ≡ Some place → (place < i) × (slice_index numbers place ≡ slot + 1)
+  pub back : (slot place : ℕ) → slice_index_or slots slot None ≡ Some place
+      → (place < i) × (slice_index numbers place ≡ slot + 1)
 
 -- the places of 1 to n in the list, in this order
 pub record IsOrderOf (n : ℕ) (numbers places : List ℕ) : Type 0 where

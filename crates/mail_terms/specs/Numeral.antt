@@ -18,4 +18,5 @@ greatest_size = 18446744073709551615
 
 -- the number that a numeral stands for, if it isn't above the greatest size
 abbrev pub numeral_value : List ℕ → Option ℕ
-numeral_value field = if is_numeral field && nat_le (digits_value 10 field) greatest_size then Some (digits_value 10 field) else None
+numeral_value field = if is_numeral field && nat_le (digits_value 10 field) greatest_size
+    then Some (digits_value 10 field) else None

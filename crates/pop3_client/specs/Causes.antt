@@ -10,8 +10,10 @@ use Rattle.pop3_wire.specs.Link.{Link}
 use Rattle.pop3_wire.specs.Place.{HasNoLine}
 use Rattle.pop3_wire.specs.declared.command.Command.TheVariants.{UidlAll, ListAll, Retr}
 use Rattle.pop3_client.specs.declared.fault.ClientFault.{ClientFault}
-use Rattle.pop3_client.specs.declared.fault.ClientFault.TheVariants.{ConnectionEnded, ReadFailed, WriteFailed, ReplyTooLong, BadReply}
-use Rattle.pop3_client.specs.declared.fault.ClientFault.TheVariants.{Refused, BadListing, ListingsDisagree, TooMany, TextTooLong, NoMemory}
+use Rattle.pop3_client.specs.declared.fault.ClientFault.TheVariants.{ConnectionEnded, ReadFailed, WriteFailed}
+use Rattle.pop3_client.specs.declared.fault.ClientFault.TheVariants.{ReplyTooLong, BadReply}
+use Rattle.pop3_client.specs.declared.fault.ClientFault.TheVariants.{Refused, BadListing, ListingsDisagree, TooMany}
+use Rattle.pop3_client.specs.declared.fault.ClientFault.TheVariants.{TextTooLong, NoMemory}
 use Rattle.mail_terms.specs.Listing.{message_limit}
 use Rattle.pop3_client.specs.Turns.{Turn, Names, gives_count, retr, line_limit, text_limit, IsShort, IsListing, IsRow}
 
@@ -39,7 +41,8 @@ IsPartOfLine bytes = IsLine bytes × (length bytes < line_limit)
 
 -- good rows of a listing, and a part of its next line
 abbrev pub IsPartOfListing : Turn → List ℕ → Type 0
-IsPartOfListing turn bytes = (behind : List ℕ) × (lines : List (List ℕ)) × HasRows turn bytes behind lines × IsPartOfLine behind
+IsPartOfListing turn bytes = (behind : List ℕ) × (lines : List (List ℕ)) × HasRows turn bytes behind lines
+    × IsPartOfLine behind
 
 -- a body isn't whole yet: all of it that has come is good, and it may still end within the limit
 abbrev pub IsPartOfBody : Turn → List ℕ → Type 0
@@ -82,11 +85,13 @@ Cause ConnectionEnded turn old new bytes = (new.ended ≡ true) × NotWhole turn
 Cause ReadFailed turn old new bytes = (old.failures < new.failures) × NotWhole turn bytes
 Cause WriteFailed turn old new bytes = ⊥
 Cause ReplyTooLong turn old new bytes = IsOverlong bytes
-    ⊎ ((after behind : List ℕ) × (lines : List (List ℕ)) × BeginsPositive bytes after × HasRows turn after behind lines × IsOverlong behind)
+    ⊎ ((after behind : List ℕ) × (lines : List (List ℕ)) × BeginsPositive bytes after × HasRows turn after behind lines
+    × IsOverlong behind)
 Cause BadReply turn old new bytes = (line : List ℕ) × FirstLine bytes line
     × ((rest : List ℕ) → IsFirstLine line Negative rest → ⊥)
     × ((rest : List ℕ) → IsFirstLine line Positive rest → (gives_count turn ≡ true) × (IsOk (number_and_size rest) → ⊥))
-Cause (Refused to) turn old new bytes = Names to turn × ((line rest : List ℕ) × FirstLine bytes line × IsFirstLine line Negative rest)
+Cause (Refused to) turn old new bytes = Names to turn
+    × ((line rest : List ℕ) × FirstLine bytes line × IsFirstLine line Negative rest)
 Cause BadListing turn old new bytes = (row : List ℕ) × (rows : ℕ) × NextLine turn bytes row rows
     × (rows < message_limit) × (IsRow turn row → ⊥)
 Cause ListingsDisagree turn old new bytes = ⊥
@@ -94,7 +99,8 @@ Cause TooMany turn old new bytes =
     ((gives_count turn ≡ true) × ((line rest : List ℕ) × (count size : ℕ) × FirstLine bytes line
     × IsFirstLine line Positive rest × (number_and_size rest ≡ Ok (count, size)) × (message_limit < count)))
     ⊎ ((row : List ℕ) × NextLine turn bytes row message_limit)
-Cause TextTooLong turn old new bytes = ((number : ℕ) × (turn ≡ retr number)) × ((after : List ℕ) × BeginsPositive bytes after
+Cause TextTooLong turn old new bytes = ((number : ℕ) × (turn ≡ retr number))
+    × ((after : List ℕ) × BeginsPositive bytes after
     × HasNoBody (take text_limit after) × (text_limit ≤ length after))
 Cause NoMemory turn old new bytes = (row : List ℕ) × (rows : ℕ) × NextLine turn bytes row rows
     × (rows < message_limit) × IsRow turn row

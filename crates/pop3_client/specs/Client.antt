@@ -21,7 +21,8 @@ HasSameLink old new = new.wire.ghost_name ≡ old.wire.ghost_name
 
 -- the failure count of its link rises by one, up to its greatest value, if a call was refused, and stays otherwise
 abbrev pub CountsRefusals : {W T : Type 0} → Ghosts W → Client W → Result T ClientFault → Client W → Type 0
-CountsRefusals link old result new = CountsRefusal is_refusal (link.history old.wire.now) result (link.history new.wire.now)
+CountsRefusals link old result new = CountsRefusal is_refusal (link.history old.wire.now) result
+    (link.history new.wire.now)
 
 -- what is known of a call if the link is sound after it: it was sound before, the old link leads to the new
 -- one, and the call did this between the two places

@@ -12,7 +12,8 @@ use Rattle.pop3_wire.specs.Fields.{number_and_size}
 use Rattle.pop3_wire.specs.Link.{Link}
 use Rattle.pop3_wire.specs.Place.{Place, GoesOn, Gains, HasLine}
 use Rattle.pop3_client.specs.declared.fault.ClientFault.{ClientFault}
-use Rattle.pop3_client.specs.declared.fault.ClientFault.TheVariants.{ConnectionEnded, ReadFailed, WriteFailed, ReplyTooLong}
+use Rattle.pop3_client.specs.declared.fault.ClientFault.TheVariants.{ConnectionEnded, ReadFailed, WriteFailed}
+use Rattle.pop3_client.specs.declared.fault.ClientFault.TheVariants.{ReplyTooLong}
 use Rattle.pop3_client.specs.declared.fault.ClientFault.TheVariants.{BadReply, Refused, TooMany, NoMemory}
 use Rattle.pop3_client.specs.Turns.{Turn, turn_bytes, asking, greeting, user, pass, stat}
 use Rattle.pop3_client.specs.Turns.{rset, quit, line_limit, IsShort, most, Fits, IsGood}
@@ -113,7 +114,8 @@ Completes turn old (Err fault) new = Broke turn old new fault
 
 -- STAT was completed, and its reply gives this count; or it broke
 abbrev pub CountsMessages : Place → Result ℕ ClientFault → Place → Type 0
-CountsMessages old (Ok count) new = (reply : WholeReply) × Talked (stat ∷ []) (reply ∷ []) old new × GivesCount reply count
+CountsMessages old (Ok count) new = (reply : WholeReply) × Talked (stat ∷ []) (reply ∷ []) old new
+    × GivesCount reply count
 CountsMessages old (Err fault) new = Broke stat old new fault
 
 -- logging in
@@ -190,7 +192,8 @@ pub record NotHeard (turn : Turn) (old new : Place) (fault : ClientFault) : Type
 
 -- a positive first line waits, or why none does
 abbrev pub Heard : Turn → Place → Result ℕ ClientFault → Place → Type 0
-Heard turn old (Ok n) new = (gained : List ℕ) × Gains old new gained × HasLine line_limit new.waiting n × GoesOn old.link new.link
+Heard turn old (Ok n) new = (gained : List ℕ) × Gains old new gained × HasLine line_limit new.waiting n
+    × GoesOn old.link new.link
     × ((rest : List ℕ) × IsFirstLine (take n new.waiting) Positive rest)
 Heard turn old (Err fault) new = NotHeard turn old new fault
 
@@ -198,7 +201,8 @@ Heard turn old (Err fault) new = NotHeard turn old new fault
 abbrev pub Sent : List ℕ → Link → Result (Unit {0}) ClientFault → Link → Type 0
 Sent bytes old (Ok done) new = new ≡ record old { sent = old.sent ++ bytes }
 Sent bytes old (Err fault) new = (fault ≡ WriteFailed)
-    × ((front rest : List ℕ) × (bytes ≡ front ++ rest) × (new ≡ record old { sent = old.sent ++ front; failures = old.failures + 1 }))
+    × ((front rest : List ℕ) × (bytes ≡ front ++ rest)
+    × (new ≡ record old { sent = old.sent ++ front; failures = old.failures + 1 }))
 
 -- a positive first line gives a count of at most 100,000 messages, or why it doesn't
 abbrev pub GivesFew : List ℕ → Result ℕ ClientFault → Type 0

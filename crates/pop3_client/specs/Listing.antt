@@ -67,12 +67,15 @@ pub record NotTaken (turn : Turn) (old new : Place) (fault : ClientFault) : Type
   pub has : HasRows turn (old.waiting ++ gained) new.waiting used
 
 -- the rows after a first line were taken, or why not
-abbrev pub TakesRows : {R : Type 0} → Turn → (List ℕ → R → Type 0) → Place → Result (List R) ClientFault → Place → Type 0
-TakesRows turn IsThisRow old (Ok rows) new = (lines : List (List ℕ)) × TookLines turn old new lines × AllZip IsThisRow lines rows
+abbrev pub TakesRows : {R : Type 0} → Turn → (List ℕ → R → Type 0) → Place → Result (List R) ClientFault
+    → Place → Type 0
+TakesRows turn IsThisRow old (Ok rows) new = (lines : List (List ℕ)) × TookLines turn old new lines
+    × AllZip IsThisRow lines rows
 TakesRows turn IsThisRow old (Err fault) new = NotTaken turn old new fault
 
 -- a listing was asked for and taken, or its turn broke
-abbrev pub ListsRows : {R : Type 0} → Turn → (List ℕ → R → Type 0) → Place → Result (List R) ClientFault → Place → Type 0
+abbrev pub ListsRows : {R : Type 0} → Turn → (List ℕ → R → Type 0) → Place → Result (List R) ClientFault
+    → Place → Type 0
 ListsRows turn IsThisRow old (Ok rows) new = (reply : WholeReply) × Talked (turn ∷ []) (reply ∷ []) old new
     × HasListing IsThisRow reply rows
 ListsRows turn IsThisRow old (Err fault) new = Broke turn old new fault

@@ -1,5 +1,6 @@
 -- The text of a message, piece by piece.
-use Rattle.std.specs.Prelude.{◌≡◌, ◌≢◌, ◌≤◌, ◌<◌, ◌↔◌, ℕ, List, [], ◌∷◌, ◌++◌, length, take, Option, None, Some, Result, Ok, Err, IsTrue}
+use Rattle.std.specs.Prelude.{◌≡◌, ◌≢◌, ◌≤◌, ◌<◌, ◌↔◌, ◌+◌, ℕ, List, [], ◌∷◌, ◌++◌, length, take, Option, None, Some}
+use Rattle.std.specs.Prelude.{Result, Ok, Err, IsTrue}
 use Rattle.pop3_wire.specs.Body.{text_of}
 use Rattle.pop3_wire.specs.Place.{Place}
 use Rattle.pop3_wire.specs.Reading.{WholeReply}
@@ -17,7 +18,8 @@ body_text (Some lines) = text_of lines
 
 -- a text was asked for, and taken to its end
 abbrev pub Fetched : Turn → Place → List ℕ → Place → Type 0
-Fetched turn old text new = (reply : WholeReply) × Talked (turn ∷ []) (reply ∷ []) old new × (text ≡ body_text reply.body)
+Fetched turn old text new = (reply : WholeReply) × Talked (turn ∷ []) (reply ∷ []) old new
+    × (text ≡ body_text reply.body)
 
 -- a text is being taken, or has ended: the first line of the reply was taken, and this part of its body,
 -- which gives this part of the text
@@ -32,11 +34,12 @@ abbrev pub Opens : Turn → Place → Result Rest ClientFault → Place → Type
 Opens turn old (Ok body) new = Fetching turn old new body []
 Opens turn old (Err fault) new = Broke turn old new fault
 
--- a piece was taken of what was left of a body: what it adds to the text is in the buffer, it says whether the body has ended, and if it
--- hasn't, less is left
+-- a piece was taken of what was left of a body: what it adds to the text is in the buffer, it says whether the body has
+-- ended, and if it hasn't, less is left
 pub record TookPiece (old : Rest) (piece : Piece) (out : List ℕ) (new : Rest) : Type 0 where
   pub fits : piece.put ≤ length out
   pub ended : IsTrue piece.ended ↔ (new.spot ≡ Done)
+  pub octets : old.left ≡ new.left + piece.octets
   pub less : new.spot ≢ Done → new.left < old.left
 
 -- the next piece of a text, which is whole after the last one; or its turn broke

@@ -1,6 +1,7 @@
 -- The turns of a conversation, and the replies that let it go on (RFC 1939, section 3).
 use Rattle.mail_terms.specs.Listing.{message_limit}
-use Rattle.std.specs.Prelude.{◌≡◌, ◌⊎◌, ◌+◌, ◌*◌, ◌≤◌, ℕ, Bool, true, false, List, [], length, Option, None, Some, Ok, IsOk}
+use Rattle.std.specs.Prelude.{◌≡◌, ◌⊎◌, ◌+◌, ◌*◌, ◌≤◌, ℕ, Bool, true, false, List, [], length, Option, None, Some, Ok}
+use Rattle.std.specs.Prelude.{IsOk}
 use Rattle.std.specs.List.{flat_map, AllByRecursion}
 use Rattle.pop3_wire.specs.Line.{IsLine, ended}
 use Rattle.pop3_wire.specs.Body.{IsContent, unstuffed, body_of}
@@ -10,10 +11,12 @@ use Rattle.pop3_wire.specs.declared.reply.Status.TheVariants.{Positive}
 use Rattle.pop3_wire.specs.Fields.{number_and_size, number_and_id}
 use Rattle.pop3_wire.specs.Commands.{line_of}
 use Rattle.pop3_wire.specs.declared.command.Command.{Command}
-use Rattle.pop3_wire.specs.declared.command.Command.TheVariants.{User, Pass, Stat, UidlAll, ListAll, Retr, Dele, Rset, Quit}
+use Rattle.pop3_wire.specs.declared.command.Command.TheVariants.{User, Pass, Stat, UidlAll, ListAll, Retr, Dele, Rset}
+use Rattle.pop3_wire.specs.declared.command.Command.TheVariants.{Quit}
 use Rattle.pop3_client.specs.declared.fault.Asked.{Asked}
 use Rattle.pop3_client.specs.declared.fault.Asked.TheVariants.{Greeting as ByGreeting, User as ByUser, Pass as ByPass}
-use Rattle.pop3_client.specs.declared.fault.Asked.TheVariants.{Stat as ByStat, Uidl as ByUidl, Retr as ByRetr, Dele as ByDele}
+use Rattle.pop3_client.specs.declared.fault.Asked.TheVariants.{Stat as ByStat, Uidl as ByUidl, Retr as ByRetr}
+use Rattle.pop3_client.specs.declared.fault.Asked.TheVariants.{Dele as ByDele}
 use Rattle.pop3_client.specs.declared.fault.Asked.TheVariants.{Rset as ByRset, Quit as ByQuit, List as ByList}
 
 -- a turn: the command that is sent, or none for the greeting
@@ -101,7 +104,8 @@ gives_count _ = false
 
 -- what that rest has to be: it gives a count of at most 100,000 messages
 abbrev pub Fits : Turn → List ℕ → Type 0
-Fits turn rest = gives_count turn ≡ true → (count size : ℕ) × (number_and_size rest ≡ Ok (count, size)) × (count ≤ message_limit)
+Fits turn rest = gives_count turn ≡ true → (count size : ℕ) × (number_and_size rest ≡ Ok (count, size))
+    × (count ≤ message_limit)
 
 -- a listing is asked for
 abbrev pub IsListing : Turn → Type 0
@@ -115,8 +119,10 @@ IsRow _ line = ⊥
 
 -- what the lines of a body have to be
 abbrev pub LinesFit : Turn → List (List ℕ) → Type 0
-LinesFit (Some UidlAll) lines = (length lines ≤ message_limit) × AllByRecursion IsShort lines × AllByRecursion (IsRow uidl) lines
-LinesFit (Some ListAll) lines = (length lines ≤ message_limit) × AllByRecursion IsShort lines × AllByRecursion (IsRow list) lines
+LinesFit (Some UidlAll) lines = (length lines ≤ message_limit) × AllByRecursion IsShort lines
+    × AllByRecursion (IsRow uidl) lines
+LinesFit (Some ListAll) lines = (length lines ≤ message_limit) × AllByRecursion IsShort lines
+    × AllByRecursion (IsRow list) lines
 LinesFit (Some (Retr number)) lines = length (body_of lines) ≤ text_limit
 LinesFit _ lines = ⊥
 

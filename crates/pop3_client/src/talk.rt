@@ -132,7 +132,8 @@ impl<'a, W: Wire> Client<'a, W> {
         ensures link { HasSameLink self.old self.new }
         ensures counted { CountsRefusals W.Wire self.old result self.new }
         ensures line { IfOk result (HasLine line_limit self.new.reader) }
-        ensures positive { IfOk result (λ n. (rest : List ℕ) × IsFirstLine (take n self.new.reader) Status.Positive rest) }
+        ensures positive { IfOk result
+            (λ n. (rest : List ℕ) × IsFirstLine (take n self.new.reader) Status.Positive rest) }
         ensures heard { WhereLinkSound W.Wire self.old self.new
             (λ old new. (turn : Turn) → Names asked turn → Heard turn old result new) }
     {
@@ -195,7 +196,8 @@ impl<'a, W: Wire> Client<'a, W> {
     pub fn delete(&mut self, alloc: Global, number: u32) -> Result<(), ClientFault>
         ensures link { HasSameLink self.old self.new }
         ensures counted { CountsRefusals W.Wire self.old result self.new }
-        ensures completes { WhereLinkSound W.Wire self.old self.new (λ old new. Completes (dele number) old result new) }
+        ensures completes { WhereLinkSound W.Wire self.old self.new
+            (λ old new. Completes (dele number) old result new) }
     {
         let line = command_line(alloc, &Command::Dele(number))?;
         self.ask(Asked::Dele(number), &line)

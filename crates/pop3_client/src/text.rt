@@ -68,7 +68,8 @@ impl<'a, W: Wire> Client<'a, W> {
         ensures counted { CountsRefusals W.Wire self.old result self.new }
         ensures ended { OnOk result (body.new.spot ≡ Done) }
         ensures frugal { IfErr result (λ fault. fault ≢ ClientFault.NoMemory) }
-        ensures whole { body.old.spot ≡ Done → (result ≡ Ok tt) × (place_of W.Wire self.new ≡ place_of W.Wire self.old) }
+        ensures whole { body.old.spot ≡ Done
+            → (result ≡ Ok tt) × (place_of W.Wire self.new ≡ place_of W.Wire self.old) }
         ensures completes { WhereLinkSound W.Wire self.old self.new
             (λ old new. (number : ℕ) (start : Place) (text : List ℕ) → Fetching (retr number) start old body.old text
             → TakesRest (retr number) start result new) }

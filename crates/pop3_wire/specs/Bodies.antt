@@ -1,5 +1,6 @@
 -- Taking one body from a link.
-use Rattle.std.specs.Prelude.{◌≡◌, ◌+◌, ◌<◌, ◌≤◌, ℕ, Bool, true, false, List, [], ◌++◌, length, take, Result, Ok, Err, Vec}
+use Rattle.std.specs.Prelude.{◌≡◌, ◌+◌, ◌<◌, ◌≤◌, ℕ, Bool, true, false, List, [], ◌++◌, length, take, Result, Ok, Err}
+use Rattle.std.specs.Prelude.{Vec}
 use Rattle.pop3_wire.specs.Body.{HasNoBody}
 use Rattle.pop3_wire.specs.Link.{Link}
 use Rattle.pop3_wire.specs.Place.{Place, GoesOn}
@@ -31,7 +32,8 @@ pub record LeavesRest (limit : ℕ) (old new : Place) : Type 0 where
 -- why there is no text, given the octets that have come: the link has ended, a call was refused, or the limit is
 -- reached
 abbrev pub BodyCause : ℕ → BodyFault → Link → Link → List ℕ → Type 0
-BodyCause limit Ended old new bytes = HasNoBody bytes × (length bytes < limit) × (new.ended ≡ true) × (new.failures ≡ old.failures)
+BodyCause limit Ended old new bytes = HasNoBody bytes × (length bytes < limit) × (new.ended ≡ true)
+    × (new.failures ≡ old.failures)
 BodyCause limit Failed old new bytes = HasNoBody bytes × (length bytes < limit) × (new.ended ≡ old.ended)
     × (new.failures ≡ old.failures + 1)
 BodyCause limit TooLong old new bytes = HasNoBody (take limit bytes) × (limit ≤ length bytes) × GoesOn old new
@@ -59,7 +61,8 @@ pub record UnderWay (limit : ℕ) (old new : Place) (body : Rest) (text : List �
 abbrev pub TakesPiece : ℕ → Place → List ℕ → Result Piece BodyFault → List ℕ → Place → Rest → Type 0
 TakesPiece limit start text (Ok piece) out new body = UnderWay limit start new body (text ++ take piece.put out)
 TakesPiece limit start text (Err fault) out new body = LeavesRest limit start new
-    × ((gained : List ℕ) × Drew start.link new.link gained × BodyCause limit fault start.link new.link (start.waiting ++ gained))
+    × ((gained : List ℕ) × Drew start.link new.link gained
+    × BodyCause limit fault start.link new.link (start.waiting ++ gained))
 
 -- the items of the vector that a call returned
 abbrev pub items_of : {A Z E : Type 0} → Result (Vec A Z) E → Result (List A) E

@@ -1,5 +1,6 @@
 -- Fields and numerals of reply lines (RFC 1939, sections 5 and 7). Spaces separate the fields.
-use Rattle.std.specs.Prelude.{◌==◌, ◌&&◌, not, nat_le, ℕ, Bool, List, length, drop, take_while, if◌then◌else◌, Result, Ok, Err}
+use Rattle.std.specs.Prelude.{◌==◌, ◌&&◌, not, nat_le, ℕ, Bool, List, length, drop, take_while, if◌then◌else◌, Result}
+use Rattle.std.specs.Prelude.{Ok, Err}
 use Rattle.std.specs.List.{prefix_len}
 use Rattle.std.specs.Char.{is_ascii_digit}
 use Rattle.std.specs.Str.Parse.{digits_value}
@@ -26,7 +27,8 @@ past test bytes = drop (prefix_len test bytes) bytes
 
 -- the number that a numeral stands for, if it isn't above the limit
 unfoldable pub number : ℕ → List ℕ → Result ℕ WireFault
-number limit field = if is_numeral field && nat_le (digits_value 10 field) limit then Ok (digits_value 10 field) else Err BadNumber
+number limit field = if is_numeral field && nat_le (digits_value 10 field) limit then Ok (digits_value 10 field)
+    else Err BadNumber
 
 -- the bytes from the next field on, if there is one
 unfoldable pub next_field : List ℕ → Result (List ℕ) WireFault

@@ -59,14 +59,16 @@ no_marks messages = map (λ _. false) messages
 
 -- a first line and a body, which has a row for each message, in any order, if none is marked: a session lists
 -- before it deletes
-pub record ListsAll (IsRow : ℕ × Message → List ℕ → Type 0) (messages : List Message) (marks : List Bool) (bytes : List ℕ) : Type 0 where
+pub record ListsAll (IsRow : ℕ × Message → List ℕ → Type 0) (messages : List Message) (marks : List Bool)
+    (bytes : List ℕ) : Type 0 where
   pub first : List ℕ
   pub says : SaysAnything Positive first
   pub lines : List (List ℕ)
   pub content : AllByRecursion IsContent lines
   pub whole : bytes ≡ first ++ body_of lines
   pub rows : marks ≡ no_marks messages
-      → (numbered : List (ℕ × Message)) × IsPermutation (enumerate_from 1 messages) numbered × AllZip IsRow numbered (map unstuffed lines)
+      → (numbered : List (ℕ × Message)) × IsPermutation (enumerate_from 1 messages) numbered
+      × AllZip IsRow numbered (map unstuffed lines)
 
 -- a positive reply to a command, and the marks after it; a session never sends TOP
 abbrev pub Grants : List Message → List Bool → Command → List ℕ → List Bool → Type 0
@@ -74,9 +76,12 @@ Grants messages marks Stat bytes next = (after : List ℕ) × (more : List (List
     × (marks ≡ no_marks messages → HasFields (length messages) more after) × (next ≡ marks)
 Grants messages marks UidlAll bytes next = ListsAll IsUidRow messages marks bytes × (next ≡ marks)
 Grants messages marks ListAll bytes next = ListsAll IsScanRow messages marks bytes × (next ≡ marks)
-Grants messages marks (Retr number) bytes next = (first body : List ℕ) × (message : Message) × SaysAnything Positive first
-    × (bytes ≡ first ++ body) × (slice_get messages (number - 1) ≡ Some message) × Body body message.text × (next ≡ marks)
-Grants messages marks (Dele number) bytes next = SaysAnything Positive bytes × (next ≡ slice_set marks (number - 1) true)
+Grants messages marks (Retr number) bytes next = (first body : List ℕ) × (message : Message)
+    × SaysAnything Positive first
+    × (bytes ≡ first ++ body) × (slice_get messages (number - 1) ≡ Some message) × Body body message.text
+    × (next ≡ marks)
+Grants messages marks (Dele number) bytes next = SaysAnything Positive bytes
+    × (next ≡ slice_set marks (number - 1) true)
 Grants messages marks Rset bytes next = SaysAnything Positive bytes × (next ≡ map (λ _. false) marks)
 Grants messages marks (Top number lines) bytes next = ⊥
 Grants messages marks command bytes next = SaysAnything Positive bytes × (next ≡ marks)
@@ -103,7 +108,8 @@ pub record Asked (commands : List Command) (sent : List ℕ) : Type 0 where
 
 -- the octets sent determine which commands were sent whole
 abbrev pub OneListOfCommands : Type 0
-OneListOfCommands = (commands others : List Command) (sent : List ℕ) → Asked commands sent → Asked others sent → commands ≡ others
+OneListOfCommands = (commands others : List Command) (sent : List ℕ) → Asked commands sent → Asked others sent
+    → commands ≡ others
 
 -- the octets begin the line of the first of these commands; without a command there are none
 abbrev pub BeginsNext : List Command → List ℕ → Type 0
@@ -112,9 +118,11 @@ BeginsNext (command ∷ commands) part = (unsent : List ℕ) × (ended (line_of 
 
 -- a prefix of the octets of some commands is the first of these commands whole, and perhaps a part of the next
 abbrev pub FrontsAreAsked : Type 0
-FrontsAreAsked = (commands : List Command) (front rest : List ℕ) → AllByRecursion (λ command. can_be_sent command ≡ true) commands
+FrontsAreAsked = (commands : List Command) (front rest : List ℕ)
+    → AllByRecursion (λ command. can_be_sent command ≡ true) commands
     → AllByRecursion HasNumbers commands → octets_of commands ≡ front ++ rest
-    → (whole later : List Command) × (commands ≡ whole ++ later) × (asked : Asked whole front) × BeginsNext later asked.part
+    → (whole later : List Command) × (commands ≡ whole ++ later) × (asked : Asked whole front)
+    × BeginsNext later asked.part
 
 -- what was got begins a greeting and one reply to each command that was sent whole; after these replies the
 -- marks are these

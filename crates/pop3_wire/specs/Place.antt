@@ -1,5 +1,6 @@
 -- A link, those of its octets that wait to be used, and what reading on gains.
-use Rattle.std.specs.Prelude.{◌≡◌, ◌+◌, ◌<◌, ◌≤◌, ◌==◌, ◌||◌, ℕ, Bool, true, false, List, ◌++◌, length, take, drop, Result, Ok, Err}
+use Rattle.std.specs.Prelude.{◌≡◌, ◌+◌, ◌<◌, ◌≤◌, ◌==◌, ◌||◌, ℕ, Bool, true, false, List, ◌++◌, length, take, drop}
+use Rattle.std.specs.Prelude.{Result, Ok, Err}
 use Rattle.pop3_wire.specs.Line.{crlf, IsLine}
 use Rattle.pop3_wire.specs.Link.{Link}
 use Rattle.pop3_wire.specs.declared.line_reader.LineFault.{LineFault}

@@ -60,7 +60,8 @@ OneReading = (asked : List (Option Command)) (replies others : List WholeReply) 
 
 -- a body splits into lines in one way only
 abbrev pub OneListOfLines : Type 0
-OneListOfLines = (lines others : List (List ℕ)) (rest more : List ℕ) → AllByRecursion IsContent lines → AllByRecursion IsContent others
+OneListOfLines = (lines others : List (List ℕ)) (rest more : List ℕ) → AllByRecursion IsContent lines
+    → AllByRecursion IsContent others
     → body_of lines ++ rest ≡ body_of others ++ more → (lines ≡ others) × (rest ≡ more)
 
 -- the row that a line of UIDL's body stands for, and that of LIST's
@@ -76,4 +77,5 @@ HasListing IsThisRow reply rows = (lines : List (List ℕ)) × (reply.body ≡ S
 
 -- a reply to STAT gives this count
 abbrev pub GivesCount : WholeReply → ℕ → Type 0
-GivesCount reply count = (rest : List ℕ) × (size : ℕ) × IsFirstLine reply.first Positive rest × (number_and_size rest ≡ Ok (count, size))
+GivesCount reply count = (rest : List ℕ) × (size : ℕ) × IsFirstLine reply.first Positive rest
+    × (number_and_size rest ≡ Ok (count, size))

@@ -46,10 +46,12 @@ pub record HasUidForm (line : List ℕ) (number : ℕ) (uid : List ℕ) : Type 0
 
 -- the lines that are read are exactly those of the form, with the numbers and the id that are in it
 abbrev pub ScanRowsHaveForm : Type 0
-ScanRowsHaveForm = (line : List ℕ) (number size : ℕ) → (number_and_size line ≡ Ok (number, size)) ↔ HasScanForm line number size
+ScanRowsHaveForm = (line : List ℕ) (number size : ℕ) → (number_and_size line ≡ Ok (number, size))
+    ↔ HasScanForm line number size
 
 abbrev pub UidRowsHaveForm : Type 0
-UidRowsHaveForm = (line : List ℕ) (number : ℕ) (uid : List ℕ) → (number_and_id line ≡ Ok (number, uid)) ↔ HasUidForm line number uid
+UidRowsHaveForm = (line : List ℕ) (number : ℕ) (uid : List ℕ) → (number_and_id line ≡ Ok (number, uid))
+    ↔ HasUidForm line number uid
 
 -- a number is written as a numeral that stands for it
 abbrev pub NumbersAreRead : Type 0

@@ -22,7 +22,8 @@ StuffedIsBody = (text : List ℕ) → Body (stuffed_lines (lines_of_text text)) 
 
 -- whatever follows what a writer sends, a reader finds exactly that body, and the text made whole
 abbrev pub StuffedIsRead : Type 0
-StuffedIsRead = (text more body read rest : List ℕ) → Body body read → stuffed_lines (lines_of_text text) ++ more ≡ body ++ rest
+StuffedIsRead = (text more body read rest : List ℕ) → Body body read
+    → stuffed_lines (lines_of_text text) ++ more ≡ body ++ rest
     → (body ≡ stuffed_lines (lines_of_text text)) × (read ≡ whole_text text) × (rest ≡ more)
 
 -- no body begins another: bytes begin with at most one body

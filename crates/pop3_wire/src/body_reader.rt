@@ -38,7 +38,8 @@ fn draw<W: Wire>(wire: &mut W, reader: &mut LineReader) -> Result<(), BodyFault>
         × WhereSound W.sound W.leads_to wire.old wire.new
         (Drew (W.history wire.old) (W.history wire.new) gained × GoesOn (W.history wire.old) (W.history wire.new))) }
     ensures err { IfErr result (λ fault. (reader.old ≡ []) × (reader.new ≡ [])
-        × WhereSound W.sound W.leads_to wire.old wire.new (DrawsNothing fault (W.history wire.old) (W.history wire.new))) }
+        × WhereSound W.sound W.leads_to wire.old wire.new
+        (DrawsNothing fault (W.history wire.old) (W.history wire.new))) }
 {
     if !reader.waiting().is_empty() {
         return Ok(());
@@ -58,7 +59,8 @@ fn use_waiting(
     left: usize,
     out: &mut [u8; PIECE_ROOM],
 ) -> Fed
-    ensures used { (result.used ≤ left) × (result.used ≤ length reader.old) × (reader.new ≡ drop result.used reader.old) }
+    ensures used { (result.used ≤ left) × (result.used ≤ length reader.old)
+        × (reader.new ≡ drop result.used reader.old) }
     ensures put { result.put ≤ length out.new }
     ensures whole { unstuffer.new ≢ Done → result.used ≡ min left (length reader.old) }
     ensures ended { IsTrue result.ended ↔ (unstuffer.new ≡ Done) }
@@ -127,10 +129,12 @@ impl BodyReader {
         ensures counted { CountsRefusal is_refusal (W.history wire.old) result (W.history wire.new) }
         ensures fits { IfOk result (λ piece. piece.put ≤ length out.new) }
         ensures ended { IfOk result (λ piece. IsTrue piece.ended ↔ (self.new.spot ≡ Done)) }
-        ensures less { OnOk result (self.new.spot ≢ Done → self.new.left < self.old.left) }
+        ensures less { IfOk result (λ piece. (self.old.left ≡ self.new.left + piece.octets)
+            × (self.new.spot ≢ Done → self.new.left < self.old.left)) }
         ensures same { OnErr result (self.new ≡ self.old) }
         ensures takes { WhereSound W.sound W.leads_to wire.old wire.new
-            ((limit : ℕ) (start : Place) (text : List ℕ) → UnderWay limit start (at (W.history wire.old) reader.old) self.old text
+            ((limit : ℕ) (start : Place) (text : List ℕ)
+            → UnderWay limit start (at (W.history wire.old) reader.old) self.old text
             → TakesPiece limit start text result out.new (at (W.history wire.new) reader.new) self.new) }
     {
         if self.left == 0 {

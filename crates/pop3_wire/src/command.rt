@@ -43,7 +43,8 @@ pub enum Command {
 
 /// The line of a keyword and an argument.
 fn text_line(alloc: Global, keyword: &[u8], argument: &[u8]) -> Result<Vec<u8>, WireFault>
-    ensures ok { IfOk result (λ v. (is_credential argument.now ≡ true) × (v.items ≡ keyword.now ++ argument.now ++ crlf)) }
+    ensures ok { IfOk result (λ v. (is_credential argument.now ≡ true)
+        × (v.items ≡ keyword.now ++ argument.now ++ crlf)) }
     ensures err { IfErr result (λ e. ((e ≡ WireFault.BadArgument) × (is_credential argument.now ≡ false))
         ⊎ ((e ≡ WireFault.NoMemory) × (is_credential argument.now ≡ true))) }
 {

@@ -47,7 +47,8 @@ fn without_spaces(line: &[u8]) -> &[u8]
 /// The bytes after the keyword, without the spaces at the line's end.
 #[tactic(auto, unfolding(crate::specs::CommandLine::arguments))]
 fn behind_keyword(line: &[u8]) -> Option<&[u8]>
-    ensures { MatchOption result (arguments line.now ≡ []) (λ rest. arguments line.now ≡ slice_split is_space rest.now) }
+    ensures { MatchOption result (arguments line.now ≡ [])
+        (λ rest. arguments line.now ≡ slice_split is_space rest.now) }
 {
     let (_, rest) = cut_word(without_spaces(line));
     rest

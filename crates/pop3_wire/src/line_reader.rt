@@ -1,7 +1,9 @@
 //! Reads lines from any link: the replies that a client gets, and the commands that a server gets.
-ghost use Rattle.std.specs.Prelude.{◌≡◌, ◌≤◌, ◌<◌, ◌+◌, ◌-◌, ℕ, List, [], ◌++◌, length, take, drop, IfOk, IfErr, OnErr, IfSome, IfNone};
+ghost use Rattle.std.specs.Prelude.{◌≡◌, ◌≤◌, ◌<◌, ◌+◌, ◌-◌, ℕ, List, [], ◌++◌, length, take, drop, IfOk, IfErr, OnErr};
+ghost use Rattle.std.specs.Prelude.{IfSome, IfNone};
 ghost use Rattle.pop3_wire.specs.Link.{CountsFailure, CountsRefusal, WhereSound};
-ghost use Rattle.pop3_wire.specs.Place.{most_waiting, at, GotPiece, WasRefused, Gains, HasLine, HasNoLine, ReadsLine, is_refusal};
+ghost use Rattle.pop3_wire.specs.Place.{most_waiting, at, GotPiece, WasRefused, Gains, HasLine, HasNoLine, ReadsLine};
+ghost use Rattle.pop3_wire.specs.Place.{is_refusal};
 
 use crate::line::cut_line;
 use crate::wire::{Wire, WireDown};
@@ -97,7 +99,8 @@ impl LineReader {
         ensures short { length self.new ≤ most_waiting }
         ensures within { IfOk result (λ n. n ≤ most) }
         ensures ok { IfOk result (λ n. (piece : List ℕ) × (length piece ≡ n) × (self.new ≡ self.old ++ piece)
-            × WhereSound W.sound W.leads_to wire.old wire.new (GotPiece (W.history wire.old) piece (W.history wire.new))) }
+            × WhereSound W.sound W.leads_to wire.old wire.new
+            (GotPiece (W.history wire.old) piece (W.history wire.new))) }
         ensures err { OnErr result ((self.new ≡ self.old)
             × WhereSound W.sound W.leads_to wire.old wire.new (WasRefused (W.history wire.old) (W.history wire.new))) }
     {

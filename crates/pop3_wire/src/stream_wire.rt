@@ -93,7 +93,8 @@ impl<R: Read, W: Write> Wire for StreamWire<R, W> {
         ensures counted { CountsFailure (uncharted self.old.failures) result (uncharted self.new.failures) }
         // If the reader's bytes are known, a call that succeeds took what it put into the buffer, and 0
         // says that none are left.
-        ensures took { OnOk result (ReadConsumes (R.remaining self.old.reader) (R.remaining self.new.reader) result buf.new) }
+        ensures took { OnOk result
+            (ReadConsumes (R.remaining self.old.reader) (R.remaining self.new.reader) result buf.new) }
         ensures same { self.new.writer ≡ self.old.writer }
     {
         if self.failures.is_full() {

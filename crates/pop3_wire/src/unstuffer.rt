@@ -1,5 +1,6 @@
 //! Reads bodies piece by piece, wherever the pieces are cut (RFC 1939, section 3).
-ghost use Rattle.std.specs.Prelude.{◌≡◌, ◌≢◌, ◌≤◌, ◌<◌, ◌+◌, ◌++◌, ◌↔◌, ◌∷◌, ℕ, List, [], length, slice_index, take, IsTrue, IfSome};
+ghost use Rattle.std.specs.Prelude.{◌≡◌, ◌≢◌, ◌≤◌, ◌<◌, ◌+◌, ◌++◌, ◌↔◌, ◌∷◌, ℕ, List, [], length, slice_index, take};
+ghost use Rattle.std.specs.Prelude.{IsTrue, IfSome};
 ghost use Rattle.pop3_wire.specs.Body.{Body, HasNoBody};
 ghost use Rattle.pop3_wire.specs.Unstuffing.{Reaches, held_back, bytes_given};
 ghost use Rattle.pop3_wire.specs.declared.unstuffer.Spot.{Spot};

@@ -5,7 +5,8 @@ use Rattle.rc_file.specs.declared.flags.Flags.{Flags}
 
 -- two flags ask for opposite things
 abbrev pub is_contradiction : Flags → Bool
-is_contradiction flags = flags.all && flags.new_only || flags.delete && flags.dont_delete || flags.quiet && nat_lt 0 flags.verbose
+is_contradiction flags = flags.all && flags.new_only || flags.delete && flags.dont_delete
+    || flags.quiet && nat_lt 0 flags.verbose
 
 -- what a pair of flags makes of a value: the first sets it to true, the second to false
 abbrev pub switched : Bool → Bool → Bool → Bool

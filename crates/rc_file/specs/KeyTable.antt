@@ -1,5 +1,6 @@
 -- The keys that have an effect, as a table, and the forms of their values.
-use Rattle.std.specs.Prelude.{ℕ, Bool, ◌&&◌, ◌||◌, List, [], ◌∷◌, map, nat_le, if◌then◌else◌, Option, Some, None, codes, bytes_eq}
+use Rattle.std.specs.Prelude.{ℕ, Bool, ◌&&◌, ◌||◌, List, [], ◌∷◌, map, nat_le, if◌then◌else◌, Option, Some, None, codes}
+use Rattle.std.specs.Prelude.{bytes_eq}
 use Rattle.std.specs.Char.{to_ascii_lowercase}
 use Rattle.std.specs.List.{list_any}
 use Rattle.std.specs.Str.Parse.{digits_value}
@@ -8,7 +9,8 @@ use Rattle.mail_terms.specs.Numeral.{is_numeral}
 use Rattle.rc_file.specs.Settings.{is_server, is_destination, destination_at}
 use Rattle.rc_file.specs.declared.settings.TheConstants.{DELETE_AFTER_LIMIT}
 use Rattle.rc_file.specs.declared.key.Key.{Key}
-use Rattle.rc_file.specs.declared.key.Key.TheVariants.{RetrieverKind, UseApop, Server, Port, Username, Password, DestinationKind}
+use Rattle.rc_file.specs.declared.key.Key.TheVariants.{RetrieverKind, UseApop, Server, Port, Username, Password}
+use Rattle.rc_file.specs.declared.key.Key.TheVariants.{DestinationKind}
 use Rattle.rc_file.specs.declared.key.Key.TheVariants.{Path, ReadAll, Delete, DeleteAfter, MaxSize, MaxCount, Verbose}
 use Rattle.rc_file.specs.declared.fault.RcFault.{RcFault}
 use Rattle.rc_file.specs.declared.fault.RcFault.TheVariants.{UnknownType, BadValue, Unsupported, BadPath}
@@ -94,7 +96,8 @@ is_number low high text = is_numeral text && nat_le low (digits_value 10 text) &
 abbrev pub value_fault : Form → Key → Bool → List ℕ → Option RcFault
 value_fault (kind words) key folder text = if list_any (bytes_eq text) words then None else Some (UnknownType key)
 value_fault boolean key folder text = if is_yes text || is_no text then None else Some (BadValue key)
-value_fault never key folder text = if is_yes text then Some (Unsupported key) else if is_no text then None else Some (BadValue key)
+value_fault never key folder text = if is_yes text then Some (Unsupported key) else if is_no text then None
+    else Some (BadValue key)
 value_fault (number low high) key folder text = if is_number low high text then None else Some (BadValue key)
 value_fault server key folder text = if is_server text then None else Some (BadValue key)
 value_fault credential key folder text = if is_credential text then None else Some (BadValue key)

@@ -1,5 +1,6 @@
 -- What each line of an rc file is, whatever its place.
-use Rattle.std.specs.Prelude.{ℕ, Bool, not, ◌&&◌, ◌||◌, List, ◌-◌, length, take, drop, map, ◌==◌, nat_lt, slice_index, if◌then◌else◌}
+use Rattle.std.specs.Prelude.{ℕ, Bool, not, ◌&&◌, ◌||◌, List, ◌-◌, length, take, drop, map, ◌==◌, nat_lt, slice_index}
+use Rattle.std.specs.Prelude.{if◌then◌else◌}
 use Rattle.std.specs.List.{prefix_len, suffix_len, position_or_len, before_first, after_first}
 use Rattle.std.specs.Str.{is_utf8}
 use Rattle.bstr.specs.Text.{lines_of, without_terminator}
@@ -47,7 +48,8 @@ is_skipped line = length (past_blanks line) == 0 || is_comment_sign (slice_index
 -- a line that begins with '[', without blanks at its end: it ends in ']' with a character or more between
 abbrev pub section_line : List ℕ → RcLine
 section_line line =
-    if nat_lt 2 (length line) && slice_index line (length line - 1) == 93 then section (take (length line - 2) (drop 1 line)) else bad
+    if nat_lt 2 (length line) && slice_index line (length line - 1) == 93
+    then section (take (length line - 2) (drop 1 line)) else bad
 
 -- the key comes before the first sign and the value after it
 abbrev pub key_line : List ℕ → RcLine

@@ -33,7 +33,8 @@ is_section name (key_row line section key value) = false
 is_section name (bad_row line) = false
 
 abbrev pub missing_section : List RcRow → Section → Option RcFault
-missing_section rows section = if list_any (is_section (section_name section)) rows then None else Some (MissingSection section)
+missing_section rows section = if list_any (is_section (section_name section)) rows then None
+    else Some (MissingSection section)
 
 -- a row's value, if it is a row of the key
 abbrev pub value_at : Key → RcRow → Option (List ℕ)
@@ -76,7 +77,8 @@ first_fault (Some fault ∷ faults) = Some fault
 abbrev pub faults_of : List ℕ → List RcRow → List (Option RcFault)
 faults_of bytes rows =
     (if nat_lt RC_LIMIT (length bytes) then Some TooLong else None)
-    ∷ first_bad rows ∷ missing_section rows Retriever ∷ missing_section rows DestinationSection ∷ map (fault_at rows) all_keys
+    ∷ first_bad rows ∷ missing_section rows Retriever ∷ missing_section rows DestinationSection ∷ map
+    (fault_at rows) all_keys
 
 -- the settings, if nothing is wrong
 abbrev pub destination_in : List RcRow → Destination

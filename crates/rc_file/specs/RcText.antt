@@ -26,15 +26,18 @@ rc_text NoMemory = codes "out of memory"
 
 -- the warnings: for a section, and for a key with its section
 abbrev pub section_warning : ℕ → List ℕ → List ℕ
-section_warning line section = codes "warning: line " ++ (decimal line ++ (codes ": section [" ++ (section ++ codes "] has no effect")))
+section_warning line section = codes "warning: line " ++
+    (decimal line ++ (codes ": section [" ++ (section ++ codes "] has no effect")))
 
 abbrev pub key_warning : ℕ → List ℕ → List ℕ → List ℕ
 key_warning line section key =
-    codes "warning: line " ++ (decimal line ++ (codes ": " ++ (section ++ (codes "." ++ (key ++ codes " has no effect")))))
+    codes "warning: line " ++
+    (decimal line ++ (codes ": " ++ (section ++ (codes "." ++ (key ++ codes " has no effect")))))
 
 abbrev pub warning_text : Warned → List ℕ
 warning_text warning =
-    if length warning.key == 0 then section_warning warning.line warning.section else key_warning warning.line warning.section warning.key
+    if length warning.key == 0 then section_warning warning.line warning.section
+    else key_warning warning.line warning.section warning.key
 
 -- a row without its value
 abbrev pub without_value : RcRow → RcRow

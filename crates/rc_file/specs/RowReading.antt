@@ -69,7 +69,8 @@ file_rows rows n lines = continued rows (added lines) ++ rows_from (last_section
 abbrev pub TakesLine : List ReadRow → ℕ → RcLine → Result (Unit {0}) RcFault → List ReadRow → Type 0
 TakesLine old n line (Ok done) new = (lines : List RcLine)
     → file_rows (rows_in old) n (line ∷ lines) ≡ file_rows (rows_in new) (n + 1) lines
-TakesLine old n line (Err fault) new = (lines : List RcLine) → IsFaultMeant (first_bad (file_rows (rows_in old) n (line ∷ lines))) fault
+TakesLine old n line (Err fault) new = (lines : List RcLine)
+    → IsFaultMeant (first_bad (file_rows (rows_in old) n (line ∷ lines))) fault
 
 -- the rows of the file, or its first bad line, or memory ran out
 abbrev pub ReadsRows : List RcRow → Result (Vec ReadRow Global) RcFault → Type 0

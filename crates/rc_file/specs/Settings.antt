@@ -1,5 +1,6 @@
 -- What settings hold, and which values they may hold.
-use Rattle.std.specs.Prelude.{ℕ, ◌≤◌, Bool, not, ◌&&◌, List, length, ◌==◌, nat_lt, nat_eq, if◌then◌else◌, true, IsTrue, codes, string_bytes}
+use Rattle.std.specs.Prelude.{ℕ, ◌≤◌, Bool, not, ◌&&◌, List, length, ◌==◌, nat_lt, nat_eq, if◌then◌else◌, true, IsTrue}
+use Rattle.std.specs.Prelude.{codes, string_bytes}
 use Rattle.std.specs.List.{list_all, starts_with, ends_with}
 use Rattle.mail_terms.specs.Credential.{is_credential}
 use Rattle.rc_file.specs.declared.settings.TheConstants.{DELETE_AFTER_LIMIT}
@@ -26,7 +27,8 @@ begins_at_home path = starts_with nat_eq path (codes "~/")
 -- a path that can be used: not empty, and it begins with '~' only as "~/"
 abbrev pub is_path : List ℕ → Bool
 is_path path =
-    nat_lt 0 (length path) && list_all is_path_byte path && (if starts_with nat_eq path (codes "~") then begins_at_home path else true)
+    nat_lt 0 (length path) && list_all is_path_byte path
+    && (if starts_with nat_eq path (codes "~") then begins_at_home path else true)
 
 abbrev pub ends_in_slash : List ℕ → Bool
 ends_in_slash path = ends_with nat_eq path (codes "/")

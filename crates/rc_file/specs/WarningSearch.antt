@@ -9,7 +9,11 @@ use Rattle.rc_file.specs.RcMeaning.{Warned, firsts}
 use Rattle.rc_file.specs.declared.warning.Warning.{Warning}
 
 abbrev pub warning_of : Warning → Warned
-warning_of warning = record { line = warning.line; section = string_bytes warning.section; key = string_bytes warning.key }
+warning_of warning = record {
+  line = warning.line;
+  section = string_bytes warning.section;
+  key = string_bytes warning.key;
+}
 
 -- two names of rows, each a section and a key, are the same
 abbrev pub Name : Type 0
@@ -29,4 +33,5 @@ pub record IsFinding (all rest found : List Warned) (told : HashSet Name (BuildH
 -- a row was met, and is no longer one of the rest
 abbrev pub Tells : Warned → List Warned → HashSet Name (BuildHasherDefault FoldHasher)
     → List Warned → HashSet Name (BuildHasherDefault FoldHasher) → Type 0
-Tells row found old found' new = (all rest : List Warned) → IsFinding all (row ∷ rest) found old → IsFinding all rest found' new
+Tells row found old found' new = (all rest : List Warned) → IsFinding all (row ∷ rest) found old
+    → IsFinding all rest found' new

@@ -93,7 +93,8 @@ pub(crate) fn is_path_of(path: &str, folder: bool) -> bool
 /// The whole path: for one that begins with `~/`, `home` followed by the path from its `/`; any other
 /// path as it is.
 pub fn full_path(alloc: Global, path: &str, home: &str) -> Result<String, AllocError>
-    ensures { IfOk result (λ full. string_bytes full ≡ (if begins_at_home path.now then home.now ++ drop 1 path.now else path.now)) }
+    ensures { IfOk result (λ full. string_bytes full
+        ≡ (if begins_at_home path.now then home.now ++ drop 1 path.now else path.now)) }
 {
     if !path.as_bytes().starts_with(b"~/") {
         return String::from_str(alloc, path);

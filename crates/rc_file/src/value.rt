@@ -48,7 +48,8 @@ fn value<'r>(rows: &'r [ReadRow<'_>], key: Key) -> Option<&'r str>
 /// The key's value. MissingKey if it has none.
 pub(crate) fn required<'r>(rows: &'r [ReadRow<'_>], key: Key) -> Result<&'r str, RcFault>
     ensures found { IfOk result (λ text. value_of (rows_in rows.now) key ≡ Some text.now) }
-    ensures missing { IfErr result (λ fault. (value_of (rows_in rows.now) key ≡ None) × (fault ≡ RcFault.MissingKey key)) }
+    ensures missing { IfErr result (λ fault. (value_of (rows_in rows.now) key ≡ None)
+        × (fault ≡ RcFault.MissingKey key)) }
 {
     value(rows, key).ok_or(RcFault::MissingKey(key))
 }

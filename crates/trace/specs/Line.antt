@@ -35,7 +35,8 @@ most_shown = 512
 
 -- such a line was written after what the writer held
 abbrev pub IsWritten : {E : Type 0} → (E → Option (List ℕ)) → E → E → List ℕ → List ℕ → Type 0
-IsWritten contents old new mark octets = (line : List ℕ) × IsTraceLine mark octets line × Appends (contents old) (contents new) line
+IsWritten contents old new mark octets = (line : List ℕ) × IsTraceLine mark octets line
+    × Appends (contents old) (contents new) line
 
 -- what is shown of a body
 abbrev pub count_text : ℕ → ℕ → List ℕ
@@ -44,4 +45,5 @@ count_text lines octets = codes "(" ++ (decimal lines ++ (codes " lines, " ++ (d
 -- the line of a refused call was written: its name, what it was asked for, and a reason
 abbrev pub TellsRefusal : {E : Type 0} → (E → Option (List ℕ)) → E → E → List ℕ → List ℕ → Type 0
 TellsRefusal contents old new call path =
-    (reason : List ℕ) × IsWritten contents old new (codes "trace: ") (call ++ (codes " " ++ (path ++ (codes ": " ++ reason))))
+    (reason : List ℕ) × IsWritten contents old new (codes "trace: ")
+    (call ++ (codes " " ++ (path ++ (codes ": " ++ reason))))

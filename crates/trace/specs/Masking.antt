@@ -1,6 +1,7 @@
 -- What an answer tells of the password, and what is shown of such an answer.
 use Rattle.std.specs.Prelude.{◌≡◌, ◌≤◌, ◌<◌, ◌⊎◌, ◌+◌, ◌*◌, ◌-◌, ◌/◌, ◌%◌, ◌^◌, ◌==◌, ◌||◌, ℕ, Bool, true, false}
-use Rattle.std.specs.Prelude.{List, [], ◌∷◌, Option, None, Some, codes, drop, length, map, min, nat_lt, slice_index, take, if◌then◌else◌}
+use Rattle.std.specs.Prelude.{List, [], ◌∷◌, Option, None, Some, codes, drop, length, map, min, nat_lt, slice_index}
+use Rattle.std.specs.Prelude.{take, if◌then◌else◌}
 use Rattle.std.specs.List.{flat_map, starts_with}
 use Rattle.std.specs.Char.{to_ascii_lowercase}
 use Rattle.memchr.specs.Find.{OccursAt}
@@ -30,7 +31,8 @@ symbol_at octets bit = if nat_lt ((bit + 5) / 8) (length octets) then symbol (se
 
 -- the characters of at most four octets that are made of them alone, if the first such one begins at this bit
 abbrev pub symbols : List ℕ → ℕ → List ℕ
-symbols octets first = flat_map (symbol_at octets) (first ∷ (first + 6) ∷ (first + 12) ∷ (first + 18) ∷ (first + 24) ∷ [])
+symbols octets first = flat_map (symbol_at octets)
+    (first ∷ (first + 6) ∷ (first + 12) ∷ (first + 18) ∷ (first + 24) ∷ [])
 
 -- ---- what an answer tells
 
@@ -40,7 +42,8 @@ Occurs answer octets = (k : ℕ) × OccursAt answer octets k
 -- in base64, after any number of other octets: of one octet alone no two characters are known
 abbrev pub OccursInBase64 : List ℕ → List ℕ → Type 0
 OccursInBase64 answer octets =
-    (1 < length octets) × (Occurs answer (symbols octets 0) ⊎ Occurs answer (symbols octets 2) ⊎ Occurs answer (symbols octets 4))
+    (1 < length octets) × (Occurs answer (symbols octets 0) ⊎ Occurs answer (symbols octets 2)
+    ⊎ Occurs answer (symbols octets 4))
 
 -- how many octets in a row tell a password
 abbrev pub row_length : List ℕ → ℕ
@@ -52,10 +55,12 @@ row_at password start = take (row_length password) (drop start password)
 -- the row from this place on occurs in upper or lower case, or in base64
 abbrev pub TellsRow : List ℕ → List ℕ → ℕ → Type 0
 TellsRow answer password start =
-    Occurs (map to_ascii_lowercase answer) (row_at (map to_ascii_lowercase password) start) ⊎ OccursInBase64 answer (row_at password start)
+    Occurs (map to_ascii_lowercase answer) (row_at (map to_ascii_lowercase password) start)
+    ⊎ OccursInBase64 answer (row_at password start)
 
 abbrev pub TellsARow : List ℕ → List ℕ → Type 0
-TellsARow answer password = (start : ℕ) × (start + row_length password ≤ length password) × TellsRow answer password start
+TellsARow answer password = (start : ℕ) × (start + row_length password ≤ length password)
+    × TellsRow answer password start
 
 -- a command whose answer may repeat a part of what was typed
 abbrev pub is_login : List ℕ → Bool

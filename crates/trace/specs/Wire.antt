@@ -1,5 +1,6 @@
 -- What a trace shows of a conversation.
-use Rattle.std.specs.Prelude.{◌≡◌, ◌-◌, ℕ, true, false, List, Option, None, Some, MatchOption, codes, option_map, take}
+use Rattle.std.specs.Prelude.{◌≡◌, ◌==◌, ◌+◌, ◌-◌, ◌^◌, ℕ, true, false, List, Option, None, Some, IsSome, MatchOption}
+use Rattle.std.specs.Prelude.{codes, count_by, min, option_map, take}
 use Rattle.pop3_wire.specs.declared.note.Note.{Note}
 use Rattle.pop3_wire.specs.declared.note.Note.TheVariants.{Command, Reply, Body}
 use Rattle.trace.specs.Command.{shown_command}
@@ -22,15 +23,26 @@ hidden_in trace = option_map (λ password. password.items) trace.password
 abbrev pub Hides : {W E : Type 0} → TracedWire W E → List ℕ → Type 0
 Hides link password = MatchOption link.trace (Unit {0}) (λ trace. hidden_in trace ≡ Some password)
 
--- the first line of an answer was shown, in which the password is hidden
+-- more of a body came: its lines and its octets are counted
+abbrev pub Counts : {E : Type 0} → Trace E → List ℕ → ℕ → Trace E → Type 0
+Counts old text octets new = (new.lines ≡ min (old.lines + count_by (λ octet. octet == 10) text) (2 ^ 64 - 1))
+    × (new.octets ≡ min (old.octets + octets) (2 ^ 64 - 1))
+
+-- the first line of an answer was shown, in which the password is hidden; nothing of a body came yet
 abbrev pub ShowsAnswer : {E : Type 0} → (E → Option (List ℕ)) → Trace E → List ℕ → Trace E → Type 0
 ShowsAnswer contents old answer new =
-    (shown : List ℕ) × IsShown (hidden_in old) old.to_login answer shown × Adds contents old.err new.err (codes "S: ") (take most_shown shown)
+    (shown : List ℕ) × IsShown (hidden_in old) old.to_login answer shown
+    × Adds contents old.err new.err (codes "S: ") (take most_shown shown)
+    × (new.lines ≡ 0) × (new.octets ≡ 0)
 
 -- a part of a conversation was shown: of a body, how many lines and octets came, at its end
 abbrev pub ShowsPart : {E : Type 0} → (E → Option (List ℕ)) → Trace E → Note → Trace E → Type 0
 ShowsPart contents old (Command command) new =
-    (new.to_login ≡ is_login command.now) × Adds contents old.err new.err (codes "C: ") (take most_shown (shown_command command.now))
+    (new.to_login ≡ is_login command.now)
+    × Adds contents old.err new.err (codes "C: ") (take most_shown (shown_command command.now))
 ShowsPart contents old (Reply answer) new = ShowsAnswer contents old answer.now new
-ShowsPart contents old (Body text octets false) new = new.err ≡ old.err
-ShowsPart contents old (Body text octets true) new = Adds contents old.err new.err (codes "S: ") (count_text new.lines (new.octets - 3))
+ShowsPart contents old (Body text octets false) new = (new.err ≡ old.err)
+    × (IsSome old.err → Counts old text.now octets new)
+ShowsPart contents old (Body text octets true) new = Adds contents old.err new.err (codes "S: ")
+    (count_text new.lines (new.octets - 3))
+    × (IsSome old.err → Counts old text.now octets new)

@@ -28,5 +28,6 @@ pub fn shown_command(command: &[u8]) -> &[u8]
 
 /// Whatever the password is, a PASS command is shown in the same way.
 pub fn commands_hide_passwords()
-    ensures { (password other : List ℕ) → shown_command (codes "PASS " ++ password) ≡ shown_command (codes "PASS " ++ other) }
+    ensures { (password other : List ℕ)
+        → shown_command (codes "PASS " ++ password) ≡ shown_command (codes "PASS " ++ other) }
 {}

@@ -2,7 +2,8 @@
 ghost use Rattle.std.specs.Prelude.{◌≡◌, ◌≤◌, ◌<◌, ◌⊎◌, ◌+◌, ◌++◌, ◌↔◌, IfOk, OnOk, IsTrue, length, option_map, take};
 ghost use Rattle.trace.specs.Line.{most_shown};
 ghost use Rattle.trace.specs.Masking.{IsShown, Occurs, OccursInBase64, Tells, TellsARow};
-ghost use Rattle.trace.specs.Masking.{hidden_answer, is_login, octet_at, row_at, row_length, sextet, symbol, symbol_at, symbols};
+ghost use Rattle.trace.specs.Masking.{hidden_answer, is_login, octet_at, row_at, row_length, sextet, symbol, symbol_at};
+ghost use Rattle.trace.specs.Masking.{symbols};
 
 use crate::command::is_word;
 use crate::line::cut;
@@ -208,7 +209,8 @@ impl<'a> Shown<'a> {
         answer: &'a [u8],
         password: Option<&[u8]>,
     ) -> Result<Shown<'a>, AllocError>
-        ensures { IfOk result (λ shown. IsShown (option_map (λ p. p.now) password.entry) to_login answer.now shown.octets.now) }
+        ensures { IfOk result (λ shown. IsShown (option_map (λ p. p.now) password.entry) to_login answer.now
+            shown.octets.now) }
     {
         if let Some(password) = password {
             if tells(alloc, to_login, answer, password)? {

@@ -14,7 +14,8 @@ pub fn refusal_text(
     path: &str,
     reason: &str,
 ) -> Result<String, AllocError>
-    ensures { IfOk result (λ text. string_bytes text ≡ call.now ++ (codes " " ++ (path.now ++ (codes ": " ++ reason.now)))) }
+    ensures { IfOk result (λ text. string_bytes text
+        ≡ call.now ++ (codes " " ++ (path.now ++ (codes ": " ++ reason.now)))) }
 {
     format!(in alloc; "{call} {path}: {reason}")
 }

@@ -1,9 +1,9 @@
 //! A link that is traced.
-ghost use Rattle.std.specs.Prelude.{◌≡◌, ◌-◌, ℕ, List, Some, OnOk, codes, option_map, take};
+ghost use Rattle.std.specs.Prelude.{◌≡◌, ◌-◌, ℕ, List, Some, IsSome, OnOk, codes, option_map, take};
 ghost use Rattle.trace.specs.Command.{shown_command};
 ghost use Rattle.trace.specs.Line.{count_text, most_shown};
 ghost use Rattle.trace.specs.Masking.{is_login};
-ghost use Rattle.trace.specs.Wire.{Adds, Hides, ShowsAnswer, ShowsPart};
+ghost use Rattle.trace.specs.Wire.{Adds, Counts, Hides, ShowsAnswer, ShowsPart};
 
 use crate::command::shown_command;
 use crate::line::{count_text, cut, write_line};
@@ -57,7 +57,9 @@ impl<'a, E: Write> Trace<'a, E> {
     }
 
     fn show_count(&mut self) -> io::Result<()>
-        ensures shown { OnOk result (Adds E.contents self.old.err self.new.err (codes "S: ") (count_text self.old.lines (self.old.octets - 3))) }
+        ensures shown { OnOk result
+            (Adds E.contents self.old.err self.new.err (codes "S: ")
+            (count_text self.old.lines (self.old.octets - 3))) }
         ensures same { self.new ≡ record self.old { err = self.new.err } }
     {
         let octets = self.octets.saturating_sub(END_MARK);
@@ -67,7 +69,8 @@ impl<'a, E: Write> Trace<'a, E> {
 
     /// More of a body came, whose lines and octets are told at its end, if there is a writer.
     fn count(&mut self, text: &[u8], octets: usize)
-        ensures { self.new ≡ record self.old { lines = self.new.lines; octets = self.new.octets } }
+        ensures same { self.new ≡ record self.old { lines = self.new.lines; octets = self.new.octets } }
+        ensures counts { IsSome self.old.err → Counts self.old text.now octets self.new }
     {
         if self.err.is_none() {
             return;

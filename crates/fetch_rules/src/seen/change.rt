@@ -156,7 +156,8 @@ impl<H: BuildHasher> RowMap<H> {
     ) -> Result<Vec<u8>, AllocError>
         requires flags { length held.now ≡ length listing.now }
         requires within { count ≤ length self.now }
-        ensures { IfOk result (λ bytes. bytes.items ≡ written (changed (take count self.now) (with_held listing.now held.now self.now))) }
+        ensures { IfOk result (λ bytes. bytes.items
+            ≡ written (changed (take count self.now) (with_held listing.now held.now self.now))) }
     {
         if count == self.len() && self.are_delivered() {
             return Ok(Vec::new(alloc));

@@ -5,7 +5,8 @@
 //! leading zeros; single spaces separate the fields, and LF ends each line. The header of version 1 is
 //! `getmail-seen 1`; it has no intents.
 
-ghost use Rattle.std.specs.Prelude.{◌≡◌, ◌≢◌, ℕ, ◌≤◌, ◌++◌, Bool, List, [], ◌∷◌, length, flat_map, OnOk, IfOk, IfSome, IfNone};
+ghost use Rattle.std.specs.Prelude.{◌≡◌, ◌≢◌, ℕ, ◌≤◌, ◌++◌, Bool, List, [], ◌∷◌, length, flat_map, OnOk, IfOk, IfSome};
+ghost use Rattle.std.specs.Prelude.{IfNone};
 ghost use Rattle.mail_terms.specs.Listing.{message_limit};
 ghost use Rattle.fetch_rules.specs.Record.{Row, Intent as TheIntent, IsRow, IsIntent};
 ghost use Rattle.fetch_rules.specs.RecordFile.{header, state_of, line_of, group_line, intent_line};
@@ -74,7 +75,8 @@ fn read_state(bytes: &[u8]) -> Option<(bool, &[u8])>
 /// The row whose line the bytes begin with, if they do, and what follows it.
 fn read_row(bytes: &[u8]) -> Option<(ReadRow<'_>, &[u8])>
     ensures is_row { IfSome result (λ parts. IsRow (row_from parts.0.uid.now parts.0.state)) }
-    ensures found { IfSome result (λ parts. bytes.now ≡ line_of (row_from parts.0.uid.now parts.0.state) ++ parts.1.now) }
+    ensures found { IfSome result
+        (λ parts. bytes.now ≡ line_of (row_from parts.0.uid.now parts.0.state) ++ parts.1.now) }
     ensures none { IfNone result ((row : Row) (behind : List ℕ) → IsRow row → bytes.now ≢ line_of row ++ behind) }
 {
     let (uid, rest) = id_before(bytes)?;
@@ -109,7 +111,8 @@ fn read_group_line(bytes: &[u8]) -> Option<(u64, &[u8])>
 fn read_intent_line(bytes: &[u8]) -> Option<(Intent<'_>, &[u8])>
     ensures is_intent { IfSome result (λ parts. IsIntent (intent_seen parts.0)) }
     ensures found { IfSome result (λ parts. bytes.now ≡ intent_line (intent_seen parts.0) ++ parts.1.now) }
-    ensures none { IfNone result ((intent : TheIntent) (behind : List ℕ) → IsIntent intent → bytes.now ≢ intent_line intent ++ behind) }
+    ensures none { IfNone result ((intent : TheIntent) (behind : List ℕ) → IsIntent intent
+        → bytes.now ≢ intent_line intent ++ behind) }
 {
     let Some(line) = bytes.strip_prefix(INTENT_SIGN) else {
         return None;

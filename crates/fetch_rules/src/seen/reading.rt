@@ -1,6 +1,7 @@
 //! Reads the record's file, line by line.
 
-ghost use Rattle.std.specs.Prelude.{◌≡◌, ◌≢◌, ◌≤◌, ◌-◌, ◌++◌, ◌==◌, ◌&&◌, not, true, false, ℕ, List, [], length, IfOk, IfErr, IfSome, IfNone, OnOk};
+ghost use Rattle.std.specs.Prelude.{◌≡◌, ◌≢◌, ◌≤◌, ◌-◌, ◌++◌, ◌==◌, ◌&&◌, not, true, false, ℕ, List, [], length, IfOk};
+ghost use Rattle.std.specs.Prelude.{IfErr, IfSome, IfNone, OnOk};
 ghost use Rattle.fetch_rules.specs.Record.{Row, IsRow, IsRecord};
 ghost use Rattle.fetch_rules.specs.RecordFile.{Version, header};
 ghost use Rattle.fetch_rules.specs.RecordMeaning.{Means, Rows, Fault, has_bytes};
@@ -190,7 +191,8 @@ impl<H: BuildHasher> RowMap<H> {
         number: u32,
     ) -> Result<Part, SeenFault>
         requires { IsRow (row_from row.now.uid.now row.now.state) }
-        ensures ok { IfOk result (λ next. TakesRow older part self.old (row_from row.now.uid.now row.now.state) next self.new) }
+        ensures ok { IfOk result (λ next. TakesRow older part self.old
+            (row_from row.now.uid.now row.now.state) next self.new) }
         ensures part { IfOk result (λ next. next ≡ after_row part) }
         ensures err { IfErr result (λ fault. fault ≢ SeenFault.NoMemory
             → RefusesRow older part self.old (row_from row.now.uid.now row.now.state) number fault) }
@@ -287,7 +289,8 @@ impl<H: BuildHasher> RowMap<H> {
     /// whether the file has a torn end.
     /// There may be some rows after a fault.
     pub(crate) fn read<'a>(&mut self, bytes: &'a [u8]) -> Result<(ReadFile<'a>, bool), SeenFault>
-        ensures ok { IfOk result (λ read. Means bytes.now (Rows (version_of read.0.older) self.new (open_seen read.0.intent) read.1)) }
+        ensures ok { IfOk result (λ read. Means bytes.now
+            (Rows (version_of read.0.older) self.new (open_seen read.0.intent) read.1)) }
         ensures grown { IfOk result (λ read. IsOutgrown bytes.now read.0.outgrown) }
         ensures err { IfErr result (λ fault. fault ≢ SeenFault.NoMemory → Means bytes.now (Fault fault)) }
         ensures is_record { IsRecord self.new }

@@ -1,7 +1,8 @@
 //! The rows of a record as a map from id to what is known of its message, in order of first
 //! appearance.
 
-ghost use Rattle.std.specs.Prelude.{◌≡◌, ◌<◌, ◌++◌, [], ◌∷◌, true, false, length, take, OnErr, IfOk, IsTrue, HoldsAt, IfSome, IfNone};
+ghost use Rattle.std.specs.Prelude.{◌≡◌, ◌<◌, ◌++◌, [], ◌∷◌, true, false, length, take, OnErr, IfOk, IsTrue, HoldsAt};
+ghost use Rattle.std.specs.Prelude.{IfSome, IfNone};
 ghost use Rattle.std.specs.Prelude.{flat_map, List};
 ghost use Rattle.mail_terms.specs.UniqueId.{IsLegalId};
 ghost use Rattle.fetch_rules.specs.Record.{Row, IsRecord, has_row, is_delivered, marked};
@@ -93,7 +94,8 @@ impl<H: BuildHasher> RowMap<H> {
     /// id is hashed only if it is another's.
     #[tactic(auto, using(crate::proofs::RowLemmas::illegal, crate::proofs::RowLemmas::no_place))]
     pub(crate) fn place_of(&self, uid: &[u8], likely: usize) -> Option<usize>
-        ensures found { IfSome result (λ place. (place < length self.now) × HoldsAt (λ row. row.uid ≡ uid.now) self.now place) }
+        ensures found { IfSome result (λ place. (place < length self.now)
+            × HoldsAt (λ row. row.uid ≡ uid.now) self.now place) }
         ensures none { IfNone result (has_row self.now uid.now ≡ false) }
         ensures is_record { IsRecord self.now }
     {
