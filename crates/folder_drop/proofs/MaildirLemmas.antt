@@ -18,7 +18,7 @@ use Rattle.mail_terms.specs.MaildirName.{base}
 use Rattle.mail_terms.specs.UniqueId.{is_legal_id}
 use Rattle.pop3_server.specs.Maildrop.{Listed, max_count, max_size}
 use Rattle.folder_drop.specs.declared.listed_file.ListedFile.{ListedFile}
-use Rattle.folder_drop.specs.ListedIds.{same_key, bases_of, AreListed, AreSeen, IsBefore, IsBehind, IsNext}
+use Rattle.folder_drop.specs.ListedIds.{same_key, bases_of, AreListed, AreSeen, IsBefore, FollowsLast, IsNext}
 use Rattle.folder_drop.specs.MaildirNames.{id_of}
 use Rattle.folder_drop.specs.RealMaildir.{HaveIds, id_of_name, name_of, names_of, uid_of}
 
@@ -58,7 +58,7 @@ bases_long : (files : List ListedFile) → length (bases_of files) ≡ length fi
 bases_long files = length-map (names_of files) base ∙ names_long files
 
 -- a base that comes after that of the last file comes after all
-behind_all : (files : List ListedFile) (name : List ℕ) → AllPairs IsBefore (bases_of files) → IsBehind files name
+behind_all : (files : List ListedFile) (name : List ℕ) → AllPairs IsBefore (bases_of files) → FollowsLast files name
     → (k : ℕ) (d : List ℕ) → k < length (bases_of files) → IsBefore (get_or (bases_of files) k d) name
 behind_all files name pairs behind k d fits =
     let long = bases_long files in

@@ -1,5 +1,6 @@
 -- Files of messages with different ids: those of a listing, and those that were listed so far.
-use Rattle.std.specs.Prelude.{◌≡◌, ◌≤◌, ◌<◌, ◌-◌, ℕ, Bool, true, false, List, Option, Some, None, Vec, All, AllPairs, bytes_eq, get_or, length, map}
+use Rattle.std.specs.Prelude.{◌≡◌, ◌≤◌, ◌<◌, ◌-◌, ℕ, Bool, true, false, List, Option, Some, None, Vec, All, AllPairs}
+use Rattle.std.specs.Prelude.{bytes_eq, get_or, length, map}
 use Rattle.std.specs.List.{Contains}
 use Rattle.std.specs.HashSet.{HashSet, contains}
 use Rattle.std.specs.Cmp.Lexicographic.{slice_cmp}
@@ -37,7 +38,8 @@ bases_of files = map base (names_of files)
 
 -- the set has each of these ids that is as long as a digest
 abbrev pub AreSeen : {Z S : Type 0} → HashSet (Vec ℕ Z) S → List (List ℕ) → Type 0
-AreSeen {Z} {S} seen ids = (key : Vec ℕ Z) → Contains ids key.items → length key.items ≡ digest_length → contains same_key seen key ≡ true
+AreSeen {Z} {S} seen ids = (key : Vec ℕ Z) → Contains ids key.items → length key.items ≡ digest_length
+    → contains same_key seen key ≡ true
 
 -- the files of messages are in the order of their bases, and the set has their ids that are as long as a digest
 pub record AreListed {Z S : Type 0} (seen : HashSet (Vec ℕ Z) S) (files : List ListedFile) : Type 0 where
@@ -46,8 +48,9 @@ pub record AreListed {Z S : Type 0} (seen : HashSet (Vec ℕ Z) S) (files : List
   pub keys : AreSeen seen (map id_of_name (names_of files))
 
 -- the base comes after that of the last of these files
-abbrev pub IsBehind : List ListedFile → List ℕ → Type 0
-IsBehind files name = (last : List ℕ) → 0 < length files → IsBefore (get_or (bases_of files) (length files - 1) last) name
+abbrev pub FollowsLast : List ListedFile → List ℕ → Type 0
+FollowsLast files name = (last : List ℕ) → 0 < length files
+    → IsBefore (get_or (bases_of files) (length files - 1) last) name
 
 -- the set doesn't have the key, if there is one
 abbrev pub IsUnseen : {Z S : Type 0} → HashSet (Vec ℕ Z) S → Option (Vec ℕ Z) → Type 0
@@ -55,7 +58,8 @@ IsUnseen seen None = Unit {0}
 IsUnseen seen (Some key) = contains same_key seen key ≡ false
 
 -- a file of this base may be listed next: the base comes after that of the last one, and no listed file has its id
-pub record IsNext {Z S : Type 0} (seen : HashSet (Vec ℕ Z) S) (files : List ListedFile) (key : Option (Vec ℕ Z)) (name : List ℕ) : Type 0 where
-  pub behind : IsBehind files name
+pub record IsNext {Z S : Type 0} (seen : HashSet (Vec ℕ Z) S) (files : List ListedFile) (key : Option (Vec ℕ Z))
+    (name : List ℕ) : Type 0 where
+  pub behind : FollowsLast files name
   pub is_key : IsKey key (id_of name)
   pub unseen : IsUnseen seen key

@@ -17,10 +17,11 @@ NoneIsInPlace files = All (λ (file : Namesake). file.is_in_place ≡ false) fil
 abbrev pub HasStamp : Stamp → Namesake → Type 0
 HasStamp stamp file = file.stamp ≡ stamp
 
--- the file at this place is the listed one: it is where the message was listed, or none is, and it has the length and time
--- of change that the listed one had
+-- the file at this place is the listed one: it is where the message was listed, or none is, and it has the length and
+-- time of change that the listed one had
 abbrev pub IsListedAt : List Namesake → Stamp → ℕ → Type 0
-IsListedAt files stamp i = (i < length files) × (HoldsAt IsInPlace files i ⊎ (NoneIsInPlace files × HoldsAt (HasStamp stamp) files i))
+IsListedAt files stamp i = (i < length files)
+    × (HoldsAt IsInPlace files i ⊎ (NoneIsInPlace files × HoldsAt (HasStamp stamp) files i))
 
 -- none of the files is the listed one
 abbrev pub NoneIsListed : List Namesake → Stamp → Type 0

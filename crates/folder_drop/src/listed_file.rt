@@ -59,7 +59,8 @@ impl ListedFile {
 
     /// Whether its place is that of a file that was found.
     fn is_same(&self, found: &PlacedFile) -> bool
-        ensures { IsTrue result → (self.now.folder ≡ found.now.folder) × (string_bytes self.now.name ≡ string_bytes found.now.name) }
+        ensures { IsTrue result → (self.now.folder ≡ found.now.folder)
+            × (string_bytes self.now.name ≡ string_bytes found.now.name) }
     {
         self.folder == found.folder && self.name.as_str() == found.name.as_str()
     }

@@ -5,7 +5,7 @@ ghost use Rattle.folder_drop.specs.FoldersLook.{IsUnchanged};
 ghost use Rattle.mail_terms.specs.Distinct.{AreDistinct};
 ghost use Rattle.mail_terms.specs.MaildirName.{base as base_of};
 ghost use Rattle.pop3_server.specs.Maildrop.{max_size};
-ghost use Rattle.folder_drop.specs.ListedIds.{AreListed, IsBehind, IsNext, IsUnseen};
+ghost use Rattle.folder_drop.specs.ListedIds.{AreListed, FollowsLast, IsNext, IsUnseen};
 ghost use Rattle.folder_drop.specs.RealMaildir.{name_of, names_of, uid_of, HaveIds};
 
 use crate::folders_look::FoldersLook;
@@ -109,7 +109,7 @@ impl ListedFiles {
 
     /// Whether a base comes after those of all files that are listed.
     fn is_behind(&self, base: &str) -> bool
-        ensures { IsTrue result → IsBehind self.now.files.items base.now }
+        ensures { IsTrue result → FollowsLast self.now.files.items base.now }
     {
         match self.files.last() {
             Some(last) => last.base() < base,
@@ -129,7 +129,7 @@ impl ListedFiles {
 
     /// Whether a file of this base may be listed next, whose id is this one if that is as long as a digest.
     pub fn admit(&self, base: &str, long_id: &Option<Vec<u8>>) -> bool
-        ensures behind { IsTrue result → IsBehind self.now.files.items base.now }
+        ensures behind { IsTrue result → FollowsLast self.now.files.items base.now }
         ensures unseen { IsTrue result → IsUnseen self.now.long_ids long_id.now }
     {
         self.is_behind(base) && self.is_unseen(long_id)

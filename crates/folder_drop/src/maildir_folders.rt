@@ -9,7 +9,7 @@ use crate::maildir_names::{Folder, PlacedFile, Stamp};
 use crate::removal::{FileNumber, Namesake, TwoMessages, listed_place, removed_with};
 use crate::same_octets::have_same_octets;
 use crate::seen_files::SeenFiles;
-use folder_store::{ChangeTime, list_names};
+use folder_store::{ChangeTime, Sought, list_names};
 use mail_terms::base;
 use std::io::{self, BufReader, ErrorKind};
 use std::marker::Model;
@@ -108,7 +108,7 @@ impl<'a, R: Files + Clock + AllocGlobal + Clone + Drop> MaildirFolders<'a, R> {
     /// aren't UTF-8, or begin with a full stop, are skipped.
     fn add_files(&self, folder: Folder, files: &mut Vec<PlacedFile>) -> io::Result<ChangeTime> {
         let path = self.folder_path(folder)?;
-        let listed = list_names(self.system, path.as_str())?;
+        let listed = list_names(self.system, path.as_str(), Sought::All)?;
         for name in listed.names {
             files.push(PlacedFile::of(folder, name))?;
         }

@@ -2,7 +2,8 @@
 ghost use Rattle.std.specs.Prelude.{◌≡◌, ◌≢◌, ◌<◌, length, true, false, IfOk, IfErr, IfSome, IfNone};
 ghost use Rattle.std.specs.List.{All, Contains, HoldsAt};
 ghost use Rattle.folder_drop.specs.declared.removal.Namesake.{Namesake};
-ghost use Rattle.folder_drop.specs.Removal.{GoesWith, HasStamp, IsInPlace, IsListedAt, IsOther, NoneIsInPlace, NoneIsListed};
+ghost use Rattle.folder_drop.specs.Removal.{GoesWith, HasStamp, IsInPlace, IsListedAt, IsOther, NoneIsInPlace};
+ghost use Rattle.folder_drop.specs.Removal.{NoneIsListed};
 
 use crate::maildir_names::Stamp;
 use std::fs::Metadata;

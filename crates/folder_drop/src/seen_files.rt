@@ -51,7 +51,8 @@ impl SeenFiles {
     /// they only begin now.
     pub fn begin_removals(&mut self) -> bool
         ensures first { result ≡ not self.old.are_removed }
-        ensures begun { self.new ≡ (if self.old.are_removed then self.old else record { files = None; are_removed = true }) }
+        ensures begun { self.new ≡ (if self.old.are_removed then self.old
+            else record { files = None; are_removed = true }) }
     {
         if self.are_removed {
             return false;

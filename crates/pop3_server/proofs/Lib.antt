@@ -1,5 +1,6 @@
 mod EventLemmas
 mod HonestLemmas
+mod QuitLemmas
 mod RemovalLemmas
 mod RowLemmas
 mod ServeLemmas

@@ -14,14 +14,16 @@ pub record MakesAnswer {D : Type 0} (sound : D → Type 0) (mail : D → Mail) (
   pub pass : new.pass ≡ old.pass
   -- a server that gives a text stays as it is
   pub state : IfSome rest (λ text. new.state ≡ old.state)
-  pub answers : AnswersOrBegins sound mail (action_of old.user old.pass old.state (command_of line)) old.drop made rest new.state new.drop
+  pub answers : AnswersOrBegins sound mail (action_of old.user old.pass old.state (command_of line)) old.drop made rest
+      new.state new.drop
 
 -- it answered the line, and nothing follows
 abbrev pub AnswersLine : {D : Type 0} → (D → Type 0) → (D → Mail) → Machine D → List ℕ → List ℕ → Machine D → Type 0
 AnswersLine sound mail old line answer new = MakesAnswer sound mail old line answer None new
 
 -- it answered these lines in order, and these are all its answers
-abbrev pub AnswersLines : {D : Type 0} → (D → Type 0) → (D → Mail) → Machine D → List (List ℕ) → List ℕ → Machine D → Type 0
+abbrev pub AnswersLines : {D : Type 0} → (D → Type 0) → (D → Mail) → Machine D → List (List ℕ) → List ℕ
+    → Machine D → Type 0
 AnswersLines {D} sound mail old [] answers new = (answers ≡ []) × (new ≡ old)
 AnswersLines {D} sound mail old (line ∷ lines) answers new =
     (first rest : List ℕ) × (next : Machine D) × (answers ≡ first ++ rest)

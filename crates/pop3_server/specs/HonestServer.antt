@@ -44,13 +44,16 @@ pub record Gone (before : List Message) (marks : List Bool) (state : State) (aft
 
 -- the server is open, or QUIT is one of these commands
 abbrev pub IsClosedByQuit : State → List Command → Type 0
-IsClosedByQuit state commands = (is_open state ≡ true) ⊎ ((front behind : List Command) × (commands ≡ front ++ Quit ∷ behind))
+IsClosedByQuit state commands = (is_open state ≡ true)
+    ⊎ ((front behind : List Command) × (commands ≡ front ++ Quit ∷ behind))
 
 -- a new server's greeting and its answers to these commands are an honest conversation over its maildrop's
 -- messages, and what is gone afterwards was marked
 abbrev pub IsHonest : {D : Type 0} → (D → Type 0) → (D → Mail) → Type 0
 IsHonest {D} sound mail = (old new : Machine D) (commands : List Command) (answers : List ℕ)
-    → old.state ≡ Authorization None → AllByRecursion IsAsked commands → AnswersLines sound mail old (lines_of commands) answers new
+    → old.state ≡ Authorization None → AllByRecursion IsAsked commands
+    → AnswersLines sound mail old (lines_of commands) answers new
     → sound new.drop → AllByRecursion IsMessage (there (mail old.drop).slots)
-    → (marks : List Bool) × Honest (there (mail old.drop).slots) (flat_map ended (lines_of commands)) (greeting ++ answers) marks
+    → (marks : List Bool) × Honest (there (mail old.drop).slots) (flat_map ended (lines_of commands))
+    (greeting ++ answers) marks
     × Gone (there (mail old.drop).slots) marks new.state (there (mail new.drop).slots)

@@ -3,6 +3,7 @@ pub mod Events
 pub mod Got
 pub mod HonestLoop
 pub mod HonestServer
+pub mod Quitting
 pub mod RunLaws
 pub mod LoopLink
 pub mod Maildrop

@@ -1,5 +1,6 @@
 -- What QUIT leaves of the marked messages.
-use Rattle.std.specs.Prelude.{◌≡◌, ℕ, ◌+◌, ◌<◌, ◌≤◌, Bool, true, false, ◌&&◌, List, [], ◌∷◌, Option, Some, slice_get, if◌then◌else◌}
+use Rattle.std.specs.Prelude.{◌≡◌, ℕ, ◌+◌, ◌<◌, ◌≤◌, Bool, true, false, ◌&&◌, List, [], ◌∷◌, Option, Some, slice_get}
+use Rattle.std.specs.Prelude.{if◌then◌else◌}
 use Rattle.pop3_wire.specs.World.{Message}
 use Rattle.pop3_server.specs.declared.rows.MessageRow.{MessageRow}
 use Rattle.pop3_server.specs.Maildrop.{Mail}
@@ -13,7 +14,8 @@ holds other = false
 -- how many of the rows from place i on are marked and still there
 abbrev pub left_marked : ℕ → List MessageRow → Mail → ℕ
 left_marked i [] mail = 0
-left_marked i (row ∷ rows) mail = (if row.marked && holds (slice_get mail.slots i) then 1 else 0) + left_marked (i + 1) rows mail
+left_marked i (row ∷ rows) mail = (if row.marked && holds (slice_get mail.slots i) then 1 else 0)
+    + left_marked (i + 1) rows mail
 
 -- at most as many of the marked messages are left as refusals were counted
 abbrev pub FewAreLeft : Type 0
@@ -31,4 +33,5 @@ SomeAreRefused = (rows : List MessageRow) (old new : Mail) → Empties 0 rows ol
 -- a message that isn't marked stays where it is
 abbrev pub OthersStay : Type 0
 OthersStay = (rows : List MessageRow) (old new : Mail) (all : Bool) → Empties 0 rows old all new
-    → (k : ℕ) (row : MessageRow) → slice_get rows k ≡ Some row → row.marked ≡ false → slice_get new.slots k ≡ slice_get old.slots k
+    → (k : ℕ) (row : MessageRow) → slice_get rows k ≡ Some row → row.marked ≡ false
+    → slice_get new.slots k ≡ slice_get old.slots k

@@ -16,7 +16,8 @@ use Rattle.pop3_wire.specs.World.{Message}
 use Rattle.pop3_server.specs.declared.rows.MessageRow.{MessageRow}
 use Rattle.pop3_server.specs.declared.state.State.{State}
 use Rattle.pop3_server.specs.declared.state.State.TheVariants.{Authorization, Transaction, Closed}
-use Rattle.pop3_server.specs.Maildrop.{Listed, Mail, there, entry_of, HasPlace, refusing, asked, removed, max_count, max_size}
+use Rattle.pop3_server.specs.Maildrop.{Listed, Mail, there, entry_of, HasPlace, refusing, asked, removed, max_count}
+use Rattle.pop3_server.specs.Maildrop.{max_size}
 
 -- ---- the rows: the messages that PASS found, and their marks
 
@@ -188,7 +189,8 @@ pub data Empties : ℕ → List MessageRow → Mail → Bool → Mail → Type 0
   stays : (i : ℕ) (row : MessageRow) (rows : List MessageRow) (old : Mail) (all : Bool) (new : Mail)
       → row.marked ≡ false → Empties (i + 1) rows old all new → Empties i (row ∷ rows) old all new
   goes : (i : ℕ) (row : MessageRow) (rows : List MessageRow) (old mid : Mail) (done all : Bool) (new : Mail)
-      → row.marked ≡ true → Tries old i done mid → Empties (i + 1) rows mid all new → Empties i (row ∷ rows) old (done && all) new
+      → row.marked ≡ true → Tries old i done mid → Empties (i + 1) rows mid all new
+      → Empties i (row ∷ rows) old (done && all) new
 
 -- a count of removals, with one more for each marked row
 abbrev pub with_marked : List MessageRow → ℕ → ℕ
@@ -206,7 +208,8 @@ abbrev pub Opens : {D : Type 0} → (D → Type 0) → (D → Mail) → D → Li
 Opens sound mail old answer next new =
     ((answer ≡ said (codes "-ERR maildrop unavailable")) × (next ≡ Authorization None)
     × Known sound mail old new (λ before after. after ≡ refusing before))
-    ⊎ ((rows : List MessageRow) × KeepLimits rows × (answer ≡ said (codes "+OK " ++ decimal (length rows) ++ codes " messages"))
+    ⊎ ((rows : List MessageRow) × KeepLimits rows
+    × (answer ≡ said (codes "+OK " ++ decimal (length rows) ++ codes " messages"))
     × (next ≡ Transaction rows)
     × Known sound mail old new (λ before after. (after ≡ record before { slots = map Some (there before.slots) })
     × (rows ≡ map row_of (there before.slots))))
@@ -218,7 +221,8 @@ GivesText sound mail i line top old answer new =
     × Known sound mail old new (λ before after. after ≡ refusing before))
     ⊎ ((text : List ℕ) × (answer ≡ line ++ text_body top text)
     × Known sound mail old new (λ before after. (after ≡ before)
-    × ((message : Message) × (slice_get before.slots i ≡ Some (Some message)) × (text_body top text ≡ text_body top message.text))))
+    × ((message : Message) × (slice_get before.slots i ≡ Some (Some message))
+    × (text_body top text ≡ text_body top message.text))))
 
 -- the marked messages were removed, all of them or not
 abbrev pub RemovesMarked : {D : Type 0} → (D → Type 0) → (D → Mail) → List MessageRow → D → List ℕ → D → Type 0
@@ -258,7 +262,8 @@ Tied sound mail state = Unit {0}
 
 -- each place that has a row now had one before
 abbrev pub SamePlaces : List MessageRow → List MessageRow → Type 0
-SamePlaces old new = (i : ℕ) (row : MessageRow) → slice_get new i ≡ Some row → (before : MessageRow) × (slice_get old i ≡ Some before)
+SamePlaces old new = (i : ℕ) (row : MessageRow) → slice_get new i ≡ Some row
+    → (before : MessageRow) × (slice_get old i ≡ Some before)
 
 -- the state after an answer; none means that it stays as it is
 abbrev pub next_of : State → Option State → State

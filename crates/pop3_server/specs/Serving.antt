@@ -35,7 +35,8 @@ abbrev pub Hears : Link → Waiting → Result NextLine ServerFault → Link →
 Hears old before (Ok (Line n)) new after =
     (gained : List ℕ) × Drew old new gained × Queues before [] after gained × HasLine max_line after.octets n
 Hears old before (Ok LongLine) new after =
-    (gained line : List ℕ) × Drew old new gained × Queues before (ended line) after gained × IsLine line × (max_line - 2 < length line)
+    (gained line : List ℕ) × Drew old new gained × Queues before (ended line) after gained × IsLine line
+    × (max_line - 2 < length line)
 Hears old before (Ok End) new after =
     (gained rest : List ℕ) × Drew old new gained × Queues before rest after gained × IsLine (rest ++ after.octets)
     × ((new.ended ≡ true) ⊎ (after.left ≡ 0))
@@ -56,7 +57,8 @@ Found other waiting = Unit {0}
 
 -- the greeting was sent, and the answers to these lines
 abbrev pub AllSent : {D : Type 0} → (D → Type 0) → (D → Mail) → Machine D → List (List ℕ) → List ℕ → Machine D → Type 0
-AllSent sound mail old lines sent last = (answers : List ℕ) × AnswersLines sound mail old lines answers last × (sent ≡ greeting ++ answers)
+AllSent sound mail old lines sent last = (answers : List ℕ) × AnswersLines sound mail old lines answers last
+    × (sent ≡ greeting ++ answers)
 
 -- only a part of the greeting was sent
 abbrev pub PartGreeted : {D : Type 0} → Machine D → List (List ℕ) → List ℕ → Machine D → Type 0
@@ -97,7 +99,8 @@ WentOut {D} sound mail old lines rest sent (Err NoMemory) new =
 abbrev pub SendsAnswer : {D : Type 0} → (D → Type 0) → (D → Mail) → Machine D → List ℕ → Link
     → Result Bool ServerFault → Machine D → Link → Type 0
 SendsAnswer sound mail old line before (Ok closing) new after =
-    (answer : List ℕ) × AnswersLine sound mail old line answer new × (after ≡ record before { sent = before.sent ++ answer })
+    (answer : List ℕ) × AnswersLine sound mail old line answer new
+    × (after ≡ record before { sent = before.sent ++ answer })
 SendsAnswer sound mail old line before (Err ReadFailed) new after = ⊥
 SendsAnswer sound mail old line before (Err WriteFailed) new after =
     (front unsent : List ℕ) × (rest : Option TextBody) × MakesAnswer sound mail old line (front ++ unsent) rest new

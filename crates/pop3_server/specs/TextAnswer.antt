@@ -1,5 +1,6 @@
 -- Answers with a text, which are made and sent as the text is read.
-use Rattle.std.specs.Prelude.{◌≡◌, ◌<◌, ◌-◌, ◌^◌, ℕ, Bool, true, false, List, ◌++◌, Option, Some, None, length, slice_get, take}
+use Rattle.std.specs.Prelude.{◌≡◌, ◌<◌, ◌-◌, ◌^◌, ℕ, Bool, true, false, List, ◌++◌, Option, Some, None, length}
+use Rattle.std.specs.Prelude.{slice_get, take}
 use Rattle.mail_terms.specs.FailureCount.{Tallies}
 use Rattle.pop3_wire.specs.World.{Message}
 use Rattle.pop3_server.specs.declared.rows.MessageRow.{MessageRow}
@@ -23,7 +24,8 @@ pub record OnlyReads {D : Type 0} (sound : D → Type 0) (mail : D → Mail) (re
 
 -- the text of the message at this place begins with these octets
 abbrev pub BeginsTextAt : Mail → ℕ → List ℕ → Type 0
-BeginsTextAt mail i text = (message : Message) × (slice_get mail.slots i ≡ Some (Some message)) × (text ≡ take (length text) message.text)
+BeginsTextAt mail i text = (message : Message) × (slice_get mail.slots i ≡ Some (Some message))
+    × (text ≡ take (length text) message.text)
 
 -- this much was made of an answer with a text, and the rest of the text is to be read
 pub record BeginsAnswer {D : Type 0} (sound : D → Type 0) (mail : D → Mail) (asked : Action) (old : D)
@@ -41,13 +43,16 @@ pub record BeginsAnswer {D : Type 0} (sound : D → Type 0) (mail : D → Mail) 
   pub known : sound new → BeginsTextAt (mail old) text.place read
 
 -- an answer was made, or its beginning if a text follows
-abbrev pub AnswersOrBegins : {D : Type 0} → (D → Type 0) → (D → Mail) → Action → D → List ℕ → Option TextBody → State → D → Type 0
+abbrev pub AnswersOrBegins : {D : Type 0} → (D → Type 0) → (D → Mail) → Action → D → List ℕ → Option TextBody → State
+    → D → Type 0
 AnswersOrBegins sound mail asked old made None next new = Answers sound mail asked old made next new
 AnswersOrBegins sound mail asked old made (Some text) next new = BeginsAnswer sound mail asked old made text next new
 
 -- whatever answer the earlier octets of a reply begin, all of them begin it too, or are the whole
-abbrev pub ContinuesAnswer : {D : Type 0} → (D → Type 0) → (D → Mail) → D → List ℕ → TextBody → D → List ℕ → Option TextBody → Type 0
-ContinuesAnswer {D} sound mail before earlier text after octets rest = (asked : Action) (old : D) (sent : List ℕ) (next : State)
+abbrev pub ContinuesAnswer : {D : Type 0} → (D → Type 0) → (D → Mail) → D → List ℕ → TextBody → D → List ℕ
+    → Option TextBody → Type 0
+ContinuesAnswer {D} sound mail before earlier text after octets rest = (asked : Action) (old : D) (sent : List ℕ)
+    (next : State)
     → BeginsAnswer sound mail asked old (sent ++ earlier) text next before
     → AnswersOrBegins sound mail asked old (sent ++ octets) rest next after
 

@@ -60,7 +60,8 @@ impl Outcome {
 fn open<D: Maildrop>(alloc: Global, drop: &mut D) -> Result<Outcome, ServerFault>
     ensures ok { IfOk result (λ outcome. (state : State) → AnswersOrBegins D.sound D.mail Open
         drop.old outcome.bytes.items outcome.rest (next_of state outcome.next) drop.new) }
-    ensures tied { IfOk result (λ outcome. (state : State) → Tied (D.sound drop.new) (D.mail drop.new) (next_of state outcome.next)) }
+    ensures tied { IfOk result (λ outcome. (state : State)
+        → Tied (D.sound drop.new) (D.mail drop.new) (next_of state outcome.next)) }
     ensures whole { IfOk result (λ outcome. outcome.rest ≡ None) }
     ensures err { IfErr result (λ e. (e ≡ ServerFault.NoMemory) × Unanswered D.sound D.mail drop.old drop.new) }
 {
@@ -139,9 +140,11 @@ fn remove_at<D: Maildrop>(drop: &mut D, i: usize) -> bool
 
 /// QUIT: tries to remove each of the marked messages, in order, and returns whether all were removed.
 fn leave<D: Maildrop>(drop: &mut D, rows: &[MessageRow]) -> bool
-    requires { D.sound drop.old → (i : ℕ) (row : MessageRow) → slice_get rows.now i ≡ Some row → HasPlace (D.mail drop.old) i }
+    requires { D.sound drop.old → (i : ℕ) (row : MessageRow) → slice_get rows.now i ≡ Some row
+        → HasPlace (D.mail drop.old) i }
     ensures asks { (D.mail drop.new).removals ≡ with_marked rows.now (D.mail drop.old).removals }
-    ensures empties { D.sound drop.new → D.sound drop.old × Empties 0 rows.now (D.mail drop.old) result (D.mail drop.new) }
+    ensures empties { D.sound drop.new
+        → D.sound drop.old × Empties 0 rows.now (D.mail drop.old) result (D.mail drop.new) }
 {
     let mut all = true;
     for (i, row) in rows.iter().enumerate() {
@@ -182,7 +185,8 @@ pub fn authorize<D: Maildrop>(
         (in_authorization user.now pass.now given.now command)
         drop.old outcome.bytes.items outcome.rest (next_of (Authorization given.now) outcome.next) drop.new) }
     ensures whole { IfOk result (λ outcome. outcome.rest ≡ None) }
-    ensures tied { IfOk result (λ outcome. Tied (D.sound drop.new) (D.mail drop.new) (next_of (Authorization given.now) outcome.next)) }
+    ensures tied { IfOk result
+        (λ outcome. Tied (D.sound drop.new) (D.mail drop.new) (next_of (Authorization given.now) outcome.next)) }
     ensures err { IfErr result (λ e. (e ≡ ServerFault.NoMemory) × Unanswered D.sound D.mail drop.old drop.new) }
 {
     match command {
@@ -271,7 +275,8 @@ pub fn transact<D: Maildrop>(
         (λ outcome. Tied (D.sound drop.new) (D.mail drop.new) (next_of (Transaction rows.new) outcome.next))
         (λ e. Tied (D.sound drop.new) (D.mail drop.new) (Transaction rows.new)) }
     ensures keeps { IfOk result (λ outcome. IfSome outcome.next (λ next. rows.new ≡ rows.old)) }
-    ensures err { IfErr result (λ e. (e ≡ ServerFault.NoMemory) × (rows.new ≡ rows.old) × Unanswered D.sound D.mail drop.old drop.new) }
+    ensures err { IfErr result (λ e. (e ≡ ServerFault.NoMemory) × (rows.new ≡ rows.old)
+        × Unanswered D.sound D.mail drop.old drop.new) }
 {
     match command {
         Command::Retr(number) => text(alloc, drop, rows, *number, None, limit),

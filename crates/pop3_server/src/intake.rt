@@ -85,7 +85,8 @@ impl Intake {
         requires { length self.old.octets < MAX_LINE }
         ensures counted { CountsFailure (W.history wire.old) result (W.history wire.new) }
         ensures err { IfErr result (λ e. e ≡ ServerFault.ReadFailed) }
-        ensures takes { (piece : List ℕ) × (length piece + self.new.left ≡ self.old.left) × (self.new.octets ≡ self.old.octets ++ piece)
+        ensures takes { (piece : List ℕ) × (length piece + self.new.left ≡ self.old.left)
+            × (self.new.octets ≡ self.old.octets ++ piece)
             × (result ≡ Ok true → 0 < length piece)
             × (result ≡ Ok false → length piece ≡ 0)
             × WhereSound W.sound W.leads_to wire.old wire.new (Drew (W.history wire.old) (W.history wire.new) piece
@@ -110,7 +111,8 @@ impl Intake {
         ensures err { IfErr result (λ e. e ≡ ServerFault.ReadFailed) }
         ensures found { IfOk result (λ heard. Found heard self.new) }
         ensures fewer { length self.new.octets + 2 * self.new.left ≤ length self.old.octets + 2 * self.old.left }
-        ensures dropped { result ≡ Ok LongLine → length self.new.octets + 2 * self.new.left < length self.old.octets + 2 * self.old.left }
+        ensures dropped { result ≡ Ok LongLine
+            → length self.new.octets + 2 * self.new.left < length self.old.octets + 2 * self.old.left }
         ensures hears { WhereSound W.sound W.leads_to wire.old wire.new
             (Hears (W.history wire.old) self.old result (W.history wire.new) self.new) }
     {

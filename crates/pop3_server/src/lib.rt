@@ -23,7 +23,7 @@ mod text_top;
 pub use fault::ServerFault;
 pub use honesty::{conversations_are_honest, loops_are_honest};
 pub use journal::{Event, Journal};
-pub use laws::quit_leaves_few;
+pub use laws::{only_quit_closes, quit_leaves_few};
 pub use maildrop::{DropFault, Entry, MAX_COUNT, MAX_SIZE, Maildrop};
 pub use memory_drop::MemoryDrop;
 pub use server::{Answer, Server};

@@ -4,7 +4,8 @@ ghost use Rattle.mail_terms.specs.UniqueId.{is_legal_id};
 ghost use Rattle.mail_terms.specs.Distinct.{AreDistinct};
 ghost use Rattle.mail_terms.specs.FailureCount.{Tallies, counted_up, refuses};
 ghost use Rattle.pop3_server.specs.declared.maildrop.DropFault.TheVariants.{NoMemory};
-ghost use Rattle.pop3_server.specs.Maildrop.{Mail, Listed, HasPlace, ListsMessages, Gives, GivesPart, Removes, is_refusal, max_size};
+ghost use Rattle.pop3_server.specs.Maildrop.{Mail, Listed, HasPlace, ListsMessages, Gives, GivesPart, Removes};
+ghost use Rattle.pop3_server.specs.Maildrop.{is_refusal, max_size};
 
 use pop3_wire::Bytes;
 use std::alloc::AllocError;
@@ -116,7 +117,8 @@ pub trait Maildrop {
         ensures later { 0 < start → IfErr result (λ e. e ≡ DropFault.Refused) }
         ensures tally { Tallies (refuses is_refusal result) (mail self.old).failures (mail self.new).failures }
         ensures removes_none { (mail self.new).removals ≡ (mail self.old).removals }
-        ensures gives { sound self.new → sound self.old × GivesPart (mail self.old) i start result piece.new (mail self.new) };
+        ensures gives { sound self.new
+            → sound self.old × GivesPart (mail self.old) i start result piece.new (mail self.new) };
 
     /// Removes the message at a place. After a refusal the message may be gone or not. Running
     /// out of memory is a refusal too.

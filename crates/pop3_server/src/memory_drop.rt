@@ -34,7 +34,8 @@ impl StoredMessage {
     fn new(alloc: Global, uid: &[u8], text: &[u8]) -> Result<StoredMessage, AllocError>
         requires legal { IsTrue (is_legal_id uid.now) }
         requires within { size_of text.now ≤ MAX_SIZE }
-        ensures { IfOk result (λ message. message ≡ record { uid = uid.now; size = size_of text.now; text = text.now }) }
+        ensures { IfOk result (λ message. message
+            ≡ record { uid = uid.now; size = size_of text.now; text = text.now }) }
     {
         let size = size_of(text);
         let uid = Bytes::from_vec(Vec::from_slice(alloc, uid)?);

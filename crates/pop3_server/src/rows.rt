@@ -1,7 +1,9 @@
 //! The messages that PASS found, in order of their numbers (RFC 1939, section 4).
-ghost use Rattle.std.specs.Prelude.{◌≡◌, ◌≤◌, ◌<◌, ◌+◌, ◌-◌, ℕ, List, map, length, slice_get, Some, None, MatchOption, IfOk, vec_len};
+ghost use Rattle.std.specs.Prelude.{◌≡◌, ◌≤◌, ◌<◌, ◌+◌, ◌-◌, ℕ, List, map, length, slice_get, Some, None, MatchOption};
+ghost use Rattle.std.specs.Prelude.{IfOk, vec_len};
 ghost use Rattle.pop3_server.specs.declared.rows.MessageRow.{MessageRow};
-ghost use Rattle.pop3_server.specs.ServerMachine.{row_at, row_of_entry, mark_at, unmarked, left_count, left_total, KeepLimits};
+ghost use Rattle.pop3_server.specs.ServerMachine.{row_at, row_of_entry, mark_at, unmarked, left_count, left_total};
+ghost use Rattle.pop3_server.specs.ServerMachine.{KeepLimits};
 
 use crate::maildrop::{Entry, MAX_COUNT, MAX_SIZE};
 use pop3_wire::Bytes;

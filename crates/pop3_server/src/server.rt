@@ -122,7 +122,8 @@ impl<D: Maildrop> Server<D> {
     /// memory runs out.
     pub fn greeting(&mut self) -> Result<Answer, ServerFault>
         ensures same { self.new ≡ self.old }
-        ensures ok { IfOk result (λ answer. (answer.bytes.items ≡ greeting) × (answer.closing ≡ not (is_open self.old.state))) }
+        ensures ok { IfOk result (λ answer. (answer.bytes.items ≡ greeting)
+            × (answer.closing ≡ not (is_open self.old.state))) }
         ensures event { IfOk result (λ answer. answer.event ≡ None) }
         ensures err { IfErr result (λ e. e ≡ ServerFault.NoMemory) }
     {
@@ -215,7 +216,8 @@ impl<D: Maildrop> Server<D> {
             → MakesAnswer D.sound D.mail old line sent (Some text) self.old
             → MakesAnswer D.sound D.mail old line (sent ++ reply.new.items) rest self.new) }
         ensures further { IfOk result (λ rest. IfSome rest (IsFurther text)) }
-        ensures err { IfErr result (λ e. (e ≡ ServerFault.MaildropFailed) × RefusesPart D.sound D.mail self.old self.new) }
+        ensures err { IfErr result (λ e. (e ≡ ServerFault.MaildropFailed)
+            × RefusesPart D.sound D.mail self.old self.new) }
         ensures capacity { vec_capacity reply.old ≤ vec_capacity reply.new }
     {
         match text.put(&mut self.drop, reply, limit) {

@@ -22,7 +22,8 @@ impl Stuffer {
     /// Appends a full stop if some octets of a line need one in front of them.
     fn put_stuffing(self, body: &mut Vec<u8>, octets: &[u8]) -> Result<(), AllocError>
         ensures body { IfOk result (λ _. body.new.items ≡ body.old.items ++ stuffing self.in_line octets.now) }
-        ensures len { IfOk result (λ _. vec_len body.new ≡ vec_len body.old + length (stuffing self.in_line octets.now)) }
+        ensures len { IfOk result
+            (λ _. vec_len body.new ≡ vec_len body.old + length (stuffing self.in_line octets.now)) }
         ensures capacity { vec_capacity body.old ≤ vec_capacity body.new }
         ensures room { vec_len body.old + length octets.now ≤ vec_capacity body.old → IsOk result }
     {

@@ -59,7 +59,8 @@ impl TextBody {
 
     /// The octets of a piece of the text that belong to it.
     fn take<'a>(&mut self, piece: &'a [u8]) -> &'a [u8]
-        ensures belong { (rest : List ℕ) → belonging self.old.top (piece.now ++ rest) ≡ result.now ++ belonging self.new.top rest }
+        ensures belong { (rest : List ℕ)
+            → belonging self.old.top (piece.now ++ rest) ≡ result.now ++ belonging self.new.top rest }
         ensures within { length result.now ≤ length piece.now }
         ensures others { self.new ≡ record self.old { top = self.new.top } }
     {
@@ -82,7 +83,8 @@ impl TextBody {
         requires place { D.sound drop.old → HasPlace (D.mail drop.old) self.place }
         requires part { 0 < length part.old }
         ensures reads { OnlyReads D.sound D.mail (refuses is_refusal result) drop.old drop.new }
-        ensures goes_on { IfOk result (λ rest. ContinuesAnswer D.sound D.mail drop.old reply.old.items self drop.new reply.new.items rest) }
+        ensures goes_on { IfOk result
+            (λ rest. ContinuesAnswer D.sound D.mail drop.old reply.old.items self drop.new reply.new.items rest) }
         ensures further { IfOk result (λ rest. IfSome rest (λ next. IsFurther self next)) }
         ensures capacity { vec_capacity reply.old ≤ vec_capacity reply.new }
         ensures room { vec_len reply.old + (2 * length part.old + 5) ≤ vec_capacity reply.old → 0 < self.start
@@ -118,7 +120,8 @@ impl TextBody {
     ) -> Result<Option<TextBody>, DropFault>
         requires { D.sound drop.old → HasPlace (D.mail drop.old) self.place }
         ensures reads { OnlyReads D.sound D.mail (refuses is_refusal result) drop.old drop.new }
-        ensures goes_on { IfOk result (λ rest. ContinuesAnswer D.sound D.mail drop.old reply.old.items self drop.new reply.new.items rest) }
+        ensures goes_on { IfOk result
+            (λ rest. ContinuesAnswer D.sound D.mail drop.old reply.old.items self drop.new reply.new.items rest) }
         ensures further { IfOk result (λ rest. IfSome rest (λ next. IsFurther self next × (limit < 2 ^ 64 - 1))) }
         ensures capacity { vec_capacity reply.old ≤ vec_capacity reply.new }
         ensures room { limit + ROOM ≤ vec_capacity reply.old → vec_len reply.old ≤ limit → 0 < self.start

@@ -15,7 +15,10 @@ most_connections = 4294967295
 
 -- `--connections N`, a number of 32 bits
 abbrev pub connections_rule : Rule
-connections_rule = record (long_value_rule (codes "connections")) { parser = Some (Signed (pos 0) (pos most_connections)) }
+connections_rule = record (long_value_rule (codes "connections")) {
+  parser = Some
+      (Signed (pos 0) (pos most_connections));
+}
 
 -- any number of words after these
 abbrev pub more_rule : Rule
@@ -34,7 +37,8 @@ popd = fold with_rule (program (codes "popd"))
 -- how many connections: the number after the option, or the greatest if there is none
 abbrev pub Numbers : Option (List ℕ) → ℕ → Type 0
 Numbers None count = count ≡ most_connections
-Numbers (Some text) count = IsNumeral 10 (without_leading_plus text) → digits_value 10 (without_leading_plus text) < 2 ^ 32
+Numbers (Some text) count = IsNumeral 10 (without_leading_plus text)
+    → digits_value 10 (without_leading_plus text) < 2 ^ 32
     → count ≡ digits_value 10 (without_leading_plus text)
 
 -- the words after the three, in order
@@ -56,8 +60,10 @@ pub record AsksFor (rows : List Row) (words : Words) : Type 0 where
 -- there are only options
 abbrev pub is_bare : Words → Bool
 is_bare words =
-    not (is_some words.user) && (not (is_some words.passfile) && (not (is_some words.maildir) && (length words.more.items == 0)))
+    not (is_some words.user) &&
+    (not (is_some words.passfile) && (not (is_some words.maildir) && (length words.more.items == 0)))
 
 -- there are USER PASSFILE MAILDIR and no more words
 abbrev pub is_whole : Words → Bool
-is_whole words = is_some words.user && (is_some words.passfile && (is_some words.maildir && (length words.more.items == 0)))
+is_whole words = is_some words.user
+    && (is_some words.passfile && (is_some words.maildir && (length words.more.items == 0)))

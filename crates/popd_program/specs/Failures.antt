@@ -1,5 +1,6 @@
 -- How the program ends: the exit status, and what each failure says of the words.
-use Rattle.std.specs.Prelude.{◌≡◌, ◌≢◌, ◌||◌, ℕ, Bool, true, false, not, List, Some, Result, Ok, Err, is_some, option_map, if◌then◌else◌}
+use Rattle.std.specs.Prelude.{◌≡◌, ◌≢◌, ◌||◌, ℕ, Bool, true, false, not, List, Some, Result, Ok, Err, is_some}
+use Rattle.std.specs.Prelude.{option_map, if◌then◌else◌}
 use Rattle.std.specs.String.{string_bytes}
 use Rattle.pop3_server.specs.declared.fault.ServerFault.TheVariants.{NoMemory}
 use Rattle.popd_program.specs.CommandLine.{is_bare, is_whole}
@@ -42,3 +43,8 @@ IsCause words (CannotRead name) = NamesPassfile words name.now
 IsCause words (CannotListen address) = NamesAddress words address.now
 -- only the link of standard input and output ends the program; memory may run out anywhere
 IsCause words (Fault fault) = (has_right_count words ≡ true) × (fault ≢ NoMemory → serves_streams words ≡ true)
+
+-- a read of a file that can't be read was refused
+abbrev pub IsUnread : (List ℕ → Type 0) → Failure → Type 0
+IsUnread refused (CannotRead name) = refused name.now
+IsUnread refused failure = Unit {0}

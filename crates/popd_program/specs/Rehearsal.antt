@@ -11,7 +11,11 @@ abbrev pub first : Message
 first = record { uid = codes "m1"; size = 22; text = line (codes "Subject: one") ++ line [] ++ line (codes ".dot") }
 
 abbrev pub second : Message
-second = record { uid = codes "m2"; size = 23; text = line (codes "Subject: two") ++ line [] ++ line (codes "a") ++ line (codes "bc") }
+second = record {
+  uid = codes "m2";
+  size = 23;
+  text = line (codes "Subject: two") ++ line [] ++ line (codes "a") ++ line (codes "bc");
+}
 
 -- two small messages, nothing refused or removed yet
 abbrev pub rehearsal : Mail

@@ -1,17 +1,17 @@
 //! The account that is served: user, password and Maildir.
-ghost use Rattle.std.specs.Prelude.{◌≡◌, ℕ, List, [], true, false, IfOk, IfErr, codes};
+ghost use Rattle.std.specs.Prelude.{◌≡◌, [], true, false, IfOk, IfErr, codes};
 ghost use Rattle.std.specs.String.{string_bytes};
 ghost use Rattle.popd_program.specs.Account.{IsAccount};
-ghost use Rattle.popd_program.specs.Failures.{IsCause};
+ghost use Rattle.popd_program.specs.Failures.{IsCause, IsUnread};
 ghost use Rattle.popd_program.specs.Start.{at_start};
 
 use crate::failure::{Failure, failure_of};
 use crate::password::password;
 use crate::words::Words;
+use file_reading::ReadFile;
 use folder_drop::MaildirDrop;
 use pop3_server::{Maildrop, Server};
 use std::alloc::{AllocError, Global};
-use std::io::{self, Read};
 use std::random::RandomSource;
 use std::rt::{Clock, Files};
 use trace::System;
@@ -62,24 +62,21 @@ impl Account {
     }
 }
 
-/// The octets of a file.
-fn read_file<R: Files + AllocGlobal>(system: &System<'_, R>, path: &str) -> io::Result<Vec<u8>> {
-    let mut bytes = Vec::new(system.alloc());
-    system.open(path)?.read_to_end(&mut bytes)?;
-    Ok(bytes)
-}
+/// The most octets of a password file.
+pub const WHOLE_FILE: u64 = u64::MAX;
 
 /// The account that the words USER PASSFILE MAILDIR name, with the password from PASSFILE. A wrong
 /// number of words is reported before that file is read.
-pub fn read_account<'a, R: Files + AllocGlobal>(
-    system: &System<'_, R>,
+pub fn read_account<'a, S: ReadFile>(
+    alloc: Global,
+    files: &S,
     words: &'a Words,
 ) -> Result<Account, Failure<'a>>
     requires { words.now.rehearse ≡ false }
-    ensures ok { IfOk result (λ account. (file : List ℕ) × IsAccount words.now file account) }
+    ensures ok { IfOk result (IsAccount (S.gave files.now) words.now) }
     ensures err { IfErr result (IsCause words.now) }
+    ensures unread { IfErr result (IsUnread (S.refused files.now)) }
 {
-    let alloc = system.alloc();
     let (Some(user), Some(passfile), Some(maildir)) = (&words.user, &words.passfile, &words.maildir)
     else {
         return Err(Failure::WrongCount);
@@ -88,7 +85,7 @@ pub fn read_account<'a, R: Files + AllocGlobal>(
         return Err(Failure::WrongCount);
     }
     let path = passfile.as_str();
-    let file = match read_file(system, path) {
+    let file = match files.read(path, WHOLE_FILE) {
         Ok(file) => file,
         Err(error) => return Err(failure_of(error, Failure::CannotRead(path))),
     };

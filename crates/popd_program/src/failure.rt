@@ -1,5 +1,5 @@
 //! Why the program serves nothing, or ends early: its line on standard error and its exit status.
-ghost use Rattle.std.specs.Prelude.{◌≡◌, ◌≢◌, ◌≤◌};
+ghost use Rattle.std.specs.Prelude.{◌≡◌, ◌≢◌, ◌⊎◌, ◌≤◌};
 ghost use Rattle.std.specs.IoError.{error_kind};
 ghost use Rattle.pop3_server.specs.declared.fault.ServerFault.TheVariants.{NoMemory};
 ghost use Rattle.popd_program.specs.declared.failure.Failure.TheVariants.{Fault};
@@ -44,6 +44,7 @@ impl<'a> From<AllocError> for Failure<'a> {
 pub fn failure_of<'a>(error: io::Error, failure: Failure<'a>) -> Failure<'a>
     ensures memory { error_kind error ≡ ErrorKind.OutOfMemory → result ≡ Failure.Fault ServerFault.NoMemory }
     ensures other { error_kind error ≢ ErrorKind.OutOfMemory → result ≡ failure.entry }
+    ensures either { (result ≡ Failure.Fault ServerFault.NoMemory) ⊎ (result ≡ failure.entry) }
 {
     if error.kind() == ErrorKind::OutOfMemory {
         Failure::Fault(ServerFault::NoMemory)

@@ -8,6 +8,7 @@ mod rehearsal;
 mod serving;
 mod start;
 mod telling;
+mod visit;
 mod waits;
 mod warning;
 mod words;

@@ -1,17 +1,18 @@
 //! Serves standard input and output, or TCP connections one after the other.
-ghost use Rattle.std.specs.Prelude.{◌≡◌, ◌⊎◌, true, false, IfOk, IfErr};
+ghost use Rattle.std.specs.Prelude.{◌≡◌, ◌⊎◌, true, None, IfOk, IfErr};
 ghost use Rattle.pop3_server.specs.ServerMachine.{is_open};
 
 use crate::account::Account;
 use crate::failure::{Failure, failure_of, tell};
 use crate::telling::{Peer, Telling, tell_listening};
+use crate::visit::{Quit, Visit, serve_account};
 use crate::waits::{BoundedStream, LoginJournal};
 use crate::warning::{Warning, warn};
 use crate::words::Words;
 use folder_drop::MaildirDrop;
-use pop3_server::{Journal, Maildrop, Server, ServerFault, serve_and_note};
+use pop3_server::{Maildrop, Server, ServerFault, serve_and_note};
 use pop3_wire::StreamWire;
-use std::io::{Read, Write};
+use std::io::{Read, Stderr, Write};
 use std::net::{Net, TcpListener, TcpStream};
 use std::random::RandomSource;
 use std::rt::{Clock, Files};
@@ -23,29 +24,25 @@ use trace::{Noted, System, TracedWire};
 /// the next one can't be accepted at once either.
 const PAUSE_SECONDS: u64 = 1;
 
-/// Serves a link over two named streams. Nothing is removed unless the session came to QUIT.
-fn serve_traced<R, D, J, I, O>(
-    system: &System<'_, R>,
-    server: &mut Server<D>,
-    journal: &mut J,
+const STANDARD_INPUT: &str = "standard input";
+
+const STANDARD_OUTPUT: &str = "standard output";
+
+/// A link over two named streams, which is traced.
+fn link_over<'s, R: AllocGlobal, I, O>(
+    system: &System<'s, R>,
     input: (I, &str),
     output: (O, &str),
-) -> Result<(), ServerFault>
+) -> TracedWire<'s, StreamWire<Noted<'s, I>, Noted<'s, O>>, Stderr>
 where
-    R: AllocGlobal,
-    D: Maildrop,
-    J: Journal,
     I: Read + Drop,
     O: Write + Drop,
-    requires { is_open server.old.state ≡ true }
-    ensures { is_open server.new.state ≡ true → (D.mail server.new.drop).removals ≡ (D.mail server.old.drop).removals }
 {
     let (alloc, refusals) = (system.alloc(), system.refusals);
     let reader = Noted::new(alloc, input.0, input.1, refusals);
     let writer = Noted::new(alloc, output.0, output.1, refusals);
     let link = StreamWire::new(reader, writer);
-    let mut wire = TracedWire::new(alloc, link, refusals.trace(), None, None);
-    serve_and_note(server, &mut wire, journal)
+    TracedWire::new(alloc, link, refusals.trace(), None, None)
 }
 
 /// Serves standard input and output, and tells what happens there if `verbose` asks for it. Nothing
@@ -64,72 +61,14 @@ where
     requires { is_open server.old.state ≡ true }
     ensures { is_open server.new.state ≡ true → (D.mail server.new.drop).removals ≡ (D.mail server.old.drop).removals }
 {
-    let (input, output) = streams;
     let mut telling = Telling {
         rt: system.rt,
         verbose,
         peer: Peer::StandardInput,
     };
-    serve_traced(
-        system,
-        server,
-        &mut telling,
-        (input, "standard input"),
-        (output, "standard output"),
-    )
-}
-
-/// Warns of the file or folder that couldn't be read, if that made the maildrop unavailable, and of each message
-/// that wasn't removed because another one has its name.
-fn warn_of_maildir<R>(rt: &R, maildir: &MaildirDrop<'_, R>)
-where
-    R: Files + Clock + RandomSource + AllocGlobal + Eprint + Clone + Drop,
-{
-    if let Some(path) = maildir.unread() {
-        warn(rt, Warning::Unread(path));
-    }
-    for two in maildir.not_removed() {
-        warn(rt, Warning::NotRemoved(two));
-    }
-}
-
-/// What was served over a Maildir.
-#[derive(Drop)]
-pub struct Visit<'a, R: Files + AllocGlobal + Clone + Drop> {
-    /// How the session ended.
-    pub served: Result<(), ServerFault>,
-    /// Whether it came to QUIT.
-    pub has_quit: bool,
-    /// The Maildir after it.
-    pub maildir: MaildirDrop<'a, R>,
-}
-
-/// Serves the account's Maildir over two named streams, and warns of what couldn't be read or removed.
-fn serve_account<'a, R, J, I, O>(
-    system: &System<'_, R>,
-    account: Account,
-    maildir: MaildirDrop<'a, R>,
-    journal: &mut J,
-    input: (I, &str),
-    output: (O, &str),
-) -> Visit<'a, R>
-where
-    R: Files + Clock + RandomSource + AllocGlobal + Eprint + Clone + Drop,
-    J: Journal,
-    I: Read + Drop,
-    O: Write + Drop,
-    ensures { result.has_quit ≡ false → result.maildir.removals ≡ maildir.entry.removals }
-{
-    let mut server = account.into_server(system.alloc(), maildir);
-    let served = serve_traced(system, &mut server, journal, input, output);
-    let has_quit = !server.is_open();
-    let maildir = server.into_drop();
-    warn_of_maildir(system.rt, &maildir);
-    Visit {
-        served,
-        has_quit,
-        maildir,
-    }
+    let (input, output) = ((streams.0, STANDARD_INPUT), (streams.1, STANDARD_OUTPUT));
+    let mut wire = link_over(system, input, output);
+    serve_and_note(server, &mut wire, &mut telling)
 }
 
 /// Serves the account's Maildir over standard input and output, and tells what happens there if `verbose` asks
@@ -145,22 +84,16 @@ where
     R: Files + Clock + RandomSource + AllocGlobal + Eprint + Clone + Drop,
     I: Read + Drop,
     O: Write + Drop,
-    ensures { result.has_quit ≡ false → result.maildir.removals ≡ maildir.entry.removals }
+    ensures { result.quit ≡ None → result.maildir.removals ≡ maildir.entry.removals }
 {
     let mut telling = Telling {
         rt: system.rt,
         verbose,
         peer: Peer::StandardInput,
     };
-    let (input, output) = streams;
-    serve_account(
-        system,
-        account,
-        maildir,
-        &mut telling,
-        (input, "standard input"),
-        (output, "standard output"),
-    )
+    let (input, output) = ((streams.0, STANDARD_INPUT), (streams.1, STANDARD_OUTPUT));
+    let mut wire = link_over(system, input, output);
+    serve_account(system, account, maildir, &mut telling, &mut wire)
 }
 
 /// What a connection that was just accepted needs besides the Maildir: its account, its stream and the
@@ -191,14 +124,14 @@ fn serve_connection<'a, R>(
 ) -> Visit<'a, R>
 where
     R: Files + Clock + RandomSource + AllocGlobal + Eprint + Clone + Drop,
-    ensures { result.has_quit ≡ false → result.maildir.removals ≡ maildir.entry.removals }
+    ensures { result.quit ≡ None → result.maildir.removals ≡ maildir.entry.removals }
 {
     let (account, bounded, name) = match begin(system, stream, telling.peer, account) {
         Ok(connection) => connection,
         Err(fault) => {
             return Visit {
                 served: Err(fault),
-                has_quit: false,
+                quit: None,
                 maildir,
             };
         }
@@ -210,7 +143,8 @@ where
         journal: telling,
     };
     let (input, output) = ((&bounded, name.as_str()), (&bounded, name.as_str()));
-    let visit = serve_account(system, account, maildir, &mut journal, input, output);
+    let mut wire = link_over(system, input, output);
+    let visit = serve_account(system, account, maildir, &mut journal, &mut wire);
     Visit {
         maildir: visit.maildir.renewed(),
         ..visit
@@ -229,7 +163,7 @@ fn serve_next<'a, R>(
 ) -> Visit<'a, R>
 where
     R: Files + Clock + RandomSource + AllocGlobal + Eprint + Clone + Drop,
-    ensures { result.has_quit ≡ false → result.maildir.removals ≡ maildir.entry.removals }
+    ensures { result.quit ≡ None → result.maildir.removals ≡ maildir.entry.removals }
 {
     let rt = system.rt;
     let (listener, address) = listener;
@@ -238,7 +172,7 @@ where
         tell(rt, Failure::Fault(ServerFault::ReadFailed));
         return Visit {
             served: Err(ServerFault::ReadFailed),
-            has_quit: false,
+            quit: None,
             maildir,
         };
     };
@@ -264,12 +198,13 @@ pub fn listen<'a, 'b, R>(
     words: &Words,
     account: &Account,
     maildir: MaildirDrop<'b, R>,
-) -> Result<(bool, MaildirDrop<'b, R>), Failure<'a>>
+) -> Result<(Option<Quit>, MaildirDrop<'b, R>), Failure<'a>>
 where
     R: Net<Listener = TcpListener, Stream = TcpStream> + Files + Clock,
     R: RandomSource + AllocGlobal + Eprint + Copy + Drop,
-    ensures err { IfErr result (λ f. (f ≡ Failure.CannotListen address.entry) ⊎ (f ≡ Failure.Fault ServerFault.NoMemory)) }
-    ensures removals { IfOk result (λ left. left.0 ≡ false → left.1.removals ≡ maildir.entry.removals) }
+    ensures err { IfErr result (λ f. (f ≡ Failure.CannotListen address.entry)
+        ⊎ (f ≡ Failure.Fault ServerFault.NoMemory)) }
+    ensures removals { IfOk result (λ left. left.0 ≡ None → left.1.removals ≡ maildir.entry.removals) }
 {
     let bound = TcpListener::bind(system.rt, address);
     let listener = match system.refusals.noted("bind", address, bound) {
@@ -279,13 +214,13 @@ where
     if words.verbose {
         tell_listening(system.rt, &listener);
     }
-    let mut has_quit = false;
+    let mut quit = None;
     let mut left = maildir;
     for _ in 0..words.connections {
         let next = (&listener, address);
         let visit = serve_next(system, next, words.verbose, account, left);
-        has_quit = has_quit || visit.has_quit;
+        quit = quit.or(visit.quit);
         left = visit.maildir;
     }
-    Ok((has_quit, left))
+    Ok((quit, left))
 }

@@ -55,7 +55,7 @@ where
         let mut server = rehearsal_server(system.alloc())?;
         return Ok(serve_streams(system, &mut server, words.verbose, streams)?);
     }
-    let account = read_account(system, words)?;
+    let account = read_account(system.alloc(), system, words)?;
     warn_of(system, &account, words.passfile.as_deref())?;
     let maildir = account.open_maildir(system)?;
     match &words.listen {

@@ -1,5 +1,5 @@
-use Rattle.std.proofs.Common.{◌≡◌, false}
+use Rattle.std.proofs.Common.{◌≡◌, None}
 use Rattle.popd_program.proofs.serving.listen.Given as goal
 
 abbrev pub invariant-loop : goal.invariant-loop
-invariant-loop g l = l.has_quit ≡ false → l.left.removals ≡ l.fn.maildir.removals
+invariant-loop g l = l.quit ≡ None → l.left.removals ≡ l.fn.maildir.removals

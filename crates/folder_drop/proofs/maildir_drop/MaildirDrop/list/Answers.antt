@@ -2,7 +2,7 @@ use Rattle.std.proofs.Common.{◌≡◌, ◌≤◌, ◌∙◌, ℕ, List, ap, ar
 use Rattle.mail_terms.specs.MaildirName.{base}
 use Rattle.pop3_server.specs.Maildrop.{max_size}
 use Rattle.folder_drop.specs.declared.listed_file.ListedFile.{ListedFile}
-use Rattle.folder_drop.specs.ListedIds.{IsBehind}
+use Rattle.folder_drop.specs.ListedIds.{FollowsLast}
 use Rattle.folder_drop.specs.MaildirNames.{IsKey, id_of}
 use Rattle.folder_drop.specs.RealMaildir.{name_of}
 use Rattle.folder_drop.proofs.maildir_drop.MaildirDrop.list.Goals as goal
@@ -14,7 +14,7 @@ loop-file-preserved g c =
     let sized = ap (λ (file : ListedFile). file.size) c.of.ensures in
     let small : c.of.result.size ≤ max_size = omega (arith, within, sized) in
     c.in_ok-add.ensures (record {
-      behind = subst (λ (name : List ℕ). IsBehind c.loop-file.listed.files.items name) named (c.if-not-admit.ensures.behind refl);
+      behind = subst (λ (name : List ℕ). FollowsLast c.loop-file.listed.files.items name) named (c.if-not-admit.ensures.behind refl);
       is_key = subst (λ (name : List ℕ). IsKey c.in_ok-long_id.long_id (id_of name)) (c.as_bytes.ensures.value ∙ named) c.in_ok-long_id.ensures;
       unseen = c.if-not-admit.ensures.unseen refl;
     }) (c.if-is_full.ensures refl) small c.loop-file.invariant

@@ -1,0 +1,26 @@
+-- What ends a session that is served over a link: a line QUIT.
+use Rattle.std.specs.Prelude.{◌≡◌, ℕ, true, false, List, [], ◌∷◌, ◌++◌, Result, Ok}
+use Rattle.std.specs.List.{flat_map, AllByRecursion}
+use Rattle.pop3_wire.specs.declared.command.Command.TheVariants.{Quit}
+use Rattle.pop3_wire.specs.Line.{IsLine, ended}
+use Rattle.pop3_wire.specs.CommandLine.{command_of}
+use Rattle.pop3_wire.specs.Link.{Link}
+use Rattle.pop3_server.specs.declared.fault.ServerFault.{ServerFault}
+use Rattle.pop3_server.specs.Maildrop.{Mail}
+use Rattle.pop3_server.specs.ServerMachine.{Machine, is_open}
+use Rattle.pop3_server.specs.Serving.{Served}
+
+-- of the lines that were read meanwhile, one is QUIT
+pub record ReadsQuit (old new : Link) : Type 0 where
+  pub before : List (List ℕ)
+  pub line : List ℕ
+  pub rest : List ℕ
+  pub each : AllByRecursion IsLine (before ++ line ∷ [])
+  pub is : command_of line ≡ Ok Quit
+  pub got : new.got ≡ old.got ++ (flat_map ended (before ++ line ∷ []) ++ rest)
+
+-- a server that was open before a link was served, and isn't after it, read QUIT there
+abbrev pub OnlyQuitCloses : {D : Type 0} → (D → Type 0) → (D → Mail) → Type 0
+OnlyQuitCloses {D} sound mail = (old new : Machine D) (before after : Link) (result : Result (Unit {0}) ServerFault)
+    → Served sound mail old before result new after → is_open old.state ≡ true → is_open new.state ≡ false
+    → ReadsQuit before after
