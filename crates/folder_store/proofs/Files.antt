@@ -7,7 +7,7 @@ use Rattle.mail_terms.specs.FailureCount.{is_refused}
 use Rattle.mail_store.specs.declared.fault.StoreFault.{StoreFault}
 use Rattle.mail_store.specs.FlatFile.{Appends, Cuts, Replaces}
 use Rattle.folder_store.specs.FileFolder.{Directory, Entry, Blob, Older, entry, find, placed, making, changed, appended, cut, doubted, flushed, secured, empty_blob, content_in, content_at, Makes, Writes, Alters, FlushesFile, FlushesNames}
-use Rattle.folder_store.specs.HostFile.{stored_in, Holds, Keeps, Becomes, BecomesInPart, MayBeFlushed, IsAppended, IsSoFar, IsPartAppended, AppendsFlushed, IsFrontAppended, CutsFlushed, PutsFlushed, ReplacesFlushed, Flushes, AppendsLast, CutsLast, ReplacesLast}
+use Rattle.folder_store.specs.HostFile.{stored_in, Holds, Keeps, Becomes, BecomesInPart, MayBeFlushed, IsAppended, IsSoFar, IsPartAppended, AppendsFlushed, IsFrontAppended, CutsFlushed, PutsFlushed, ReplacesFlushed, FlushesAt, AppendsLast, CutsLast, ReplacesLast}
 use Rattle.std.proofs.lemmas.List.{take-append-drop, take-append-le, take-take, length-take, get_or-take, get_or_append_left, get_or-append-add}
 use Rattle.std.proofs.Math.Seq.{take-append-add, take-append_seam, take-length}
 use Rattle.mail_store.specs.Power.{IsLonger, LeavesNoMore, LastsWhole}
@@ -337,7 +337,7 @@ leaves_become R old new name same leaves (inr (b, c, at, is, h)) left may =
 
 -- what was only flushed looks as it did
 abbrev Stands : Directory → List ℕ → Directory → Type 0
-Stands old name new = Flushes old name new × LeavesNoMore (MayBe old name) (MayBe new name)
+Stands old name new = FlushesAt old name new × LeavesNoMore (MayBe old name) (MayBe new name)
 
 may_no_more : (old new : Directory) (name : List ℕ) (b c : Blob) → MayBeFlushed b c → find name old.entries ≡ Some b → new ≡ changed old name c → Stands old name new
 may_no_more old new name b c is at e =

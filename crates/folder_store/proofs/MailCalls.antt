@@ -1,17 +1,21 @@
 -- What telling the names of the folders, and writing and settling a file, does to the Maildir of the folders.
 use Rattle.std.proofs.Common.{◌≡◌, ◌+◌, inl, inr, ⊎_elim, ℕ, List, [], ◌∷◌, refl, subst, arith, ◌⊎◌, true, sym, ap, ◌∙◌, Bool, false, not, ◌++◌, map, get_or, Contains, Option, Result, Ok, Err, IsErrAnd, IsPermutation, IsTrue, IfErr, String, Global, Vec, string_bytes, filter, if◌then◌else◌, ◌≢◌, suc, Some, append_assoc, append-nil, None}
-use Rattle.mail_store.specs.Maildir.{AfterFlushing, AfterTaking, AllNamed as FilesNamed, AreReached, AreTheirs, Checks, Draft as Begun, File, Folders, IsWithout, Lists, ListsAll, Maildir, MayBeNamed, MayHave, WereTaken, bases_told, counted, draft, dropped, is_there, mail, names_of, with_file}
-use Rattle.mail_store.specs.Loss.{Flushes, flushed, flushed_by as mail_flushed_by}
+use Rattle.mail_store.specs.Maildir.{AfterFlushing, AfterTaking, AllNamed, AreReached, AreTheirs, Checks, Draft as Begun, File, Folders, IsWithout, Lists, ListsAll, Maildir, MayBeNamed, MayHave, WereTaken, bases_told, counted, draft, dropped, is_there, mail, names_of, with_file}
+use Rattle.mail_store.specs.Held.{ListsAmong, is_sought}
+use Rattle.mail_store.specs.Loss.{Flushes, flushed, flushed_by}
+use Rattle.std.specs.Borrow.{Bor}
 use Rattle.std.specs.List.{AllByRecursion, AllZip, filter}
 use Rattle.std.proofs.Math.Bool.{or-false, or-true}
 use Rattle.std.proofs.lemmas.Bool.{cases_Bool, cond_both, or_left, or_right}
-use Rattle.std.proofs.lemmas.List.Elements.{All-filter, All-from_recursion, recursion_from_All, All-weaker, filter_passes}
+use Rattle.std.proofs.lemmas.List.Elements.{All-filter, All-from_recursion, recursion_from_All, All-weaker, filter-append, filter_passes}
 use Rattle.mail_terms.specs.MaildirName.{base}
 use Rattle.mail_store.specs.declared.maildir.disk.Folder.{Folder}
 use Rattle.mail_store.specs.declared.maildir.disk.Folder.TheVariants.{New, Cur}
 use Rattle.folder_store.specs.MailFolders.{MailFile, Directories, Each, files_at, is_left, is_taken, mail_at, MovesFile, Moved, touches, touches_new, touches_cur, name_at, is_in, entries_in, maildir_in, Draft, content_made}
-use Rattle.folder_store.specs.MailPower.{AllNamed}
-use Rattle.folder_store.specs.MailCalls.{Brings, ChangesMade, ChecksIn, FlushesDraft, FlushesFiles, FlushesNamesIn, GivesUp, IsUnknown, Lacks, Leads, Learns, ListsIn, LooksAtBoth, MakesDraft, PutsDraft, PutsForGood, PutsIntoNew, Rests, StandsIn, TellsBoth, TellsOne, TellsRest, Then, ToldBoth, WritesDraft, flushed_by, listed, named_by, names_flushed_in, put_as, without_taken}
+use Rattle.folder_store.specs.MailPower.{EntriesNamed}
+use Rattle.folder_store.specs.declared.mail_folders.Sought.{Sought}
+use Rattle.folder_store.specs.declared.mail_folders.Sought.TheVariants.{All, Stems}
+use Rattle.folder_store.specs.MailCalls.{AreSought, Brings, ChangesMade, ChecksIn, FlushesDraft, FlushesFiles, FlushesNamesIn, GivesUp, IsUnknown, Lacks, Leads, Learns, ListsIn, LooksAtBoth, MakesDraft, PutsDraft, PutsForGood, PutsIntoNew, Rests, StandsIn, TellsBoth, TellsOne, TellsRest, Then, ToldBoth, WritesDraft, entry_flushed_by, listed, named_by, names_flushed_in, names_sought, put_as, without_taken}
 use Rattle.std.proofs.lemmas.List.{map-append, get_or-map, length-map}
 use Rattle.std.proofs.lemmas.List.Sorted.{Contains-permutation, IsPermutation-append, IsPermutation-sym, IsPermutation-map, IsPermutation-trans, IsPermutation-filter_both}
 use Rattle.std.proofs.lemmas.Result.{err_from_is_err_and}
@@ -92,10 +96,10 @@ flushes_leads folder a b (Ok done) (m, v, e) = rw e (named_leads folder a m v)
 flushes_leads folder a b (Err fault) (m, v, inl lacks) = moved_same a m b v lacks.0
 flushes_leads folder a b (Err fault) (m, v, inr (refused, e)) = rw e (named_leads folder a m v)
 
-pub lists_learns : {A B : Type 0} (folder : Folder) (a b : Directories) (r : Result (Vec (String A) B) StoreFault) → Then (ListsIn folder r) a b → Learns a b
-lists_learns folder a b (Ok names) (m, v, (there, told, e)) =
+pub lists_learns : {A B : Type 0} (folder : Folder) (sought : Sought) (a b : Directories) (r : Result (Vec (String A) B) StoreFault) → Then (ListsIn folder sought r) a b → Learns a b
+lists_learns folder sought a b (Ok names) (m, v, (there, told, e)) =
     rw e (learns_on a m (listed folder m) (leads_learns a m (moved_leads a m v)) (listed_learns folder m))
-lists_learns folder a b (Err fault) (m, v, lacks) = leads_learns a b (moved_same a m b v lacks.0)
+lists_learns folder sought a b (Err fault) (m, v, lacks) = leads_learns a b (moved_same a m b v lacks.0)
 
 -- a call that told nothing of the files came after others
 pub leads_after : (a b c : Directories) → Learns a b → Leads b c → Learns a c
@@ -113,19 +117,19 @@ pub one_unflushed : (a b c : Directories) (folder : Folder) (fault : StoreFault)
 one_unflushed a b c folder fault led t =
     (leads_after a b c led (flushes_leads {T = Unit {0}} folder b c (Err fault) t), tt, gone_since t.0 c folder fault t.2)
 
-pub unflushed : {P Q R : Type 0} (a b c : Directories) (folder : Folder) (fault : StoreFault) (r : Result (Option (Vec (String Global) Global)) StoreFault) → IsErrAnd r (λ e. e ≡ fault)
-    → (Q → P × Learns a b) → (R → Q × Then (FlushesNamesIn {T = Unit {0}} folder (Err fault)) b c) → R → P × LooksAtBoth a r c
-unflushed a b c folder fault r is before call s =
+pub unflushed : {P Q R : Type 0} (sought : Sought) (a b c : Directories) (folder : Folder) (fault : StoreFault) (r : Result (Option (Vec (String Global) Global)) StoreFault) → IsErrAnd r (λ e. e ≡ fault)
+    → (Q → P × Learns a b) → (R → Q × Then (FlushesNamesIn {T = Unit {0}} folder (Err fault)) b c) → R → P × LooksAtBoth sought a r c
+unflushed sought a b c folder fault r is before call s =
     let p = err_from_is_err_and r is in
     let t = call s in
     let led = before t.0 in
     let told = one_unflushed a b c folder fault led.1 t.1 in
     (led.0, rw (p.1 ∙ ap Err p.2) (told.0, tt, λ missing. (folder, told.2 missing)))
 
-pub lacked : {P Q R : Type 0} (a b c : Directories) (folder : Folder) (fault : StoreFault) (r : Result (Option (Vec (String Global) Global)) StoreFault) → IsErrAnd r (λ e. e ≡ fault)
-    → (Q → P × Learns a b) → (R → Q × Then (λ m x. Lacks m folder fault x) b c) → R → P × LooksAtBoth a r c
-lacked a b c folder fault r is before call =
-    unflushed a b c folder fault r is before (λ s. let t = call s in (t.0, (t.1.0, t.1.1, inl t.1.2)))
+pub lacked : {P Q R : Type 0} (sought : Sought) (a b c : Directories) (folder : Folder) (fault : StoreFault) (r : Result (Option (Vec (String Global) Global)) StoreFault) → IsErrAnd r (λ e. e ≡ fault)
+    → (Q → P × Learns a b) → (R → Q × Then (λ m x. Lacks m folder fault x) b c) → R → P × LooksAtBoth sought a r c
+lacked sought a b c folder fault r is before call =
+    unflushed sought a b c folder fault r is before (λ s. let t = call s in (t.0, (t.1.0, t.1.1, inl t.1.2)))
 
 -- ---- the names of both
 
@@ -136,18 +140,40 @@ title s = base s.name
 told_part : {A : Type 0} (ss : List MailFile) (names : List (String A)) → IsPermutation (map name_at ss) (map string_bytes names) → IsPermutation (map title ss) (bases_told names)
 told_part ss names p = rw (map-map, map-map) at (IsPermutation-map base (map name_at ss) (map string_bytes names) p)
 
-told_both : {A : Type 0} (ss : List MailFile) (new cur : List (String A)) → IsPermutation (map name_at (entries_in New ss)) (map string_bytes new)
-    → IsPermutation (map name_at (entries_in Cur ss)) (map string_bytes cur) → IsPermutation (names_of (files_at (filter is_left ss))) (bases_told (new ++ cur))
-told_both ss new cur in_new in_cur =
+-- what is sought of the bases is what is sought of the names
+sought_on : (sought : Sought) (names more : List (List ℕ)) → names_sought sought (names ++ more) ≡ names_sought sought names ++ names_sought sought more
+sought_on All names more = refl
+sought_on (Stems stems) names more = filter-append (is_sought stems.now) names more
+
+-- a base has the stem of its name
+abbrev BasesHaveStems : Type 0
+BasesHaveStems = (name : List ℕ) → stem (base name) ≡ stem name
+
+filtered_bases : {A : Type 0} → BasesHaveStems → (stems : List (String A)) (names : List (List ℕ)) → map base (filter (is_sought stems) names) ≡ filter (is_sought stems) (map base names)
+filtered_bases law stems [] = refl
+filtered_bases law stems (name ∷ names) = let rest = filtered_bases law stems names in let same = law name in grind (arith, rest, same)
+
+sought_title : BasesHaveStems → (sought : Sought) (names : List (List ℕ)) → map base (names_sought sought names) ≡ names_sought sought (map base names)
+sought_title law All names = refl
+sought_title law (Stems stems) names = filtered_bases law stems.now names
+
+told_both : {A : Type 0} → BasesHaveStems → (sought : Sought) (ss : List MailFile) (new cur : List (String A)) → AreSought sought (map name_at (entries_in New ss)) (map string_bytes new)
+    → AreSought sought (map name_at (entries_in Cur ss)) (map string_bytes cur) → AreSought sought (names_of (files_at (filter is_left ss))) (bases_told (new ++ cur))
+told_both law sought ss new cur (first, in_new, are_new) (second, in_cur, are_cur) =
     let left = filter is_left ss in
     let both = entries_in New ss ++ entries_in Cur ss in
-    rw map-map (told_part left (new ++ cur) (IsPermutation-trans (map name_at left) (map name_at both) (map string_bytes (new ++ cur))
+    let all = IsPermutation-trans (map name_at left) (map name_at both) (first ++ second)
     (IsPermutation-map name_at left both (IsPermutation-filter_both (is_in New) (is_in Cur) (λ s. refl) left))
-    (rw (map-append name_at (entries_in New ss) (entries_in Cur ss), map-append string_bytes new cur) (IsPermutation-append _ _ _ _ in_new in_cur))))
+    (rw (map-append name_at (entries_in New ss) (entries_in Cur ss)) (IsPermutation-append _ _ _ _ in_new in_cur)) in
+    let bases = IsPermutation-map base (map name_at left) (first ++ second) all in (
+      map base (first ++ second),
+      rw map-map (rw map-map at bases),
+      sym (map-map base string_bytes (new ++ cur)) ∙ ap (map base) (map-append string_bytes new cur ∙ rw (are_new, are_cur) (sym (sought_on sought first second))) ∙ sought_title law sought (first ++ second),
+    )
 
 -- what was told is still so once others moved files
-told_moved : {A : Type 0} (names : List (String A)) (a b : Directories) → Moved a b → ToldBoth names a → ToldBoth names b
-told_moved names a b m told = record {
+told_moved : {A : Type 0} (sought : Sought) (names : List (String A)) (a b : Directories) → Moved a b → ToldBoth sought names a → ToldBoth sought names b
+told_moved sought names a b m told = record {
   new_is_there = rw m.there told.new_is_there;
   cur_is_there = rw m.there told.cur_is_there;
   lists = rw (files_moved a.entries b.entries m.moves) told.lists;
@@ -155,11 +181,11 @@ told_moved names a b m told = record {
 }
 
 -- all of it: the flushes, the lists, and `new` has rested since its own
-pub looked : {A B T : Type 0} (b0 b1 b2 b3 b4 b5 : Directories) (new cur : Vec (String A) B) (done done' : T) (rests : Bool)
+pub looked : {A B T : Type 0} → BasesHaveStems → (sought : Sought) (b0 b1 b2 b3 b4 b5 : Directories) (new cur : Vec (String A) B) (done done' : T) (rests : Bool)
     → Then (FlushesNamesIn New (Ok done)) b0 b1 → Then (FlushesNamesIn Cur (Ok done')) b1 b2
-    → Then (ListsIn New (Ok new)) b2 b3 → Then (ListsIn Cur (Ok cur)) b3 b4 → Then (TellsRest New (Ok rests)) b4 b5 → IsTrue rests → ToldBoth (new.items ++ cur.items) b5
-looked b0 b1 b2 b3 b4 b5 new cur done done' rests (m1, v1, s1) (m2, v2, s2) (m3, v3, s3) (m4, v4, s4) (m5, v5, s5) rested_since =
-    rw s5.0 (told_moved (new.items ++ cur.items) (listed Cur m4) m5 last told)
+    → Then (ListsIn New sought (Ok new)) b2 b3 → Then (ListsIn Cur sought (Ok cur)) b3 b4 → Then (TellsRest New (Ok rests)) b4 b5 → IsTrue rests → ToldBoth sought (new.items ++ cur.items) b5
+looked law sought b0 b1 b2 b3 b4 b5 new cur done done' rests (m1, v1, s1) (m2, v2, s2) (m3, v3, s3) (m4, v4, s4) (m5, v5, s5) rested_since =
+    rw s5.0 (told_moved sought (new.items ++ cur.items) (listed Cur m4) m5 last told)
   where
     last : Moved (listed Cur m4) m5
     last = rw s4.2 at v5
@@ -172,14 +198,14 @@ looked b0 b1 b2 b3 b4 b5 new cur done done' rests (m1, v1, s1) (m2, v2, s2) (m3,
     in_new = rests_new (filter is_left m3.entries) m4.entries (still.rests New (last.rests New (s5.1 rested_since)).0).1
         ∙ ap (λ (ss : List MailFile). map name_at (filter (is_in New) ss)) (left_twice m3.entries)
 
-    near : AllNamed m3.entries
+    near : EntriesNamed m3.entries
     near = named_moved b2.entries m3.entries v3.moves (rw s2 (both_named m1.entries m2.entries (rw s1 at v2.moves)))
 
-    told : ToldBoth (new.items ++ cur.items) (listed Cur m4)
+    told : ToldBoth sought (new.items ++ cur.items) (listed Cur m4)
     told = record {
       new_is_there = rw still.there s3.0;
       cur_is_there = s4.0;
-      lists = told_both m4.entries new.items cur.items (rw in_new s3.1) s4.1;
+      lists = told_both law sought m4.entries new.items cur.items (rw in_new s3.1) s4.1;
       named = all_left (λ s. s.is_named ≡ true) m4.entries (named_moved (filter is_left m3.entries) m4.entries still.moves (all_left (λ s. s.is_named ≡ true) m3.entries near));
     }
 
@@ -234,9 +260,9 @@ theirs {A} names files each = λ k d inside.
     )
 
 pub told_one : {A B T : Type 0} (folder : Folder) (b0 b1 b2 : Directories) (names : Vec (String A) B) (done : T)
-    → Then (ListsIn folder (Ok names)) b0 b1 → Then (FlushesNamesIn folder (Ok done)) b1 b2 → TellsOne b0 folder (Ok names) b2
-told_one {A} folder b0 b1 b2 names done (m1, v1, (there, p, e1)) (m2, v2, e2) = (
-  leads_after b0 b1 b2 (lists_learns folder b0 b1 (Ok names) (m1, v1, (there, p, e1))) (flushes_leads folder b1 b2 (Ok done) (m2, v2, e2)),
+    → Then (ListsIn folder All (Ok names)) b0 b1 → Then (FlushesNamesIn folder (Ok done)) b1 b2 → TellsOne b0 folder (Ok names) b2
+told_one {A} folder b0 b1 b2 names done (m1, v1, (there, (order, same, are), e1)) (m2, v2, e2) = (
+  leads_after b0 b1 b2 (lists_learns folder All b0 b1 (Ok names) (m1, v1, (there, (order, same, are), e1))) (flushes_leads folder b1 b2 (Ok done) (m2, v2, e2)),
   (rw (e2, v2.there, e1, (listed_is folder m1).1) there, theirs names.items (files_at b2.entries) (λ name c. some_named b2.entries name (stay name c))),
   tt,
 )
@@ -245,7 +271,7 @@ told_one {A} folder b0 b1 b2 names done (m1, v1, (there, p, e1)) (m2, v2, e2) = 
     stay name c =
         let listed = map title (entries_in folder m1.entries) in
         let touched = listed_touch folder (filter is_left m1.entries) name (Contains-permutation (bases_told names.items) listed name
-        (IsPermutation-sym listed (bases_told names.items) (told_part (entries_in folder m1.entries) names.items p)) c) in
+        (IsPermutation-sym listed (bases_told names.items) (told_part (entries_in folder m1.entries) names.items (subst (IsPermutation (map name_at (entries_in folder m1.entries))) (sym are) same))) c) in
         let still = some_kept {Will = Touch folder name} (filter is_left m1.entries) m2.entries (rw (e1, (listed_is folder m1).0) at v2.moves) touched
         (λ s t m is. (m.keeps.title ∙ is.0, still_touches folder s t m is.1)) in
         rw e2 (some_map _ (named_by folder) m2.entries still (λ s is. named_touch folder s name is.0 is.1))
@@ -270,17 +296,17 @@ one_lacks : (there : Folders) (folder : Folder) → is_there there folder ≡ fa
 one_lacks there New e = inl e
 one_lacks there Cur e = inr e
 
-named_at : (ss : List MailFile) → AllNamed ss → FilesNamed (files_at ss)
+named_at : (ss : List MailFile) → EntriesNamed ss → AllNamed (files_at ss)
 named_at [] all = tt
 named_at (s ∷ ss) all = (all.0, named_at ss all.1)
 
 -- what was told
-pub told_all : {A B : Type 0} (a b : Directories) (begun : Option (List ℕ)) (n m : ℕ) (r : Result (Vec (String A) B) StoreFault) → TellsBoth a r b
+pub told_all : {A B : Type 0} (a b : Directories) (begun : Option (List ℕ)) (n m : ℕ) (r : Result (Vec (String A) B) StoreFault) → TellsBoth All a r b
     → IfErr r IsDeviceFault → IsCountAfter r n m → AfterTaking (maildir_in a begun n) (λ left. ListsAll left r (maildir_in b begun m))
 told_all a b begun n m (Ok names) (l, told, _) device k = (
   left_in a b begun n,
   were_taken a b begun n l,
-  (rw (sym l.there) told.new_is_there, rw (sym l.there) told.cur_is_there, told.lists, named_at b.entries told.named, left_as a b begun m n n l k),
+  (rw (sym l.there) told.new_is_there, rw (sym l.there) told.cur_is_there, subst (IsPermutation (names_of (files_at b.entries))) (sym told.lists.2) told.lists.1, named_at b.entries told.named, left_as a b begun m n n l k),
 )
 told_all a b begun n m (Err Missing) (l, _, missing) device k =
     let lacks = missing refl in
@@ -288,6 +314,20 @@ told_all a b begun n m (Err Missing) (l, _, missing) device k =
 told_all a b begun n m (Err Refused) (l, _, missing) device k =
     (left_in a b begun n, were_taken a b begun n l, left_as a b begun m (n + 1) n l k)
 told_all a b begun n m (Err _) t device k = absurd (⊎_elim (λ e. cc) (λ e. cc) device)
+
+pub told_among : {A B : Type 0} (a b : Directories) (stems : Bor (List (String Global))) (begun : Option (List ℕ)) (n m : ℕ) (r : Result (Vec (String A) B) StoreFault) → TellsBoth (Stems stems) a r b
+    → IfErr r IsDeviceFault → IsCountAfter r n m → AfterTaking (maildir_in a begun n) (λ left. ListsAmong left stems.now r (maildir_in b begun m))
+told_among a b stems begun n m (Ok names) (l, told, _) device k = (
+  left_in a b begun n,
+  were_taken a b begun n l,
+  (rw (sym l.there) told.new_is_there, rw (sym l.there) told.cur_is_there, told.lists, named_at b.entries told.named, left_as a b begun m n n l k),
+)
+told_among a b stems begun n m (Err Missing) (l, _, missing) device k =
+    let lacks = missing refl in
+    (left_in a b begun n, were_taken a b begun n l, (rw (sym l.there) (one_lacks b.there lacks.0 lacks.1), left_as a b begun m n n l k))
+told_among a b stems begun n m (Err Refused) (l, _, missing) device k =
+    (left_in a b begun n, were_taken a b begun n l, left_as a b begun m (n + 1) n l k)
+told_among a b stems begun n m (Err _) t device k = absurd (⊎_elim (λ e. cc) (λ e. cc) device)
 
 pub told_those : {A B : Type 0} (a b : Directories) (folder : Folder) (begun : Option (List ℕ)) (n m : ℕ) (r : Result (Vec (String A) B) StoreFault) → TellsOne a folder r b
     → IfErr r IsDeviceFault → IsCountAfter r n m → AfterTaking (maildir_in a begun n) (λ left. Lists left folder r (maildir_in b begun m))
@@ -512,7 +552,7 @@ not_put b0 b1 b2 b3 name fault x f led same (m, v, inr p) = inr (put_unnamed b0 
 -- ---- what a flush of files does to the folders of a Maildir
 
 module _ {A : Type 0} (stems : List (String A)) (same : (name : List ℕ) → stem (base name) ≡ stem name) where
-  flushed_at : (ss : List MailFile) → files_at (map (flushed_by stems) ss) ≡ map (mail_flushed_by stems) (files_at ss)
+  flushed_at : (ss : List MailFile) → files_at (map (entry_flushed_by stems) ss) ≡ map (flushed_by stems) (files_at ss)
   flushed_at [] = refl
   flushed_at (s ∷ ss) = rw (same s.name, flushed_at ss) refl
 

@@ -5,10 +5,10 @@ use Rattle.std.proofs.lemmas.Bool.{or_left}
 use Rattle.mail_terms.specs.MaildirName.{base}
 use Rattle.mail_store.specs.declared.maildir.disk.Folder.{Folder}
 use Rattle.mail_store.specs.declared.maildir.disk.Folder.TheVariants.{New, Cur}
-use Rattle.mail_store.specs.Loss.{AreLeftAs as FilesLeftAs}
+use Rattle.mail_store.specs.Loss.{AreLeftAs}
 use Rattle.mail_store.specs.Maildir.{AllDurable, AreReached, File, IsWithout, MayBeNamed, Reaches, names_of}
 use Rattle.folder_store.specs.MailFolders.{Draft, MailFile, Directories, KeepsFile, MovesFile, RestsFile, Each, Moved, mail_at, files_at, name_at, entries_in, touches_new, touches_cur, maildir_in, OneMoves, is_in}
-use Rattle.folder_store.specs.MailPower.{AllNamed, AreLeftAs, IsLeftAs, MailCanLosePower}
+use Rattle.folder_store.specs.MailPower.{EntriesNamed, EntriesLeftAs, IsLeftAs, MailCanLosePower}
 use Rattle.folder_store.specs.MailCalls.{Leads, Rests, named_by}
 
 -- what holds of two lists of files that are so related one by one
@@ -180,15 +180,15 @@ rests_on_at a b c first then = record { there = then.there ∙ first.there; take
 near : (s t : MailFile) → MovesFile (named_by New s) t → (named_by Cur t).is_named ≡ true
 near s t m = grind (arith, m.keeps.named, m.cur)
 
-pub both_named : (ss ts : List MailFile) → Each MovesFile (map (named_by New) ss) ts → AllNamed (map (named_by Cur) ts)
+pub both_named : (ss ts : List MailFile) → Each MovesFile (map (named_by New) ss) ts → EntriesNamed (map (named_by Cur) ts)
 both_named [] [] h = tt
 both_named [] (t ∷ ts) h = absurd h
 both_named (s ∷ ss) [] h = absurd h
 both_named (s ∷ ss) (t ∷ ts) h = (near s t h.0, both_named ss ts h.1)
 
-pub named_moved : (a b : List MailFile) → Each MovesFile a b → AllNamed a → AllNamed b
+pub named_moved : (a b : List MailFile) → Each MovesFile a b → EntriesNamed a → EntriesNamed b
 named_moved a b =
-    each_by MovesFile (λ a b. AllNamed a → AllNamed b) (λ all. all) (λ s t ss ts m rest all. (m.keeps.named all.0, rest all.1)) a b
+    each_by MovesFile (λ a b. EntriesNamed a → EntriesNamed b) (λ all. all) (λ s t ss ts m rest all. (m.keeps.named all.0, rest all.1)) a b
 
 -- ---- `new` at rest
 
@@ -271,7 +271,7 @@ on a b c first then = record {
 -- ---- what a loss of power leaves of the folders of a Maildir
 
 -- is what it may leave of the files
-pub left_as : (ss left : List MailFile) → AreLeftAs ss left → FilesLeftAs (files_at ss) (files_at left)
+pub left_as : (ss left : List MailFile) → EntriesLeftAs ss left → AreLeftAs (files_at ss) (files_at left)
 left_as [] left l = ap files_at l
 left_as (s ∷ ss) left (inl (gone, l)) = inl (gone, left_as ss left l)
 left_as (s ∷ ss) left (inr (t, rest, e, is, l)) = inr (
@@ -283,7 +283,7 @@ left_as (s ∷ ss) left (inr (t, rest, e, is, l)) = inr (
 )
 
 -- and is durable
-pub left_durable : (ss left : List MailFile) → AreLeftAs ss left → AllDurable (files_at left)
+pub left_durable : (ss left : List MailFile) → EntriesLeftAs ss left → AllDurable (files_at left)
 left_durable [] left l = rw l (tt, tt)
 left_durable (s ∷ ss) left (inl (gone, l)) = left_durable ss left l
 left_durable (s ∷ ss) left (inr (t, rest, e, is, l)) = let r = left_durable ss rest l in rw e ((is.named, r.0), (is.flushed, r.1))
@@ -309,6 +309,6 @@ mail_can_lose_power old =
     let r = all_staying old.entries in
     (record old { entries = r.0; made = None }, record { there = refl; each = r.1; made = refl; taken = refl })
   where
-    all_staying : (ss : List MailFile) → (left : List MailFile) × AreLeftAs ss left
+    all_staying : (ss : List MailFile) → (left : List MailFile) × EntriesLeftAs ss left
     all_staying [] = ([], refl)
     all_staying (s ∷ ss) = let r = all_staying ss in (staying s ∷ r.0, inr (staying s, r.0, refl, staying_left s, r.1))

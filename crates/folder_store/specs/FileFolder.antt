@@ -53,7 +53,8 @@ find name (e ∷ entries) = if bytes_eq name e.name then Some e.blob else find n
 -- the name leads to this file: in the place of another, else after all
 abbrev pub placed : List ℕ → Blob → List Entry → List Entry
 placed name blob [] = entry name blob ∷ []
-placed name blob (e ∷ entries) = if bytes_eq name e.name then entry name blob ∷ entries else e ∷ placed name blob entries
+placed name blob (e ∷ entries) = if bytes_eq name e.name then entry name blob ∷ entries
+    else e ∷ placed name blob entries
 
 -- the bytes of the file of this name
 abbrev pub content_at : Directory → List ℕ → Option (List ℕ)
@@ -146,7 +147,8 @@ Reads old name (Err fault) new = LacksFile old name fault new
 
 -- `edges`: the size and the ends of the file of this name
 abbrev pub MeasuresFile : Directory → List ℕ → Result Edges StoreFault → Directory → Type 0
-MeasuresFile old name (Ok edges) new = ((was : List ℕ) × (content_at old name ≡ Some was) × (edges ≡ edges_of was)) × (new ≡ old)
+MeasuresFile old name (Ok edges) new = ((was : List ℕ) × (content_at old name ≡ Some was) × (edges ≡ edges_of was))
+    × (new ≡ old)
 MeasuresFile old name (Err fault) new = LacksFile old name fault new
 
 -- `read_at`: the front of the buffer has the bytes of the file of this name from a place on, as many as fit,
@@ -160,7 +162,8 @@ ReadsPiece old name start (Err fault) buf new = LacksFile old name fault new
 
 -- `size`: how many bytes the file of this name has
 abbrev pub TellsSize : Directory → List ℕ → Result ℕ StoreFault → Directory → Type 0
-TellsSize old name (Ok size) new = ((was : List ℕ) × (content_at old name ≡ Some was) × (size ≡ length was)) × (new ≡ old)
+TellsSize old name (Ok size) new = ((was : List ℕ) × (content_at old name ≡ Some was) × (size ≡ length was))
+    × (new ≡ old)
 TellsSize old name (Err fault) new = new ≡ old
 
 -- the file of this name became one to which it has the relation
@@ -168,7 +171,8 @@ abbrev pub Alters : (Blob → Blob → Type 0) → Directory → List ℕ → Di
 Alters R old name new = (b c : Blob) × (find name old.entries ≡ Some b) × R b c × (new ≡ changed old name c)
 
 -- the file of this name became another; a refused call did a part of this, or nothing
-abbrev pub AltersInPart : {T : Type 0} → (Blob → Blob → Type 0) → (Blob → Blob → Type 0) → Directory → List ℕ → Result T StoreFault
+abbrev pub AltersInPart : {T : Type 0} → (Blob → Blob → Type 0) → (Blob → Blob → Type 0) → Directory → List ℕ
+    → Result T StoreFault
     → Directory → Type 0
 AltersInPart Done Part old name (Ok done) new = Alters Done old name new
 AltersInPart Done Part old name (Err fault) new = (new ≡ old) ⊎ Alters Part old name new
@@ -185,7 +189,8 @@ CutsTo old name len r new = AltersInPart (λ b c. c ≡ cut b len) (λ b c. c �
 -- `flush`: the bytes of the file of this name are on the disk; after a refused call they may be, or nothing
 -- was done, or nothing more of the file is known to reach the disk
 abbrev pub FlushesFile : {T : Type 0} → Directory → List ℕ → Result T StoreFault → Directory → Type 0
-FlushesFile old name r new = AltersInPart (λ b c. c ≡ flushed b) (λ b c. (c ≡ flushed b) ⊎ (c ≡ doubted b)) old name r new
+FlushesFile old name r new = AltersInPart (λ b c. c ≡ flushed b)
+    (λ b c. (c ≡ flushed b) ⊎ (c ≡ doubted b)) old name r new
 
 -- `flush_names`: the names are on the disk; a refused call did it, or nothing
 abbrev pub FlushesNames : {T : Type 0} → Directory → Result T StoreFault → Directory → Type 0

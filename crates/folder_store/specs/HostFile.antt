@@ -26,7 +26,8 @@ Keeps old name new = Holds new name (find name old.entries) old.older
 
 -- the file that was there became one to which it has the relation `R`
 abbrev pub Becomes : (Blob → Blob → Type 0) → Directory → List ℕ → Directory → Type 0
-Becomes R old name new = (b : Blob) × (c : Blob) × (find name old.entries ≡ Some b) × R b c × Holds new name (Some c) old.older
+Becomes R old name new = (b : Blob) × (c : Blob) × (find name old.entries ≡ Some b) × R b c
+    × Holds new name (Some c) old.older
 
 -- a file once a flush of it was asked for and refused, or not asked for
 abbrev pub MayBeFlushed : Blob → Blob → Type 0
@@ -47,14 +48,16 @@ pub record IsPartAppended (first front : List ℕ) (b c : Blob) : Type 0 where
   pub is : MayBeFlushed (appended so_far front) c
 
 -- the file became another; a refused call did a part of this, or nothing
-abbrev pub BecomesInPart : {T : Type 0} → (Blob → Blob → Type 0) → (Blob → Blob → Type 0) → Directory → List ℕ → Result T StoreFault
+abbrev pub BecomesInPart : {T : Type 0} → (Blob → Blob → Type 0) → (Blob → Blob → Type 0) → Directory → List ℕ
+    → Result T StoreFault
     → Directory → Type 0
 BecomesInPart Done Part old name (Ok done) new = Becomes Done old name new
 BecomesInPart Done Part old name (Err fault) new = Keeps old name new ⊎ Becomes Part old name new
 
 -- some of these bytes were appended to the file, in this way
 abbrev pub IsFrontAppended : List ℕ → Blob → Blob → Type 0
-IsFrontAppended bytes b c = (first front rest : List ℕ) × (bytes ≡ first ++ (front ++ rest)) × IsPartAppended first front b c
+IsFrontAppended bytes b c = (first front rest : List ℕ) × (bytes ≡ first ++ (front ++ rest))
+    × IsPartAppended first front b c
 
 -- bytes were appended to a file, in one or several pieces, each flushed before the next
 abbrev pub AppendsFlushed : {T : Type 0} → Directory → List ℕ → List ℕ → Result T StoreFault → Directory → Type 0
@@ -62,7 +65,8 @@ AppendsFlushed old name bytes r new = BecomesInPart (IsAppended bytes) (IsFrontA
 
 -- a file was cut, and flushed
 abbrev pub CutsFlushed : {T : Type 0} → Directory → List ℕ → ℕ → Result T StoreFault → Directory → Type 0
-CutsFlushed old name len r new = BecomesInPart (λ b c. c ≡ flushed (cut b len)) (λ b c. MayBeFlushed (cut b len) c) old name r new
+CutsFlushed old name len r new = BecomesInPart (λ b c. c ≡ flushed (cut b len))
+    (λ b c. MayBeFlushed (cut b len) c) old name r new
 
 -- the file made was flushed and put under the name, which may be on the disk or not
 abbrev pub StandsIn : Directory → List ℕ → Directory → Type 0
@@ -86,19 +90,22 @@ ReplacesFlushed old name bytes (Err fault) new =
     ⊎ Holds new name (Some (secured bytes)) [])
 
 -- what calls see of the file didn't change
-abbrev pub Flushes : Directory → List ℕ → Directory → Type 0
-Flushes old name new = content_at new name ≡ content_at old name
+abbrev pub FlushesAt : Directory → List ℕ → Directory → Type 0
+FlushesAt old name new = content_at new name ≡ content_at old name
 
 -- ---- what a loss of power leaves after these, as laws
 
 abbrev pub AppendsLast : Type 0
-AppendsLast = (old new : Directory) (name bytes : List ℕ) (r : Result (Unit {0}) StoreFault) → AppendsFlushed old name bytes r new
+AppendsLast = (old new : Directory) (name bytes : List ℕ) (r : Result (Unit {0}) StoreFault)
+    → AppendsFlushed old name bytes r new
     → AppendsForGood old name bytes r new
 
 abbrev pub CutsLast : Type 0
-CutsLast = (old new : Directory) (name : List ℕ) (len : ℕ) (r : Result (Unit {0}) StoreFault) → CutsFlushed old name len r new
+CutsLast = (old new : Directory) (name : List ℕ) (len : ℕ) (r : Result (Unit {0}) StoreFault)
+    → CutsFlushed old name len r new
     → CutsForGood old name len r new
 
 abbrev pub ReplacesLast : Type 0
-ReplacesLast = (old new : Directory) (name bytes : List ℕ) (r : Result (Unit {0}) StoreFault) → ReplacesFlushed old name bytes r new
+ReplacesLast = (old new : Directory) (name bytes : List ℕ) (r : Result (Unit {0}) StoreFault)
+    → ReplacesFlushed old name bytes r new
     → ReplacesForGood old name bytes r new

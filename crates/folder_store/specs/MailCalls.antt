@@ -1,6 +1,7 @@
 -- What each call does to the folders of a Maildir, once others have moved files.
 use Rattle.std.specs.Prelude.{◌≡◌, ◌≢◌, ◌⊎◌, ◌||◌, ◌↔◌, ℕ, Bool, true, false, IsTrue, List, [], ◌∷◌, ◌++◌, map, Option}
-use Rattle.std.specs.Prelude.{Some, None, Result, Ok, Err, IfErr, IfOk, IfSome, OnOk, Vec, String, string_bytes, IsPermutation, Contains}
+use Rattle.std.specs.Prelude.{Some, None, Result, Ok, Err, IfErr, IfOk, IfSome, OnOk, Vec, String, string_bytes}
+use Rattle.std.specs.Prelude.{IsPermutation, Contains}
 use Rattle.std.specs.List.{AllByRecursion, AllZip, filter}
 use Rattle.mail_terms.specs.MaildirName.{base}
 use Rattle.mail_store.specs.declared.fault.StoreFault.{StoreFault}
@@ -9,10 +10,14 @@ use Rattle.mail_store.specs.declared.maildir.disk.Folder.{Folder}
 use Rattle.mail_store.specs.declared.maildir.disk.Folder.TheVariants.{New, Cur}
 use Rattle.mail_store.specs.Maildir.{AreTheirs, File, IsWithout, MayBeNamed, bases_told, is_there, mail, names_of}
 use Rattle.mail_store.specs.FileName.{stem}
+use Rattle.mail_store.specs.Held.{is_sought}
 use Rattle.mail_store.specs.Loss.{is_among}
-use Rattle.folder_store.specs.MailFolders.{Directories, MailFile, Draft, Each, KeepsFile, Moved, files_at, is_left, is_taken}
+use Rattle.folder_store.specs.declared.mail_folders.Sought.{Sought}
+use Rattle.folder_store.specs.declared.mail_folders.Sought.TheVariants.{All, Stems}
+use Rattle.folder_store.specs.MailFolders.{Directories, MailFile, Draft, Each, KeepsFile, Moved, files_at, is_left}
+use Rattle.folder_store.specs.MailFolders.{is_taken}
 use Rattle.folder_store.specs.MailFolders.{name_at, entries_in, rests_in, touches_new, touches_cur}
-use Rattle.folder_store.specs.MailPower.{AllNamed}
+use Rattle.folder_store.specs.MailPower.{EntriesNamed}
 
 -- others moved files, and then the call did this
 abbrev pub Then : (Directories → Directories → Type 0) → Directories → Directories → Type 0
@@ -32,7 +37,10 @@ IfMissing r P = IfErr r (λ fault. fault ≡ Missing → P)
 
 -- files that readers took away are known no longer, but as taken
 abbrev pub without_taken : Directories → Directories
-without_taken d = record d { entries = filter is_left d.entries; taken = d.taken ++ files_at (filter is_taken d.entries) }
+without_taken d = record d {
+  entries = filter is_left d.entries;
+  taken = d.taken ++ files_at (filter is_taken d.entries);
+}
 
 -- a folder was listed, and has rested since
 abbrev pub listed : Folder → Directories → Directories
@@ -44,16 +52,28 @@ abbrev pub ChecksIn : {T : Type 0} → Folder → Result T StoreFault → Direct
 ChecksIn folder r old new =
     (new ≡ old) × OnOk r (is_there old.there folder ≡ true) × IfMissing r (is_there old.there folder ≡ false)
 
--- `list`: the names of the files of a folder, in any order
-abbrev pub ListsIn : {A B : Type 0} → Folder → Result (Vec (String A) B) StoreFault → Directories → Directories → Type 0
-ListsIn folder (Ok names) old new = (is_there old.there folder ≡ true)
-    × IsPermutation (map name_at (entries_in folder old.entries)) (map string_bytes names.items) × (new ≡ listed folder old)
-ListsIn folder (Err fault) old new = Lacks old folder fault new
+-- those of some names that are sought, in order
+abbrev pub names_sought : Sought → List (List ℕ) → List (List ℕ)
+names_sought All names = names
+names_sought (Stems stems) names = filter (is_sought stems.now) names
+
+-- those of some names that are sought were told, in any order
+abbrev pub AreSought : Sought → List (List ℕ) → List (List ℕ) → Type 0
+AreSought sought names told = (order : List (List ℕ)) × IsPermutation names order × (told ≡ names_sought sought order)
+
+-- `list`: the names of the files of a folder that are sought, in any order
+abbrev pub ListsIn : {A B : Type 0} → Folder → Sought → Result (Vec (String A) B) StoreFault → Directories
+    → Directories → Type 0
+ListsIn folder sought (Ok names) old new = (is_there old.there folder ≡ true)
+    × AreSought sought (map name_at (entries_in folder old.entries)) (map string_bytes names.items)
+    × (new ≡ listed folder old)
+ListsIn folder sought (Err fault) old new = Lacks old folder fault new
 
 -- `rests`: if the answer is true, the folder has rested since it was last listed
 abbrev pub TellsRest : Folder → Result Bool StoreFault → Directories → Directories → Type 0
 TellsRest folder r old new =
-    (new ≡ old) × IfOk r (λ rests. IsTrue rests → rests_in folder old ≡ true) × IfMissing r (is_there old.there folder ≡ false)
+    (new ≡ old) × IfOk r (λ rests. IsTrue rests → rests_in folder old ≡ true)
+    × IfMissing r (is_there old.there folder ≡ false)
 
 -- `has`: whether a file of `new` has the name
 abbrev pub LooksUpNew : List ℕ → Result Bool StoreFault → Directories → Directories → Type 0
@@ -62,7 +82,8 @@ LooksUpNew name r old new =
 
 -- `make`: a file without bytes and without a name
 abbrev pub MakesDraft : {T : Type 0} → Result T StoreFault → Directories → Directories → Type 0
-MakesDraft (Ok done) old new = (old.there.tmp ≡ true) × (new ≡ record old { made = Some (record { content = []; is_flushed = false }) })
+MakesDraft (Ok done) old new = (old.there.tmp ≡ true)
+    × (new ≡ record old { made = Some (record { content = []; is_flushed = false }) })
 MakesDraft (Err fault) old new = ChangesMade old new × (fault ≡ Missing → (old.there.tmp ≡ false) × (new ≡ old))
 
 -- `write`: the bytes are appended to the file made
@@ -73,7 +94,8 @@ WritesDraft bytes (Err fault) old new = ChangesMade old new
 
 -- `flush_made`: the bytes of the file made are durable; a refused call gives the file up
 abbrev pub FlushesDraft : {T : Type 0} → Result T StoreFault → Directories → Directories → Type 0
-FlushesDraft (Ok done) old new = (d : Draft) × (old.made ≡ Some d) × (new ≡ record old { made = Some (record d { is_flushed = true }) })
+FlushesDraft (Ok done) old new = (d : Draft) × (old.made ≡ Some d)
+    × (new ≡ record old { made = Some (record d { is_flushed = true }) })
 FlushesDraft (Err fault) old new = new ≡ record old { made = None }
 
 -- `discard`: no file is made
@@ -101,7 +123,8 @@ IsFree name d = AllByRecursion (λ (s : MailFile). s.is_new ≡ true → s.name 
 pub record PutsIntoNew (name : List ℕ) (old new : Directories) : Type 0 where
   pub draft : Draft
   pub made : old.made ≡ Some draft
-  pub is : IsFree name old → new ≡ record old { entries = old.entries ++ put_as name draft ∷ []; new_rests = false; made = None }
+  pub is : IsFree name old → new
+      ≡ record old { entries = old.entries ++ put_as name draft ∷ []; new_rests = false; made = None }
 
 -- `put`: a refused call did it, or changed only the file made
 abbrev pub PutsDraft : {T : Type 0} → List ℕ → Result T StoreFault → Directories → Directories → Type 0
@@ -120,14 +143,15 @@ names_flushed_in folder d = record d { entries = map (named_by folder) d.entries
 -- `flush_names`: the names of a folder are durable; a refused call did it, or nothing
 abbrev pub FlushesNamesIn : {T : Type 0} → Folder → Result T StoreFault → Directories → Directories → Type 0
 FlushesNamesIn folder (Ok done) old new = new ≡ names_flushed_in folder old
-FlushesNamesIn folder (Err fault) old new = Lacks old folder fault new ⊎ ((fault ≡ Refused) × (new ≡ names_flushed_in folder old))
+FlushesNamesIn folder (Err fault) old new = Lacks old folder fault new
+    ⊎ ((fault ≡ Refused) × (new ≡ names_flushed_in folder old))
 
 -- a file once those whose names have one of these stems were flushed
-abbrev pub flushed_by : {A : Type 0} → List (String A) → MailFile → MailFile
-flushed_by stems s = record s { is_flushed = s.is_flushed || is_among stems (stem s.name) }
+abbrev pub entry_flushed_by : {A : Type 0} → List (String A) → MailFile → MailFile
+entry_flushed_by stems s = record s { is_flushed = s.is_flushed || is_among stems (stem s.name) }
 
 abbrev pub files_flushed : {A : Type 0} → List (String A) → Directories → Directories
-files_flushed stems d = record d { entries = map (flushed_by stems) d.entries }
+files_flushed stems d = record d { entries = map (entry_flushed_by stems) d.entries }
 
 -- `flush_files`: the bytes of each file with one of these stems are durable, if the answer is true
 abbrev pub FlushesFiles : {A : Type 0} → List (String A) → Result Bool StoreFault → Directories → Directories → Type 0
@@ -165,28 +189,33 @@ pub record Learns (old new : Directories) : Type 0 where
   pub taken : new.taken ≡ old.taken ++ gone
   pub left : IsWithout (files_at old.entries) gone (files_at new.entries)
 
--- the names of both folders at one moment, each of a file with a durable name
-pub record ToldBoth {A : Type 0} (names : List (String A)) (d : Directories) : Type 0 where
+-- the names of both folders at one moment that are sought; and each file has a durable name
+pub record ToldBoth {A : Type 0} (sought : Sought) (names : List (String A)) (d : Directories) : Type 0 where
   pub new_is_there : d.there.new ≡ true
   pub cur_is_there : d.there.cur ≡ true
-  pub lists : IsPermutation (names_of (files_at d.entries)) (bases_told names)
-  pub named : AllNamed d.entries
+  pub lists : AreSought sought (names_of (files_at d.entries)) (bases_told names)
+  pub named : EntriesNamed d.entries
 
 -- one of the folders isn't there
 abbrev pub LacksOne : Directories → Type 0
 LacksOne d = (folder : Folder) × (is_there d.there folder ≡ false)
 
 -- a look at both folders: None if `new` changed meanwhile
-abbrev pub LooksAtBoth : {A B : Type 0} → Directories → Result (Option (Vec (String A) B)) StoreFault → Directories → Type 0
-LooksAtBoth old r new = Learns old new × IfOk r (λ o. IfSome o (λ names. ToldBoth names.items new)) × IfMissing r (LacksOne new)
+abbrev pub LooksAtBoth : {A B : Type 0} → Sought → Directories → Result (Option (Vec (String A) B)) StoreFault
+    → Directories → Type 0
+LooksAtBoth sought old r new = Learns old new × IfOk r (λ o. IfSome o (λ names. ToldBoth sought names.items new))
+    × IfMissing r (LacksOne new)
 
--- the names of both folders were told
-abbrev pub TellsBoth : {A B : Type 0} → Directories → Result (Vec (String A) B) StoreFault → Directories → Type 0
-TellsBoth old r new = Learns old new × IfOk r (λ names. ToldBoth names.items new) × IfMissing r (LacksOne new)
+-- the names of both folders that are sought were told
+abbrev pub TellsBoth : {A B : Type 0} → Sought → Directories → Result (Vec (String A) B) StoreFault → Directories
+    → Type 0
+TellsBoth sought old r new = Learns old new × IfOk r (λ names. ToldBoth sought names.items new)
+    × IfMissing r (LacksOne new)
 
 -- the names of one folder were told: each is that of a file that is there, in this folder or already in the other
 -- one, and stays
-abbrev pub TellsOne : {A B : Type 0} → Directories → Folder → Result (Vec (String A) B) StoreFault → Directories → Type 0
+abbrev pub TellsOne : {A B : Type 0} → Directories → Folder → Result (Vec (String A) B) StoreFault
+    → Directories → Type 0
 TellsOne old folder r new =
     Learns old new × IfOk r (λ names. (is_there new.there folder ≡ true) × AreTheirs (files_at new.entries) names.items)
     × IfMissing r (is_there new.there folder ≡ false)
@@ -200,10 +229,12 @@ IsUnknown name d = Contains (names_of (files_at d.entries)) (base name) → ⊥
 -- the file made was flushed and is in one of the folders, if no file had its name; its name may be durable
 abbrev pub StandsIn : Directories → List ℕ → Directories → Type 0
 StandsIn old name new = (d : Draft) × (old.made ≡ Some d)
-    × (IsUnknown name old → (is_named : Bool) × Brings old (record (mail name d.content) { is_named = is_named } ∷ []) new)
+    × (IsUnknown name old → (is_named : Bool)
+    × Brings old (record (mail name d.content) { is_named = is_named } ∷ []) new)
 
 -- the file made was flushed, put under the name, and then the names of `new` were flushed; a refused call did a part
 -- of this
 abbrev pub PutsForGood : {T : Type 0} → Directories → List ℕ → Result T StoreFault → Directories → Type 0
-PutsForGood old name (Ok done) new = (d : Draft) × (old.made ≡ Some d) × (IsUnknown name old → Brings old (mail name d.content ∷ []) new)
+PutsForGood old name (Ok done) new = (d : Draft) × (old.made ≡ Some d)
+    × (IsUnknown name old → Brings old (mail name d.content ∷ []) new)
 PutsForGood old name (Err fault) new = Rests old new ⊎ StandsIn old name new

@@ -18,22 +18,22 @@ pub record IsLeftAs (s t : MailFile) : Type 0 where
   pub gone : s.is_gone ≡ false → t.is_gone ≡ false
 
 -- some files after a loss of power, one by one: a file is there once, or is gone if no name of it was durable
-abbrev pub AreLeftAs : List MailFile → List MailFile → Type 0
-AreLeftAs [] left = left ≡ []
-AreLeftAs (s ∷ entries) left =
-    ((s.is_named ≡ false) × AreLeftAs entries left)
-    ⊎ ((t : MailFile) × (rest : List MailFile) × (left ≡ t ∷ rest) × IsLeftAs s t × AreLeftAs entries rest)
+abbrev pub EntriesLeftAs : List MailFile → List MailFile → Type 0
+EntriesLeftAs [] left = left ≡ []
+EntriesLeftAs (s ∷ entries) left =
+    ((s.is_named ≡ false) × EntriesLeftAs entries left)
+    ⊎ ((t : MailFile) × (rest : List MailFile) × (left ≡ t ∷ rest) × IsLeftAs s t × EntriesLeftAs entries rest)
 
 -- the folders after a loss of power; no file is being made
 pub record LosesMail (old new : Directories) : Type 0 where
   pub there : new.there ≡ old.there
-  pub each : AreLeftAs old.entries new.entries
+  pub each : EntriesLeftAs old.entries new.entries
   pub made : new.made ≡ None
   pub taken : new.taken ≡ old.taken
 
 -- each file has a durable name
-abbrev pub AllNamed : List MailFile → Type 0
-AllNamed entries = AllByRecursion (λ (s : MailFile). s.is_named ≡ true) entries
+abbrev pub EntriesNamed : List MailFile → Type 0
+EntriesNamed entries = AllByRecursion (λ (s : MailFile). s.is_named ≡ true) entries
 
 -- a loss of power is possible in each state
 abbrev pub MailCanLosePower : Type 0

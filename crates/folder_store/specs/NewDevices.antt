@@ -29,20 +29,23 @@ NewMaildirsKeepMail {D} disk folders = (was device : D) → FoundAgain (folders 
 
 -- a law: over folders that a loss of power left, all files are durable
 abbrev pub LeftMaildirsStay : {D : Type 0} → DiskGhosts D → (D → Directories) → Type 0
-LeftMaildirsStay {D} disk folders = (old left : Directories) (device : D) → LosesMail old left → FoundAgain left (folders device)
+LeftMaildirsStay {D} disk folders = (old left : Directories) (device : D) → LosesMail old left
+    → FoundAgain left (folders device)
     → AllDurable (disk.maildir device).files
 
 -- ---- a file
 
--- a law: over the same file of the same folder, a device that doesn't know whether that is flushed leaves what another one left, and is
--- sure if the other was
+-- a law: over the same file of the same folder, a device that doesn't know whether that is flushed leaves what another
+-- one left, and is sure if the other was
 abbrev pub NewFilesLeaveNoMore : {D : Type 0} → FileGhosts D → (D → Directory) → (D → List ℕ) → (D → Bool) → Type 0
-NewFilesLeaveNoMore {D} files folder name is_flushed = (was device : D) → folder device ≡ folder was → name device ≡ name was
+NewFilesLeaveNoMore {D} files folder name is_flushed = (was device : D) → folder device ≡ folder was
+    → name device ≡ name was
     → ((files.stored device).content ≡ (files.stored was).content)
     × LeavesNoMore (files.may_leave was) (files.may_leave device)
     × (is_flushed device ≡ false → files.is_sure was → files.is_sure device)
 
--- a law: over a folder that a loss of power left, a device is sure, and another loss of power leaves exactly what calls see
+-- a law: over a folder that a loss of power left, a device is sure, and another loss of power leaves exactly what calls
+-- see
 abbrev pub LeftFilesStand : {D : Type 0} → FileGhosts D → (D → Directory) → Type 0
 LeftFilesStand {D} files folder = (old : Directory) (device : D) → Loses old (folder device)
     → files.is_sure device

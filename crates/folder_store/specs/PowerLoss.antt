@@ -15,7 +15,8 @@ IsZeroFrom left i = (j : ℕ) → i ≤ j → j < length left → j / block_size
 abbrev pub IsByteLeft : List ℕ → List ℕ → List ℕ → ℕ → Type 0
 IsByteLeft content flushed left i =
     ((i < length content) × (slice_index left i ≡ slice_index content i))
-    ⊎ (((i < length flushed) × (slice_index left i ≡ slice_index flushed i)) ⊎ ((i < length content) × IsZeroFrom left i))
+    ⊎ (((i < length flushed) × (slice_index left i ≡ slice_index flushed i))
+    ⊎ ((i < length content) × IsZeroFrom left i))
 
 -- what is left of a file that reached the disk in part: the bytes that were flushed and not cut off since, and
 -- others after them. It has at most as many bytes as in memory, or exactly as many as on the disk.
@@ -98,20 +99,25 @@ DiskIsKnown = (is_flushed : Bool) (d : Directory) (name : List ℕ) → IsOnDisk
 
 -- `append`: whatever it answers, a loss of power leaves what it could have left before, or more bytes behind; of a file
 -- that was on the disk the old bytes and a part of the new ones, and after Ok all
-pub record AppendsForGood {T : Type 0} (old : Directory) (name bytes : List ℕ) (r : Result T StoreFault) (new : Directory) : Type 0 where
+pub record AppendsForGood {T : Type 0} (old : Directory) (name bytes : List ℕ) (r : Result T StoreFault)
+    (new : Directory) : Type 0 where
   pub longer : LeavesLonger (MayBe old name) (MayBe new name)
   pub leaves : IsOnDisk old name → LeavesPart (content_at old name) bytes (MayBe new name)
   pub outlives : OnOk r (IsOnDisk old name → IsOnDisk new name)
 
 -- `cut_to`: what could have been left before, or the first bytes of it, or more bytes behind; of a file that was on the
 -- disk the old bytes or the first of them, and after Ok only these
-pub record CutsForGood {T : Type 0} (old : Directory) (name : List ℕ) (len : ℕ) (r : Result T StoreFault) (new : Directory) : Type 0 where
+pub record CutsForGood {T : Type 0} (old : Directory) (name : List ℕ) (len : ℕ) (r : Result T StoreFault)
+    (new : Directory) : Type 0 where
   pub fronts : LeavesFronts len (MayBe old name) (MayBe new name)
-  pub leaves : (was : List ℕ) (left : Option (List ℕ)) → IsOnDisk old name → content_at old name ≡ Some was → MayBe new name left
+  pub leaves : (was : List ℕ) (left : Option (List ℕ)) → IsOnDisk old name → content_at old name ≡ Some was
+      → MayBe new name left
       → (left ≡ Some was) ⊎ (left ≡ Some (take len was))
   pub outlives : OnOk r (IsOnDisk old name → IsOnDisk new name)
 
--- `replace`: what could have been left before, a file or none, or the new bytes; after Ok only these, whatever was there
-pub record ReplacesForGood {T : Type 0} (old : Directory) (name bytes : List ℕ) (r : Result T StoreFault) (new : Directory) : Type 0 where
+-- `replace`: what could have been left before, a file or none, or the new bytes; after Ok only these, whatever was
+-- there
+pub record ReplacesForGood {T : Type 0} (old : Directory) (name bytes : List ℕ) (r : Result T StoreFault)
+    (new : Directory) : Type 0 where
   pub leaves : LeavesEither (MayBe old name) bytes (MayBe new name)
   pub outlives : OnOk r (IsOnDisk new name)

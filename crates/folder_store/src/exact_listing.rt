@@ -4,7 +4,11 @@ ghost use Rattle.std.specs.Prelude.{◌≡◌, ◌≢◌, pos};
 ghost use Rattle.std.specs.Duration.{as_nanos};
 ghost use Rattle.folder_store.specs.ExactListing.{IsListing, left_of};
 
+use crate::mail_folders::Sought;
 use crate::system::entry_in;
+use mail_store::stem;
+use std::alloc::{AllocError, Global};
+use std::collections::BTreeSet;
 use std::fs::Metadata;
 use std::os::unix::fs::MetadataExt;
 use std::rt::Files;
@@ -72,7 +76,7 @@ impl ChangeTime {
 /// The names of a folder, and the folder's metadata just before they were listed.
 #[derive(Drop)]
 pub struct FolderNames {
-    /// Each name once, in any order.
+    /// Each name that is sought once, in any order.
     pub names: Vec<String>,
     /// The folder, whose time of change was the same before and after the listing.
     pub folder: Metadata,
@@ -145,13 +149,38 @@ fn listing_of(before: ChangeTime, after: ChangeTime, passed: Duration) -> Listin
     }
 }
 
-/// The names that one pass through a folder finds. If names change meanwhile, the system may leave
+/// The stems that are sought, to be looked up; None if all names are.
+fn stems_sought<'b>(
+    alloc: Global,
+    sought: Sought<'b>,
+) -> Result<Option<BTreeSet<&'b str>>, AllocError> {
+    let Sought::Stems(texts) = sought else {
+        return Ok(None);
+    };
+    let mut stems = BTreeSet::new(alloc);
+    for text in texts {
+        stems.insert(text.as_str())?;
+    }
+    Ok(Some(stems))
+}
+
+/// Whether a name is one that readers look at, and has one of these stems if there are any.
+fn is_sought(stems: &Option<BTreeSet<&str>>, name: &str) -> bool {
+    let has_stem = match stems {
+        Some(stems) => stems.contains(stem(name)),
+        None => true,
+    };
+    has_stem && !name.starts_with('.')
+}
+
+/// The names sought that one pass through a folder finds. If names change meanwhile, the system may leave
 /// out a file that is there all the time; and on tmpfs it finds a renamed file again, so a pass
 /// ends early once the folder isn't as it was seen.
 fn pass_through<R: Files + Clock + AllocGlobal + Clone + Drop>(
     system: &System<'_, R>,
     path: &str,
     seen: &Sighting,
+    stems: &Option<BTreeSet<&str>>,
 ) -> io::Result<Vec<String>> {
     let mut names = Vec::new(system.alloc());
     let mut until_look = LOOK_EACH;
@@ -165,7 +194,7 @@ fn pass_through<R: Files + Clock + AllocGlobal + Clone + Drop>(
             until_look = LOOK_EACH;
         }
         if let Some(entry) = entry_in(system.refusals, path, entry)? {
-            if !entry.file_name().starts_with('.') {
+            if is_sought(stems, entry.file_name()) {
                 names.push(String::from_str(system.alloc(), entry.file_name())?)?;
             }
         }
@@ -173,7 +202,7 @@ fn pass_through<R: Files + Clock + AllocGlobal + Clone + Drop>(
     Ok(names)
 }
 
-/// The names of a folder at one moment between the call and its end: none is left out and none
+/// The names of a folder that are sought, at one moment between the call and its end: none is left out and none
 /// occurs twice, although others make, remove and rename files in it meanwhile. Names that begin
 /// with a full stop and names that aren't UTF-8 are skipped.
 ///
@@ -187,7 +216,9 @@ fn pass_through<R: Files + Clock + AllocGlobal + Clone + Drop>(
 pub fn list_names<R: Files + Clock + AllocGlobal + Clone + Drop>(
     system: &System<'_, R>,
     path: &str,
+    sought: Sought<'_>,
 ) -> io::Result<FolderNames> {
+    let stems = stems_sought(system.alloc(), sought)?;
     let start = system.rt.monotonic()?;
     let mut seen = Sighting::now(system, path)?;
     for _ in 0..MOST_LISTINGS {
@@ -195,7 +226,7 @@ pub fn list_names<R: Files + Clock + AllocGlobal + Clone + Drop>(
         if wait > Duration::ZERO {
             thread::sleep(system.rt, wait);
         }
-        let names = pass_through(system, path, &seen)?;
+        let names = pass_through(system, path, &seen, &stems)?;
         let again = Sighting::now(system, path)?;
         match listing_of(
             seen.change(),

@@ -4,7 +4,7 @@ ghost use Rattle.std.specs.Prelude.{◌≡◌, ◌<◌, ◌+◌, false, OnErr, O
 ghost use Rattle.mail_terms.specs.FailureCount.{greatest_count};
 ghost use Rattle.mail_store.specs.Power.{LeavesNoMore};
 ghost use Rattle.folder_store.specs.FileFolder.{find};
-ghost use Rattle.folder_store.specs.HostFile.{Flushes, stored_in, unknown_file};
+ghost use Rattle.folder_store.specs.HostFile.{FlushesAt, stored_in, unknown_file};
 ghost use Rattle.folder_store.specs.NewDevices.{LeftFilesStand, NewFilesLeaveNoMore};
 ghost use Rattle.folder_store.specs.PowerLoss.{IsKnown, IsOnDisk, IsSure, MayBe};
 
@@ -53,7 +53,8 @@ impl<'a, F: FileFolder + Drop> HostFile<'a, F> {
     /// The file of a name in a folder. There need be none.
     pub fn over(folder: F, name: &'a str, appending: Appending) -> HostFile<'a, F>
         ensures stored { ⟦<HostFile<'a, F> as FlatFile>⟧.stored result ≡ stored_in (F.directory folder) name.now 0 }
-        ensures sure { IsSure (find name.now (F.directory folder).entries) → ⟦<HostFile<'a, F> as FlatFile>⟧.is_sure result }
+        ensures sure { IsSure (find name.now (F.directory folder).entries)
+            → ⟦<HostFile<'a, F> as FlatFile>⟧.is_sure result }
     {
         HostFile {
             folder,
@@ -83,8 +84,9 @@ impl<'a, F: FileFolder + Drop> HostFile<'a, F> {
     // Flushes the file and its name, unless they were flushed before.
     fn secure(&mut self) -> Result<(), StoreFault>
         ensures flushes { F.sound self.new.folder → F.sound self.old.folder
-            × Flushes (F.directory self.old.folder) self.old.name.now (F.directory self.new.folder) }
-        ensures on_disk { F.sound self.new.folder → IsKnown self.old.is_flushed (F.directory self.old.folder) self.old.name.now
+            × FlushesAt (F.directory self.old.folder) self.old.name.now (F.directory self.new.folder) }
+        ensures on_disk { F.sound self.new.folder
+            → IsKnown self.old.is_flushed (F.directory self.old.folder) self.old.name.now
             → OnOk result (IsOnDisk (F.directory self.new.folder) self.old.name.now) }
         ensures keeps { F.sound self.new.folder → LeavesNoMore (MayBe (F.directory self.old.folder) self.old.name.now)
             (MayBe (F.directory self.new.folder) self.old.name.now) }
@@ -299,6 +301,7 @@ impl<'a, F: FileFolder + Drop> FlatFile for HostFile<'a, F> {
 /// A file made anew over the same folder leaves no more than the last one did; over a folder that a loss of
 /// power left, it leaves exactly what calls see.
 pub fn new_files_leave_no_more<'a, F: FileFolder + Drop>()
-    ensures anew { NewFilesLeaveNoMore ⟦<HostFile<'a, F> as FlatFile>⟧ (λ f. F.directory f.folder) (λ f. f.name.now) (λ f. f.is_flushed) }
+    ensures anew { NewFilesLeaveNoMore ⟦<HostFile<'a, F> as FlatFile>⟧ (λ f. F.directory f.folder) (λ f. f.name.now)
+        (λ f. f.is_flushed) }
     ensures left { LeftFilesStand ⟦<HostFile<'a, F> as FlatFile>⟧ (λ f. F.directory f.folder) }
 {}

@@ -32,8 +32,10 @@ fn add_stems<'a>(
     missed: &mut BTreeSet<&'a str>,
     found: &'a [Found],
 ) -> Result<(), AllocError>
-    ensures flushed { OnOk result ((q : List ℕ) → has_text flushed.new q ≡ (has_text flushed.old q || has_flushed found.now q)) }
-    ensures missed { OnOk result ((q : List ℕ) → has_text missed.new q ≡ (has_text missed.old q || has_missed found.now q)) }
+    ensures flushed { OnOk result ((q : List ℕ)
+        → has_text flushed.new q ≡ (has_text flushed.old q || has_flushed found.now q)) }
+    ensures missed { OnOk result ((q : List ℕ)
+        → has_text missed.new q ≡ (has_text missed.old q || has_missed found.now q)) }
 {
     for file in found {
         if file.is_flushed {

@@ -8,6 +8,7 @@ use crate::device::FileFolder;
 use crate::exact_listing::{FolderNames, list_names};
 use crate::handles::{Changed, Handles, Names, bytes_in, piece_in};
 use crate::host_paths::HostPaths;
+use crate::mail_folders::Sought;
 use crate::process_mark::ProcessMark;
 use crate::system::{folder_of, make_file, sweep};
 use mail_store::{Edges, StoreFault};
@@ -309,11 +310,11 @@ impl<'a, R: Files + Clock + AllocGlobal + Clone + Drop> HostFolder<'a, R> {
         }
     }
 
-    // The names of the folder's files. A name that begins with a full stop or isn't UTF-8 is skipped,
+    // The names of the folder's files that are sought. A name that begins with a full stop or isn't UTF-8 is skipped,
     // and so is a folder. The system is asked what each name stands for only if a folder may be
     // among them, since that takes longer than all else.
-    pub(crate) fn read_names(&self) -> io::Result<FolderNames> {
-        let mut found = list_names(self.system, self.paths.folder_path()?.as_str())?;
+    pub(crate) fn read_names(&self, sought: Sought<'_>) -> io::Result<FolderNames> {
+        let mut found = list_names(self.system, self.paths.folder_path()?.as_str(), sought)?;
         if may_hold_folders(&found.folder) {
             found.names = self.files_among(found.names)?;
         }

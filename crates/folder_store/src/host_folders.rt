@@ -7,7 +7,7 @@ use crate::device::FileFolder;
 use crate::exact_listing::{ChangeTime, FolderNames};
 use crate::flush_pass::{Found, unsettled};
 use crate::host::{HostFolder, answer_of};
-use crate::mail_folders::MailFolders;
+use crate::mail_folders::{MailFolders, Sought};
 use crate::process_mark::ProcessMark;
 use mail_store::{Folder, StoreFault, stem};
 use std::alloc::{AllocError, Global};
@@ -99,8 +99,8 @@ impl<'a, R: Files + Clock + AllocGlobal + Clone + Drop> HostFolders<'a, R> {
     // Flushes the files with one of these stems that both folders have at one moment. If `new` changed
     // while they were listed, a reader may have moved one past the listing: then none counts as found.
     fn sync_pass(&mut self, stems: &[&str]) -> io::Result<Vec<Found>> {
-        let in_new = self.new_folder.host.read_names()?;
-        let in_cur = self.cur_folder.host.read_names()?;
+        let in_new = self.new_folder.host.read_names(Sought::All)?;
+        let in_cur = self.cur_folder.host.read_names(Sought::All)?;
         let now = self.new_folder.host.look_at_folder()?;
         if ChangeTime::of(&in_new.folder) != ChangeTime::of(&now) {
             return Ok(Vec::new(self.system.alloc()));
@@ -198,10 +198,10 @@ impl<'a, R: Files + Clock + AllocGlobal + Clone + Drop> MailFolders for HostFold
         }
     }
 
-    fn list(&mut self, folder: Folder) -> Result<Vec<String>, StoreFault> {
+    fn list(&mut self, folder: Folder, sought: Sought<'_>) -> Result<Vec<String>, StoreFault> {
         let refusals = self.system.refusals;
         let listed = self.folder_mut(folder);
-        let FolderNames { names, folder } = answer_of(refusals, listed.host.read_names())?;
+        let FolderNames { names, folder } = answer_of(refusals, listed.host.read_names(sought))?;
         listed.change = Some(ChangeTime::of(&folder));
         Ok(names)
     }

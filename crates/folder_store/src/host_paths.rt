@@ -1,7 +1,7 @@
 //! The paths of a folder of the machine's file system.
 
 use crate::process_mark::ProcessMark;
-use std::alloc::Global;
+use std::alloc::{AllocError, Global};
 use std::io;
 use trace::Refusals;
 
@@ -21,35 +21,46 @@ pub struct HostPaths<'a> {
     pub mark: ProcessMark,
 }
 
+/// Ends a path by a slash, if it has none at its end.
+fn end_folder(path: &mut String) -> Result<(), AllocError> {
+    if path.ends_with('/') {
+        return Ok(());
+    }
+    path.push('/')
+}
+
 impl<'a> HostPaths<'a> {
-    fn path_in(&self, folder: &str) -> io::Result<String> {
-        let base = self.base;
-        Ok(if folder.is_empty() {
-            String::from_str(self.alloc, base)?
-        } else if base.ends_with('/') {
-            format!(in self.alloc; "{base}{folder}")?
-        } else {
-            format!(in self.alloc; "{base}/{folder}")?
-        })
+    // The path of a folder, made with room for so many octets more.
+    fn path_in(&self, folder: &str, more: usize) -> io::Result<String> {
+        let room = self
+            .base
+            .len()
+            .saturating_add(folder.len())
+            .saturating_add(more);
+        let mut path = String::with_capacity(self.alloc, room.saturating_add(2))?;
+        path.push_str(self.base)?;
+        if !folder.is_empty() {
+            end_folder(&mut path)?;
+            path.push_str(folder)?;
+        }
+        Ok(path)
     }
 
     fn file_path(&self, folder: &str, name: &str) -> io::Result<String> {
-        let mut path = self.path_in(folder)?;
-        if !path.ends_with('/') {
-            path.push('/')?;
-        }
+        let mut path = self.path_in(folder, name.len())?;
+        end_folder(&mut path)?;
         path.push_str(name)?;
         Ok(path)
     }
 
     /// The path of the folder.
     pub fn folder_path(&self) -> io::Result<String> {
-        self.path_in(self.folder)
+        self.path_in(self.folder, 0)
     }
 
     /// The path of the folder in which files are made.
     pub fn scratch_path(&self) -> io::Result<String> {
-        self.path_in(self.scratch)
+        self.path_in(self.scratch, 0)
     }
 
     /// The path of a file.
@@ -59,10 +70,13 @@ impl<'a> HostPaths<'a> {
 
     /// The path of a file that is made to be put under a name.
     pub fn made_path(&self, name: &str) -> io::Result<String> {
-        let suffix = self.suffix;
-        let title = format!(in self.alloc; "{name}{suffix}")?;
-        let title = self.mark.marked(self.alloc, title.as_str())?;
-        self.file_path(self.scratch, title.as_str())
+        let mark = self.mark.marked(self.alloc, self.suffix)?;
+        let room = name.len().saturating_add(mark.len());
+        let mut path = self.path_in(self.scratch, room)?;
+        end_folder(&mut path)?;
+        path.push_str(name)?;
+        path.push_str(mark.as_str())?;
+        Ok(path)
     }
 
     /// An error for a file that isn't as it has to be, with the reason.

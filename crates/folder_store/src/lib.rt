@@ -29,7 +29,7 @@ pub use laws::{
     disk_is_known, disk_is_left, mail_can_lose_power, power_leaves, readers_move,
     writes_outlive_power,
 };
-pub use mail_folders::MailFolders;
+pub use mail_folders::{MailFolders, Sought};
 pub use maildir::{FolderMaildir, new_maildirs_keep_mail};
 pub use process_mark::ProcessMark;
 pub use steps::Appending;

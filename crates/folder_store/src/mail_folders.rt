@@ -2,6 +2,15 @@
 
 use mail_store::{Folder, StoreFault};
 
+/// Which names a listing tells.
+#[derive(Clone, Copy)]
+pub enum Sought<'a> {
+    /// All.
+    All,
+    /// Those with one of these stems.
+    Stems(&'a [String]),
+}
+
 /// The folders `new` and `cur` of a Maildir, any of whose calls may be refused. Mail readers may move
 /// files between the two, change their marks and take files away at any moment: what a call does, it
 /// does to what they left. Only `list` sees that a file was taken away.
@@ -29,10 +38,11 @@ pub trait MailFolders {
             × Then (ChecksIn folder result) (directories self.old) (directories self.new) }
         ensures fault { IfErr result IsDeviceFault };
 
-    /// The names of a folder's files at one moment, in any order. Missing if it isn't there.
-    fn list(&mut self, folder: Folder) -> Result<Vec<String>, StoreFault>
+    /// Of the names of a folder's files at one moment those that are sought, in any order. Missing if it
+    /// isn't there.
+    fn list(&mut self, folder: Folder, sought: Sought<'_>) -> Result<Vec<String>, StoreFault>
         ensures lists { sound self.new → sound self.old
-            × Then (ListsIn folder result) (directories self.old) (directories self.new) }
+            × Then (ListsIn folder sought.entry result) (directories self.old) (directories self.new) }
         ensures fault { IfErr result IsDeviceFault };
 
     /// Whether a folder has rested since it was last listed: no file came, went or got another name

@@ -4,23 +4,27 @@ ghost use Rattle.std.specs.Prelude.{◌≡◌, ◌++◌, IfErr, IfOk};
 ghost use Rattle.mail_store.specs.Fault.{IsDeviceFault};
 ghost use Rattle.folder_store.specs.MailCalls.{LooksAtBoth, PutsForGood, TellsBoth, TellsOne};
 
-use crate::mail_folders::MailFolders;
-use mail_store::{Folder, StoreFault};
+use crate::mail_folders::{MailFolders, Sought};
+use mail_store::{Folder, StoreFault, marks_keep_the_base};
 
 /// How many times the folders are listed for one answer.
 const MOST_LOOKS: u32 = 100;
 
-/// The names of both folders, once they are durable. None if `new` changed meanwhile: a reader may
+/// The names of both folders that are sought, once all are durable. None if `new` changed meanwhile: a reader may
 /// then have moved a file from the folder that wasn't listed yet to the one that was.
-fn look_at_both<F: MailFolders>(folders: &mut F) -> Result<Option<Vec<String>>, StoreFault>
+fn look_at_both<F: MailFolders>(
+    folders: &mut F,
+    sought: Sought<'_>,
+) -> Result<Option<Vec<String>>, StoreFault>
     ensures looks { F.sound folders.new → F.sound folders.old
-        × LooksAtBoth (F.directories folders.old) result (F.directories folders.new) }
+        × LooksAtBoth sought.entry (F.directories folders.old) result (F.directories folders.new) }
     ensures fault { IfErr result IsDeviceFault }
 {
+    marks_keep_the_base();
     folders.flush_names(Folder::New)?;
     folders.flush_names(Folder::Cur)?;
-    let mut names = folders.list(Folder::New)?;
-    let mut in_cur = folders.list(Folder::Cur)?;
+    let mut names = folders.list(Folder::New, sought)?;
+    let mut in_cur = folders.list(Folder::Cur, sought)?;
     if !folders.rests(Folder::New)? {
         return Ok(None);
     }
@@ -30,18 +34,21 @@ fn look_at_both<F: MailFolders>(folders: &mut F) -> Result<Option<Vec<String>>, 
     }
 }
 
-/// The names of the files of `new` and `cur` at one moment, once they are durable. Refused if
-/// readers change `new` all the time.
-pub fn told_names<F: MailFolders>(folders: &mut F) -> Result<Vec<String>, StoreFault>
+/// Of the names of the files of `new` and `cur` at one moment those that are sought, once all are durable.
+/// Refused if readers change `new` all the time.
+pub fn told_names<F: MailFolders>(
+    folders: &mut F,
+    sought: Sought<'_>,
+) -> Result<Vec<String>, StoreFault>
     ensures tells { F.sound folders.new → F.sound folders.old
-        × TellsBoth (F.directories folders.old) result (F.directories folders.new) }
+        × TellsBoth sought.entry (F.directories folders.old) result (F.directories folders.new) }
     ensures fault { IfErr result IsDeviceFault }
 {
     for times in 0..MOST_LOOKS {
         if !folders.may_list_again(times) {
             break;
         }
-        if let Some(names) = look_at_both(folders)? {
+        if let Some(names) = look_at_both(folders, sought)? {
             return Ok(names);
         }
     }
@@ -57,7 +64,7 @@ pub fn told_names_of<F: MailFolders>(
         × TellsOne (F.directories folders.old) folder result (F.directories folders.new) }
     ensures fault { IfErr result IsDeviceFault }
 {
-    let names = folders.list(folder)?;
+    let names = folders.list(folder, Sought::All)?;
     folders.flush_names(folder)?;
     Ok(names)
 }

@@ -6,7 +6,7 @@ ghost use Rattle.folder_store.specs.MailFolders.{maildir_in, unknown_maildir};
 ghost use Rattle.folder_store.specs.NewDevices.{LeftMaildirsStay, LossesMayLeave, NewMaildirsKeepMail};
 
 use crate::host_folders::HostFolders;
-use crate::mail_folders::MailFolders;
+use crate::mail_folders::{MailFolders, Sought};
 use crate::mail_steps::{put_for_good, told_names, told_names_of};
 use crate::process_mark::ProcessMark;
 use crate::tally::tally;
@@ -110,7 +110,18 @@ impl<F: MailFolders + Drop> MaildirDisk for FolderMaildir<F> {
 
     fn all_names(&mut self) -> Result<Vec<String>, StoreFault> {
         admit(&self.failures)?;
-        tally(&mut self.failures, told_names(&mut self.folders))
+        tally(
+            &mut self.failures,
+            told_names(&mut self.folders, Sought::All),
+        )
+    }
+
+    fn names_among(&mut self, stems: &[String]) -> Result<Vec<String>, StoreFault> {
+        admit(&self.failures)?;
+        tally(
+            &mut self.failures,
+            told_names(&mut self.folders, Sought::Stems(stems)),
+        )
     }
 
     fn check(&mut self, folder: Folder) -> Result<(), StoreFault> {

@@ -2,7 +2,7 @@
 
 ghost use Rattle.std.specs.Prelude.{◌≡◌, None, OnErr, OnOk};
 ghost use Rattle.folder_store.specs.FileFolder.{find};
-ghost use Rattle.folder_store.specs.HostFile.{AppendsFlushed, CutsFlushed, Flushes, PutsFlushed, ReplacesFlushed};
+ghost use Rattle.folder_store.specs.HostFile.{AppendsFlushed, CutsFlushed, FlushesAt, PutsFlushed, ReplacesFlushed};
 ghost use Rattle.folder_store.specs.PowerLoss.{IsOnDisk, IsSure, MayBe};
 ghost use Rattle.mail_store.specs.Power.{LeavesNoMore};
 
@@ -115,7 +115,7 @@ pub fn replace_flushed<F: FileFolder>(
 /// Flushes a file and the names.
 pub fn flush_both<F: FileFolder>(folder: &mut F, name: &str) -> Result<(), StoreFault>
     ensures flushes { F.sound folder.new → F.sound folder.old
-        × Flushes (F.directory folder.old) name.now (F.directory folder.new) }
+        × FlushesAt (F.directory folder.old) name.now (F.directory folder.new) }
     ensures keeps { F.sound folder.new
         → LeavesNoMore (MayBe (F.directory folder.old) name.now) (MayBe (F.directory folder.new) name.now) }
     ensures on_disk { F.sound folder.new → IsSure (find name.now (F.directory folder.old).entries)

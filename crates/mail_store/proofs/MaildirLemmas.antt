@@ -11,6 +11,7 @@ use Rattle.std.proofs.lemmas.Bool.Decides.{nat_tests}
 use Rattle.std.proofs.lemmas.Simd.{map-map}
 use Rattle.std.proofs.lemmas.List.Sorted.{IsPermutation-refl, IsPermutation-cons, IsPermutation-map, IsPermutation-middle, IsPermutation-sym, IsPermutation-trans, Contains-permutation, list_any-IsPermutation}
 use Rattle.std.proofs.lemmas.Cmp.{nat_list_eq_equiv}
+use Rattle.std.proofs.lemmas.Map.Views.{any-filter_same}
 use Rattle.std.proofs.Math.Bool.{or-false, or-true}
 use Rattle.std.proofs.lemmas.Slice.Eq.{bytes_eq-Decides}
 use Rattle.hex.specs.Hex.{encode_lower, encode_with, lower_digits, IsBytes, decode_of}
@@ -26,7 +27,7 @@ use Rattle.mail_store.specs.Maildir.{AllNamed, AreReached, AreTheirs, File, IsNa
 use Rattle.mail_store.specs.declared.maildir.disk.Folder.{Folder}
 use Rattle.mail_store.specs.declared.maildir.disk.Folder.TheVariants.{New, Cur}
 use Rattle.mail_store.specs.MemoryMaildir.{TwoFolders, count, files_of_folder, merged, shown}
-use Rattle.mail_store.specs.Held.{FoundDurable, HasDurable, HasStem, HasStems, any_name, flags_of}
+use Rattle.mail_store.specs.Held.{AreAmong, FoundDurable, HasDurable, HasStem, HasStems, any_name, flags_asked, flags_of, flags_sought, is_sought, sought_among}
 use Rattle.mail_store.specs.Loss.{flushed, flushed_by, is_among}
 
 -- ---- digits
@@ -406,6 +407,62 @@ flags_found account maildir items found names texts told = simp held
         let any = list_any-IsPermutation (names_id account uid) (names_of maildir.files) (bases_told names) told in
         texts (encode_lower uid) ∙ sym (simp (list_any-map, stem_base) at any)
 
+-- ---- the names with some stems
+
+-- a base has one of them exactly if its name has
+pub sought_bases : {A : Type 0} (stems : List (String A)) (names : List (List ℕ)) → map base (filter (is_sought stems) names) ≡ filter (is_sought stems) (map base names)
+sought_bases stems [] = refl
+sought_bases stems (name ∷ names) = let rest = sought_bases stems names in let same = stem_base name in grind (arith, rest, same)
+
+-- the names of both folders that have one of these stems tell all of these
+pub told_sought : {A B : Type 0} (stems : List (String A)) (files in_new in_cur : List File) (kept : List (String B)) → IsPermutation files (map shown (in_new ++ in_cur))
+    → map string_bytes kept ≡ filter (is_sought stems) (names_of in_new ++ names_of in_cur) → AreAmong stems (names_of files) (bases_told kept)
+told_sought stems files in_new in_cur kept both is =
+    let all = in_new ++ in_cur in
+    let bases : names_of (map shown all) ≡ map base (names_of in_new ++ names_of in_cur) = map-map name_in shown all ∙ sym (map-map base name_in all) ∙ ap (map base) (map-append name_in in_new in_cur) in (
+      map base (names_of in_new ++ names_of in_cur),
+      rw bases at (IsPermutation-map name_in files (map shown all) both),
+      sym (map-map base string_bytes kept) ∙ ap (map base) is ∙ sought_bases stems (names_of in_new ++ names_of in_cur),
+    )
+
+-- the digits in the stems of the names show which of the items that are asked for are held
+pub flags_among : {A B : Type 0} (account : List ℕ) (maildir : Maildir) (stems : List (String A)) (items : List Item) (flags : List Bool) (found : List ℕ → Bool) (names : List (String B))
+    → ((q : List ℕ) → found q ≡ any_name account q names) → AreAmong stems (names_of maildir.files) (bases_told names) → HasStems account items flags flags (length items) stems
+    → sought_among found items flags ≡ flags_sought account maildir items flags
+flags_among account maildir stems [] flags found names texts told has = refl
+flags_among account maildir stems (item ∷ items) [] found names texts told has = refl
+flags_among account maildir stems (item ∷ items) (false ∷ flags) found names texts told has =
+    ap (λ (bs : List Bool). false ∷ bs) (flags_among account maildir stems items flags found names texts told (λ k below. has (suc k) (omega (arith, below))))
+flags_among {A} {B} account maildir stems (item ∷ items) (true ∷ flags) found names texts (order, same, told) has =
+    rw (held (has 0 (omega arith) item (λ d. refl) (λ d. refl) (λ d. refl)), flags_among account maildir stems items flags found names texts (order, same, told) (λ k below. has (suc k) (omega (arith, below)))) refl
+  where
+    held : is_among stems (stem_of account item.uid) ≡ true → found (encode_lower item.uid) ≡ is_held account maildir item.uid
+    held among =
+        let ids = names_id account item.uid in
+        let of_one : (name : List ℕ) → ids name ≡ true → is_sought stems name ≡ true = λ name is. rw (← (bytes_eq-Decides (stem_of account item.uid) (stem name)).0 is, among) refl in
+        let any = list_any-IsPermutation ids (names_of maildir.files) order same ∙ sym (any-filter_same ids (is_sought stems) true of_one order) ∙ ap (list_any ids) (sym told) in
+        texts (encode_lower item.uid) ∙ sym (simp (list_any-map, stem_base) at any)
+
+-- of one item more
+sought_pushed : (found : List ℕ → Bool) (items : List Item) (flags : List Bool) (item : Item) (flag : Bool) → length flags ≡ length items
+    → sought_among found (items ++ item ∷ []) (flags ++ flag ∷ []) ≡ sought_among found items flags ++ (flag && found (encode_lower item.uid)) ∷ []
+sought_pushed found [] [] item flag same = refl
+sought_pushed found [] (f ∷ flags) item flag same = absurd (omega (arith, same))
+sought_pushed found (i ∷ items) [] item flag same = absurd (omega (arith, same))
+sought_pushed found (i ∷ items) (f ∷ flags) item flag same = ap (λ (bs : List Bool). (f && found (encode_lower i.uid)) ∷ bs) (sought_pushed found items flags item flag (omega (arith, same)))
+
+pub sought_more : (found : List ℕ → Bool) (items : List Item) (flags : List Bool) (i : ℕ) (none : Item) (unset : Bool) → i < length items → length flags ≡ length items
+    → sought_among found (take (i + 1) items) (take (i + 1) flags)
+    ≡ sought_among found (take i items) (take i flags) ++ (get_or flags i unset && found (encode_lower (get_or items i none).uid)) ∷ []
+sought_more found items flags i none unset inside same =
+    rw (take_more items i none inside, take_more flags i unset (omega (arith, inside, same)))
+    (sought_pushed found (take i items) (take i flags) (get_or items i none) (get_or flags i unset) (rw (length-take i flags, length-take i items, same) refl))
+
+pub length-sought : (found : List ℕ → Bool) (items : List Item) (flags : List Bool) → length flags ≡ length items → length (sought_among found items flags) ≡ length items
+length-sought found [] flags same = refl
+length-sought found (item ∷ items) [] same = same
+length-sought found (item ∷ items) (flag ∷ flags) same = ap suc (length-sought found items flags (omega (arith, same)))
+
 -- ---- names that are there
 
 -- an id is held if a file has its name
@@ -466,6 +523,17 @@ pub flags_flushed : {A : Type 0} (account : List ℕ) (maildir : Maildir) (stems
 flags_flushed account maildir stems [] = refl
 flags_flushed account maildir stems (item ∷ items) = rw (held_flushed account maildir stems item.uid, flags_flushed account maildir stems items) refl
 
+sought_flushed : {A : Type 0} (account : List ℕ) (maildir : Maildir) (stems : List (String A)) (items : List Item) (flags : List Bool)
+    → flags_sought account (flushed stems maildir) items flags ≡ flags_sought account maildir items flags
+sought_flushed account maildir stems [] flags = refl
+sought_flushed account maildir stems (item ∷ items) [] = refl
+sought_flushed account maildir stems (item ∷ items) (flag ∷ flags) = rw (held_flushed account maildir stems item.uid, sought_flushed account maildir stems items flags) refl
+
+pub asked_flushed : {A : Type 0} (all : Bool) (account : List ℕ) (maildir : Maildir) (stems : List (String A)) (items : List Item) (flags : List Bool)
+    → flags_asked all account (flushed stems maildir) items flags ≡ flags_asked all account maildir items flags
+asked_flushed true account maildir stems items flags = flags_flushed account maildir stems items
+asked_flushed false account maildir stems items flags = sought_flushed account maildir stems items flags
+
 pub named_flushed : {A : Type 0} (stems : List (String A)) (files : List File) → AllNamed files → AllNamed (map (flushed_by stems) files)
 named_flushed stems [] all = tt
 named_flushed stems (f ∷ files) all = (all.0, named_flushed stems files all.1)
@@ -500,15 +568,19 @@ pub durable_left : {A : Type 0} (account : List ℕ) (maildir : Maildir) (stems 
 durable_left account maildir stems all uid among held =
     durable_flushed account maildir stems all uid among (rw (held_flushed account maildir stems uid) at held)
 
-pub found_durable : {A : Type 0} (account : List ℕ) (maildir : Maildir) (stems : List (String A))
+pub found_durable : {A : Type 0} (all : Bool) (account : List ℕ) (maildir : Maildir) (stems : List (String A))
     → ((uid : List ℕ) → is_among stems (stem_of account uid) ≡ true → is_held account maildir uid ≡ true → HasDurable account maildir uid)
-    → (items : List Item) (flags : List Bool) → HasStems account items (flags_of account maildir items) flags (length items) stems
+    → (items : List Item) (flags : List Bool) → HasStems account items (flags_asked all account maildir items flags) flags (length items) stems
     → FoundDurable account maildir items flags
-found_durable account maildir stems durable (item ∷ items) (flag ∷ flags) has = (
+found_durable true account maildir stems durable (item ∷ items) (flag ∷ flags) has = (
   λ is held. durable item.uid (has 0 (omega arith) item (λ d. refl) (λ d. held) (λ d. is)) held,
-  found_durable account maildir stems durable items flags (λ k below. has (suc k) (omega (arith, below))),
+  found_durable true account maildir stems durable items flags (λ k below. has (suc k) (omega (arith, below))),
 )
-found_durable account maildir stems durable items flags has = tt
+found_durable false account maildir stems durable (item ∷ items) (flag ∷ flags) has = (
+  λ is held. durable item.uid (has 0 (omega arith) item (λ d. refl) (λ d. rw (is, held) refl) (λ d. is)) held,
+  found_durable false account maildir stems durable items flags (λ k below. has (suc k) (omega (arith, below))),
+)
+found_durable all account maildir stems durable items flags has = tt
 
 -- a flush of a device in memory changes nothing
 pub all_flushed : {A : Type 0} (stems : List (String A)) (files : List File) → map (flushed_by stems) (map shown files) ≡ map shown files

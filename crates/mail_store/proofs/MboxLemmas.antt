@@ -1,15 +1,16 @@
 -- Lines, quoting, entries and groups of lines of an mboxrd file.
-use Rattle.std.proofs.Common.{◌≡◌, ◌≢◌, inl, inr, ℕ, ◌+◌, ◌<◌, ◌≤◌, List, [], ◌∷◌, ◌++◌, length, take, drop, refl, sym, ap, ◌∙◌, arith, append_assoc, ◌-◌, ◌*◌, true, false, map, get_or, slice_index, ◌==◌, cond, codes}
+use Rattle.std.proofs.Common.{◌≡◌, ◌≢◌, inl, inr, ℕ, zero, suc, ◌+◌, ◌<◌, ◌≤◌, List, [], ◌∷◌, ◌++◌, length, take, drop, refl, sym, ap, ◌∙◌, arith, append_assoc, ◌-◌, ◌*◌, true, false, map, get_or, slice_index, ◌==◌, cond, codes}
 use Rattle.std.specs.List.{flat_map, onto_first, AllByRecursion}
 use Rattle.std.proofs.lemmas.Bool.{ne_eqb, cond_both, true≢false}
 use Rattle.std.proofs.lemmas.Bool.Decides.{eqb_tells, Decides-eqb}
-use Rattle.std.proofs.lemmas.List.{drop-append-le, get_or-drop, get_or-take, get_or_default, length-take, length-drop, take-append-drop, take_more, append-nil, drop_at, length-append, take_at, append_cancel_right, flat_map_more, map-append}
+use Rattle.std.proofs.lemmas.List.{drop-append-le, drop_all, drop_more, take_all, length-take-le, get_or-drop, get_or-take, get_or_default, length-take, length-drop, take-append-drop, take_more, append-nil, drop_at, length-append, take_at, append_cancel_right, flat_map_more, map-append}
 use Rattle.std.proofs.lemmas.List.Elements.{recursion_from_All, All-from_recursion, All-map}
 use Rattle.std.proofs.lemmas.List.Sums.{sum_by-append}
 use Rattle.std.proofs.lemmas.List.Concat.{flat_map-append}
 use Rattle.std.proofs.lemmas.Slice.Eq.{starts_is}
 use Rattle.std.proofs.lemmas.List.Folds.{flat_map-map}
 use Rattle.mail_terms.specs.Text.{IsWhole, HasNoLf}
+use Rattle.mail_store.specs.FlatFile.{edges_of, piece_at}
 use Rattle.mail_store.specs.Mboxrd.{lines_of, IsLine, from_words, begins_entry, is_marked, quoted, unquoted, quoted_text, unquoted_text, wire_size, UnquotesQuoted, separator, entry_of, Group, IsInner, IsGroup, group_bytes, group_text, MboxFile, MayGoOn, EntryAddsText, OneReading, IsApart, OpensEntry, CutsGroup, CutsLine, HoldsText}
 
 -- ---- lists of lines
@@ -438,3 +439,49 @@ holds_group rest group after text cut held =
     sym cut.0.lines ∙ ap lines_of (cut.0.whole ∙ ap (λ (l : List ℕ). l ++ after) same) ∙ group_first (group_of held.head text) after held.begins.0 all in
     let inner = append_cancel_right cut.0.inner (lines_of text ++ (10 ∷ []) ∷ []) (lines_of after) (cc) in
     (held.begins, inner_from (lines_of text) all (rw inner at cut.0.apart))
+
+-- ---- the ends of a file
+
+pub tail_is : (was : List ℕ) → (edges_of was).tail ≡ drop (length was) (0 ∷ 0 ∷ was)
+tail_is was =
+    let xs : List ℕ = 0 ∷ 0 ∷ was in
+    rw (drop_more xs (length was) 0 (omega arith), drop_more xs (length was + 1) 0 (omega arith), drop_all (length was + 1 + 1) xs (omega arith))
+
+last_two : (n : ℕ) (was : List ℕ) → drop n (take (suc (suc n)) was) ≡ take 2 (drop n was)
+last_two zero was = refl
+last_two (suc n) [] = refl
+last_two (suc n) (a ∷ rest) = last_two n rest
+
+front_tail : (n : ℕ) (was : List ℕ) → n ≤ length was → 2 ≤ n → (edges_of (take n was)).tail ≡ take 2 (drop (n - 2) was)
+front_tail (suc (suc n)) was within two =
+    tail_is (take (suc (suc n)) was) ∙ ap (λ k. drop k (0 ∷ 0 ∷ take (suc (suc n)) was)) (length-take-le (suc (suc n)) was within) ∙ last_two n was
+    ∙ ap (λ k. take 2 (drop k was)) (omega arith)
+front_tail n was within two = absurd (grind arith)
+
+front_head : (n : ℕ) (was : List ℕ) → 5 ≤ n → n ≤ length was → (edges_of (take n was)).head ≡ (edges_of was).head
+front_head (suc (suc (suc (suc (suc n))))) (a ∷ b ∷ c ∷ d ∷ f ∷ rest) five within = refl
+front_head n was five within = absurd (grind arith)
+
+-- the ends of the first bytes of a file
+pub front_ends : (n : ℕ) (was : List ℕ) → 5 ≤ n → n ≤ length was
+    → record { size = n; head = (edges_of was).head; tail = take 2 (drop (n - 2) was) } ≡ edges_of (take n was)
+front_ends n was five within = sym (
+    ap (λ size. record { size = size; head = (edges_of (take n was)).head; tail = (edges_of (take n was)).tail }) (length-take-le n was within)
+    ∙ ap (λ head. record { size = n; head = head; tail = (edges_of (take n was)).tail }) (front_head n was five within)
+    ∙ ap (λ tail. record { size = n; head = (edges_of was).head; tail = tail }) (front_tail n was within (omega (arith, five))))
+
+begins_long : (bytes : List ℕ) → begins_entry bytes ≡ true → 5 ≤ length bytes
+begins_long (a ∷ b ∷ c ∷ d ∷ f ∷ rest) is = omega arith
+begins_long bytes is = absurd (grind arith)
+
+-- no entry may follow some bytes, but fewer than `From ` has
+pub few_are_other : (bytes : List ℕ) (n : ℕ) → n ≡ length bytes → (n ≡ 0 → ⊥) → n < 5 → MayGoOn bytes → ⊥
+few_are_other bytes n is some few (inl none) = some (is ∙ ap length none)
+few_are_other bytes n is some few (inr begun) = omega (arith, is, few, begins_long bytes begun.0)
+
+-- a buffer of two bytes has what was read into it, if there was as much
+pub read_whole : (start count : ℕ) (buf was : List ℕ) → length buf ≡ 2 → start + 2 ≤ length was → count ≡ length (piece_at start (length buf) was)
+    → take count buf ≡ piece_at start (length buf) was → buf ≡ take 2 (drop start was)
+read_whole start count buf was two within many read =
+    let all : length (piece_at start (length buf) was) ≡ length buf = length-take-le (length buf) (drop start was) (omega (arith, two, within, length-drop start was)) in
+    sym (take_all count buf (omega (arith, many, all))) ∙ read ∙ ap (λ n. take n (drop start was)) two

@@ -16,13 +16,15 @@ FileDoes file Does old new = file.sound new → file.sound old × Does (file.sto
 
 -- a call that only reads
 abbrev pub FileReads : {F T : Type 0} → FileGhosts F → F → Result T StoreFault → F → Type 0
-FileReads file old result new = IfErr result IsDeviceFault × (file.sound new → LeavesNoMore (file.may_leave old) (file.may_leave new))
+FileReads file old result new = IfErr result IsDeviceFault
+    × (file.sound new → LeavesNoMore (file.may_leave old) (file.may_leave new))
     × Tallies (refuses is_refusal result) (file.stored old).failures (file.stored new).failures
 
 -- a call that reads, and flushes what it reads
 abbrev pub FileFlushes : {F T : Type 0} → FileGhosts F → F → Result T StoreFault → F → Type 0
 FileFlushes file old result new = FileReads file old result new × (file.sound new → file.is_sure old
-    → UnlessRefused result (file.is_sure new × LastsWhole (file.stored new).content (file.is_on_disk new) (file.may_leave new)))
+    → UnlessRefused result (file.is_sure new
+    × LastsWhole (file.stored new).content (file.is_on_disk new) (file.may_leave new)))
 
 -- a call that writes to a file which is there
 abbrev pub FileWrites : {F T : Type 0} → FileGhosts F → F → Result T StoreFault → F → Type 0
@@ -34,3 +36,8 @@ FileWrites file old result new = IfErr result (λ e. e ≡ Refused)
 -- a call did this to the Maildir
 abbrev pub DiskDoes : {D : Type 0} → DiskGhosts D → (Maildir → Maildir → Type 0) → D → D → Type 0
 DiskDoes disk Does old new = disk.sound new → disk.sound old × Does (disk.maildir old) (disk.maildir new)
+
+-- the only fault of a call is Refused, and it is counted
+abbrev pub DiskRefuses : {D T : Type 0} → DiskGhosts D → D → Result T StoreFault → D → Type 0
+DiskRefuses disk old result new = IfErr result (λ e. e ≡ Refused)
+    × Tallies (refuses is_refusal result) (disk.maildir old).failures (disk.maildir new).failures

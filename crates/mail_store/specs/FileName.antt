@@ -58,14 +58,16 @@ StemsAreStems = (account uid : List ℕ) → IsAccountText account → stem (ste
 
 -- the stem of an id's name is the id's, whatever the size
 abbrev pub NamesHaveStems : Type 0
-NamesHaveStems = (account uid : List ℕ) (size : ℕ) → IsAccountText account → stem (name_of account uid size) ≡ stem_of account uid
+NamesHaveStems = (account uid : List ℕ) (size : ℕ) → IsAccountText account
+    → stem (name_of account uid size) ≡ stem_of account uid
 
 -- the base of an id's name is the name: it holds no colon
 abbrev pub NamesAreBases : Type 0
-NamesAreBases = (account uid : List ℕ) (size : ℕ) → IsAccountText account → base (name_of account uid size) ≡ name_of account uid size
+NamesAreBases = (account uid : List ℕ) (size : ℕ) → IsAccountText account
+    → base (name_of account uid size) ≡ name_of account uid size
 
--- the length in bytes of the longest stem: 64 digits, a full stop, and two digits for each of 70 characters; and of the longest
--- name: a stem, `,S=` and 20 digits
+-- the length in bytes of the longest stem: 64 digits, a full stop, and two digits for each of 70 characters; and of the
+-- longest name: a stem, `,S=` and 20 digits
 abbrev pub longest_stem : ℕ
 longest_stem = 205
 

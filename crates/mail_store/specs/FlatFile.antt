@@ -24,7 +24,8 @@ counted old = record old { failures = old.failures + 1 }
 abbrev pub edges_of : List ℕ → Edges
 edges_of bytes = record {
   size = length bytes;
-  head = slice_index bytes 0 ∷ slice_index bytes 1 ∷ slice_index bytes 2 ∷ slice_index bytes 3 ∷ slice_index bytes 4 ∷ [];
+  head = slice_index bytes 0 ∷ slice_index bytes 1 ∷ slice_index bytes 2 ∷ slice_index bytes 3 ∷ slice_index
+      bytes 4 ∷ [];
   tail = slice_index (0 ∷ 0 ∷ bytes) (length bytes) ∷ slice_index (0 ∷ 0 ∷ bytes) (length bytes + 1) ∷ [];
 }
 

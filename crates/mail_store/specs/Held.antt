@@ -1,15 +1,17 @@
 -- What `held` answers for a Maildir.
 use Rattle.std.specs.Prelude.{◌≡◌, ℕ, List, map, Bool, true, false, Result, Ok, Err, Vec, ◌⊎◌}
-use Rattle.std.specs.Prelude.{OnOk, ◌∷◌, ◌++◌, bytes_eq, String, string_bytes, Contains, HoldsAt, ◌<◌}
-use Rattle.std.specs.List.{list_any}
+use Rattle.std.specs.Prelude.{OnOk, [], ◌∷◌, ◌++◌, ◌&&◌, bytes_eq, String, string_bytes, Contains, HoldsAt, ◌<◌}
+use Rattle.std.specs.Prelude.{IsPermutation, if◌then◌else◌}
+use Rattle.std.specs.List.{filter, list_any}
 use Rattle.std.specs.Borrow.{Bor}
 use Rattle.std.specs.BTreeSet.{BTreeSet, contains_by}
 use Rattle.std.specs.Ordering.{nat_cmp}
 use Rattle.std.specs.Cmp.Lexicographic.{slice_cmp}
+use Rattle.hex.specs.Hex.{encode_lower}
 use Rattle.mail_terms.specs.Listing.{Item}
 use Rattle.mail_store.specs.declared.fault.StoreFault.{StoreFault}
 use Rattle.mail_store.specs.declared.fault.StoreFault.TheVariants.{Missing, Refused, NotMbox, NoMemory}
-use Rattle.mail_store.specs.Maildir.{AllNamed, File, IsDurable, Maildir, counted}
+use Rattle.mail_store.specs.Maildir.{AllNamed, File, IsDurable, Maildir, bases_told, counted, names_of}
 use Rattle.mail_store.specs.FileName.{is_held, names_id, stem, stem_of}
 use Rattle.mail_store.specs.Loss.{is_among}
 
@@ -19,17 +21,38 @@ flags_of account maildir items = map (λ (item : Item). is_held account maildir 
 
 -- a durable file that holds this id is there
 abbrev pub HasDurable : List ℕ → Maildir → List ℕ → Type 0
-HasDurable account maildir uid = (f : File) × Contains maildir.files f × (names_id account uid f.name ≡ true) × IsDurable f
+HasDurable account maildir uid = (f : File) × Contains maildir.files f × (names_id account uid f.name ≡ true)
+    × IsDurable f
 
--- `held`: `new` and `cur` are there, there is a flag for each item, and each name is durable; `new` or `cur` isn't
--- there; or a call was refused
+-- whether the id of each item is asked for and held, in order; an item is asked for if its flag is set
+abbrev pub flags_sought : List ℕ → Maildir → List Item → List Bool → List Bool
+flags_sought account maildir (item ∷ items) (flag ∷ flags) =
+    (flag && is_held account maildir item.uid) ∷ flags_sought account maildir items flags
+flags_sought account maildir _ _ = []
+
+-- the same, or of each item if all are asked for
+abbrev pub flags_asked : Bool → List ℕ → Maildir → List Item → List Bool → List Bool
+flags_asked all account maildir items flags =
+    if all then flags_of account maildir items else flags_sought account maildir items flags
+
+-- these flags were found: `new` and `cur` are there, and each name is durable; `new` or `cur` isn't there; or a call
+-- was refused
+abbrev pub FindsFlags : {B : Type 0} → List Bool → Maildir → Result (Vec Bool B) StoreFault → Maildir → Type 0
+FindsFlags found old (Ok flags) new =
+    (flags.items ≡ found) × (new ≡ old) × (old.there.new ≡ true) × (old.there.cur ≡ true) × AllNamed old.files
+FindsFlags found old (Err Missing) new = ((old.there.new ≡ false) ⊎ (old.there.cur ≡ false)) × (new ≡ old)
+FindsFlags found old (Err Refused) new = new ≡ counted old
+FindsFlags found old (Err NotMbox) new = ⊥
+FindsFlags found old (Err NoMemory) new = new ≡ old
+
+-- `held`: whether each item is held
 abbrev pub Finds : {B : Type 0} → List ℕ → Maildir → List Item → Result (Vec Bool B) StoreFault → Maildir → Type 0
-Finds account old items (Ok flags) new =
-    (flags.items ≡ flags_of account old items) × (new ≡ old) × (old.there.new ≡ true) × (old.there.cur ≡ true) × AllNamed old.files
-Finds account old items (Err Missing) new = ((old.there.new ≡ false) ⊎ (old.there.cur ≡ false)) × (new ≡ old)
-Finds account old items (Err Refused) new = new ≡ counted old
-Finds account old items (Err NotMbox) new = ⊥
-Finds account old items (Err NoMemory) new = new ≡ old
+Finds account old items result new = FindsFlags (flags_of account old items) old result new
+
+-- `held_asked`: the same of those that are asked for
+abbrev pub FindsAsked : {B : Type 0} → Bool → List ℕ → Maildir → List Item → List Bool
+    → Result (Vec Bool B) StoreFault → Maildir → Type 0
+FindsAsked all account old items flags result new = FindsFlags (flags_asked all account old items flags) old result new
 
 -- of each item that is flagged, if it is held, a durable file is there
 abbrev pub FoundDurable : List ℕ → Maildir → List Item → List Bool → Type 0
@@ -38,10 +61,40 @@ FoundDurable account maildir (item ∷ items) (flag ∷ flags) =
     × FoundDurable account maildir items flags
 FoundDurable account maildir _ _ = Unit {0}
 
--- `flush_held`: as `held`, and of each item that is flagged and held a file is durable
-abbrev pub FindsDurable : {B : Type 0} → List ℕ → Maildir → List Item → List Bool → Result (Vec Bool B) StoreFault → Maildir → Type 0
-FindsDurable account old items flags result new =
-    Finds account old items result new × OnOk result (FoundDurable account new items flags)
+-- `flush_held`: as `held_asked`, and of each item that is flagged and held a file is durable
+abbrev pub FindsDurable : {B : Type 0} → Bool → List ℕ → Maildir → List Item → List Bool
+    → Result (Vec Bool B) StoreFault → Maildir → Type 0
+FindsDurable all account old items flags result new =
+    FindsAsked all account old items flags result new × OnOk result (FoundDurable account new items flags)
+
+-- ---- names
+
+-- whether a name has one of these stems
+abbrev pub is_sought : {A : Type 0} → List (String A) → List ℕ → Bool
+is_sought stems name = is_among stems (stem name)
+
+-- of these names, in some order, those alone that have one of these stems
+abbrev pub AreAmong : {A : Type 0} → List (String A) → List (List ℕ) → List (List ℕ) → Type 0
+AreAmong stems names told =
+    (order : List (List ℕ)) × IsPermutation names order × (told ≡ filter (is_sought stems) order)
+
+-- `names_among`: the name of each file of `new` and `cur` that has one of these stems, in any order; and each name is
+-- durable
+abbrev pub ListsAmong : {A B C : Type 0} → Maildir → List (String A) → Result (Vec (String B) C) StoreFault → Maildir
+    → Type 0
+ListsAmong old stems (Ok names) new =
+    (old.there.new ≡ true) × (old.there.cur ≡ true)
+    × AreAmong stems (names_of old.files) (bases_told names.items) × AllNamed old.files
+    × (new ≡ old)
+ListsAmong old stems (Err Missing) new = ((old.there.new ≡ false) ⊎ (old.there.cur ≡ false)) × (new ≡ old)
+ListsAmong old stems (Err Refused) new = new ≡ counted old
+ListsAmong old stems (Err fault) new = ⊥
+
+-- whether the flag of each item is set and its id's digits pass, in order
+abbrev pub sought_among : (List ℕ → Bool) → List Item → List Bool → List Bool
+sought_among found (item ∷ items) (flag ∷ flags) =
+    (flag && found (encode_lower item.uid)) ∷ sought_among found items flags
+sought_among found _ _ = []
 
 -- whether a set of texts has this one
 abbrev pub has_text : BTreeSet (Bor (List ℕ)) → List ℕ → Bool
@@ -53,7 +106,8 @@ any_name account q names = list_any (λ name. bytes_eq (account ++ 46 ∷ q) (st
 
 -- the item at this place has its stem among these, if both of its flags are set
 abbrev pub HasStem : {A : Type 0} → List ℕ → List Item → List Bool → List Bool → List (String A) → ℕ → Type 0
-HasStem account items held flags stems k = (item : Item) → HoldsAt (λ i. i ≡ item) items k → HoldsAt (λ h. h ≡ true) held k
+HasStem account items held flags stems k = (item : Item) → HoldsAt (λ i. i ≡ item) items k
+    → HoldsAt (λ h. h ≡ true) held k
     → HoldsAt (λ f. f ≡ true) flags k → is_among stems (stem_of account item.uid) ≡ true
 
 -- so does each of the first n items

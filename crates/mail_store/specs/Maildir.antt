@@ -121,7 +121,8 @@ AreReached files risen = AllZip Reaches files risen
 -- be durable
 abbrev pub IsWithout : List File → List File → List File → Type 0
 IsWithout files [] left = AreReached files left
-IsWithout files (f ∷ gone) left = (front back : List File) × AreReached files (front ++ f ∷ back) × IsWithout (front ++ back) gone left
+IsWithout files (f ∷ gone) left = (front back : List File) × AreReached files (front ++ f ∷ back)
+    × IsWithout (front ++ back) gone left
 
 -- some of these files, in order, of each of which more may be durable
 abbrev pub IsPart : List File → List File → Type 0
@@ -160,7 +161,8 @@ is_there there Cur = there.cur
 
 -- each of the names, without its marks, is the durable name of one of the files
 unfoldable pub AreTheirs : {A : Type 0} → List File → List (String A) → Type 0
-AreTheirs files names = All (λ name. Contains (names_of (filter (λ (f : File). f.is_named) files)) (base (string_bytes name))) names
+AreTheirs files names = All
+    (λ name. Contains (names_of (filter (λ (f : File). f.is_named) files)) (base (string_bytes name))) names
 
 -- `names`: each name is that of some file of `new` or `cur`, whichever of the two it is in by now, and is durable
 abbrev pub Lists : {A B : Type 0} → Maildir → Folder → Result (Vec (String A) B) StoreFault → Maildir → Type 0
@@ -173,7 +175,8 @@ Lists old folder (Err fault) new = ⊥
 -- `all_names`: the name of each file of `new` and `cur`, in any order, and each is durable
 abbrev pub ListsAll : {A B : Type 0} → Maildir → Result (Vec (String A) B) StoreFault → Maildir → Type 0
 ListsAll old (Ok names) new =
-    (old.there.new ≡ true) × (old.there.cur ≡ true) × IsPermutation (names_of old.files) (bases_told names.items) × AllNamed old.files
+    (old.there.new ≡ true) × (old.there.cur ≡ true) × IsPermutation (names_of old.files) (bases_told names.items)
+    × AllNamed old.files
     × (new ≡ old)
 ListsAll old (Err Missing) new = ((old.there.new ≡ false) ⊎ (old.there.cur ≡ false)) × (new ≡ old)
 ListsAll old (Err Refused) new = new ≡ counted old

@@ -1,5 +1,5 @@
 -- What the calls on an mboxrd file do, for either outcome.
-use Rattle.std.specs.Prelude.{◌≡◌, ℕ, List, ◌++◌, map, Some, None, Result, Ok, Err, Vec}
+use Rattle.std.specs.Prelude.{◌≡◌, ℕ, List, ◌++◌, map, take, Some, None, Result, Ok, Err, Vec}
 use Rattle.mail_terms.specs.FailureCount.{Tallies, counted_up}
 use Rattle.mail_store.specs.declared.fault.EntryFault.{EntryFault}
 use Rattle.mail_store.specs.declared.fault.EntryFault.TheVariants.{Nothing, Front}
@@ -33,15 +33,25 @@ abbrev pub Checks : {T : Type 0} → Stored → Result T StoreFault → Stored �
 Checks old (Ok done) new = ((was : List ℕ) × EntryMayFollow old was) × (new ≡ old)
 Checks old (Err fault) new = RefusesLook old fault new
 
--- `append_entry`: the entry follows the file's bytes; or the file is as it was: there is none, a call was refused, no entry may
--- follow it, or memory ran out; or the append and the cut back were refused, and a front of the entry may be there
+-- `peek_front`: an entry may follow this many of the file's first bytes
+abbrev pub ChecksFront : {T : Type 0} → ℕ → Stored → Result T StoreFault → Stored → Type 0
+ChecksFront size old (Ok done) new = ((was : List ℕ) × (old.content ≡ Some was) × MayGoOn (take size was)) × (new ≡ old)
+ChecksFront size old (Err NotMbox) new =
+    ((was : List ℕ) × (old.content ≡ Some was) × (MayGoOn (take size was) → ⊥)) × (new ≡ old)
+ChecksFront size old (Err fault) new = Denies old fault new
+
+-- `append_entry`: the entry follows the file's bytes; or the file is as it was: there is none, a call was refused, no
+-- entry may follow it, or memory ran out; or the append and the cut back were refused, and a front of the entry may be
+-- there
 abbrev pub AppendsEntry : {T : Type 0} → Stored → List ℕ → Result T EntryFault → Stored → Type 0
-AppendsEntry old text (Ok done) new = (was : List ℕ) × EntryMayFollow old was × (new ≡ holding old (was ++ entry_of text))
+AppendsEntry old text (Ok done) new = (was : List ℕ) × EntryMayFollow old was
+    × (new ≡ holding old (was ++ entry_of text))
 AppendsEntry old text (Err (Nothing Missing)) new = (old.content ≡ None) × (new ≡ old)
 AppendsEntry old text (Err (Nothing Refused)) new = new ≡ counted old
 AppendsEntry old text (Err (Nothing NotMbox)) new = IsOther old × (new ≡ old)
 AppendsEntry old text (Err (Nothing NoMemory)) new = new ≡ old
-AppendsEntry old text (Err Front) new = (was front rest : List ℕ) × EntryMayFollow old was × (entry_of text ≡ front ++ rest)
+AppendsEntry old text (Err Front) new = (was front rest : List ℕ) × EntryMayFollow old was
+    × (entry_of text ≡ front ++ rest)
     × (new ≡ counted (counted (holding old (was ++ front))))
 
 -- the count rises if a call was refused, and once more if the cut that follows was refused too

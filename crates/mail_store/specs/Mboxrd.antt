@@ -1,5 +1,6 @@
 -- Texts in an mboxrd file: how a line is quoted, what an entry is, and which texts a file stands for.
-use Rattle.std.specs.Prelude.{◌≡◌, ◌⊎◌, ◌==◌, ◌&&◌, ◌+◌, ◌-◌, ℕ, Bool, false, List, [], ◌∷◌, ◌++◌, true, map, length, take, drop}
+use Rattle.std.specs.Prelude.{◌≡◌, ◌⊎◌, ◌==◌, ◌&&◌, ◌+◌, ◌-◌, ℕ, Bool, false, List, [], ◌∷◌, ◌++◌, true, map, length}
+use Rattle.std.specs.Prelude.{take, drop}
 use Rattle.std.specs.Prelude.{if◌then◌else◌, codes, nat_eq}
 use Rattle.std.specs.List.{count_by, flat_map, onto_first, starts_with, AllByRecursion}
 use Rattle.mail_terms.specs.Text.{IsWhole, HasNoLf}
@@ -119,7 +120,8 @@ EntryAddsText = (file text : List ℕ) (texts : List (List ℕ)) → MboxFile fi
 
 -- a law: a file stands for one list of texts only
 abbrev pub OneReading : Type 0
-OneReading = (file : List ℕ) (texts others : List (List ℕ)) → MboxFile file texts → MboxFile file others → texts ≡ others
+OneReading = (file : List ℕ) (texts others : List (List ℕ)) → MboxFile file texts → MboxFile file others
+    → texts ≡ others
 
 -- a law: an entry may follow each file that stands for texts
 abbrev pub TextsMayGoOn : Type 0

@@ -1,9 +1,10 @@
 -- What is known of a Maildir in memory, and what its calls in a reader's place do.
-use Rattle.std.specs.Prelude.{◌≡◌, ℕ, suc, ◌<◌, List, [], ◌∷◌, length, Bool, true, false}
+use Rattle.std.specs.Prelude.{◌≡◌, ℕ, suc, ◌<◌, List, [], ◌∷◌, ◌++◌, length, Bool, true, false, Option, Some, None}
 use Rattle.std.specs.Prelude.{insert, remove, Result, Ok, Err, ◌⊎◌, Contains, HoldsAt}
+use Rattle.mail_store.specs.declared.fault.StoreFault.{StoreFault}
 use Rattle.mail_store.specs.declared.maildir.disk.Folder.{Folder}
 use Rattle.mail_store.specs.declared.maildir.disk.Folder.TheVariants.{New, Cur}
-use Rattle.mail_store.specs.Maildir.{Maildir, File, file, mail, names_of}
+use Rattle.mail_store.specs.Maildir.{Draft, File, Maildir, draft, file, mail, names_of, with_file}
 
 -- what it is as a Maildir, and the files of each folder by their whole names
 pub record TwoFolders : Type 0 where
@@ -49,8 +50,39 @@ pub record Takes (from to : List File) (name moved : List ℕ) (from' to' : List
 
 -- `move_to_cur`: the file was moved; no file of its folder has the name, or one of the other has the name that
 -- would result; or memory ran out
-abbrev pub Moves : {E : Type 0} → List File → List File → List ℕ → List ℕ → Result Bool E → List File → List File → Type 0
+abbrev pub Moves : {E : Type 0} → List File → List File → List ℕ → List ℕ → Result Bool E → List File
+    → List File → Type 0
 Moves from to name moved (Ok true) from' to' = Takes from to name moved from' to'
 Moves from to name moved (Ok false) from' to' =
     (from' ≡ from) × (to' ≡ to) × ((Contains (names_of from) name → ⊥) ⊎ Contains (names_of to) moved)
 Moves from to name moved (Err fault) from' to' = (from' ≡ from) × (to' ≡ to)
+
+-- ---- its calls as a device: nobody else is at work
+
+-- nothing changed but the count of refused calls
+abbrev pub Keeps : TwoFolders → TwoFolders → Type 0
+Keeps old new = new ≡ record old { maildir = record old.maildir { failures = new.maildir.failures } }
+
+-- another file is being written, or none
+abbrev pub with_begun : Option Draft → TwoFolders → TwoFolders
+with_begun begun old = record old { maildir = record old.maildir { begun = begun } }
+
+-- `begin`: an empty file of this name is being written; a refused call changes nothing
+abbrev pub BeginsAlone : {T : Type 0} → TwoFolders → List ℕ → Result T StoreFault → TwoFolders → Type 0
+BeginsAlone old name (Ok done) new = new ≡ with_begun (Some (draft name [])) old
+BeginsAlone old name (Err fault) new = Keeps old new
+
+-- `add`: the bytes follow those of the file that is being written; a refused call changes nothing
+abbrev pub AddsAlone : {T : Type 0} → TwoFolders → List ℕ → Result T StoreFault → TwoFolders → Type 0
+AddsAlone old bytes (Ok done) new =
+    (d : Draft) → old.maildir.begun ≡ Some d → new ≡ with_begun (Some (draft d.name (d.content ++ bytes))) old
+AddsAlone old bytes (Err fault) new = Keeps old new
+
+-- `settle`: what was written is in `new` under this whole name, after the others; a refused call gives it up
+abbrev pub SettlesAlone : {T : Type 0} → TwoFolders → List ℕ → Result T StoreFault → TwoFolders → Type 0
+SettlesAlone old name (Ok done) new = (d : Draft) → old.maildir.begun ≡ Some d
+    → new ≡ record old {
+      maildir = with_file old.maildir (mail name d.content);
+      in_new = old.in_new ++ file name d.content ∷ [];
+    }
+SettlesAlone old name (Err fault) new = Keeps (with_begun None old) new

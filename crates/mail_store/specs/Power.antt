@@ -12,7 +12,8 @@ LeavesNoMore may_leave may_leave' = (left : Option (List ℕ)) → may_leave' le
 
 -- what is left of a file is as it was, or has more bytes behind
 abbrev pub IsLonger : Option (List ℕ) → Option (List ℕ) → Type 0
-IsLonger was left = (left ≡ was) ⊎ ((bytes : List ℕ) × (behind : List ℕ) × (was ≡ Some bytes) × (left ≡ Some (bytes ++ behind)))
+IsLonger was left = (left ≡ was)
+    ⊎ ((bytes : List ℕ) × (behind : List ℕ) × (was ≡ Some bytes) × (left ≡ Some (bytes ++ behind)))
 
 -- whatever a loss of power leaves is what it could have left before, or longer
 abbrev pub LeavesLonger : (Option (List ℕ) → Type 0) → (Option (List ℕ) → Type 0) → Type 0
@@ -31,7 +32,8 @@ LeavesPart content bytes may_leave = (was : List ℕ) → content ≡ Some was �
 
 -- `replace`: what could have been left before, or the new bytes
 abbrev pub LeavesEither : (Option (List ℕ) → Type 0) → List ℕ → (Option (List ℕ) → Type 0) → Type 0
-LeavesEither may_leave bytes may_leave' = (left : Option (List ℕ)) → may_leave' left → may_leave left ⊎ (left ≡ Some bytes)
+LeavesEither may_leave bytes may_leave' = (left : Option (List ℕ)) → may_leave' left
+    → may_leave left ⊎ (left ≡ Some bytes)
 
 -- the file, if there is one, is on the disk, and a loss of power leaves exactly its bytes
 abbrev pub LastsWhole : Option (List ℕ) → Type 0 → (Option (List ℕ) → Type 0) → Type 0

@@ -1,5 +1,7 @@
--- What a file has from the place on where an entry was about to be appended when a session was cut, and what becomes of it.
-use Rattle.std.specs.Prelude.{◌≡◌, ◌⊎◌, ◌≤◌, ◌==◌, ◌&&◌, ◌||◌, ◌+◌, ◌-◌, ◌%◌, not, ℕ, Bool, true, false, List, [], ◌∷◌, ◌++◌}
+-- What a file has from the place on where an entry was about to be appended when a session was cut, and what becomes of
+-- it.
+use Rattle.std.specs.Prelude.{◌≡◌, ◌⊎◌, ◌≤◌, ◌==◌, ◌&&◌, ◌||◌, ◌+◌, ◌-◌, ◌%◌, not, ℕ, Bool, true, false, List, [], ◌∷◌}
+use Rattle.std.specs.Prelude.{◌++◌}
 use Rattle.std.specs.Prelude.{length, take, drop, Option, Some, None, Result, Ok, Err, nat_eq, nat_lt, nat_le}
 use Rattle.std.specs.Prelude.{bytes_eq, if◌then◌else◌}
 use Rattle.std.specs.List.{ends_with, list_all}
@@ -10,7 +12,7 @@ use Rattle.mail_store.specs.declared.fault.StoreFault.TheVariants.{Missing, Refu
 use Rattle.mail_store.specs.declared.mboxrd.settling.Behind.{Behind}
 use Rattle.mail_store.specs.declared.mboxrd.settling.Behind.TheVariants.{Others, Whole, Torn}
 use Rattle.mail_store.specs.FlatFile.{Stored, Denies, holding, counted}
-use Rattle.mail_store.specs.Mboxrd.{lines_of, begins_entry, separator, entry_of, text_in, wire_size}
+use Rattle.mail_store.specs.Mboxrd.{MayGoOn, lines_of, begins_entry, separator, entry_of, text_in, wire_size}
 
 -- ---- what a loss of power leaves
 
@@ -41,7 +43,8 @@ MayBeLeft place (word ∷ words) (byte ∷ left) =
 abbrev pub begin_with : ℕ → List ℕ → List ℕ → Bool
 begin_with place [] bytes = true
 begin_with place (word ∷ words) [] = true
-begin_with place (word ∷ words) (byte ∷ rest) = (byte == word || is_lost place (byte ∷ rest)) && begin_with (place + 1) words rest
+begin_with place (word ∷ words) (byte ∷ rest) = (byte == word || is_lost place (byte ∷ rest))
+    && begin_with (place + 1) words rest
 
 -- no line after the first begins with `From `
 abbrev pub is_one_entry : List ℕ → Bool
@@ -94,14 +97,16 @@ settled_file start len listed file = if stands_torn start len listed file then t
 -- what is left of the entry of a text, after a file, is all of it, counts as whole and stays
 abbrev pub CountsWhole : List ℕ → List ℕ → Option ℕ → List ℕ → Type 0
 CountsWhole file text listed left = (stands_whole (length file) (length (entry_of text)) listed (file ++ left) ≡ true)
-    × (settled_file (length file) (length (entry_of text)) listed (file ++ left) ≡ file ++ left) × (left ≡ entry_of text)
+    × (settled_file (length file) (length (entry_of text)) listed (file ++ left) ≡ file ++ left)
+    × (left ≡ entry_of text)
 
 -- it doesn't count as whole, and the file is cut back to what it was
 abbrev pub IsCutOff : List ℕ → List ℕ → Option ℕ → List ℕ → Type 0
 IsCutOff file text listed left = (stands_whole (length file) (length (entry_of text)) listed (file ++ left) ≡ false)
     × (settled_file (length file) (length (entry_of text)) listed (file ++ left) ≡ file)
 
--- a law: what a loss of power leaves of an entry that was appended to a file is all of it and counts as whole, or is cut off
+-- a law: what a loss of power leaves of an entry that was appended to a file is all of it and counts as whole, or is
+-- cut off
 abbrev pub LeftoversAreSettled : Type 0
 LeftoversAreSettled = (file text left : List ℕ) (listed : Option ℕ) → IsWhole text
     → MayBeLeft (length file) (entry_of text) left → CountsWhole file text listed left ⊎ IsCutOff file text listed left
@@ -115,16 +120,20 @@ FrontsAreSettled = (file text front rest : List ℕ) (listed : Option ℕ) → I
 -- end of a block; with another size it is cut off
 abbrev pub WholeEntriesCount : Type 0
 WholeEntriesCount = (file text : List ℕ) (listed : Option ℕ) → IsWhole text
-    → (has_size listed text ≡ true → is_torn (length file) (entry_of text) ≡ false → CountsWhole file text listed (entry_of text))
+    → (has_size listed text ≡ true → is_torn (length file) (entry_of text) ≡ false
+    → CountsWhole file text listed (entry_of text))
     × (has_size listed text ≡ false → IsCutOff file text listed (entry_of text))
 
 -- ---- what the calls do
 
 -- at `start` of this file is nothing that settling touches, the whole entry, or what it cuts off
 abbrev pub IsBehind : Behind → ℕ → ℕ → Option ℕ → List ℕ → Type 0
-IsBehind Others start len listed was = (stands_whole start len listed was ≡ false) × (settled_file start len listed was ≡ was)
-IsBehind Whole start len listed was = (stands_whole start len listed was ≡ true) × (settled_file start len listed was ≡ was)
-IsBehind Torn start len listed was = (stands_whole start len listed was ≡ false) × (settled_file start len listed was ≡ take start was)
+IsBehind Others start len listed was = (stands_whole start len listed was ≡ false)
+    × (settled_file start len listed was ≡ was)
+IsBehind Whole start len listed was = (stands_whole start len listed was ≡ true)
+    × (settled_file start len listed was ≡ was)
+IsBehind Torn start len listed was = (stands_whole start len listed was ≡ false)
+    × (settled_file start len listed was ≡ take start was)
     × (start ≤ length was)
 
 -- what stands there was told; memory ran out; or the call failed
@@ -145,3 +154,14 @@ SettlesFile old start len listed (Err Refused) new = (new ≡ counted old)
     ⊎ ((was : List ℕ) × (old.content ≡ Some was) × (new ≡ counted (holding old (settled_file start len listed was))))
 SettlesFile old start len listed (Err NotMbox) new = ⊥
 SettlesFile old start len listed (Err NoMemory) new = new ≡ old
+
+-- `peek_settled`: whether the entry is there whole, and an entry may follow the file once it is settled; there is no
+-- file; a call was refused; none may follow; or memory ran out. The file is as it was
+abbrev pub PeeksSettled : Stored → ℕ → ℕ → Option ℕ → Result Bool StoreFault → Stored → Type 0
+PeeksSettled old start len listed (Ok whole) new =
+    ((was : List ℕ) × (old.content ≡ Some was) × (whole ≡ stands_whole start len listed was)
+    × MayGoOn (settled_file start len listed was)) × (new ≡ old)
+PeeksSettled old start len listed (Err NotMbox) new =
+    ((was : List ℕ) × (old.content ≡ Some was) × (MayGoOn (settled_file start len listed was) → ⊥)) × (new ≡ old)
+PeeksSettled old start len listed (Err NoMemory) new = new ≡ old
+PeeksSettled old start len listed (Err fault) new = Denies old fault new

@@ -15,14 +15,15 @@ pub use file::memory::MemoryFile;
 pub use file::reading::{edges_of, read_piece};
 pub use maildir::delivery::deliver;
 pub use maildir::disk::{Folder, MaildirDisk};
-pub use maildir::held::{flags_tell_what_is_held, flush_held, held};
+pub use maildir::held::{Asked, flags_tell_what_is_held, flush_held, held, held_asked};
 pub use maildir::loss::{
     calls_keep_files_flushed, calls_leave_no_more, losses_leave_what_is_durable,
 };
 pub use maildir::memory::MemoryMaildir;
 pub use maildir::names::{
     add_size, file_name, file_stem, marks_keep_the_base, names_are_bases, names_have_stems,
-    one_more_is_held, stem, stems_are_stems, stems_differ, uid_of, unheld_ids_are_not_there,
+    one_more_is_held, sought_names, stem, stems_are_stems, stems_differ, uid_of,
+    unheld_ids_are_not_there,
 };
 pub use mboxrd::entry::{
     append_entry, check_mbox, entries_add_texts, entries_may_follow_texts, entry_len,
@@ -31,7 +32,7 @@ pub use mboxrd::entry::{
 pub use mboxrd::quoting::{is_whole, quote, unquote, unquoting_undoes_quoting};
 pub use mboxrd::reading::read_mbox;
 pub use mboxrd::settling::{
-    fronts_of_entries_are_settled, leftovers_of_entries_are_settled, listed_size, settle_file,
-    what_is_lost_is_zero, whole_entries_count,
+    fronts_of_entries_are_settled, leftovers_of_entries_are_settled, listed_size, peek_settled,
+    settle_file, what_is_lost_is_zero, whole_entries_count,
 };
 pub use refusal::{admit, refuse};

@@ -11,7 +11,7 @@ use Rattle.mail_store.specs.declared.maildir.disk.Folder.TheVariants.{New, Cur}
 use Rattle.mail_store.specs.Maildir.{File, all_there}
 use Rattle.test_devices.specs.declared.memory_folders.StoredMail.{StoredMail}
 use Rattle.folder_store.specs.MailFolders.{Draft, MailFile, Directories, MovesFile, RestsFile, Moved, OneMoves, is_in, is_left, name_at, rests_in}
-use Rattle.folder_store.specs.MailPower.{AreLeftAs}
+use Rattle.folder_store.specs.MailPower.{EntriesLeftAs}
 use Rattle.test_devices.specs.MemoryFolders.{MayBeLeftAs, list_of, mail_file}
 
 any_of_bytes : (names : List (String Global)) (name : List ℕ) → list_any (bytes_eq name) (map string_bytes names) ≡ is_among names name
@@ -33,7 +33,7 @@ told_on f (x ∷ ss) s = let rest = told_on f ss s in grind (arith, rest)
 
 -- ---- a loss of power
 
-pub left_on : (ss left : List MailFile) (s : MailFile) (o : Option MailFile) → AreLeftAs ss left → MayBeLeftAs s o → AreLeftAs (ss ++ s ∷ []) (left ++ list_of o)
+pub left_on : (ss left : List MailFile) (s : MailFile) (o : Option MailFile) → EntriesLeftAs ss left → MayBeLeftAs s o → EntriesLeftAs (ss ++ s ∷ []) (left ++ list_of o)
 left_on [] left s None l gone = inl (gone, append-nil left ∙ l)
 left_on [] left s (Some t) l is = inr (t, [], ap (λ (ts : List MailFile). ts ++ t ∷ []) l, is, refl)
 left_on (x ∷ ss) left s o (inl (gone, l)) may = inl (gone, left_on ss left s o l may)

@@ -6,6 +6,7 @@ use Rattle.mail_store.specs.declared.fault.StoreFault.TheVariants.{Missing, Refu
 use Rattle.mail_store.specs.declared.maildir.disk.Folder.{Folder}
 use Rattle.mail_store.specs.Fault.{is_refusal}
 use Rattle.mail_store.specs.Maildir.{AfterTaking, AreReached, File, Lists, ListsAll, Maildir, WereTaken}
+use Rattle.mail_store.specs.Held.{ListsAmong}
 use Rattle.mail_store.specs.Settling.{MayBeLeft}
 
 reached_same : (files : List File) → AreReached files files
@@ -39,6 +40,13 @@ module _ (n m : ℕ) (below : n < greatest_count) where
     lists_all left (Err Refused) count same = rw (same, counted_one count) refl
     lists_all left (Err _) count never = absurd never
 
+    lists_among : {C : Type 0} (left : Maildir) (stems : List (String C)) (r : Result (Vec (String A) B) StoreFault) → Tallies (refuses is_refusal r) n m → ListsAmong left stems r new
+        → ListsAmong (record left { failures = n }) stems r (record new { failures = m })
+    lists_among left stems (Ok names) count (in_new, in_cur, told, named, same) = (in_new, in_cur, told, named, rw (same, count) refl)
+    lists_among left stems (Err Missing) count (lacks, same) = (lacks, rw (same, count) refl)
+    lists_among left stems (Err Refused) count same = rw (same, counted_one count) refl
+    lists_among left stems (Err _) count never = absurd never
+
     pub fused_lists : (folder : Folder) (r : Result (Vec (String A) B) StoreFault) → Tallies (refuses is_refusal r) n m → AfterTaking old (λ left. Lists left folder r new)
         → AfterTaking (record old { failures = n }) (λ left. Lists left folder r (record new { failures = m }))
     fused_lists folder r count (left, taken, does) = (record left { failures = n }, taken_behind old left taken, lists left folder r count does)
@@ -46,6 +54,10 @@ module _ (n m : ℕ) (below : n < greatest_count) where
     pub fused_lists_all : (r : Result (Vec (String A) B) StoreFault) → Tallies (refuses is_refusal r) n m → AfterTaking old (λ left. ListsAll left r new)
         → AfterTaking (record old { failures = n }) (λ left. ListsAll left r (record new { failures = m }))
     fused_lists_all r count (left, taken, does) = (record left { failures = n }, taken_behind old left taken, lists_all left r count does)
+
+    pub fused_lists_among : {C : Type 0} (stems : List (String C)) (r : Result (Vec (String A) B) StoreFault) → Tallies (refuses is_refusal r) n m → AfterTaking old (λ left. ListsAmong left stems r new)
+        → AfterTaking (record old { failures = n }) (λ left. ListsAmong left stems r (record new { failures = m }))
+    fused_lists_among stems r count (left, taken, does) = (record left { failures = n }, taken_behind old left taken, lists_among left stems r count does)
 
 pub part_left : (place : ℕ) (part rest left : List ℕ) → MayBeLeft place part left → MayBeLeft place (part ++ rest) left
 part_left place part rest [] may = tt

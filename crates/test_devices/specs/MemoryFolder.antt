@@ -23,7 +23,8 @@ older_of pair = record { name = string_bytes pair.0; was = option_map blob_of pa
 -- the first bytes of a content, and zeros after them, in all at most as many as the content has
 abbrev pub IsZeroed : List ℕ → ℕ → List ℕ → Type 0
 IsZeroed content len bytes =
-    (zeros : List ℕ) × (bytes ≡ take len content ++ zeros) × ((k : ℕ) → slice_index zeros k ≡ 0) × (length bytes ≤ length content)
+    (zeros : List ℕ) × (bytes ≡ take len content ++ zeros) × ((k : ℕ) → slice_index zeros k ≡ 0)
+    × (length bytes ≤ length content)
 
 -- what a loss of power may leave under the name of a file
 abbrev pub MayBeOf : List Older → Entry → Option (List ℕ) → Type 0
@@ -35,5 +36,6 @@ abbrev pub Survive : List Older → List Entry → List Entry → Type 0
 Survive older [] left = left ≡ []
 Survive older (e ∷ es) left =
     (MayBeOf older e None × Survive older es left)
-    ⊎ ((bytes : List ℕ) × (rest : List Entry) × (left ≡ entry e.name (secured bytes) ∷ rest) × MayBeOf older e (Some bytes)
+    ⊎ ((bytes : List ℕ) × (rest : List Entry) × (left ≡ entry e.name (secured bytes) ∷ rest)
+    × MayBeOf older e (Some bytes)
     × Survive older es rest)

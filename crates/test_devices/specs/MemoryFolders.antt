@@ -18,8 +18,8 @@ mail_file k = record {
 }
 
 -- the file that was made
-abbrev pub draft_of : {A : Type 0} → Vec ℕ A × Bool → Draft
-draft_of pair = record { content = pair.0.items; is_flushed = pair.1 }
+abbrev pub made_draft : {A : Type 0} → Vec ℕ A × Bool → Draft
+made_draft pair = record { content = pair.0.items; is_flushed = pair.1 }
 
 -- one thing, or none
 abbrev pub list_of : {A : Type 0} → Option A → List A

@@ -1,5 +1,6 @@
 -- A device behind a fuse: how many calls still pass, what is behind it, and what a call does.
-use Rattle.std.specs.Prelude.{◌≡◌, ℕ, ◌-◌, ◌/◌, ◌<◌, ◌==◌, if◌then◌else◌, List, length, take, Bool, true, false, Result, Err}
+use Rattle.std.specs.Prelude.{◌≡◌, ℕ, ◌-◌, ◌/◌, ◌<◌, ◌==◌, if◌then◌else◌, List, length, take, Bool, true, false, Result}
+use Rattle.std.specs.Prelude.{Err}
 use Rattle.mail_store.specs.declared.fault.StoreFault.{StoreFault}
 use Rattle.mail_store.specs.declared.fault.StoreFault.TheVariants.{Refused}
 use Rattle.test_devices.specs.declared.fused.Fused.{Fused}
@@ -38,7 +39,8 @@ FusedIsSound sound f = sound f.device × (f.failures < greatest_count)
 
 -- one call below the greatest count: it uses up a pass; if none is left it is refused, and no later
 -- refusal takes effect; if one is left it is refused only if the device refused it
-pub record Burns {D T : Type 0} (count : D → ℕ) (old : Fused D) (result : Result T StoreFault) (new : Fused D) : Type 0 where
+pub record Burns {D T : Type 0} (count : D → ℕ) (old : Fused D) (result : Result T StoreFault)
+    (new : Fused D) : Type 0 where
   pub used : new.passes_left ≡ old.passes_left - 1
   pub blown : old.passes_left ≡ 0 → result ≡ Err Refused
   pub once : new.takes_effect ≡ (if old.passes_left == 0 then false else old.takes_effect)

@@ -54,7 +54,8 @@ impl<D> Fused<D> {
 
     // Whether a call that the fuse refuses now takes effect.
     fn is_last_effect(&self) -> bool
-        ensures { IsTrue result ↔ ((self.now.failures < greatest_count) × (self.now.passes_left ≡ 0) × (self.now.takes_effect ≡ true)) }
+        ensures { IsTrue result ↔ ((self.now.failures < greatest_count) × (self.now.passes_left ≡ 0)
+            × (self.now.takes_effect ≡ true)) }
     {
         !self.failures.is_full() && self.passes_left == 0 && self.takes_effect
     }
@@ -107,6 +108,7 @@ impl<D: MaildirDisk> MaildirDisk for Fused<D> {
     ghost use Rattle.std.specs.Prelude.{◌≡◌, ◌<◌, false, true, IfErr, IsSome, Ok, OnErr, OnOk, Some, None};
     ghost use Rattle.mail_terms.specs.FailureCount.{Tallies, refuses, greatest_count};
     ghost use Rattle.mail_store.specs.Fault.{IsDeviceFault};
+    ghost use Rattle.mail_store.specs.Held.{ListsAmong};
     ghost use Rattle.mail_store.specs.Loss.{Flushes};
     ghost use Rattle.mail_store.specs.Maildir.{AfterTaking, IsThere, Lists, ListsAll, Checks, Begins, Adds, Settles};
     ghost use Rattle.mail_store.specs.Maildir.{dropped, name_begun};
@@ -142,8 +144,21 @@ impl<D: MaildirDisk> MaildirDisk for Fused<D> {
         self.tally(answer)
     }
 
+    fn names_among(&mut self, stems: &[String]) -> Result<Vec<String>, StoreFault>
+        ensures lists { DiskDoes ⟦<Fused<D> as MaildirDisk>⟧ (λ old new.
+            AfterTaking old (λ left. ListsAmong left stems.now result new)) self.old self.new }
+        ensures fault { IfErr result IsDeviceFault }
+        ensures count { Tallies (refuses is_refusal result) (refusals self.old) (refusals self.new) }
+        ensures fuse { Fuses (λ d. (D.maildir d).failures) self.old result self.new }
+    {
+        self.pass()?;
+        let answer = self.device.names_among(stems);
+        self.tally(answer)
+    }
+
     fn check(&mut self, folder: Folder) -> Result<(), StoreFault>
-        ensures checks { DiskDoes ⟦<Fused<D> as MaildirDisk>⟧ (λ old new. Checks old folder result new) self.old self.new }
+        ensures checks { DiskDoes ⟦<Fused<D> as MaildirDisk>⟧
+            (λ old new. Checks old folder result new) self.old self.new }
         ensures fault { IfErr result IsDeviceFault }
         ensures count { Tallies (refuses is_refusal result) (refusals self.old) (refusals self.new) }
         ensures fuse { Fuses (λ d. (D.maildir d).failures) self.old result self.new }
@@ -155,7 +170,8 @@ impl<D: MaildirDisk> MaildirDisk for Fused<D> {
 
     fn flush(&mut self, stems: &[String], may_miss: bool) -> Result<bool, StoreFault>
         ensures misses { result ≡ Ok false → may_miss ≡ true }
-        ensures flushes { DiskDoes ⟦<Fused<D> as MaildirDisk>⟧ (λ old new. Flushes old stems.now result new) self.old self.new }
+        ensures flushes { DiskDoes ⟦<Fused<D> as MaildirDisk>⟧
+            (λ old new. Flushes old stems.now result new) self.old self.new }
         ensures fault { IfErr result (λ e. e ≡ StoreFault.Refused) }
         ensures count { Tallies (refuses is_refusal result) (refusals self.old) (refusals self.new) }
         ensures fuse { Fuses (λ d. (D.maildir d).failures) self.old result self.new }
@@ -167,7 +183,8 @@ impl<D: MaildirDisk> MaildirDisk for Fused<D> {
 
     fn begin(&mut self, name: &str) -> Result<(), StoreFault>
         requires { FusedIsSound D.sound self.old → (D.maildir (device_of self.old)).begun ≡ None }
-        ensures begins { DiskDoes ⟦<Fused<D> as MaildirDisk>⟧ (λ old new. Begins old name.now result new) self.old self.new }
+        ensures begins { DiskDoes ⟦<Fused<D> as MaildirDisk>⟧
+            (λ old new. Begins old name.now result new) self.old self.new }
         ensures begun { OnOk result (name_begun (D.maildir (device_of self.new)) ≡ Some name.now)
             × OnErr result ((D.maildir (device_of self.new)).begun ≡ (D.maildir (device_of self.old)).begun) }
         ensures fault { IfErr result IsDeviceFault }
@@ -181,7 +198,8 @@ impl<D: MaildirDisk> MaildirDisk for Fused<D> {
 
     fn add(&mut self, bytes: &[u8]) -> Result<(), StoreFault>
         requires { FusedIsSound D.sound self.old → IsSome (D.maildir (device_of self.old)).begun }
-        ensures adds { DiskDoes ⟦<Fused<D> as MaildirDisk>⟧ (λ old new. Adds old bytes.now result new) self.old self.new }
+        ensures adds { DiskDoes ⟦<Fused<D> as MaildirDisk>⟧
+            (λ old new. Adds old bytes.now result new) self.old self.new }
         ensures begun { name_begun (D.maildir (device_of self.new)) ≡ name_begun (D.maildir (device_of self.old)) }
         ensures fault { IfErr result (λ e. e ≡ StoreFault.Refused) }
         ensures count { Tallies (refuses is_refusal result) (refusals self.old) (refusals self.new) }
@@ -195,13 +213,16 @@ impl<D: MaildirDisk> MaildirDisk for Fused<D> {
     fn settle(&mut self, name: &str) -> Result<(), StoreFault>
         requires begun { FusedIsSound D.sound self.old → IsSome (D.maildir (device_of self.old)).begun }
         requires not_there { FusedIsSound D.sound self.old → IsThere (D.maildir (device_of self.old)) name.now → ⊥ }
-        ensures settles { DiskDoes ⟦<Fused<D> as MaildirDisk>⟧ (λ old new. Settles old name.now result new) self.old self.new }
+        ensures settles { DiskDoes ⟦<Fused<D> as MaildirDisk>⟧
+            (λ old new. Settles old name.now result new) self.old self.new }
         ensures none_begun { (D.maildir (device_of self.new)).begun ≡ None }
         ensures fault { IfErr result (λ e. e ≡ StoreFault.Refused) }
         ensures count { Tallies (refuses is_refusal result) (refusals self.old) (refusals self.new) }
-        ensures fuse { (refusals self.old < greatest_count → Burns (λ d. (D.maildir d).failures) self.old result self.new)
+        ensures fuse { (refusals self.old < greatest_count
+            → Burns (λ d. (D.maildir d).failures) self.old result self.new)
             × (passes_left self.old ≡ 0 → FusedIsSound D.sound self.new
-            → SettlesBehind (effect_is_due self.old) (D.maildir (device_of self.old)) name.now (D.maildir (device_of self.new))) }
+            → SettlesBehind (effect_is_due self.old) (D.maildir (device_of self.old)) name.now
+            (D.maildir (device_of self.new))) }
     {
         if self.is_last_effect() {
             let _ = self.device.settle(name);
@@ -292,7 +313,8 @@ impl<D: FlatFile> FlatFile for Fused<D> {
 
     fn read_at(&mut self, start: u64, buf: &mut [u8]) -> Result<usize, StoreFault>
         ensures within { IfOk result (λ count. count ≤ length buf.new) }
-        ensures reads { FileDoes ⟦<Fused<D> as FlatFile>⟧ (λ old new. ReadsAt old start result buf.new new) self.old self.new }
+        ensures reads { FileDoes ⟦<Fused<D> as FlatFile>⟧
+            (λ old new. ReadsAt old start result buf.new new) self.old self.new }
         ensures keeps { FileFlushes ⟦<Fused<D> as FlatFile>⟧ self.old result self.new }
         ensures fuse { Fuses (λ d. (D.stored d).failures) self.old result self.new }
     {
@@ -303,14 +325,19 @@ impl<D: FlatFile> FlatFile for Fused<D> {
 
     fn append(&mut self, bytes: &[u8]) -> Result<(), StoreFault>
         requires { FusedIsSound D.sound self.old → IsSome (D.stored (device_of self.old)).content }
-        ensures appends { FileDoes ⟦<Fused<D> as FlatFile>⟧ (λ old new. Appends old bytes.now result new) self.old self.new }
-        ensures keeps { FusedIsSound D.sound self.new → LeavesLonger (D.may_leave (device_of self.old)) (D.may_leave (device_of self.new))
-            × (LastsWhole (D.stored (device_of self.old)).content (D.is_on_disk (device_of self.old)) (D.may_leave (device_of self.old))
+        ensures appends { FileDoes ⟦<Fused<D> as FlatFile>⟧
+            (λ old new. Appends old bytes.now result new) self.old self.new }
+        ensures keeps { FusedIsSound D.sound self.new
+            → LeavesLonger (D.may_leave (device_of self.old)) (D.may_leave (device_of self.new))
+            × (LastsWhole (D.stored (device_of self.old)).content (D.is_on_disk (device_of self.old))
+            (D.may_leave (device_of self.old))
             → LeavesPart (fused_file D.stored self.old).content bytes.now (D.may_leave (device_of self.new))) }
         ensures lasts { FileWrites ⟦<Fused<D> as FlatFile>⟧ self.old result self.new }
-        ensures fuse { (refusals self.old < greatest_count → Burns (λ d. (D.stored d).failures) self.old result self.new)
+        ensures fuse { (refusals self.old < greatest_count
+            → Burns (λ d. (D.stored d).failures) self.old result self.new)
             × (passes_left self.old ≡ 0 → FusedIsSound D.sound self.new
-            → AppendsBehind (effect_is_due self.old) (D.stored (device_of self.old)) bytes.now (D.stored (device_of self.new))) }
+            → AppendsBehind (effect_is_due self.old) (D.stored (device_of self.old)) bytes.now
+            (D.stored (device_of self.new))) }
     {
         if self.is_last_effect() {
             let _ = self.device.append(&bytes[..bytes.len() / 2]);
@@ -335,16 +362,20 @@ impl<D: FlatFile> FlatFile for Fused<D> {
     }
 
     fn replace(&mut self, bytes: &[u8]) -> Result<(), StoreFault>
-        ensures replaces { FileDoes ⟦<Fused<D> as FlatFile>⟧ (λ old new. Replaces old bytes.now result new) self.old self.new }
+        ensures replaces { FileDoes ⟦<Fused<D> as FlatFile>⟧
+            (λ old new. Replaces old bytes.now result new) self.old self.new }
         ensures fault { IfErr result (λ e. e ≡ StoreFault.Refused) }
         ensures leaves { FusedIsSound D.sound self.new → LeavesEither (D.may_leave (device_of self.old)) bytes.now
             (D.may_leave (device_of self.new)) }
         ensures lasts { FusedIsSound D.sound self.new → OnOk result (D.is_sure (device_of self.new)
-            × LastsWhole (fused_file D.stored self.new).content (D.is_on_disk (device_of self.new)) (D.may_leave (device_of self.new))) }
+            × LastsWhole (fused_file D.stored self.new).content (D.is_on_disk (device_of self.new))
+            (D.may_leave (device_of self.new))) }
         ensures count { Tallies (refuses is_refusal result) (refusals self.old) (refusals self.new) }
-        ensures fuse { (refusals self.old < greatest_count → Burns (λ d. (D.stored d).failures) self.old result self.new)
+        ensures fuse { (refusals self.old < greatest_count
+            → Burns (λ d. (D.stored d).failures) self.old result self.new)
             × (passes_left self.old ≡ 0 → FusedIsSound D.sound self.new
-            → ReplacesBehind (effect_is_due self.old) (D.stored (device_of self.old)) bytes.now (D.stored (device_of self.new))) }
+            → ReplacesBehind (effect_is_due self.old) (D.stored (device_of self.old)) bytes.now
+            (D.stored (device_of self.new))) }
     {
         if self.is_last_effect() {
             let _ = self.device.replace(bytes);

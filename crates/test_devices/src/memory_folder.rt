@@ -1,6 +1,7 @@
 //! A folder in memory.
 
-ghost use Rattle.std.specs.Prelude.{◌≡◌, ◌≢◌, ◌<◌, ◌≤◌, ◌++◌, ℕ, [], ◌∷◌, length, map, slice_index_or, string_bytes, take, true};
+ghost use Rattle.std.specs.Prelude.{◌≡◌, ◌≢◌, ◌<◌, ◌≤◌, ◌++◌, ℕ, [], ◌∷◌, length, map, slice_index_or, string_bytes};
+ghost use Rattle.std.specs.Prelude.{take, true};
 ghost use Rattle.std.specs.Prelude.{HoldsAt, IfErr, IfNone, IfOk, IfSome, OnErr, OnOk, option_map};
 ghost use Rattle.mail_store.specs.Fault.{IsDeviceFault};
 ghost use Rattle.folder_store.specs.FileFolder.{appended, changed, cut, find, flushed, placed, put_in, secured};
@@ -72,8 +73,10 @@ impl Model for MemoryFolder {
 fn place_of<T>(named: &[(String, T)], name: &str) -> Option<usize>
     ensures inside { IfSome result (λ i. i < length named.now) }
     ensures named { IfSome result (λ i. HoldsAt (λ f. string_bytes f.0 ≡ name.now) named.now i) }
-    ensures first { IfSome result (λ i. (k : ℕ) (d : _) → k < i → string_bytes (slice_index_or named.now k d).0 ≢ name.now) }
-    ensures none { IfNone result ((k : ℕ) (d : _) → k < length named.now → string_bytes (slice_index_or named.now k d).0 ≢ name.now) }
+    ensures first { IfSome result (λ i. (k : ℕ) (d : _) → k < i
+        → string_bytes (slice_index_or named.now k d).0 ≢ name.now) }
+    ensures none { IfNone result ((k : ℕ) (d : _) → k < length named.now
+        → string_bytes (slice_index_or named.now k d).0 ≢ name.now) }
 {
     for (i, pair) in named.iter().enumerate() {
         if pair.0.as_str() == name {
@@ -99,7 +102,8 @@ fn place(
     name: String,
     file: MemoryBlob,
 ) -> Result<Option<MemoryBlob>, AllocError>
-    ensures placed { OnOk result (entries_of files.new.items ≡ placed (string_bytes name) (blob_of file) (entries_of files.old.items)) }
+    ensures placed { OnOk result
+        (entries_of files.new.items ≡ placed (string_bytes name) (blob_of file) (entries_of files.old.items)) }
     ensures was { IfOk result (λ was. option_map blob_of was ≡ find (string_bytes name) (entries_of files.old.items)) }
     ensures err { OnErr result (files.new.items ≡ files.old.items) }
 {
@@ -118,7 +122,8 @@ fn bytes_left(
     older: &[(String, Option<MemoryBlob>)],
     left: Left,
 ) -> Result<Option<Vec<u8>>, AllocError>
-    ensures { IfOk result (λ text. MayBeOf (map older_of older.now) (entry_of file.now) (option_map (λ bytes. bytes.items) text)) }
+    ensures { IfOk result (λ text. MayBeOf (map older_of older.now) (entry_of file.now)
+        (option_map (λ bytes. bytes.items) text)) }
 {
     if let Left::Older = left {
         if let Some(i) = place_of(older, file.0.as_str()) {

@@ -1,18 +1,20 @@
 //! The folders of a Maildir in memory.
 
-ghost use Rattle.std.specs.Prelude.{◌≡◌, ◌↔◌, ◌≤◌, ◌||◌, ◌++◌, [], ◌∷◌, Contains, HoldsAt, IfNone, IfOk, IfSome, IsTrue, OnErr, OnOk};
+ghost use Rattle.std.specs.Prelude.{◌≡◌, ◌↔◌, ◌≤◌, ◌||◌, ◌++◌, [], ◌∷◌, Contains, HoldsAt, IfNone, IfOk, IfSome};
+ghost use Rattle.std.specs.Prelude.{IsTrue, OnErr, OnOk};
 ghost use Rattle.std.specs.Prelude.{false, if◌then◌else◌, length, true, map, option_map, string_bytes};
 ghost use Rattle.std.specs.List.{filter};
 ghost use Rattle.mail_terms.specs.MaildirName.{base};
 ghost use Rattle.mail_store.specs.Maildir.{all_there};
 ghost use Rattle.mail_store.specs.Loss.{is_among};
-ghost use Rattle.folder_store.specs.MailCalls.{flushed_by, named_by, without_taken};
-ghost use Rattle.folder_store.specs.MailFolders.{Moved, MovesFile, entries_in, is_in, is_taken, is_told, name_at, touches};
-ghost use Rattle.folder_store.specs.MailPower.{AreLeftAs, LosesMail};
+ghost use Rattle.folder_store.specs.MailCalls.{entry_flushed_by, named_by, names_sought, without_taken};
+ghost use Rattle.folder_store.specs.MailFolders.{Moved, MovesFile, entries_in, is_in, is_taken, is_told, name_at};
+ghost use Rattle.folder_store.specs.MailFolders.{touches};
+ghost use Rattle.folder_store.specs.MailPower.{EntriesLeftAs, LosesMail};
 ghost use Rattle.test_devices.specs.MemoryFolders.{list_of, mail_file};
 
-use folder_store::{MailFolders, readers_move};
-use mail_store::{Folder, StoreFault, marks_keep_the_base, stem};
+use folder_store::{MailFolders, Sought, readers_move};
+use mail_store::{Folder, StoreFault, marks_keep_the_base, sought_names, stem};
 use mail_terms::base;
 use std::alloc::{AllocError, Global};
 use std::marker::Model;
@@ -74,7 +76,7 @@ impl Model for MemoryFolders {
     ghost use Rattle.std.specs.Prelude.{map, option_map};
     ghost use Rattle.mail_store.specs.Maildir.{all_there};
     ghost use Rattle.folder_store.specs.MailFolders.{Directories, files_at};
-    ghost use Rattle.test_devices.specs.MemoryFolders.{draft_of, mail_file};
+    ghost use Rattle.test_devices.specs.MemoryFolders.{made_draft, mail_file};
 
     ghost Value = { Directories };
 
@@ -83,7 +85,7 @@ impl Model for MemoryFolders {
       entries = map mail_file m.files.items;
       new_rests = m.new_rests;
       cur_rests = m.cur_rests;
-      made = option_map draft_of m.made;
+      made = option_map made_draft m.made;
       taken = files_at (map mail_file m.taken.items);
     } };
 }
@@ -99,9 +101,25 @@ fn add_name(names: &mut Vec<String>, file: &StoredMail, folder: Folder) -> Resul
     Ok(())
 }
 
+/// Those of some names that are sought.
+fn those_sought(
+    alloc: Global,
+    names: Vec<String>,
+    sought: Sought<'_>,
+) -> Result<Vec<String>, AllocError>
+    ensures { IfOk result (λ kept. map string_bytes kept.items
+        ≡ names_sought sought.entry (map string_bytes names.items)) }
+{
+    match sought {
+        Sought::All => Ok(names),
+        Sought::Stems(stems) => sought_names(alloc, &names, stems),
+    }
+}
+
 /// The names of the files of a folder.
 fn names_in(alloc: Global, files: &[StoredMail], folder: Folder) -> Result<Vec<String>, AllocError>
-    ensures { IfOk result (λ names. map string_bytes names.items ≡ map name_at (entries_in folder (map mail_file files.now))) }
+    ensures { IfOk result (λ names. map string_bytes names.items
+        ≡ map name_at (entries_in folder (map mail_file files.now))) }
 {
     let mut names = Vec::new(alloc);
     for file in files {
@@ -139,7 +157,8 @@ fn flushed_files(
     files: &[StoredMail],
     stems: &[String],
 ) -> Result<Vec<StoredMail>, AllocError>
-    ensures { IfOk result (λ flushed. map mail_file flushed.items ≡ map (flushed_by stems.now) (map mail_file files.now)) }
+    ensures { IfOk result (λ flushed. map mail_file flushed.items
+        ≡ map (entry_flushed_by stems.now) (map mail_file files.now)) }
 {
     let mut flushed = Vec::new(alloc);
     for file in files {
@@ -154,7 +173,7 @@ fn files_left(
     files: &[StoredMail],
     choices: &[MailLeft],
 ) -> Result<Vec<StoredMail>, AllocError>
-    ensures { IfOk result (λ left. AreLeftAs (map mail_file files.now) (map mail_file left.items)) }
+    ensures { IfOk result (λ left. EntriesLeftAs (map mail_file files.now) (map mail_file left.items)) }
 {
     let mut left = Vec::new(alloc);
     for (i, file) in files.iter().enumerate() {
@@ -167,7 +186,8 @@ fn files_left(
 
 /// Appends what is left of a file, if anything is.
 fn add_left(left: &mut Vec<StoredMail>, file: Option<StoredMail>) -> Result<(), AllocError>
-    ensures { OnOk result (map mail_file left.new.items ≡ map mail_file left.old.items ++ list_of (option_map mail_file file)) }
+    ensures { OnOk result (map mail_file left.new.items
+        ≡ map mail_file left.old.items ++ list_of (option_map mail_file file)) }
 {
     match file {
         Some(file) => {
@@ -286,14 +306,14 @@ impl StoredMail {
 
     // Whether its bytes are durable once files with these stems were flushed.
     fn is_flushed_by(&self, stems: &[String]) -> bool
-        ensures { result ≡ (flushed_by stems.now (mail_file self.now)).is_flushed }
+        ensures { result ≡ (entry_flushed_by stems.now (mail_file self.now)).is_flushed }
     {
         self.is_flushed || is_one_of(stems, stem(self.name.as_str()))
     }
 
     // The file once those with these stems were flushed.
     fn flushed_by(&self, stems: &[String]) -> Result<StoredMail, AllocError>
-        ensures { IfOk result (λ stored. mail_file stored ≡ flushed_by stems.now (mail_file self.now)) }
+        ensures { IfOk result (λ stored. mail_file stored ≡ entry_flushed_by stems.now (mail_file self.now)) }
     {
         let mut copy = self.copy()?;
         copy.is_flushed = self.is_flushed_by(stems);
@@ -493,9 +513,12 @@ impl MailFolders for MemoryFolders {
         Ok(())
     }
 
-    fn list(&mut self, folder: Folder) -> Result<Vec<String>, StoreFault> {
+    fn list(&mut self, folder: Folder, sought: Sought<'_>) -> Result<Vec<String>, StoreFault> {
         self.let_reader_move();
         let Ok(names) = names_in(self.alloc, &self.files, folder) else {
+            return Err(StoreFault::Refused);
+        };
+        let Ok(names) = those_sought(self.alloc, names, sought) else {
             return Err(StoreFault::Refused);
         };
         if let Err(_) = self.forget_taken() {

@@ -90,7 +90,8 @@ impl Wire for ScriptWire {
         requires { 0 < length buf.old }
         ensures within { IfOk result (λ n. n ≤ length buf.new) }
         ensures counted { CountsFailure self.old.link result self.new.link }
-        ensures got { WhereSound is_sound gives_on self.old self.new (Receives self.old.link result buf.new self.new.link) }
+        ensures got { WhereSound is_sound gives_on self.old self.new
+            (Receives self.old.link result buf.new self.new.link) }
         // Below the greatest count it never fails, and it answers 0 only after all was given; a piece
         // is never longer than the cut.
         ensures gives { self.old.link.failures < greatest_count → IsOk result }

@@ -22,7 +22,8 @@ pub trait FlatFile {
     ghost use Rattle.mail_terms.specs.FailureCount.{Tallies, refuses};
     ghost use Rattle.mail_store.specs.Fault.{is_refusal, IsDeviceFault};
     ghost use Rattle.mail_store.specs.FlatFile.{Stored, Loads, Measures, ReadsAt, Appends, Cuts, Replaces, HasBytes};
-    ghost use Rattle.mail_store.specs.Power.{LastsWhole, LeavesEither, LeavesFronts, LeavesLonger, LeavesNoMore, LeavesPart, UnlessRefused};
+    ghost use Rattle.mail_store.specs.Power.{LastsWhole, LeavesEither, LeavesFronts, LeavesLonger, LeavesNoMore};
+    ghost use Rattle.mail_store.specs.Power.{LeavesPart, UnlessRefused};
 
     // What is known of the file.
     ghost stored: { Self → Stored };
@@ -47,7 +48,8 @@ pub trait FlatFile {
         ensures fault { IfErr result IsDeviceFault }
         ensures keeps { sound self.new → LeavesNoMore (may_leave self.old) (may_leave self.new) }
         ensures lasts { sound self.new → is_sure self.old
-            → UnlessRefused result (is_sure self.new × LastsWhole (stored self.new).content (is_on_disk self.new) (may_leave self.new)) }
+            → UnlessRefused result (is_sure self.new
+            × LastsWhole (stored self.new).content (is_on_disk self.new) (may_leave self.new)) }
         ensures count { Tallies (refuses is_refusal result) (stored self.old).failures (stored self.new).failures };
 
     /// The bytes of the file, as `load` gives them, but nothing is flushed: a loss of power may take
@@ -68,7 +70,8 @@ pub trait FlatFile {
         ensures fault { IfErr result IsDeviceFault }
         ensures keeps { sound self.new → LeavesNoMore (may_leave self.old) (may_leave self.new) }
         ensures lasts { sound self.new → is_sure self.old
-            → UnlessRefused result (is_sure self.new × LastsWhole (stored self.new).content (is_on_disk self.new) (may_leave self.new)) }
+            → UnlessRefused result (is_sure self.new
+            × LastsWhole (stored self.new).content (is_on_disk self.new) (may_leave self.new)) }
         ensures count { Tallies (refuses is_refusal result) (stored self.old).failures (stored self.new).failures };
 
     /// The size and the ends of the file, as `edges` gives them, but nothing is flushed. Missing if
@@ -91,7 +94,8 @@ pub trait FlatFile {
         ensures fault { IfErr result IsDeviceFault }
         ensures keeps { sound self.new → LeavesNoMore (may_leave self.old) (may_leave self.new) }
         ensures lasts { sound self.new → is_sure self.old
-            → UnlessRefused result (is_sure self.new × LastsWhole (stored self.new).content (is_on_disk self.new) (may_leave self.new)) }
+            → UnlessRefused result (is_sure self.new
+            × LastsWhole (stored self.new).content (is_on_disk self.new) (may_leave self.new)) }
         ensures count { Tallies (refuses is_refusal result) (stored self.old).failures (stored self.new).failures };
 
     /// Appends bytes to the file, which must be there, as after a good `load`, `edges` or
@@ -105,7 +109,8 @@ pub trait FlatFile {
             × (LastsWhole (stored self.old).content (is_on_disk self.old) (may_leave self.old)
             → LeavesPart (stored self.old).content bytes.now (may_leave self.new)) }
         ensures lasts { sound self.new → is_sure self.old → is_on_disk self.old
-            → OnOk result (is_sure self.new × LastsWhole (stored self.new).content (is_on_disk self.new) (may_leave self.new)) }
+            → OnOk result (is_sure self.new
+            × LastsWhole (stored self.new).content (is_on_disk self.new) (may_leave self.new)) }
         ensures count { Tallies (refuses is_refusal result) (stored self.old).failures (stored self.new).failures };
 
     /// Cuts the file to its first `len` bytes; it must have that many (see `edges`). The only fault
@@ -117,7 +122,8 @@ pub trait FlatFile {
         ensures fault { IfErr result (λ e. e ≡ StoreFault.Refused) }
         ensures keeps { sound self.new → LeavesFronts len (may_leave self.old) (may_leave self.new) }
         ensures lasts { sound self.new → is_sure self.old → is_on_disk self.old
-            → OnOk result (is_sure self.new × LastsWhole (stored self.new).content (is_on_disk self.new) (may_leave self.new)) }
+            → OnOk result (is_sure self.new
+            × LastsWhole (stored self.new).content (is_on_disk self.new) (may_leave self.new)) }
         ensures count { Tallies (refuses is_refusal result) (stored self.old).failures (stored self.new).failures };
 
     /// Replaces the file's content by these bytes, whether or not there is a file. The only fault
@@ -128,7 +134,8 @@ pub trait FlatFile {
         ensures fault { IfErr result (λ e. e ≡ StoreFault.Refused) }
         ensures leaves { sound self.new → LeavesEither (may_leave self.old) bytes.now (may_leave self.new) }
         ensures lasts { sound self.new
-            → OnOk result (is_sure self.new × LastsWhole (stored self.new).content (is_on_disk self.new) (may_leave self.new)) }
+            → OnOk result (is_sure self.new
+            × LastsWhole (stored self.new).content (is_on_disk self.new) (may_leave self.new)) }
         ensures count { Tallies (refuses is_refusal result) (stored self.old).failures (stored self.new).failures };
 
     /// How many calls were refused.
@@ -139,10 +146,13 @@ pub trait FlatFile {
 /// What a loss of power would have left before some calls it would still leave after them, as long
 /// as each leaves no more, or only what is longer.
 pub fn calls_keep_bytes<F: FlatFile>()
-    ensures longer { (u v : F) → LeavesNoMore (F.may_leave u) (F.may_leave v) → LeavesLonger (F.may_leave u) (F.may_leave v) }
-    ensures joined { (u v w : F) → LeavesLonger (F.may_leave u) (F.may_leave v) → LeavesLonger (F.may_leave v) (F.may_leave w)
+    ensures longer { (u v : F) → LeavesNoMore (F.may_leave u) (F.may_leave v)
+        → LeavesLonger (F.may_leave u) (F.may_leave v) }
+    ensures joined { (u v w : F) → LeavesLonger (F.may_leave u) (F.may_leave v)
+        → LeavesLonger (F.may_leave v) (F.may_leave w)
         → LeavesLonger (F.may_leave u) (F.may_leave w) }
-    ensures bytes { (u v : F) → LeavesLonger (F.may_leave u) (F.may_leave v) → KeepsBytes (F.may_leave u) (F.may_leave v) }
+    ensures bytes { (u v : F) → LeavesLonger (F.may_leave u) (F.may_leave v)
+        → KeepsBytes (F.may_leave u) (F.may_leave v) }
     ensures whole { (u : F) (bytes : List ℕ) → LastsWhole (F.stored u).content (F.is_on_disk u) (F.may_leave u)
         → (F.stored u).content ≡ Some bytes → Outlives (F.may_leave u) bytes }
 {}

@@ -64,7 +64,7 @@ impl MemoryFile {
 impl FlatFile for MemoryFile {
     ghost use Rattle.std.specs.Prelude.{◌≡◌, ◌≢◌, ◌≤◌, ◌<◌, length, IfOk, IsOk};
     ghost use Rattle.mail_terms.specs.FailureCount.{greatest_count};
-    ghost use Rattle.mail_store.specs.Devices.{FileDoes, FileFlushes, FileWrites};
+    ghost use Rattle.mail_store.specs.Devices.{FileDoes, FileFlushes, FileReads, FileWrites};
     ghost use Rattle.mail_store.specs.FlatFile.{Measures, ReadsAt, Cuts, HasBytes};
     ghost use Rattle.mail_store.specs.Power.{LeavesFronts};
 
@@ -107,14 +107,19 @@ impl FlatFile for MemoryFile {
         }
     }
 
-    fn peek_edges(&mut self) -> Result<Edges, StoreFault> {
+    fn peek_edges(&mut self) -> Result<Edges, StoreFault>
+        ensures measures { FileDoes ⟦<MemoryFile as FlatFile>⟧ (λ old new. Measures old result new) self.old self.new }
+        ensures keeps { FileReads ⟦<MemoryFile as FlatFile>⟧ self.old result self.new }
+        ensures answers { self.old.failures < greatest_count → result ≢ Err StoreFault.Refused }
+    {
         self.edges()
     }
 
     // It takes no memory, so below the greatest count it isn't refused.
     fn read_at(&mut self, start: u64, buf: &mut [u8]) -> Result<usize, StoreFault>
         ensures within { IfOk result (λ count. count ≤ length buf.new) }
-        ensures reads { FileDoes ⟦<MemoryFile as FlatFile>⟧ (λ old new. ReadsAt old start result buf.new new) self.old self.new }
+        ensures reads { FileDoes ⟦<MemoryFile as FlatFile>⟧
+            (λ old new. ReadsAt old start result buf.new new) self.old self.new }
         ensures keeps { FileFlushes ⟦<MemoryFile as FlatFile>⟧ self.old result self.new }
         ensures answers { self.old.failures < greatest_count → result ≢ Err StoreFault.Refused }
     {
@@ -140,7 +145,8 @@ impl FlatFile for MemoryFile {
     fn cut_to(&mut self, len: u64) -> Result<(), StoreFault>
         requires { self.old.failures < greatest_count → HasBytes self.old len }
         ensures cuts { FileDoes ⟦<MemoryFile as FlatFile>⟧ (λ old new. Cuts old len result new) self.old self.new }
-        ensures keeps { self.new.failures < greatest_count → LeavesFronts len (⟦<MemoryFile as FlatFile>⟧.may_leave self.old)
+        ensures keeps { self.new.failures < greatest_count
+            → LeavesFronts len (⟦<MemoryFile as FlatFile>⟧.may_leave self.old)
             (⟦<MemoryFile as FlatFile>⟧.may_leave self.new) }
         ensures lasts { FileWrites ⟦<MemoryFile as FlatFile>⟧ self.old result self.new }
         ensures answers { self.old.failures < greatest_count → IsOk result }

@@ -24,6 +24,7 @@ pub trait MaildirDisk {
     ghost use Rattle.std.specs.Prelude.{◌≡◌, ℕ, List, false, true, IfErr, IsSome, Ok, OnErr, OnOk, Some, None};
     ghost use Rattle.mail_terms.specs.FailureCount.{Tallies, refuses};
     ghost use Rattle.mail_store.specs.Fault.{is_refusal, IsDeviceFault};
+    ghost use Rattle.mail_store.specs.Held.{ListsAmong};
     ghost use Rattle.mail_store.specs.Loss.{Flushes};
     ghost use Rattle.mail_store.specs.Maildir.{Maildir, AfterTaking, IsThere, Lists, ListsAll, Checks};
     ghost use Rattle.mail_store.specs.Maildir.{Begins, Adds, Settles, dropped, name_begun};
@@ -50,6 +51,13 @@ pub trait MaildirDisk {
     fn all_names(&mut self) -> Result<Vec<String>, StoreFault>
         ensures lists { sound self.new → sound self.old
             × AfterTaking (maildir self.old) (λ left. ListsAll left result (maildir self.new)) }
+        ensures fault { IfErr result IsDeviceFault }
+        ensures count { Tallies (refuses is_refusal result) (maildir self.old).failures (maildir self.new).failures };
+
+    /// As `all_names`, but of these names those alone that have one of these stems (see `stem`).
+    fn names_among(&mut self, stems: &[String]) -> Result<Vec<String>, StoreFault>
+        ensures lists { sound self.new → sound self.old
+            × AfterTaking (maildir self.old) (λ left. ListsAmong left stems.now result (maildir self.new)) }
         ensures fault { IfErr result IsDeviceFault }
         ensures count { Tallies (refuses is_refusal result) (maildir self.old).failures (maildir self.new).failures };
 

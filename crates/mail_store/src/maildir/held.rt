@@ -1,13 +1,15 @@
 //! Which messages of a listing a Maildir holds already.
 
-ghost use Rattle.std.specs.Prelude.{◌≡◌, List, ℕ, ◌∷◌, ◌++◌, ◌||◌, ◌&&◌, map, length, vec_len, bytes_eq, IfOk, OnOk, ◌≢◌};
+ghost use Rattle.std.specs.Prelude.{◌≡◌, List, ℕ, ◌∷◌, ◌++◌, ◌||◌, ◌&&◌, map, length, vec_len, bytes_eq, IfOk, OnOk};
+ghost use Rattle.std.specs.Prelude.{◌≢◌};
 ghost use Rattle.hex.specs.Hex.{encode_lower};
 ghost use Rattle.mail_terms.specs.FailureCount.{Tallies, refuses};
 ghost use Rattle.mail_store.specs.Fault.{is_refusal};
 ghost use Rattle.mail_store.specs.FileName.{stem, is_held};
 ghost use Rattle.mail_terms.specs.Listing.{Item, has_item, is_flagged};
 ghost use Rattle.mail_store.specs.Maildir.{AfterTaking, Maildir};
-ghost use Rattle.mail_store.specs.Held.{Finds, FindsDurable, HasStems, any_name, flags_of, has_text};
+ghost use Rattle.mail_store.specs.Held.{Finds, FindsAsked, FindsDurable, FindsFlags, HasStems, any_name, flags_of};
+ghost use Rattle.mail_store.specs.Held.{flags_sought, has_text, sought_among};
 
 use crate::account::AccountId;
 use crate::fault::StoreFault;
@@ -16,6 +18,16 @@ use crate::maildir::names;
 use mail_terms::Listing;
 use std::alloc::{AllocError, Global};
 use std::collections::BTreeSet;
+
+/// Of which items it is asked whether they are held.
+#[derive(Clone, Copy)]
+pub struct Asked<'a> {
+    /// Whether of all.
+    pub all: bool,
+    /// Else of those for which a flag is set here, one for each item in the listing's order. The files of
+    /// those are to be flushed.
+    pub flags: &'a [bool],
+}
 
 /// How many times more it is asked what is held, because readers took away files that were to be flushed.
 const MOST_TIMES: u32 = 8;
@@ -57,15 +69,56 @@ fn flags_of(
     found: &BTreeSet<&str>,
     listing: &Listing,
 ) -> Result<Vec<bool>, AllocError>
-    ensures flags { IfOk result (λ flags. flags.items ≡ map (λ item. has_text found.now (encode_lower item.uid)) listing.now) }
+    ensures flags { IfOk result
+        (λ flags. flags.items ≡ map (λ item. has_text found.now (encode_lower item.uid)) listing.now) }
     ensures length { IfOk result (λ flags. vec_len flags ≡ length listing.now) }
 {
     let mut flags = Vec::new(alloc);
     for i in 0..listing.len() {
-        let digits = hex::encode(alloc, listing.uid(i))?;
-        flags.push(found.contains(digits.as_str()))?;
+        flags.push(is_found(alloc, found, listing.uid(i))?)?;
     }
     Ok(flags)
+}
+
+/// Whether a flag is set and the digits of an id are among these.
+fn is_asked(
+    alloc: Global,
+    found: &BTreeSet<&str>,
+    uid: &[u8],
+    flag: bool,
+) -> Result<bool, AllocError>
+    ensures { IfOk result (λ is. is ≡ (flag && has_text found.now (encode_lower uid.now))) }
+{
+    if !flag {
+        return Ok(false);
+    }
+    is_found(alloc, found, uid)
+}
+
+/// Whether each item's flag is set and the digits of its id are among these, in order.
+fn flags_sought(
+    alloc: Global,
+    found: &BTreeSet<&str>,
+    listing: &Listing,
+    flags: &[bool],
+) -> Result<Vec<bool>, AllocError>
+    requires { length flags.now ≡ length listing.now }
+    ensures flags { IfOk result (λ sought. sought.items ≡ sought_among (has_text found.now) listing.now flags.now) }
+    ensures length { IfOk result (λ sought. vec_len sought ≡ length listing.now) }
+{
+    let mut sought = Vec::with_capacity(alloc, flags.len())?;
+    for i in 0..listing.len() {
+        sought.push(is_asked(alloc, found, listing.uid(i), flags[i as usize])?)?;
+    }
+    Ok(sought)
+}
+
+/// Whether the digits of an id are among these.
+fn is_found(alloc: Global, found: &BTreeSet<&str>, uid: &[u8]) -> Result<bool, AllocError>
+    ensures { IfOk result (λ is. is ≡ has_text found.now (encode_lower uid.now)) }
+{
+    let digits = hex::encode(alloc, uid)?;
+    Ok(found.contains(digits.as_str()))
 }
 
 /// The stems of the files of the items for which both flags are set, the flags in the listing's order.
@@ -78,7 +131,8 @@ fn stems_of(
 ) -> Result<Vec<String>, AllocError>
     requires held { length held.now ≡ length listing.now }
     requires flags { length flags.now ≡ length listing.now }
-    ensures { IfOk result (λ stems. HasStems account.now listing.now held.now flags.now (length listing.now) stems.items) }
+    ensures { IfOk result (λ stems. HasStems account.now listing.now held.now flags.now
+        (length listing.now) stems.items) }
 {
     let mut stems = Vec::new(alloc);
     for i in 0..listing.len() {
@@ -125,49 +179,95 @@ pub fn held<D: MaildirDisk>(
     Ok(flags_of(alloc, &found, listing)?)
 }
 
+/// As `held`, but only of the items for which a flag is set; the others' flags are false. No name is kept
+/// that none of these ids has.
+fn held_sought<D: MaildirDisk>(
+    alloc: Global,
+    disk: &mut D,
+    account: &AccountId,
+    listing: &Listing,
+    flags: &[bool],
+) -> Result<Vec<bool>, StoreFault>
+    requires { length flags.now ≡ length listing.now }
+    ensures finds { D.sound disk.new → D.sound disk.old × AfterTaking (D.maildir disk.old)
+        (λ left. FindsFlags (flags_sought account.now left listing.now flags.now) left result (D.maildir disk.new)) }
+    ensures count { Tallies (refuses is_refusal result) (D.maildir disk.old).failures (D.maildir disk.new).failures }
+    ensures length { IfOk result (λ flags. vec_len flags ≡ length listing.now) }
+    ensures fault { result ≢ Err StoreFault.NotMbox }
+{
+    let stems = stems_of(alloc, account, listing, flags, flags)?;
+    let names = disk.names_among(&stems)?;
+    let mut found = BTreeSet::new(alloc);
+    add_digits(&mut found, account.as_str(), &names)?;
+    Ok(flags_sought(alloc, &found, listing, flags)?)
+}
+
+/// As `held`, of the items that are asked for. The flags of others are false.
+pub fn held_asked<D: MaildirDisk>(
+    alloc: Global,
+    disk: &mut D,
+    account: &AccountId,
+    listing: &Listing,
+    asked: Asked<'_>,
+) -> Result<Vec<bool>, StoreFault>
+    requires { length asked.flags.now ≡ length listing.now }
+    ensures finds { D.sound disk.new → D.sound disk.old
+        × AfterTaking (D.maildir disk.old) (λ left. FindsAsked asked.entry.all account.now left listing.now
+        asked.entry.flags.now result (D.maildir disk.new)) }
+    ensures count { Tallies (refuses is_refusal result) (D.maildir disk.old).failures (D.maildir disk.new).failures }
+    ensures length { IfOk result (λ flags. vec_len flags ≡ length listing.now) }
+    ensures fault { result ≢ Err StoreFault.NotMbox }
+{
+    if asked.all {
+        return held(alloc, disk, account, listing);
+    }
+    held_sought(alloc, disk, account, listing, asked.flags)
+}
+
 /// As `flush_held`, but asks what is held this many times more.
 fn flush_within<D: MaildirDisk>(
     alloc: Global,
     disk: &mut D,
     account: &AccountId,
     listing: &Listing,
-    flags: &[bool],
+    asked: Asked<'_>,
     times: u32,
 ) -> Result<Vec<bool>, StoreFault>
-    requires { length flags.now ≡ length listing.now }
+    requires { length asked.flags.now ≡ length listing.now }
     ensures finds { D.sound disk.new → D.sound disk.old
-        × AfterTaking (D.maildir disk.old) (λ left. FindsDurable account.now left listing.now flags.now result (D.maildir disk.new)) }
+        × AfterTaking (D.maildir disk.old) (λ left. FindsDurable asked.entry.all account.now left listing.now
+        asked.entry.flags.now result (D.maildir disk.new)) }
     ensures count { Tallies (refuses is_refusal result) (D.maildir disk.old).failures (D.maildir disk.new).failures }
     ensures length { IfOk result (λ flags. vec_len flags ≡ length listing.now) }
     ensures fault { result ≢ Err StoreFault.NotMbox }
 {
-    let found = held(alloc, disk, account, listing)?;
-    let stems = stems_of(alloc, account, listing, &found, flags)?;
+    let found = held_asked(alloc, disk, account, listing, asked)?;
+    let stems = stems_of(alloc, account, listing, &found, asked.flags)?;
     if stems.is_empty() {
         return Ok(found);
     }
     if disk.flush(&stems, times > 0)? {
         return Ok(found);
     }
-    flush_within(alloc, disk, account, listing, flags, times - 1)
+    flush_within(alloc, disk, account, listing, asked, times - 1)
 }
 
-/// As `held`, and flushes the file of each item that is held and for which a flag is set, one for each
-/// item in the listing's order. If a reader took such a file away meanwhile, it is asked again what is held;
+/// As `held_asked`, and flushes the file of each item that is held and for which a flag is set. If a reader took such a file away meanwhile, it is asked again what is held;
 /// Refused also if readers do so again and again.
 pub fn flush_held<D: MaildirDisk>(
     alloc: Global,
     disk: &mut D,
     account: &AccountId,
     listing: &Listing,
-    flags: &[bool],
+    asked: Asked<'_>,
 ) -> Result<Vec<bool>, StoreFault>
-    requires { length flags.now ≡ length listing.now }
+    requires { length asked.flags.now ≡ length listing.now }
     ensures finds { D.sound disk.new → D.sound disk.old
-        × AfterTaking (D.maildir disk.old) (λ left. FindsDurable account.now left listing.now flags.now result (D.maildir disk.new)) }
+        × AfterTaking (D.maildir disk.old) (λ left. FindsDurable asked.entry.all account.now left listing.now
+        asked.entry.flags.now result (D.maildir disk.new)) }
     ensures count { Tallies (refuses is_refusal result) (D.maildir disk.old).failures (D.maildir disk.new).failures }
     ensures length { IfOk result (λ flags. vec_len flags ≡ length listing.now) }
     ensures fault { result ≢ Err StoreFault.NotMbox }
 {
-    flush_within(alloc, disk, account, listing, flags, MOST_TIMES)
+    flush_within(alloc, disk, account, listing, asked, MOST_TIMES)
 }

@@ -1,13 +1,15 @@
 //! The names of an account's files in a Maildir.
 
 ghost use Rattle.std.specs.Prelude.{◌≡◌, false, ℕ, ◌≢◌, ◌≤◌, List, ◌∷◌, ◌++◌, length, ◌||◌, bytes_eq, IfOk};
-ghost use Rattle.std.specs.Prelude.{IfSome, IfNone, MatchOption, string_bytes};
+ghost use Rattle.std.specs.Prelude.{IfSome, IfNone, MatchOption, OnOk, [], if◌then◌else◌, map, string_bytes};
+ghost use Rattle.std.specs.List.{filter};
 ghost use Rattle.hex.specs.Hex.{encode_lower};
 ghost use Rattle.mail_terms.specs.UniqueId.{IsLegalId};
 ghost use Rattle.mail_terms.specs.MaildirName.{base};
 ghost use Rattle.mail_store.specs.FileName.{HasRoomForSize, IsAccountText, NamesAreBases, NamesHaveStems};
 ghost use Rattle.mail_store.specs.FileName.{StemsAreStems, StemsDiffer, is_held, longest_name, longest_stem};
 ghost use Rattle.mail_store.specs.FileName.{mail_file, name_of, sized, stem, stem_of};
+ghost use Rattle.mail_store.specs.Held.{is_sought};
 ghost use Rattle.mail_store.specs.Maildir.{Maildir, IsThere, with_file};
 
 use crate::account::AccountId;
@@ -89,6 +91,41 @@ pub fn stems_differ()
     legal_ids_have_ranges();
 }
 
+/// Whether a name has one of these stems.
+fn is_sought(stems: &[String], name: &str) -> bool
+    ensures { result ≡ is_sought stems.now name.now }
+{
+    let text = stem(name);
+    stems.iter().any(|one| one.as_str() == text)
+}
+
+/// Adds a name, if it has one of these stems.
+fn add_sought(kept: &mut Vec<String>, name: &String, stems: &[String]) -> Result<(), AllocError>
+    ensures { OnOk result (map string_bytes kept.new.items ≡ map string_bytes kept.old.items
+        ++ (if is_sought stems.now (string_bytes name.now) then string_bytes name.now ∷ [] else [])) }
+{
+    if is_sought(stems, name.as_str()) {
+        kept.push(name.clone()?)?;
+    }
+    Ok(())
+}
+
+/// Those of some names that have one of these stems, in order.
+pub fn sought_names(
+    alloc: Global,
+    names: &[String],
+    stems: &[String],
+) -> Result<Vec<String>, AllocError>
+    ensures { IfOk result (λ kept. map string_bytes kept.items
+        ≡ filter (is_sought stems.now) (map string_bytes names.now)) }
+{
+    let mut kept = Vec::new(alloc);
+    for name in names {
+        add_sought(&mut kept, name, stems)?;
+    }
+    Ok(kept)
+}
+
 /// An id's stem holds no comma and no colon.
 #[tactic(auto, using(crate::proofs::MaildirLemmas::stem_stem_of))]
 pub fn stems_are_stems()
@@ -120,14 +157,16 @@ pub fn marks_keep_the_base()
 #[tactic(auto, using(crate::proofs::MaildirLemmas::held_with_file))]
 pub fn one_more_is_held()
     ensures { (account a b content : List ℕ) (maildir : Maildir) → IsAccountText account → IsLegalId a → IsLegalId b
-        → is_held account (with_file maildir (mail_file account a content)) b ≡ (is_held account maildir b || bytes_eq b a) }
+        → is_held account (with_file maildir (mail_file account a content)) b
+        ≡ (is_held account maildir b || bytes_eq b a) }
 {
     legal_ids_have_ranges();
 }
 
 /// No file has a name of an id that isn't held, so a text may be delivered under one.
 pub fn unheld_ids_are_not_there()
-    ensures { (account uid : List ℕ) (size : ℕ) (maildir : Maildir) → IsAccountText account → is_held account maildir uid ≡ false
+    ensures { (account uid : List ℕ) (size : ℕ) (maildir : Maildir) → IsAccountText account
+        → is_held account maildir uid ≡ false
         → IsThere maildir (name_of account uid size) → ⊥ }
 {}
 
@@ -170,8 +209,10 @@ fn decode_id(alloc: Global, digits: &[u8]) -> Result<Option<Vec<u8>>, AllocError
 /// The legal id whose stem is that of `name`, else None.
 #[tactic(auto, using(std::proofs::lemmas::List::append_cancel_left))]
 pub fn uid_of(alloc: Global, account: &AccountId, name: &str) -> Result<Option<Vec<u8>>, AllocError>
-    ensures some { IfOk result (λ id. IfSome id (λ uid. IsLegalId uid.items × (stem_of account.now uid.items ≡ stem name.now))) }
-    ensures none { IfOk result (λ id. IfNone id ((uid : List ℕ) → IsLegalId uid → stem_of account.now uid ≢ stem name.now)) }
+    ensures some { IfOk result
+        (λ id. IfSome id (λ uid. IsLegalId uid.items × (stem_of account.now uid.items ≡ stem name.now))) }
+    ensures none { IfOk result
+        (λ id. IfNone id ((uid : List ℕ) → IsLegalId uid → stem_of account.now uid ≢ stem name.now)) }
 {
     match id_digits(account.as_str(), stem(name)) {
         Some(digits) => decode_id(alloc, digits.as_bytes()),

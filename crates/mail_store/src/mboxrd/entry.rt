@@ -1,13 +1,14 @@
 //! Entries of an mboxrd file: a line that begins with `From `, the quoted text and an empty line.
 
-ghost use Rattle.std.specs.Prelude.{◌≡◌, ◌≢◌, ◌↔◌, ◌≤◌, ◌+◌, ◌-◌, ◌++◌, List, ℕ, drop, length, take, IfErr, IfOk, IsTrue, OnOk};
+ghost use Rattle.std.specs.Prelude.{◌≡◌, ◌≢◌, ◌↔◌, ◌≤◌, ◌+◌, ◌-◌, ◌++◌, List, ℕ, drop, length, take, IfErr, IfOk};
+ghost use Rattle.std.specs.Prelude.{IsTrue, OnOk};
 ghost use Rattle.mail_terms.specs.FailureCount.{Tallies, refuses};
 ghost use Rattle.mail_store.specs.Fault.{is_refusal};
-ghost use Rattle.mail_store.specs.FlatFile.{edges_of};
+ghost use Rattle.mail_store.specs.FlatFile.{HasBytes, edges_of};
 ghost use Rattle.mail_terms.specs.Text.{IsWhole};
 ghost use Rattle.mail_store.specs.Mboxrd.{MayGoOn, entry_of, separator, EntryAddsText, OneReading, TextsMayGoOn};
 ghost use Rattle.mail_store.specs.Power.{KeepsWhole, LastsWhole, LeavesNoMore};
-ghost use Rattle.mail_store.specs.MboxCalls.{Looks, Checks, AppendsEntry, TalliesEntry};
+ghost use Rattle.mail_store.specs.MboxCalls.{Looks, Checks, ChecksFront, AppendsEntry, TalliesEntry};
 
 use crate::fault::{EntryFault, StoreFault};
 use crate::file::flat_file::{Edges, FlatFile};
@@ -30,7 +31,8 @@ fn look_at<F: FlatFile>(file: &mut F) -> Result<Edges, StoreFault>
     ensures fault { IfErr result (λ e. e ≢ StoreFault.NoMemory) }
     ensures keeps { F.sound file.new → LeavesNoMore (F.may_leave file.old) (F.may_leave file.new) }
     ensures lasts { F.sound file.new → F.is_sure file.old
-        → OnOk result (F.is_sure file.new × LastsWhole (F.stored file.new).content (F.is_on_disk file.new) (F.may_leave file.new)) }
+        → OnOk result (F.is_sure file.new
+        × LastsWhole (F.stored file.new).content (F.is_on_disk file.new) (F.may_leave file.new)) }
     ensures count { Tallies (refuses is_refusal result) (F.stored file.old).failures (F.stored file.new).failures }
 {
     let edges = file.edges()?;
@@ -49,7 +51,8 @@ pub fn check_mbox<F: FlatFile>(file: &mut F) -> Result<(), StoreFault>
     ensures fault { IfErr result (λ e. e ≢ StoreFault.NoMemory) }
     ensures keeps { F.sound file.new → LeavesNoMore (F.may_leave file.old) (F.may_leave file.new) }
     ensures lasts { F.sound file.new → F.is_sure file.old
-        → OnOk result (F.is_sure file.new × LastsWhole (F.stored file.new).content (F.is_on_disk file.new) (F.may_leave file.new)) }
+        → OnOk result (F.is_sure file.new
+        × LastsWhole (F.stored file.new).content (F.is_on_disk file.new) (F.may_leave file.new)) }
     ensures count { Tallies (refuses is_refusal result) (F.stored file.old).failures (F.stored file.new).failures }
 {
     look_at(file)?;
@@ -83,6 +86,42 @@ pub fn peek_mbox<F: FlatFile>(file: &mut F) -> Result<(), StoreFault>
     ensures count { Tallies (refuses is_refusal result) (F.stored file.old).failures (F.stored file.new).failures }
 {
     peek_ends(file)?;
+    Ok(())
+}
+
+/// The size and the ends of the first `size` bytes of a file, by its own ends and what these bytes end with.
+fn front_edges(edges: &Edges, size: u64, tail: [u8; 2]) -> Edges
+    requires { 5 ≤ size }
+    ensures { (was : List ℕ) → edges.now ≡ edges_of was → size ≤ length was → tail ≡ take 2 (drop (size - 2) was)
+        → result ≡ edges_of (take size was) }
+{
+    Edges {
+        size,
+        head: edges.head,
+        tail,
+    }
+}
+
+/// Checks that an entry may follow a file once it is cut to its first `size` bytes; it must have that
+/// many. The file is only looked at.
+pub fn peek_front<F: FlatFile>(file: &mut F, size: u64) -> Result<(), StoreFault>
+    requires { F.sound file.old → HasBytes (F.stored file.old) size }
+    ensures checks { F.sound file.new → F.sound file.old
+        × ChecksFront size (F.stored file.old) result (F.stored file.new) }
+    ensures fault { IfErr result (λ e. e ≢ StoreFault.NoMemory) }
+{
+    let edges = file.peek_edges()?;
+    if size == 0 {
+        return Ok(());
+    }
+    if size < edges.head.len() as u64 {
+        return Err(StoreFault::NotMbox);
+    }
+    let mut tail = [0; 2];
+    file.read_at(size - 2, &mut tail)?;
+    if !may_go_on(&front_edges(&edges, size, tail)) {
+        return Err(StoreFault::NotMbox);
+    }
     Ok(())
 }
 
@@ -144,9 +183,11 @@ pub fn append_entry<F: FlatFile>(file: &mut F, text: Vec<u8>) -> Result<(), Entr
     requires { IsWhole text.items }
     ensures appends { F.sound file.new → F.sound file.old
         × AppendsEntry (F.stored file.old) text.items result (F.stored file.new) }
-    ensures keeps { F.sound file.new → KeepsWhole (F.stored file.old).content (F.may_leave file.old) (F.may_leave file.new) }
+    ensures keeps { F.sound file.new
+        → KeepsWhole (F.stored file.old).content (F.may_leave file.old) (F.may_leave file.new) }
     ensures lasts { F.sound file.new → F.is_sure file.old
-        → OnOk result (F.is_sure file.new × LastsWhole (F.stored file.new).content (F.is_on_disk file.new) (F.may_leave file.new)) }
+        → OnOk result (F.is_sure file.new
+        × LastsWhole (F.stored file.new).content (F.is_on_disk file.new) (F.may_leave file.new)) }
     ensures count { TalliesEntry result (F.stored file.old).failures (F.stored file.new).failures }
 {
     let edges = look_at(file)?;

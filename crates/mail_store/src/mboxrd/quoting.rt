@@ -133,7 +133,8 @@ fn move_line(bytes: &mut Vec<u8>, start: usize, end: usize, to: usize) -> usize
     ensures size { length bytes.new.items ≡ length bytes.old.items }
     ensures front { take start bytes.new.items ≡ take start bytes.old.items }
     ensures place { result + length (quoted (slice_range bytes.old.items start end)) ≡ to }
-    ensures back { drop result bytes.new.items ≡ quoted (slice_range bytes.old.items start end) ++ drop to bytes.old.items }
+    ensures back { drop result bytes.new.items
+        ≡ quoted (slice_range bytes.old.items start end) ++ drop to bytes.old.items }
 {
     let marked = is_marked(&bytes[start..end]);
     let place = to - (end - start);
@@ -153,7 +154,8 @@ pub fn quote_within(bytes: &mut Vec<u8>, count: usize, end: usize) -> usize
     requires room { length (quoted_text (take count bytes.old.items)) ≤ end }
     ensures size { length bytes.new.items ≡ length bytes.old.items }
     ensures place { result + length (quoted_text (take count bytes.old.items)) ≡ end }
-    ensures quoted { drop result bytes.new.items ≡ quoted_text (take count bytes.old.items) ++ drop end bytes.old.items }
+    ensures quoted { drop result bytes.new.items
+        ≡ quoted_text (take count bytes.old.items) ++ drop end bytes.old.items }
 {
     let mut from = count;
     let mut to = end;

@@ -6,13 +6,14 @@ ghost use Rattle.mail_terms.specs.FailureCount.{Tallies, refuses};
 ghost use Rattle.mail_store.specs.Fault.{is_refusal};
 ghost use Rattle.mail_store.specs.Mboxrd.{text_in};
 ghost use Rattle.mail_store.specs.Power.{LastsWhole, LeavesFronts, LeavesNoMore};
-ghost use Rattle.mail_store.specs.Settling.{block_size, begin_with, has_size, is_lost, is_one_entry, is_ours, is_torn, is_whole};
+ghost use Rattle.mail_store.specs.Settling.{block_size, begin_with, has_size, is_lost, is_one_entry, is_ours, is_torn};
+ghost use Rattle.mail_store.specs.Settling.{is_whole};
 ghost use Rattle.mail_store.specs.Settling.{FrontsAreSettled, IsBehind, LeftoversAreSettled, LooksBehind};
-ghost use Rattle.mail_store.specs.Settling.{SettlesFile, WholeEntriesCount, listed_size};
+ghost use Rattle.mail_store.specs.Settling.{PeeksSettled, SettlesFile, WholeEntriesCount, listed_size};
 
 use crate::fault::StoreFault;
 use crate::file::flat_file::FlatFile;
-use crate::mboxrd::entry::{SEPARATOR, quoted_in};
+use crate::mboxrd::entry::{SEPARATOR, peek_front, peek_mbox, quoted_in};
 use crate::mboxrd::quoting::text_size;
 use mail_terms::Listing;
 use memchr::memmem;
@@ -133,7 +134,8 @@ enum Behind {
 fn judge(start: u64, behind: u64, len: u64, listed: Option<u64>, rest: &[u8]) -> Behind
     requires part { (0 < behind) × (behind ≤ len) }
     requires place { start + length rest.now < 2 ^ 64 }
-    ensures { (was : List ℕ) → rest.now ≡ drop start was → behind ≡ length rest.now → IsBehind result start len listed was }
+    ensures { (was : List ℕ) → rest.now ≡ drop start was → behind ≡ length rest.now
+        → IsBehind result start len listed was }
 {
     if (rest.len() as u64) < behind || !is_ours(start, rest) {
         return Behind::Others;
@@ -157,7 +159,8 @@ fn look_behind<F: FlatFile>(
     ensures fault { IfErr result (λ e. e ≢ StoreFault.NotMbox) }
     ensures keeps { F.sound file.new → LeavesNoMore (F.may_leave file.old) (F.may_leave file.new) }
     ensures lasts { F.sound file.new → F.is_sure file.old
-        → OnOk result (F.is_sure file.new × LastsWhole (F.stored file.new).content (F.is_on_disk file.new) (F.may_leave file.new)) }
+        → OnOk result (F.is_sure file.new
+        × LastsWhole (F.stored file.new).content (F.is_on_disk file.new) (F.may_leave file.new)) }
     ensures count { Tallies (refuses is_refusal result) (F.stored file.old).failures (F.stored file.new).failures }
 {
     let edges = file.edges()?;
@@ -197,7 +200,8 @@ pub fn settle_file<F: FlatFile>(
     ensures fault { IfErr result (λ e. e ≢ StoreFault.NotMbox) }
     ensures keeps { F.sound file.new → LeavesFronts start (F.may_leave file.old) (F.may_leave file.new) }
     ensures lasts { F.sound file.new → F.is_sure file.old
-        → OnOk result (F.is_sure file.new × LastsWhole (F.stored file.new).content (F.is_on_disk file.new) (F.may_leave file.new)) }
+        → OnOk result (F.is_sure file.new
+        × LastsWhole (F.stored file.new).content (F.is_on_disk file.new) (F.may_leave file.new)) }
     ensures count { Tallies (refuses is_refusal result) (F.stored file.old).failures (F.stored file.new).failures }
 {
     match look_behind(alloc, file, start, len, listed)? {
@@ -205,6 +209,36 @@ pub fn settle_file<F: FlatFile>(
         Behind::Whole => Ok(true),
         Behind::Torn => {
             file.cut_to(start)?;
+            Ok(false)
+        }
+    }
+}
+
+/// Returns what `settle_file` would return, if an entry may follow the file then. The file is only looked
+/// at: it is as it was.
+///
+/// NotMbox if no entry may follow it once it is settled; else the faults of `settle_file`.
+pub fn peek_settled<F: FlatFile>(
+    alloc: Global,
+    file: &mut F,
+    start: u64,
+    len: u64,
+    listed: Option<u64>,
+) -> Result<bool, StoreFault>
+    ensures { F.sound file.new → F.sound file.old
+        × PeeksSettled (F.stored file.old) start len listed result (F.stored file.new) }
+{
+    match look_behind(alloc, file, start, len, listed)? {
+        Behind::Others => {
+            peek_mbox(file)?;
+            Ok(false)
+        }
+        Behind::Whole => {
+            peek_mbox(file)?;
+            Ok(true)
+        }
+        Behind::Torn => {
+            peek_front(file, start)?;
             Ok(false)
         }
     }

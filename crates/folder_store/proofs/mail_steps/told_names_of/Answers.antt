@@ -1,5 +1,6 @@
 use Rattle.std.proofs.Common.{◌∙◌, Ok, Err, ap, inl}
 use Rattle.std.proofs.lemmas.Result.{err_from_is_err_and}
+use Rattle.folder_store.specs.declared.mail_folders.Sought.TheVariants.{All}
 use Rattle.folder_store.proofs.MailCalls.{learns_same, lists_learns, one_unflushed, told_one}
 use Rattle.folder_store.proofs.mail_steps.told_names_of.Goals as goal
 
@@ -18,7 +19,7 @@ returns-in_err-flush_names-clause-tells g c =
     let t = c.in_ok-names.ensures.lists n.0 in (
       t.0,
       one_unflushed _ _ _ c.args.folder c.in_err-flush_names.field-0.0
-          (lists_learns c.args.folder _ _ (Ok c.in_ok-names.names) t.1) n.1,
+          (lists_learns c.args.folder All _ _ (Ok c.in_ok-names.names) t.1) n.1,
     ))
 
 pub returns-clause-tells : goal.returns-clause-tells

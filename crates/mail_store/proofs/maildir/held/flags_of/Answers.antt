@@ -9,4 +9,4 @@ pub loop-i-preserved : goal.loop-i-preserved
 loop-i-preserved c =
     let none : Item = record { uid = []; size = 0 } in
     let more = map_more (λ (item : Item). has_text c.args.found.now (encode_lower item.uid)) c.args.listing.now c.loop-i.i none (omega (arith, c.loop-i-test.true, c.len-i-end.ensures.count)) in
-    rw (more, c.in_ok-push.ensures.items, c.loop-i.invariant, c.contains.ensures, c.as_str.ensures.value, c.in_ok-digits.ensures, c.uid.ensures.value none)
+    rw (more, c.in_ok-push.ensures.items, c.loop-i.invariant, c.in_ok-is_found.ensures, c.uid.ensures.value none)

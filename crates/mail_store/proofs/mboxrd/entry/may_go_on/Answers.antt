@@ -3,16 +3,12 @@ use Rattle.std.proofs.lemmas.List.{drop_all, drop_at, drop_more, take-append-dro
 use Rattle.std.proofs.lemmas.Slice.Eq.{bytes_eq-Decides}
 use Rattle.mail_store.specs.FlatFile.{edges_of}
 use Rattle.mail_store.specs.Mboxrd.{from_words, begins_entry, MayGoOn}
+use Rattle.mail_store.proofs.MboxLemmas.{tail_is}
 use Rattle.mail_store.proofs.mboxrd.entry.may_go_on.Goals as goal
 
 heads_tell : (was : List ℕ) → (edges_of was).head ≡ from_words → begins_entry was ≡ true
 heads_tell (a ∷ b ∷ c ∷ d ∷ f ∷ rest) e = ap (λ (head : List ℕ). begins_entry (head ++ rest)) e
 heads_tell was e = absurd (grind arith)
-
-tail_is : (was : List ℕ) → (edges_of was).tail ≡ drop (length was) (0 ∷ 0 ∷ was)
-tail_is was =
-    let xs : List ℕ = 0 ∷ 0 ∷ was in
-    rw (drop_more xs (length was) 0 (omega arith), drop_more xs (length was + 1) 0 (omega arith), drop_all (length was + 1 + 1) xs (omega arith))
 
 tails_tell : (was : List ℕ) → drop (length was) (0 ∷ 0 ∷ was) ≡ 10 ∷ 10 ∷ [] → (front : List ℕ) × (was ≡ front ++ 10 ∷ 10 ∷ [])
 tails_tell (a ∷ b ∷ rest) e =
