@@ -1,12 +1,10 @@
 -- What a session leaves of a Maildir is durable.
-use Rattle.std.proofs.Common.{◌≡◌, ◌⊎◌, inl, inr, ℕ, Bool, true, false, List, [], ◌∷◌, ◌++◌, ◌≤◌, ◌||◌, ◌&&◌, None, Result, Ok, Err, Contains, All, arith, refl, sym, ap, subst, ◌∙◌, ⊎_elim, append_assoc, append-nil, bytes_eq, length}
+use Rattle.std.proofs.Common.{◌≡◌, ◌⊎◌, inl, inr, ℕ, Bool, true, false, List, [], ◌∷◌, ◌++◌, ◌≤◌, ◌||◌, ◌&&◌, None, Result, Ok, Err, Contains, arith, refl, sym, ap, subst, ◌∙◌, ⊎_elim, append_assoc, append-nil, bytes_eq, length}
 use mathlib.Core.Logic.{⊎_map}
 use Rattle.std.specs.List.{AllByRecursion}
 use Rattle.std.proofs.lemmas.Bool.{and_parts, cases_Bool, or_cases}
-use Rattle.std.proofs.lemmas.Grind.{flat_map-append}
 use Rattle.std.proofs.lemmas.List.Elements.{Contains-append_left, Contains-append_right}
 use Rattle.std.proofs.lemmas.Slice.Eq.{bytes_eq-Decides}
-use Rattle.fetch_rules.specs.Plan.{IsQuiet, planned}
 use Rattle.fetch_rules.specs.Record.{Row, has_row, is_delivered, marked, marked_all, merged, none_open}
 use Rattle.fetch_rules.specs.RecordGrowth.{OneRecord}
 use Rattle.mail_store.specs.FileName.{IsAccountText, NamesAreBases, NamesHaveStems, is_held, mail_file, names_id, sized_file, stem, stem_of}
@@ -14,7 +12,6 @@ use Rattle.mail_store.specs.FlatFile.{Stored}
 use Rattle.mail_store.specs.Held.{FoundDurable, HasDurable, flags_of}
 use Rattle.mail_store.specs.Maildir.{AllFlushed, File, IsDurable, Maildir}
 use Rattle.mail_terms.specs.Listing.{Item, is_flagged}
-use Rattle.pop3_client.specs.Turns.{IsGood, retr}
 use Rattle.pop3_wire.specs.Bodies.{Rest}
 use Rattle.pop3_wire.specs.Place.{Place, at}
 use Rattle.pop3_wire.specs.Reading.{WholeReply}
@@ -24,11 +21,11 @@ use Rattle.fetch_session.specs.declared.fault.Fault.{Fault}
 use Rattle.fetch_session.specs.declared.report.ReportLine.{ReportLine}
 use Rattle.fetch_session.specs.declared.report.Skips.{Skips}
 use Rattle.fetch_session.specs.Laws.{LeavesDurable, SessionsAreDurable}
-use Rattle.fetch_session.specs.Plan.{Carried, Carries, Prepared}
-use Rattle.fetch_session.specs.Readiness.{AreDurable, IsMerged, IsMergedAtMost, undelivered}
-use Rattle.fetch_session.specs.Record.{KeepsRows, Saves, Steady}
-use Rattle.fetch_session.specs.Scene.{Does, Fell, FileNotSaved, NoFile, Scene, Stops, Went}
-use Rattle.fetch_session.specs.Session.{AccountFiles, Dealt, Keeping, Noted, Proceeds, keeps_files}
+use Rattle.fetch_session.specs.Plan.{Carried, Carries}
+use Rattle.fetch_session.specs.Readiness.{IsMergedAtMost, are_undelivered}
+use Rattle.fetch_session.specs.Record.{KeepsRows}
+use Rattle.fetch_session.specs.Scene.{Does, Scene, Stops, Went}
+use Rattle.fetch_session.specs.Session.{AccountFiles, Keeping, Noted, Proceeds, keeps_files}
 use Rattle.fetch_session.specs.Store.{RefusesText}
 use Rattle.fetch_session.specs.Target.{AsFiles, Stores, in_maildir}
 use Rattle.fetch_session.specs.Task.{Done, IsAnswered, Task, file_from, files_in, files_of, ids_in, ids_of, stores}
@@ -145,7 +142,7 @@ module _ (laws : DurableLaws) (account : List ℕ) (text : IsAccountText account
       first other replies good d = inl d
 
   -- what was found and isn't shown as delivered is durable
-  found_has : (maildir : Maildir) (rows : List Row) (items : List Item) (id : List ℕ) → FoundDurable account maildir items (undelivered rows items) → is_delivered rows id ≡ false
+  found_has : (maildir : Maildir) (rows : List Row) (items : List Item) (id : List ℕ) → FoundDurable account maildir items (are_undelivered rows items) → is_delivered rows id ≡ false
       → is_flagged items (flags_of account maildir items) id ≡ true → HasDurable account maildir id
   found_has maildir rows [] id found new never = absurd cc
   found_has maildir rows (item ∷ items) id (found, more) new flagged = elim (cases_Bool (bytes_eq item.uid id && is_held account maildir item.uid)) [
@@ -156,7 +153,7 @@ module _ (laws : DurableLaws) (account : List ℕ) (text : IsAccountText account
     | inr not ↦ found_has maildir rows items id more new (grind (arith, flagged, not))
   ]
 
-  merged_has : (maildir : Maildir) (rows : List Row) (items : List Item) (now : ℕ) (id : List ℕ) → FoundDurable account maildir items (undelivered rows items)
+  merged_has : (maildir : Maildir) (rows : List Row) (items : List Item) (now : ℕ) (id : List ℕ) → FoundDurable account maildir items (are_undelivered rows items)
       → is_delivered (merged rows items (flags_of account maildir items) now) id ≡ true → (is_delivered rows id ≡ true) ⊎ HasDurable account maildir id
   merged_has maildir rows items now id found d = ⊎_elim inl (λ flagged. ⊎_elim inl (λ new. inr (found_has maildir rows items id found new flagged)) (cases_Bool (is_delivered rows id)))
       (or_cases _ _ (sym (laws.flagged rows items (flags_of account maildir items) now id) ∙ d))
@@ -176,9 +173,11 @@ module _ (laws : DurableLaws) (account : List ℕ) (text : IsAccountText account
     unready_shown items now new file' same (inl is) id rows keeps d = shown_same new id rows (rw is at keeps) d
     unready_shown items now new file' same (inr m) id rows keeps d = elim m.stands [
       | inl old ↦ inl (rw (same_rows laws.one before.file m.was.rows was (m.was.intent, m.stood) stood) at (rw (same_rows laws.one file' rows m.was.rows keeps (m.was.intent, old)) at d))
-      | inr merge ↦ ⊎_map (λ known. rw (same_rows laws.one before.file m.was.rows was (m.was.intent, m.stood) stood) at known)
+      | inr merge ↦
+          let known = rw (same_rows laws.one file' rows _ keeps (None, merge)) at d in
+          ⊎_map (λ known. rw (same_rows laws.one before.file m.was.rows was (m.was.intent, m.stood) stood) at known)
           (still_has account id before.maildir new [] (same ∙ sym (append-nil before.maildir.files)))
-          (merged_has before.maildir m.was.rows items now id m.durable.1 (rw (same_rows laws.one file' rows _ keeps (None, merge)) at d))
+          (⊎_elim (λ no_more. inl (rw no_more at known)) (λ durable. merged_has before.maildir m.was.rows items now id durable.1 known) m.durable)
     ]
 
     module _ {settings : Settings} {items : List Item} {now : ℕ} {place : Place} {lines : List ReportLine} {r : Result (Unit {0}) Cut} {new : Scene} {skipped : Skips}
@@ -187,9 +186,10 @@ module _ (laws : DurableLaws) (account : List ℕ) (text : IsAccountText account
 
       prepared_shown : (id : List ℕ) → Shown before.maildir id mid.rows
       prepared_shown id d = elim c.prepared.durable [
-        | inl (quiet, same) ↦
+        | inl (quiet, inl same) ↦
             let keeps : KeepsRows mid.file.content mid.rows = (None, steady_keeps mid.file.content (none_open mid.rows) c.prepared.saved) in
             shown_same before.maildir id mid.rows (rw same at keeps) d
+        | inl (quiet, inr anew) ↦ shown_same before.maildir id mid.rows (None, anew.0) d
         | inr durable ↦ ⊎_map (λ known. rw (same_rows laws.one before.file c.prepared.was.rows was (c.prepared.was.intent, c.prepared.stood) stood) at known) (λ has. has)
             (merged_has before.maildir c.prepared.was.rows items now id durable.1 (rw c.prepared.rows at d))
       ]

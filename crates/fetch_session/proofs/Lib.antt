@@ -1,3 +1,4 @@
+mod CutLemmas
 mod DurableLemmas
 mod MessagePreviewLemmas
 mod PartLemmas

@@ -1,11 +1,11 @@
 -- What is planned and which ids stay fresh, what a session has ready, or why it isn't ready, and what of it outlives a loss of power.
-use Rattle.std.proofs.Common.{◌≡◌, ◌≢◌, inl, inr, ◌<◌, ◌+◌, ℕ, suc, Bool, true, false, List, [], ◌∷◌, ◌++◌, drop, get_or, length, refl, sym, ap, ◌∙◌, arith, append_assoc, ◌⊎◌, ◌||◌, bytes_eq, drop-cons, not, map, take, Option, Ok, subst, HoldsAt, Result, Err, All, IfOk, ⊎_elim, None, append-nil}
+use Rattle.std.proofs.Common.{◌≡◌, ◌≢◌, ◌&&◌, Some, inl, inr, ◌<◌, ◌+◌, ℕ, suc, Bool, true, false, List, [], ◌∷◌, ◌++◌, drop, get_or, length, refl, sym, ap, ◌∙◌, arith, append_assoc, ◌⊎◌, ◌||◌, bytes_eq, drop-cons, not, map, take, Option, Ok, subst, HoldsAt, Result, Err, All, IfOk, ⊎_elim, None, append-nil}
 use Rattle.std.specs.List.{AllByRecursion}
-use Rattle.std.proofs.lemmas.Bool.{false_from_ne_true, true≢false, or_parts}
+use Rattle.std.proofs.lemmas.Bool.{cases_Bool, false_from_ne_true, not-true, true≢false, or_parts}
 use Rattle.std.proofs.lemmas.Grind.{flat_map-append}
 use Rattle.std.proofs.lemmas.Slice.Eq.{bytes_eq-Decides}
 use Rattle.mail_terms.specs.UniqueId.{IsLegalId}
-use Rattle.mail_terms.specs.Listing.{Item, has_item, numbered}
+use Rattle.mail_terms.specs.Listing.{Item, has_item, is_flagged, numbered}
 use Rattle.fetch_rules.specs.declared.steps.Step.{Step}
 use Rattle.mail_store.specs.Maildir.{AreReached, File, Maildir, WereTaken, with_file}
 use Rattle.mail_store.specs.FileName.{mail_file, sized_file, stem_of, is_held, IsAccountText}
@@ -17,24 +17,25 @@ use Rattle.mail_store.specs.declared.file.flat_file.FlatFile.{Ghosts as FileGhos
 use Rattle.fetch_session.specs.declared.account.Store.{Store}
 use Rattle.fetch_session.specs.declared.account.Store.TheVariants.{Maildir as InMaildir, Mboxrd as InMbox}
 use Rattle.fetch_session.specs.Target.{flags_in, stores_of, target_of, Stores, in_maildir, kind_of, with_maildir, AfterTakingIn, AsFiles, Target, AsEntries, closed_file, rows_in, Kind, Files, Entries, in_mbox}
-use Rattle.mail_store.specs.Held.{flags_of}
-use Rattle.fetch_rules.specs.Laws.{FetchesFirsts}
-use Rattle.fetch_session.proofs.SceneLemmas.{all_append, all_weaker, read_keeps, steady_keeps, not_whole, read_steady}
+use Rattle.mail_store.specs.Held.{flags_asked, flags_of, flags_sought}
+use Rattle.fetch_rules.specs.Laws.{FetchesAsked, FetchesFirsts}
+use Rattle.fetch_session.proofs.SceneLemmas.{all_append, all_weaker, read_keeps, steady_keeps, not_whole}
 use Rattle.std.proofs.lemmas.List.{map-append, take_more, length-map}
-use Rattle.fetch_rules.specs.Record.{Loaded, Row, is_delivered, Intent, RecordState, has_row, none_open, merged, IsRecord}
+use Rattle.fetch_rules.specs.Record.{Loaded, Row, is_delivered, Intent, RecordState, has_row, marked, none_open, merged, IsRecord}
 use Rattle.fetch_session.specs.declared.readiness.Found.{Found}
-use Rattle.fetch_session.specs.Lasting.{IsSafe, IsSafeStore, LeavesMerged, ReadiesAndLasts, ReadyLasts, UnlessQuiet, UnreadyLasts}
-use Rattle.fetch_session.specs.Readiness.{AreDurable, FindsIn, IsMergedAtMost, CausesUnready, FindsRefused, MboxUnready, Settles, UnreadyCause, merged_in, AreAsHeld, ChecksStore, HasPlan, IsIdle, Readies, Rests}
-use Rattle.fetch_session.specs.Record.{ReadAs, IsSecured, Reads, Keeps, Merges, record_state_in}
+use Rattle.fetch_session.specs.Lasting.{IsSafe, IsSafeStore, KeptLasts, LeavesMerged, ReadiesAndLasts, ReadyLasts, UnlessQuiet, UnreadyLasts}
+use Rattle.fetch_session.specs.Readiness.{AreDurable, FindsIn, are_undelivered, flags_found, IsMergedAtMost, CausesUnready, FindsRefused, MboxUnready, Settles, UnreadyCause, merged_in, AreAsHeld, ChecksStore, HasPlan, IsAnew, IsIdle, IsFileKept, Readies, Rests}
+use Rattle.fetch_session.specs.Record.{ReadAs, IsSecured, Reads, Keeps, Merges, Steady, record_state_in}
 use Rattle.fetch_rules.specs.Plan.{IsQuiet, planned, step_of}
-use Rattle.mail_store.specs.FlatFile.{Stored}
+use Rattle.mail_store.specs.FlatFile.{Stored, holding}
+use Rattle.fetch_rules.specs.RecordFile.{file_of}
 use Rattle.mail_store.specs.Power.{LeavesNoMore}
 use Rattle.rc_file.specs.declared.settings.Settings.{Settings}
 use Rattle.fetch_session.specs.declared.fault.Fault.{Fault}
 use Rattle.fetch_session.specs.declared.fault.Fault.TheVariants.{BadSeen, NoMemory, SeenRefused, StoreRefused}
 use Rattle.fetch_session.specs.declared.fault.Why.TheVariants as why
 use Rattle.fetch_session.specs.declared.readiness.Ready.{Ready}
-use Rattle.std.proofs.Math.Bool.{or-true}
+use Rattle.std.proofs.Math.Bool.{and-false, or-true}
 use Rattle.std.proofs.lemmas.List.Elements.{recursion_from_All}
 use Rattle.fetch_rules.specs.Intents.{closed_rows}
 use Rattle.fetch_session.specs.Mbox.{AsksMbox, IsStoreFault}
@@ -188,11 +189,12 @@ module _ {D F : Type 0} (disk : DiskGhosts D) (files : FileGhosts F) where
     ready_from : (settings : Settings) (target : Target) (items : List Item) (now : ℕ) (old new : Stores) (file file' : Stored) (after : List Row) (store : Store D F) (r : Result Ready Fault)
         → (is : Readies settings target items now old file r after new file') → ReadyLasts files mid settings target items now old file r after new file' is store f
         → ReadyLasts files from settings target items now old file r after new file' is store f
-    ready_from settings target items now old new file file' after store (Ok ready) is lasts = by _ is.durable lasts
+    ready_from settings target items now old new file file' after store (Ok ready) is lasts = by after file file' _ is.durable lasts
       where
-        by : {A B : Type 0} (Safe : Type 0) (either : A ⊎ B) → UnlessQuiet files mid either Safe f → UnlessQuiet files from either Safe f
-        by Safe (inl quiet) un = record { no_more = λ left may. no_more left (un.no_more left may); same = un.same ∙ same }
-        by Safe (inr durable) safe = safe
+        by : {Quiet Durable : Type 0} (rows : List Row) (old new : Stored) (Safe : Type 0) (either : (Quiet × IsFileKept rows old new) ⊎ Durable) → UnlessQuiet files mid rows old new either Safe f → UnlessQuiet files from rows old new either Safe f
+        by rows old new Safe (inl (quiet, inl kept)) un = record { no_more = λ left may. no_more left (un.no_more left may); same = un.same ∙ same }
+        by rows old new Safe (inl (quiet, inr anew)) safe = safe
+        by rows old new Safe (inr durable) safe = safe
     ready_from settings target items now old new file file' after store (Err fault) is lasts = by is.content lasts
       where
         by : (content : IsMergedAtMost target items now old file new file') → UnreadyLasts files mid content f → UnreadyLasts files from content f
@@ -218,12 +220,83 @@ pub followed : {A A' B C L L' : Type 0} {Part P Q : Maildir → Type 0} → A ×
     → A' → L' → ((left : Maildir) → P left → Q left) → A' × B × C × L' × ((left : Maildir) × Part left × Q left)
 followed went sound leads both = (sound, went.1, went.2, leads, (went.4.0, went.4.1, both went.4.0 went.4.2))
 
--- the rows once the open intent was ended by what was found, which messages are held, and the store
-found_is : (target : Target) (store store' : Stores) (items : List Item) (was : RecordState) (found : Found) → FindsIn target was store items (Ok found) store'
-    → (closed_rows found.stored was.rows was.intent ≡ rows_in target store was items) × (found.held.items ≡ flags_in target store items) × Settles target was items store store'
+-- ---- only what isn't known was asked for
+
+-- the laws of merges and of plans
+abbrev pub MergesAsk : Type 0
+MergesAsk = (rows : List Row) (listing : List Item) (held others : List Bool) (now : ℕ) → IsRecord rows
+    → ((uid : List ℕ) → is_delivered rows uid ≡ false → is_flagged listing held uid ≡ is_flagged listing others uid)
+    → merged rows listing held now ≡ merged rows listing others now
+
+abbrev pub HeldIsDelivered : Type 0
+HeldIsDelivered = (rows : List Row) (listing : List Item) (held : List Bool) (now : ℕ) (uid : List ℕ)
+    → is_delivered (merged rows listing held now) uid ≡ is_delivered rows uid || is_flagged listing held uid
+
+abbrev pub MarkedIsDelivered : Type 0
+MarkedIsDelivered = (rows : List Row) (uid other : List ℕ)
+    → is_delivered (marked rows uid) other ≡ is_delivered rows other || (has_row rows other && bytes_eq uid other)
+
+-- the flags of ids that weren't delivered are those of the store
+flagged_sought : (account : List ℕ) (maildir : Maildir) (rows : List Row) (items : List Item) (uid : List ℕ) → is_delivered rows uid ≡ false
+    → is_flagged items (flags_sought account maildir items (are_undelivered rows items)) uid ≡ is_flagged items (flags_of account maildir items) uid
+flagged_sought account maildir rows [] uid new = refl
+flagged_sought account maildir rows (item ∷ items) uid new =
+    let rest = flagged_sought account maildir rows items uid new in
+    elim (cases_Bool (bytes_eq item.uid uid)) [
+      | inl same ↦ let here : is_delivered rows item.uid ≡ false = rw ((bytes_eq-Decides item.uid uid).0 same) new in rw (here, rest) refl
+      | inr other ↦ rw (other, rest, and-false, and-false) refl
+    ]
+
+merged_found : (read_all : Bool) (account : List ℕ) (maildir : Maildir) (rows : List Row) (items : List Item) (now : ℕ) → MergesAsk → IsRecord rows
+    → merged rows items (flags_asked read_all account maildir items (are_undelivered rows items)) now ≡ merged rows items (flags_of account maildir items) now
+merged_found true account maildir rows items now law is = refl
+merged_found false account maildir rows items now law is = law rows items _ _ now is (flagged_sought account maildir rows items)
+
+-- and so are those of messages that are fetched
+tasks_sought : (account : List ℕ) (maildir : Maildir) (settings : Settings) (was rows : List Row) (steps : List Step) (items : List Item) → settings.read_all ≡ false
+    → ((uid : List ℕ) → is_delivered rows uid ≡ false → is_delivered was uid ≡ false) → FetchesAsked settings rows steps items
+    → AreAsHeld steps items (flags_sought account maildir items (are_undelivered was items)) (flags_of account maildir items)
+tasks_sought account maildir settings was rows [] items not_all new asked = refl
+tasks_sought account maildir settings was rows (s ∷ ss) [] not_all new asked = refl
+tasks_sought account maildir settings was rows (s ∷ ss) (i ∷ is) not_all new asked =
+    let rest = tasks_sought account maildir settings was rows ss is not_all new asked.1 in
+    elim (cases_Bool s.retrieve) [
+      | inl fetched ↦
+          let here : is_delivered was i.uid ≡ false = new i.uid (not-true (is_delivered rows i.uid) (rw not_all at (asked.0 fetched))) in
+          rw (here, rest) refl
+      | inr left ↦ rw (left, rest) refl
+    ]
+
+-- the flags that were found are those of the store, as far as these steps use them
+pub found_as_held : (target : Target) (store : Stores) (settings : Settings) (was rows : List Row) (steps : List Step) (items : List Item)
+    → ((uid : List ℕ) → is_delivered rows uid ≡ false → is_delivered was uid ≡ false) → FetchesAsked settings rows steps items
+    → AreAsHeld steps items (flags_found settings.read_all target was store items) (flags_in target store items)
+found_as_held AsEntries store settings was rows steps items new asked = refl
+found_as_held (AsFiles account) store settings was rows steps items new asked = elim (cases_Bool settings.read_all) [
+  | inl all ↦ rw all refl
+  | inr not_all ↦ rw not_all (tasks_sought account store.maildir settings was rows steps items not_all new asked)
+]
+
+-- whatever isn't delivered once the intent was ended and the listing merged wasn't before
+pub not_before : HeldIsDelivered → MarkedIsDelivered → (whole : Bool) (was : List Row) (intent : Option Intent) (items : List Item) (held : List Bool) (now : ℕ) (rows : List Row)
+    → rows ≡ merged (closed_rows whole was intent) items held now → (uid : List ℕ) → is_delivered rows uid ≡ false → is_delivered was uid ≡ false
+not_before delivers marks whole was intent items held now rows is uid none =
+    closed whole intent (or_parts _ _ (sym (delivers (closed_rows whole was intent) items held now uid) ∙ rw is at none)).0
+  where
+    closed : (whole : Bool) (intent : Option Intent) → is_delivered (closed_rows whole was intent) uid ≡ false → is_delivered was uid ≡ false
+    closed whole None new = new
+    closed false (Some intent) new = new
+    closed true (Some intent) new = (or_parts _ _ (sym (marks was intent.uid uid) ∙ new)).0
+
+-- the rows once the open intent was ended by what was found and the listing merged, what was found, and the store
+found_is : (read_all : Bool) (target : Target) (store store' : Stores) (items : List Item) (now : ℕ) (was : RecordState) (found : Found) → MergesAsk → IsRecord was.rows
+    → FindsIn read_all target was store items (Ok found) store'
+    → (merged (closed_rows found.stored was.rows was.intent) items found.held.items now ≡ merged_in target store was items now)
+    × (found.held.items ≡ flags_found read_all target was.rows store items) × Settles target was items store store'
     × AreDurable target was.rows items store
-found_is (AsFiles account) store store' items was found (held, stored, same, durable) = (rw stored (not_whole was.rows was.intent), held, same, durable)
-found_is AsEntries store store' items was found (bytes, is, stored, now, goes_on, held) = (rw (stored, is), held, (bytes, is, now, goes_on), tt)
+found_is read_all (AsFiles account) store store' items now was found law is_record (held, stored, same, durable) =
+    (rw (stored, not_whole was.rows was.intent, held) (merged_found read_all account store.maildir was.rows items now law is_record), held, same, durable)
+found_is read_all AsEntries store store' items now was found law is_record (bytes, is, stored, settled, goes_on, held) = (rw (stored, is, held) refl, held, (bytes, is, settled, goes_on), tt)
 
 -- ---- nothing was planned
 
@@ -253,10 +326,10 @@ mbox_refused NoMemory items was mbox file mbox' file' kept (same, most) = inr (w
 mbox_refused _ items was mbox file mbox' file' kept never = absurd never
 
 -- the store refused
-pub not_found : (target : Target) (items : List Item) (store store' : Stores) (file new : Stored) (loaded : Loaded) (fault : Fault) → ReadAs file.content loaded
-    → FindsIn target (record_state_in loaded) store items (Err fault) store' → CausesUnready target items fault store file store' new
-not_found (AsFiles account) items store store' file new loaded fault stood finds = files_refused fault store.maildir file store'.maildir new finds
-not_found AsEntries items store store' file new loaded fault stood finds =
+pub not_found : (read_all : Bool) (target : Target) (items : List Item) (store store' : Stores) (file new : Stored) (loaded : Loaded) (fault : Fault) → ReadAs file.content loaded
+    → FindsIn read_all target (record_state_in loaded) store items (Err fault) store' → CausesUnready target items fault store file store' new
+not_found read_all (AsFiles account) items store store' file new loaded fault stood finds = files_refused fault store.maildir file store'.maildir new finds
+not_found read_all AsEntries items store store' file new loaded fault stood finds =
     mbox_refused fault items (record_state_in loaded) store.mbox file store'.mbox new (read_keeps file.content loaded stood) finds
 
 -- ---- the listing was merged
@@ -269,7 +342,8 @@ stop_of (Err fault) = fault
 module _ {D F : Type 0} (disk : DiskGhosts D) (files : FileGhosts F) (was place : Store D F) (from f : F) (account : List ℕ)
     (settings : Settings) (items : List Item) (now : ℕ) (left : Maildir) (loaded : Loaded) (found : Found)
     (stood : ReadAs (files.stored from).content loaded)
-    (finds : FindsIn (target_of was account) (record_state_in loaded) (with_maildir (stores_of disk files was) left) items (Ok found)
+    (law : MergesAsk) (is_record : IsRecord loaded.rows)
+    (finds : FindsIn settings.read_all (target_of was account) (record_state_in loaded) (with_maildir (stores_of disk files was) left) items (Ok found)
     (stores_of disk files place)) where
   abbrev store : Stores
   store = with_maildir (stores_of disk files was) left
@@ -283,14 +357,14 @@ module _ {D F : Type 0} (disk : DiskGhosts D) (files : FileGhosts F) (was place 
   abbrev here : List Row
   here = merged (closed_rows found.stored loaded.rows loaded.intent) items found.held.items now
 
-  is : (closed_rows found.stored loaded.rows loaded.intent ≡ rows_in (target_of was account) store state items)
-      × (found.held.items ≡ flags_in (target_of was account) store items)
+  is : (here ≡ merged_in (target_of was account) store state items now)
+      × (found.held.items ≡ flags_found settings.read_all (target_of was account) loaded.rows store items)
       × Settles (target_of was account) state items store (stores_of disk files place)
       × AreDurable (target_of was account) loaded.rows items store
-  is = found_is (target_of was account) store (stores_of disk files place) items state found finds
+  is = found_is settings.read_all (target_of was account) store (stores_of disk files place) items now state found law is_record finds
 
   as_now : here ≡ merged_in (target_of was account) store state items now
-  as_now = rw (is.1, is.0)
+  as_now = is.0
 
   -- why it isn't ready, if memory ran out, or if the record's file was refused
   cause : (t : Target) → Settles t state items store (stores_of disk files place)
@@ -321,20 +395,21 @@ module _ {D F : Type 0} (disk : DiskGhosts D) (files : FileGhosts F) (was place 
   unready r merges leaves = record {
     readies = record {
       cause = reason r merges;
-      content = inr (record { was = state; stood = kept; settles = is.2; durable = is.3; stands = stands r merges });
+      content = inr (record { was = state; stood = kept; settles = is.2; durable = inr is.3; stands = stands r merges });
     };
     lasts = λ sure. rw as_now at (leaves sure);
   }
 
-  pub ready : {safe : Type 0} (plan : Ready) {after : List Row} → Merges (files.stored from) state (none_open here) (Ok tt) (files.stored f)
+  pub ready : {safe : Type 0} (plan : Ready) {after : List Row} → HeldIsDelivered → MarkedIsDelivered → FetchesAsked settings after plan.steps.items items → Merges (files.stored from) state (none_open here) (Ok tt) (files.stored f)
       → after ≡ here
       → plan.held.items ≡ found.held.items → plan.steps.items ≡ planned settings after items now → (safe → IsSafe files f × IsSafeStore files place)
       → ReadiesAndLasts disk files safe from settings (target_of was account) items now store (Ok plan) after place f
-  ready plan merges rows_are flags_are steps_are firm = record {
+  ready plan {after} delivers marks asked merges rows_are flags_are steps_are firm = record {
     readies = record {
       was = state;
       stood = kept;
-      held = ap (tasks_planned plan.steps.items items) (flags_are ∙ is.1);
+      held = ap (tasks_planned plan.steps.items items) (flags_are ∙ is.1)
+          ∙ found_as_held (target_of was account) store settings loaded.rows after plan.steps.items items (not_before delivers marks found.stored loaded.rows loaded.intent items found.held.items now after rows_are) asked;
       rows = rows_are ∙ as_now;
       steps = steps_are;
       durable = inr is.3;
@@ -371,6 +446,11 @@ flags_length AsEntries _ items = length-map items (λ (item : Item). false)
 
 -- ---- what was looked at
 
+-- the record was read and written anew
+pub is_anew : (loaded : Loaded) (old new : Stored) → ReadAs old.content loaded → loaded.intent ≡ None → loaded.stale ≡ true → new ≡ holding old (file_of loaded.rows loaded.intent) → IsAnew loaded.rows old new
+is_anew loaded old new stood closed stale is =
+    (rw closed at (read_keeps old.content loaded stood), (loaded, stood, stale), rw closed at is)
+
 -- there is no place
 pub no_place : (kind : Kind) (items : List Item) (old new : Stores) (refusal : StoreFault) (fault : Fault) → ChecksStore {T = Unit {0}} kind old (Err refusal) new → IsStoreFault refusal fault
     → Rests kind old items (Err fault) new
@@ -391,43 +471,86 @@ module _ {D F : Type 0} (disk : DiskGhosts D) (files : FileGhosts F) (account : 
   rows_same (InMaildir device) was items closed = refl
   rows_same (InMbox device) was items closed = rw closed refl
 
-  pub rested : {safe : Type 0} {settings : Settings} {items : List Item} {now : ℕ} (store store' : Store D F) (from f : F) (loaded : Loaded) (r : Result Ready Fault) (steps : List Step)
-      → ((rows : List Row) (listing : List Item) (held : List Bool) (now : ℕ) → IsRecord rows → All (λ (item : Item). is_delivered rows item.uid ≡ true) listing → merged rows listing held now ≡ rows)
-      → Rests (kind_of store) (stores_of disk files store) items r (stores_of disk files store') → ReadAs (files.stored from).content loaded → files.stored f ≡ files.stored from
-      → LeavesNoMore (files.may_leave from) (files.may_leave f)
-      → IsIdle settings loaded items now steps → IfOk r (λ ready. ready.steps.items ≡ steps) → IfOk r (λ ready. length ready.held.items ≡ length items)
-      → ReadiesAndLasts disk files safe from settings (target_of store account) items now (stores_of disk files store) r loaded.rows store' f
-  rested {settings = settings} {items} {now} store store' from f loaded (Ok ready) steps law rests stood same no_more idle are counted =
-      let file = files.stored from in
-      let flags = flags_in (target_of store account) (stores_of disk files store) items in
-      record {
-        readies = record {
-          was = record_state_in loaded;
-          stood = read_keeps file.content loaded stood;
-          held = quiet_same ready.steps.items items ready.held.items flags (rw are idle.quiet) counted (flags_length (target_of store account) (stores_of disk files store) items);
-          rows = sym (law loaded.rows items flags now idle.is_record idle.known) ∙ ap (λ (rows : List Row). merged rows items flags now) (sym (rows_same store (record_state_in loaded) items idle.closed));
-          steps = are ∙ idle.planned;
-          durable = inl (rw are idle.quiet, same);
-          saved = rw same (read_steady file.content loaded stood idle.fresh).0;
-          file_count = rw same;
-          settles = settles_same store (record_state_in loaded) items (stores_of disk files store') idle.closed rests;
-        };
-        lasts = λ sure. record { no_more = no_more; same = same };
-      }
-  rested {items = items} store store' from f loaded (Err fault) steps law finds stood same no_more idle are counted = record {
-    readies = record {
-      cause = by store finds;
-      content = inl (ap (λ (s : Stored). s.content) same);
-    };
-    lasts = λ sure. no_more;
-  }
-    where
-      by : (store : Store D F) → Rests (kind_of store) (stores_of disk files store) items (Err fault) (stores_of disk files store')
-          → CausesUnready (target_of store account) items fault (stores_of disk files store) (files.stored from) (stores_of disk files store') (files.stored f)
-      by (InMaildir device) finds =
-          not_found (AsFiles account) items (in_maildir (disk.maildir device)) (stores_of disk files store') (files.stored from) (files.stored f) loaded fault stood finds
-      by (InMbox device) finds = not_found AsEntries items (in_mbox (files.stored device)) (stores_of disk files store') (files.stored from) (files.stored f) loaded fault stood
-          (subst (λ (intent : Option Intent). AsksMbox intent (files.stored device) items (Err fault) (stores_of disk files store').mbox) (sym idle.closed) finds.0)
+  module _ {settings : Settings} {items : List Item} {now : ℕ} (store store' : Store D F) (from f : F) (loaded : Loaded) (steps : List Step)
+      (law : (rows : List Row) (listing : List Item) (held : List Bool) (now : ℕ) → IsRecord rows → All (λ (item : Item). is_delivered rows item.uid ≡ true) listing → merged rows listing held now ≡ rows)
+      (stood : ReadAs (files.stored from).content loaded) (idle : IsIdle settings loaded items now steps) where
+    abbrev looked_at : Stores
+    looked_at = stores_of disk files store
+
+    abbrev was_read : RecordState
+    was_read = record_state_in loaded
+
+    -- a merge changes nothing
+    merged_same : merged_in (target_of store account) looked_at was_read items now ≡ loaded.rows
+    merged_same =
+        let flags = flags_in (target_of store account) looked_at items in
+        ap (λ (rows : List Row). merged rows items flags now) (rows_same store was_read items idle.closed) ∙ law loaded.rows items flags now idle.is_record idle.known
+
+    pub rested : {safe : Type 0} (ready : Ready) → Rests (kind_of store) looked_at items (Ok ready) (stores_of disk files store') → (kept : IsFileKept loaded.rows (files.stored from) (files.stored f))
+        → Steady (files.stored f).content (none_open loaded.rows) → (files.stored f).failures ≡ (files.stored from).failures → KeptLasts files from loaded.rows (files.stored from) (files.stored f) kept f
+        → ready.steps.items ≡ steps → length ready.held.items ≡ length items
+        → ReadiesAndLasts disk files safe from settings (target_of store account) items now looked_at (Ok ready) loaded.rows store' f
+    rested ready rests kept saved count lasting are counted = record {
+      readies = record {
+        was = was_read;
+        stood = read_keeps (files.stored from).content loaded stood;
+        held = quiet_same ready.steps.items items ready.held.items _ (rw are idle.quiet) counted (flags_length (target_of store account) looked_at items);
+        rows = sym merged_same;
+        steps = are ∙ idle.planned;
+        durable = inl (rw are idle.quiet, kept);
+        saved = saved;
+        file_count = count;
+        settles = settles_same store was_read items (stores_of disk files store') idle.closed rests;
+      };
+      lasts = λ sure. lasting;
+    }
+
+    -- the store refused to be looked at
+    pub unrested : {safe : Type 0} (fault : Fault) → Rests (kind_of store) looked_at items (Err fault) (stores_of disk files store') → f ≡ from
+        → ReadiesAndLasts disk files safe from settings (target_of store account) items now looked_at (Err fault) loaded.rows store' f
+    unrested fault finds same = record {
+      readies = record {
+        cause = by store finds;
+        content = inl (ap (λ (d : F). (files.stored d).content) same);
+      };
+      lasts = λ sure left may. subst (λ (d : F). files.may_leave d left) same may;
+    }
+      where
+        by : (store : Store D F) → Rests (kind_of store) (stores_of disk files store) items (Err fault) (stores_of disk files store')
+            → CausesUnready (target_of store account) items fault (stores_of disk files store) (files.stored from) (stores_of disk files store') (files.stored f)
+        by (InMaildir device) finds =
+            not_found false (AsFiles account) items (in_maildir (disk.maildir device)) (stores_of disk files store') (files.stored from) (files.stored f) loaded fault stood finds
+        by (InMbox device) finds = not_found false AsEntries items (in_mbox (files.stored device)) (stores_of disk files store') (files.stored from) (files.stored f) loaded fault stood
+            (subst (λ (intent : Option Intent). AsksMbox intent (files.stored device) items (Err fault) (stores_of disk files store').mbox) (sym idle.closed) finds.0)
+
+    -- the record's file couldn't be written anew
+    pub unrenewed : {safe : Type 0} (ready : Ready) (fault : Fault) → Rests (kind_of store) looked_at items (Ok ready) (stores_of disk files store')
+        → Merges (files.stored from) was_read was_read (Err fault) (files.stored f) → LeavesMerged files loaded.rows loaded.rows from f
+        → ReadiesAndLasts disk files safe from settings (target_of store account) items now looked_at (Err fault) loaded.rows store' f
+    unrenewed ready fault rests merges leaves = record {
+      readies = record {
+        cause = why fault merges store rests;
+        content = inr (record { was = was_read; stood = kept; settles = settles_same store was_read items (stores_of disk files store') idle.closed rests; durable = inl merged_same; stands = inl (stands fault merges) });
+      };
+      lasts = λ sure. rw merged_same leaves;
+    }
+      where
+        kept : Keeps (files.stored from).content was_read
+        kept = read_keeps (files.stored from).content loaded stood
+
+        stands : (fault : Fault) → Merges (files.stored from) was_read was_read (Err fault) (files.stored f) → Keeps (files.stored f).content was_read
+        stands SeenRefused merges = ⊎_elim (λ is. is) (λ is. is) merges.1
+        stands NoMemory merges = rw merges kept
+        stands _ never = absurd never
+
+        why : (fault : Fault) → Merges (files.stored from) was_read was_read (Err fault) (files.stored f) → (store : Store D F)
+            → Rests (kind_of store) (stores_of disk files store) items (Ok ready) (stores_of disk files store')
+            → CausesUnready (target_of store account) items fault (stores_of disk files store) (files.stored from) (stores_of disk files store') (files.stored f)
+        why SeenRefused merges (InMaildir device) ((news, curs, same), others) = (omega (arith, merges.0), same)
+        why SeenRefused merges (InMbox device) ((goes_on, same), others) = (omega (arith, merges.0), inl (ap (λ (s : Stored). s.content) same))
+        why NoMemory merges (InMaildir device) ((news, curs, same), others) = same
+        why NoMemory merges (InMbox device) ((goes_on, same), others) = inl (ap (λ (s : Stored). s.content) same)
+        why _ never store rests = absurd never
 
 -- ---- whatever came of it
 

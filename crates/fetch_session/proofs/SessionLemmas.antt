@@ -1,5 +1,5 @@
 -- How the parts of a session make the whole, also of one that changes nothing, and what of it outlives a loss of power.
-use Rattle.std.proofs.Common.{◌≡◌, ◌≢◌, ◌⊎◌, ℕ, List, [], ◌∷◌, ◌++◌, Option, None, Some, Result, Ok, Err, IfErr, refl, sym, ap, subst, ◌∙◌, inl, inr, append_assoc, length, ⊎_elim, rules, Bool, false, append-nil, arith, All}
+use Rattle.std.proofs.Common.{◌≡◌, ◌≢◌, ◌⊎◌, ℕ, List, [], ◌∷◌, ◌++◌, Option, None, Some, Result, Ok, Err, refl, sym, ap, subst, ◌∙◌, inl, inr, append_assoc, length, ⊎_elim, rules, Bool, false, append-nil, All, IfErr, arith, Vec}
 use Rattle.std.proofs.lemmas.List.{append-nil, append_cancel_left}
 use Rattle.std.proofs.lemmas.Grind.{flat_map-append}
 use Rattle.std.proofs.lemmas.Option.{none-some, same_Some}
@@ -7,7 +7,7 @@ use Rattle.std.specs.List.{flat_map, AllByRecursion}
 use Rattle.pop3_wire.specs.Place.{Place, at}
 use Rattle.fetch_rules.specs.Record.{Row, RecordState, Intent, none_open, marked_all, Loaded, merged}
 use Rattle.fetch_rules.specs.RecordGrowth.{Grows, Updates}
-use Rattle.mail_store.specs.FlatFile.{Stored}
+use Rattle.mail_store.specs.FlatFile.{Stored, holding}
 use Rattle.mail_store.specs.declared.maildir.disk.MaildirDisk.{Ghosts as DiskGhosts}
 use Rattle.mail_store.specs.declared.file.flat_file.FlatFile.{Ghosts as FileGhosts}
 use Rattle.mail_store.specs.Maildir.{Maildir, File, IsWithout, WereTaken}
@@ -18,18 +18,20 @@ use Rattle.fetch_session.specs.declared.account.Store.{Store}
 use Rattle.fetch_session.specs.declared.account.Store.TheVariants.{Maildir as InMaildir, Mboxrd as InMbox}
 use Rattle.fetch_session.specs.declared.fault.Cut.{Cut}
 use Rattle.fetch_session.specs.declared.work.Work.{Work}
-use Rattle.fetch_session.specs.Record.{Steady, bytes_in, record_state, ReadAs, record_state_in}
+use Rattle.fetch_session.specs.Record.{Steady, bytes_in, record_state, ReadAs, Reads, record_state_in}
 use Rattle.fetch_session.specs.Scene.{Scene, scene, Went, AllWent}
 use Rattle.fetch_session.specs.Store.{Brings}
-use Rattle.fetch_session.specs.Lasting.{AreLeft, AreSure, CarriedLasts, CarriesLast, CutLasts, DoesAndLasts, DonesLast, IsLeft, IsSafe, IsSafeStore, IsSafeWork, IsUntouched, KeepsWork, Lasts, Leaves, LeavesLeft, LeavesMerged, ProceedsLast, RowsLast, RowsStillLast, SessionLasts, ShowsRows, TextsLast, UnlessQuiet, may_leave_in}
-use Rattle.fetch_session.specs.Target.{Target, AsFiles, AsEntries, Stores, kind_of, stores_of, target_of, AfterTakingIn, IsSoundMaildir, IsSoundMbox, in_maildir, in_mbox, is_sound, no_maildir, with_maildir, maildir_of, mbox_of, flags_in}
-use Rattle.fetch_session.specs.Task.{Task, Done, files_of, ids_in, ids_of, texts_of, ids_ahead, says, tasks_planned}
-use Rattle.fetch_session.proofs.SceneLemmas.{is_there, not_whole, read_keeps, all_append, all_weaker, all_on, fell_before, fell_on, marked_on}
+use Rattle.fetch_session.specs.Lasting.{AreLeft, AreSure, CarriedLasts, CarriesLast, CutLasts, DoesAndLasts, DonesLast, IsLeft, IsSafe, IsSafeStore, IsSafeWork, IsUntouched, KeepsWork, KeptLasts, Lasts, Leaves, LeavesLeft, LeavesMerged, ProceedsLast, RowsLast, RowsStillLast, SessionLasts, ShowsRows, TextsLast, UnlessQuiet, may_leave_in}
+use Rattle.fetch_session.specs.Target.{Target, AsFiles, AsEntries, Stores, kind_of, stores_of, target_of, AfterTakingIn, IsSoundMaildir, IsSoundMbox, in_maildir, in_mbox, is_sound, no_maildir, with_maildir, maildir_of, mbox_of, flags_in, closed_file, none_held, rows_in}
+use Rattle.fetch_session.specs.Task.{Task, Done, ids_in, ids_of, texts_of, ids_ahead, says, tasks_planned, files_of}
+use Rattle.fetch_session.proofs.SceneLemmas.{is_there, not_whole, read_keeps, all_on, fell_before, fell_on, marked_on, all_append, all_weaker}
 use Rattle.fetch_session.proofs.TextLemmas.{settled}
 use Rattle.pop3_wire.specs.Link.{Link}
 use Rattle.mail_terms.specs.Listing.{Item}
 use Rattle.rc_file.specs.declared.settings.Settings.{Settings}
 use Rattle.fetch_session.specs.declared.fault.Fault.{Fault}
+use Rattle.fetch_session.specs.declared.fault.Fault.TheVariants.{StoreRefused, NoMemory}
+use Rattle.fetch_session.specs.declared.fault.Why.TheVariants as why
 use Rattle.fetch_session.specs.declared.report.ReportLine.{ReportLine}
 use Rattle.fetch_session.specs.Plan.{Carries, Carried, tasks_ahead}
 use Rattle.fetch_session.specs.Session.{Dealt, Keeping, LeavesLink, Noted, Enters_with, Proceeds, SessionIn, outcome_of, keeping}
@@ -40,17 +42,16 @@ use Rattle.fetch_rules.specs.declared.steps.Step.{Step}
 use Rattle.pop3_client.specs.Turns.{quit}
 use Rattle.fetch_session.specs.declared.readiness.Ready.{Ready}
 use Rattle.fetch_session.specs.Fault.{cut_of, fault_of}
-use Rattle.fetch_session.specs.Readiness.{AreDurable, IsReady}
+use Rattle.fetch_session.specs.Readiness.{AreDurable, IsFileKept, IsReady, FindsRefused, Settles}
 use Rattle.fetch_session.specs.declared.report.Skips.{Skips}
 use Rattle.std.proofs.lemmas.List.Elements.{recursion_from_All}
-use Rattle.fetch_session.proofs.ReadyLemmas.{ahead}
+use Rattle.fetch_session.proofs.ReadyLemmas.{ahead, not_found, unread}
 use Rattle.fetch_rules.specs.Intents.{closed_rows}
 use Rattle.pop3_client.specs.declared.fault.ClientFault.{ClientFault}
-use Rattle.fetch_session.specs.declared.preview.WorkPreview.{WorkPreview}
-use Rattle.fetch_session.specs.declared.preview.Looked.{Looked}
+use Rattle.fetch_session.specs.declared.readiness.Found.{Found}
 use Rattle.fetch_session.specs.declared.preview.Preview.{Preview}
 use Rattle.fetch_session.specs.declared.message_preview.MessagePreview.{MessagePreview}
-use Rattle.fetch_session.specs.Pretend.{PreviewsWork, PreviewsMerged, HoldsTheSame, IsUntouched as ChangesNothing, LooksIn, MayBeFollowed, Pretends, PreviewsSession, counted_as, previews_of, is_unsettled, told_in}
+use Rattle.fetch_session.specs.Pretend.{PreviewsMerged, WouldBeUnready, HoldsTheSame, IsUntouched as ChangesNothing, JudgesMbox, LooksAtMbox, LooksIn, Pretends, PreviewsSession, counted_as, previews_of, told_in}
 use Rattle.fetch_session.specs.MessagePreview.{message_previews}
 
 -- ---- what a loss of power may leave of a file
@@ -345,7 +346,7 @@ named_ahead steps items held (inr p) = all_alike p (ids_ahead (tasks_planned ste
 pub carried : {D F : Type 0} (disk : DiskGhosts D) (files : FileGhosts F) {safe : Type 0} {settings : Settings} {target : Target} {items : List Item} {now : ℕ} {place : Place} {store : Stores} {file : Stored} {lines : List ReportLine} {ready : Ready} {after : List Row}
     (was before : Store D F) {end : Store D F} (from mid_file : F) {f : F} {file' : Stored} (mid_lines : List ReportLine) (steps : List Step) (held : List Bool) {skipped : Skips} {r : Result (Unit {0}) Cut} {new : Scene}
     → mid_lines ≡ lines → (is : IsReady settings target items now store file ready after (stores_of disk files before) file') → steps ≡ ready.steps.items → held ≡ ready.held.items → skipped ≡ skips_of settings after items now ready.steps.items
-    → (AreSure files was from → UnlessQuiet files from is.durable safe mid_file)
+    → (AreSure files was from → UnlessQuiet files from after file file' is.durable safe mid_file)
     → (ids_ahead (tasks_planned steps items held ++ says quit ∷ []) ≡ [] → f ≡ mid_file)
     → DoesAndLasts files safe target (tasks_planned steps items held ++ says quit ∷ []) (scene place (stores_of disk files before) file' after mid_lines) r new end f
     → (is : Carries settings target items now place store file lines r new.place new.store new.file new.lines skipped) × CarriesLast files was from _ _ _ _ _ _ _ _ _ _ _ _ _ _ is end f
@@ -362,9 +363,9 @@ carried {D} {F} disk files {safe} {settings} {target} {items} {now} {place} {sto
       λ sure. by (Lasts files target (tasks_ahead settings target items now store after) mid r new good.does end f) good.lasts is.durable (firm sure),
     )
   where
-    quiet_or : (All IsQuiet ready.steps.items × (file' ≡ file)) ⊎ AreDurable target is.was.rows items store
-        → (All IsQuiet (planned settings after items now) × (file' ≡ file)) ⊎ AreDurable target is.was.rows items store
-    quiet_or (inl (quiet, same)) = inl (subst (λ (ss : List Step). All IsQuiet ss) is.steps quiet, same)
+    quiet_or : (All IsQuiet ready.steps.items × IsFileKept after file file') ⊎ AreDurable target is.was.rows items store
+        → (All IsQuiet (planned settings after items now) × IsFileKept after file file') ⊎ AreDurable target is.was.rows items store
+    quiet_or (inl (quiet, kept)) = inl (subst (λ (ss : List Step). All IsQuiet ss) is.steps quiet, kept)
     quiet_or (inr durable) = inr durable
 
     of_result : (r : Result (Unit {0}) Cut) → (c : Carried settings target items now place store file lines r new skipped) × CarriedLasts files was from c end f
@@ -372,60 +373,147 @@ carried {D} {F} disk files {safe} {settings} {target} {items} {now} {place} {sto
     of_result (Ok done) (c, lasts) = ((new.rows, c), lasts)
     of_result (Err cut) (c, lasts) = ((new.rows, inr c), lasts)
 
-    by : (P : Type 0) → (safe → P) → (durable : (All IsQuiet ready.steps.items × (file' ≡ file)) ⊎ AreDurable target is.was.rows items store) → UnlessQuiet files from durable safe mid_file → UnlessQuiet files from (quiet_or durable) P f
-    by P good (inl (quiet, same_too)) still =
+    by : (P : Type 0) → (safe → P) → (durable : (All IsQuiet ready.steps.items × IsFileKept after file file') ⊎ AreDurable target is.was.rows items store) → UnlessQuiet files from after file file' durable safe mid_file → UnlessQuiet files from after file file' (quiet_or durable) P f
+    by P good (inl (quiet, kept)) still =
         let same = same_file (flat_map-append ids_in (tasks_planned steps items held) (says quit ∷ []) ∙ append-nil _ ∙ quiet_ids steps
         items held (subst (λ (ss : List Step). AllByRecursion IsQuiet ss) (sym steps_are)
         (recursion_from_All IsQuiet ready.steps.items quiet))) in
-        subst (λ (g : F). IsUntouched files from g) (sym same) still
+        subst (λ (g : F). KeptLasts files from after file file' kept g) (sym same) still
     by P good (inr durable) s = good s
 
 -- ---- what a preview says
 
-pub previews_are : (settings : Settings) (rows rows' : List Row) (intent : Option Intent) (items : List Item) (held : List Bool) (now : ℕ) (steps : List Step)
-    → rows' ≡ merged (closed_rows false rows intent) items held now → steps ≡ planned settings rows' items now
+pub previews_are : (settings : Settings) (rows rows' : List Row) (items : List Item) (held : List Bool) (now : ℕ) (steps : List Step)
+    → rows' ≡ merged rows items held now → steps ≡ planned settings rows' items now
     → message_previews settings rows' now 0 steps items held ≡ previews_of settings (merged rows items held now) items held now
-previews_are settings rows rows' intent items held now steps rows_are steps_are =
+previews_are settings rows rows' items held now steps rows_are steps_are =
     ap (λ (ss : List Step). message_previews settings rows' now 0 ss items held) steps_are
-    ∙ ap (λ (r : List Row). previews_of settings r items held now) (rows_are ∙ ap (λ (r : List Row). merged r items held now) (not_whole rows intent))
+    ∙ ap (λ (r : List Row). previews_of settings r items held now) rows_are
+
+-- ---- an mboxrd file that was only looked at
+
+pub judged_good : (intent : Option Intent) (old : Stored) (items : List Item) (found : Found) (new : Stored) → JudgesMbox intent items old (Ok found.stored) new
+    → found.held.items ≡ none_held items → LooksAtMbox intent old items (Ok found) new
+judged_good intent old items found new (is, same) held = record {
+  left = holding old (closed_file intent items is.0);
+  asks = (is.0, is.1, is.2, refl, is.3, held);
+  same = ap (λ (s : Stored). s.content) same;
+  count = sym (ap (λ (s : Stored). s.failures) same);
+}
+
+pub judged_full : (intent : Option Intent) (old : Stored) (items : List Item) (whole : Bool) (new : Stored) → JudgesMbox intent items old (Ok whole) new
+    → LooksAtMbox intent old items (Err NoMemory) new
+judged_full intent old items whole new (is, same) = record {
+  left = old;
+  asks = (refl, inl refl);
+  same = ap (λ (s : Stored). s.content) same;
+  count = sym (ap (λ (s : Stored). s.failures) same);
+}
+
+pub judged_bad : (intent : Option Intent) (old : Stored) (items : List Item) (fault : Fault) (new : Stored) → JudgesMbox intent items old (Err fault) new
+    → LooksAtMbox intent old items (Err fault) new
+judged_bad intent old items (StoreRefused why.Missing) new is = record { left = new; asks = is; same = ap (λ (s : Stored). s.content) is.1; count = refl }
+judged_bad intent old items (StoreRefused why.Refused) new is = record {
+  left = new;
+  asks = (ap (λ (s : Stored). s.failures) is, inl (ap (λ (s : Stored). s.content) is));
+  same = ap (λ (s : Stored). s.content) is;
+  count = refl;
+}
+judged_bad intent old items (StoreRefused why.NotMbox) new (is, same) = record {
+  left = holding old (closed_file intent items is.0);
+  asks = (is.0, is.1, is.2, refl);
+  same = ap (λ (s : Stored). s.content) same;
+  count = sym (ap (λ (s : Stored). s.failures) same);
+}
+judged_bad intent old items NoMemory new is = record {
+  left = old;
+  asks = (refl, inl refl);
+  same = ap (λ (s : Stored). s.content) is;
+  count = sym (ap (λ (s : Stored). s.failures) is);
+}
+judged_bad intent old items _ new never = absurd never
 
 -- ---- nothing changes
 
-looks_same : (target : Target) (intent : Option Intent) (store store' : Stores) (items : List Item) (looked : Looked) → LooksIn target intent store items (Ok looked) store'
-    → (looked.held.items ≡ flags_in target store items) × (looked.unsettled ≡ is_unsettled target intent) × MayBeFollowed target intent store × HoldsTheSame target store store'
-looks_same (AsFiles account) intent store store' items looked is = (is.0, is.1, tt, ap (λ (s : Stores). counted_as store.maildir.failures s.maildir) is.2)
-looks_same AsEntries intent store store' items looked is = (is.0, is.1, is.2, ap (λ (s : Stored). s.content) is.3)
+held_same : (target : Target) (store : Stores) → HoldsTheSame target store store
+held_same (AsFiles account) store = refl
+held_same AsEntries store = refl
 
-pub work_preview : (settings : Settings) (target : Target) (items : List Item) (now : ℕ) (store : Stores) (file read : Stored) (loaded : Loaded) (store' : Stores) (looked : Looked) (told : List MessagePreview)
-    → ReadAs file.content loaded → read ≡ file → LooksIn target loaded.intent store items (Ok looked) store'
-    → told ≡ previews_of settings (merged loaded.rows items looked.held.items now) items looked.held.items now
-    → PreviewsMerged settings target items now (keeping store file) looked.unsettled told × ChangesNothing target (keeping store file) (keeping store' read)
-work_preview settings target items now store file read loaded store' looked told stood same looks is =
-    let found = looks_same target loaded.intent store store' items looked looks in (
+refused_same : (fault : Fault) (old new : Maildir) → FindsRefused old fault new → counted_as old.failures new ≡ old
+refused_same (StoreRefused why.Missing) old new is = ap (counted_as old.failures) is.1
+refused_same (StoreRefused why.Refused) old new is = ap (counted_as old.failures) is
+refused_same NoMemory old new is = ap (counted_as old.failures) is
+refused_same _ old new never = absurd never
+
+-- what was found, as a session finds it that settles the store
+found_in : (target : Target) (store store' : Stores) (items : List Item) (was : RecordState) (found : Found) → LooksIn target was.intent store items (Ok found) store'
+    → (closed_rows found.stored was.rows was.intent ≡ rows_in target store was items) × (found.held.items ≡ flags_in target store items)
+    × ((left : Stores) × Settles target was items store left) × HoldsTheSame target store store'
+found_in (AsFiles account) store store' items was found is =
+    (rw is.1 (not_whole was.rows was.intent), is.0, (store, refl), ap (λ (s : Stores). counted_as store.maildir.failures s.maildir) is.2)
+found_in AsEntries store store' items was found looks =
+    let asks = looks.asks in
+    (rw (asks.2, asks.1), asks.5, (record store { mbox = looks.left }, (asks.0, asks.1, asks.3, asks.4)), looks.same)
+
+pub work_preview : (settings : Settings) (target : Target) (items : List Item) (now : ℕ) (store : Stores) (file read : Stored) (loaded : Loaded) (store' : Stores) (found : Found) (told : List MessagePreview)
+    → ReadAs file.content loaded → read ≡ file → LooksIn target loaded.intent store items (Ok found) store'
+    → told ≡ previews_of settings (merged (closed_rows found.stored loaded.rows loaded.intent) items found.held.items now) items found.held.items now
+    → PreviewsMerged settings target items now (keeping store file) told × ChangesNothing target (keeping store file) (keeping store' read)
+work_preview settings target items now store file read loaded store' found told stood same looks is =
+    let there = found_in target store store' items (record_state_in loaded) found looks in (
       record {
         was = record_state_in loaded;
         stood = read_keeps file.content loaded stood;
-        followed = found.2;
-        unsettled_is = found.1;
-        told_is = rw found.0 at is;
+        left = there.2.0;
+        settles = there.2.1;
+        told_is = is
+            ∙ ap (λ (r : List Row). previews_of settings (merged r items found.held.items now) items found.held.items now) there.0
+            ∙ ap (λ (flags : List Bool). previews_of settings (merged (rows_in target store (record_state_in loaded) items) items flags now) items flags now) there.1;
       },
-      (found.3, ap (λ (s : Stored). s.content) same),
+      (there.3, ap (λ (s : Stored). s.content) same),
     )
+
+-- the record couldn't be read
+pub not_read : (settings : Settings) (target : Target) (items : List Item) (now : ℕ) (store : Stores) (file read : Stored) (loaded : Loaded) (fault : Fault)
+    → Reads file loaded (Err fault) read → WouldBeUnready target items fault store file store read × ChangesNothing target (keeping store file) (keeping store read)
+not_read settings target items now store file read loaded fault reads =
+    let is = unread target items store file read loaded fault reads in
+    (record { left = store; cause = is.0; maildir = refl; count = refl }, (held_same target store, is.1))
 
 -- the store refused to tell
 pub not_looked : (settings : Settings) (target : Target) (items : List Item) (now : ℕ) (store : Stores) (file read : Stored) (loaded : Loaded) (store' : Stores) (fault : Fault)
     → ReadAs file.content loaded → read ≡ file → LooksIn target loaded.intent store items (Err fault) store'
-    → PreviewsWork settings target items now (keeping store file) (Err fault) (keeping store' read)
-not_looked settings (AsFiles account) items now store file read loaded store' fault stood same looks = search rules
-not_looked settings AsEntries items now store file read loaded store' fault stood same looks = search rules
+    → WouldBeUnready target items fault store file store' read × ChangesNothing target (keeping store file) (keeping store' read)
+not_looked settings (AsFiles account) items now store file read loaded store' fault stood same looks = (
+  record { left = store'; cause = not_found false (AsFiles account) items store store' file read loaded fault stood looks; maildir = refl; count = refl },
+  (refused_same fault store.maildir store'.maildir looks, ap (λ (s : Stored). s.content) same),
+)
+not_looked settings AsEntries items now store file read loaded store' fault stood same looks =
+    let left : Stores = record store' { mbox = looks.left } in (
+      record { left = left; cause = not_found false AsEntries items store left file read loaded fault stood looks.asks; maildir = refl; count = looks.count },
+      (looks.same, ap (λ (s : Stored). s.content) same),
+    )
+
+-- memory ran out for what is told
+pub not_told : (settings : Settings) (target : Target) (items : List Item) (now : ℕ) (store : Stores) (file read : Stored) (intent : Option Intent) (store' : Stores) (found : Found)
+    → read ≡ file → LooksIn target intent store items (Ok found) store'
+    → WouldBeUnready target items NoMemory store file store' read × ChangesNothing target (keeping store file) (keeping store' read)
+not_told settings (AsFiles account) items now store file read intent store' found same looks = (
+  record { left = store'; cause = ap (λ (s : Stores). s.maildir) looks.2; maildir = refl; count = refl },
+  (ap (λ (s : Stores). counted_as store.maildir.failures s.maildir) looks.2, ap (λ (s : Stored). s.content) same),
+)
+not_told settings AsEntries items now store file read intent store' found same looks = (
+  record { left = record store' { mbox = store.mbox }; cause = inl refl; maildir = refl; count = sym (ap (λ (s : Stored). s.failures) looks.asks.3) ∙ looks.count },
+  (looks.same, ap (λ (s : Stored). s.content) same),
+)
 
 -- ---- the session
 
 module _ (settings : Settings) (target : Target) (now : ℕ) (old : Place) (before : Keeping) where
-  pub not_ended : (items : List Item) (mid new : Place) (after : Keeping) (ahead : WorkPreview) (n : ℕ) (fault : ClientFault) → Enters_with settings old (Ok items) mid
-      → PreviewsWork settings target items now before (Ok ahead) after → n ≡ length items → Talks (quit ∷ []) mid (Err fault) new
-      → PreviewsSession settings target now old before (Err (cut_of (fault_of fault) None)) new after (record { total = n; unsettled = ahead.unsettled; message_previews = ahead.message_previews.items })
-  not_ended items mid new after ahead n fault enters previews count quits = (
+  pub not_ended : (items : List Item) (mid new : Place) (after : Keeping) (told : List MessagePreview) (n : ℕ) (fault : ClientFault) → Enters_with settings old (Ok items) mid
+      → PreviewsMerged settings target items now before told × ChangesNothing target before after → n ≡ length items → Talks (quit ∷ []) mid (Err fault) new
+      → PreviewsSession settings target now old before (Err (cut_of (fault_of fault) None)) new after (record { total = n; message_previews = told })
+  not_ended items mid new after told n fault enters previews count quits = (
     inr (inr (fault, refl, record { items = items; mid = mid; enters = enters; total = count; previews = previews.0; quits = quits })),
     previews.1,
   )

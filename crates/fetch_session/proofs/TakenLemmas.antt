@@ -18,7 +18,7 @@ use Rattle.fetch_session.specs.Laws.{SessionsKeepFiles}
 use Rattle.fetch_session.specs.Plan.{Carried, Carries}
 use Rattle.fetch_session.specs.Readiness.{UnreadyCause}
 use Rattle.fetch_session.specs.Scene.{Does, Scene, Stops}
-use Rattle.fetch_session.specs.Session.{Dealt, Keeping, Noted, Proceeds, account_files, keeps_files}
+use Rattle.fetch_session.specs.Session.{Dealt, Keeping, Noted, Proceeds, keeps_files}
 use Rattle.fetch_session.specs.Store.{Gained, RefusesText}
 use Rattle.fetch_session.specs.Target.{AsFiles, Stores}
 use Rattle.fetch_session.specs.Task.{Task}
@@ -94,7 +94,5 @@ module _ (account : List ℕ) where
     proceeds_grew (Err cut) (inr (inr is)) = dealt_grew (Err cut) is
 
 pub sessions_keep_files : SessionsKeepFiles
-sessions_keep_files settings account now link before report link' after (left, taken, session) =
-    let (came, files, same) = proceeds_grew account settings now (at link []) (keeps_files (account_files left before.file)) session.mid (keeps_files after) session.notes
-    session.result session.proceeds in
-    (left.files, came, taken.gone, taken.files, files, same ∙ ap (λ (m : Maildir). m.taken) taken.is)
+sessions_keep_files settings account now link before report link' after session =
+    proceeds_grew account settings now (at link []) (keeps_files before) session.mid (keeps_files after) session.notes session.result session.proceeds

@@ -9,7 +9,8 @@ use Rattle.pop3_client.specs.declared.fault.ClientFault.TheVariants as talk
 use Rattle.fetch_session.specs.declared.fault.Fault.{Fault}
 use Rattle.fetch_session.specs.declared.fault.Fault.TheVariants.{ConnectionEnded, ReadFailed, WriteFailed, ReplyTooLong}
 use Rattle.fetch_session.specs.declared.fault.Fault.TheVariants.{BadReply, Refused, BadListing, ListingsDisagree}
-use Rattle.fetch_session.specs.declared.fault.Fault.TheVariants.{TooMany, TextTooLong, StoreRefused, SeenRefused, NoMemory, BadSeen}
+use Rattle.fetch_session.specs.declared.fault.Fault.TheVariants.{TooMany, TextTooLong, StoreRefused, SeenRefused}
+use Rattle.fetch_session.specs.declared.fault.Fault.TheVariants.{NoMemory, BadSeen}
 use Rattle.fetch_session.specs.declared.fault.Cut.{Cut}
 
 -- the number that is shown for a fault

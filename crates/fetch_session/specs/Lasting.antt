@@ -1,5 +1,6 @@
--- What of a session outlives a loss of power, by what the devices of its files say. What of a Maildir is durable, `SessionIn` says.
-use Rattle.std.specs.Prelude.{◌≡◌, ◌≢◌, ◌⊎◌, ℕ, List, [], ◌∷◌, ◌++◌, length, Option, None, Some, Result, Ok, Err, All}
+-- What of a session outlives a loss of power, by what the devices of its files say. What of a Maildir is durable,
+-- `SessionIn` says.
+use Rattle.std.specs.Prelude.{◌≡◌, ◌≢◌, ◌⊎◌, ℕ, List, [], ◌∷◌, ◌++◌, length, Option, Some, Result, Ok, Err}
 use Rattle.std.specs.List.{flat_map}
 use Rattle.std.proofs.Common.{inl, inr}
 use Rattle.mail_store.specs.declared.maildir.disk.MaildirDisk.{Ghosts as DiskGhosts}
@@ -16,7 +17,6 @@ use Rattle.pop3_wire.specs.Place.{Place}
 use Rattle.rc_file.specs.declared.settings.Settings.{Settings}
 use Rattle.fetch_rules.specs.Record.{Row, RecordState, Intent, none_open, marked_all}
 use Rattle.fetch_rules.specs.RecordGrowth.{Grows}
-use Rattle.fetch_rules.specs.Plan.{IsQuiet}
 use Rattle.fetch_session.specs.declared.account.Store.{Store}
 use Rattle.fetch_session.specs.declared.account.Store.TheVariants.{Maildir as InMaildir, Mboxrd as InMbox}
 use Rattle.fetch_session.specs.declared.fault.Cut.{Cut}
@@ -28,11 +28,12 @@ use Rattle.fetch_session.specs.declared.report.Skips.{Skips}
 use Rattle.fetch_session.specs.declared.work.Work.{Work}
 use Rattle.fetch_session.specs.Account.{Holding, digits_of}
 use Rattle.fetch_session.specs.Plan.{Carried, Carries, tasks_ahead}
-use Rattle.fetch_session.specs.Readiness.{AreDurable, IsMergedAtMost, Readies, merged_in}
+use Rattle.fetch_session.specs.Readiness.{IsFileKept, IsMergedAtMost, Readies, merged_in}
 use Rattle.fetch_session.specs.Record.{Steady, record_state}
 use Rattle.fetch_session.specs.Scene.{Scene, Does, WhereAllSound}
 use Rattle.fetch_session.specs.Session.{Keeping, Noted, Proceeds, SessionIn, keeping}
-use Rattle.fetch_session.specs.Target.{Target, AsFiles, AsEntries, AfterTakingIn, Stores, is_sound, mbox_of, stores_of, target_of}
+use Rattle.fetch_session.specs.Target.{Target, AsFiles, AsEntries, AfterTakingIn, Stores, is_sound, mbox_of, stores_of}
+use Rattle.fetch_session.specs.Target.{target_of}
 use Rattle.fetch_session.specs.Task.{Task, Done, ids_in, ids_of, texts_of}
 
 -- ---- what the devices say
@@ -51,10 +52,12 @@ is_sure file (InMbox device) = file.is_sure device
 abbrev pub IsSafe : {F : Type 0} → FileGhosts F → F → Type 0
 IsSafe file f = file.is_sure f × LastsWhole (file.stored f).content (file.is_on_disk f) (file.may_leave f)
 
--- the same for an mboxrd file, which is flushed again before an entry is appended: so it needn't be known to be on the disk
+-- the same for an mboxrd file, which is flushed again before an entry is appended: so it needn't be known to be on the
+-- disk
 abbrev pub IsSafeStore : {D F : Type 0} → FileGhosts F → Store D F → Type 0
 IsSafeStore file (InMaildir device) = Unit {0}
-IsSafeStore file (InMbox device) = file.is_sure device × LastsWhole (file.stored device).content (Unit {0}) (file.may_leave device)
+IsSafeStore file (InMbox device) = file.is_sure device
+    × LastsWhole (file.stored device).content (Unit {0}) (file.may_leave device)
 
 abbrev pub IsSafeWork : {D F H Z : Type 0} → FileGhosts F → Work D F H Z → Type 0
 IsSafeWork file work = IsSafe file work.ledger.file × IsSafeStore file work.store
@@ -70,11 +73,14 @@ KeepsMboxIn file old new = KeepsWhole (mbox_of file old).content (may_leave_in f
 abbrev pub TextsLast : {D F : Type 0} → FileGhosts F → Target → List Done → Stores → Store D F → Type 0
 TextsLast file (AsFiles account) dones old store = Unit {0}
 TextsLast file AsEntries dones old store =
-    (was : List ℕ) → old.mbox.content ≡ Some was → Outlives (may_leave_in file store) (was ++ flat_map entry_of (texts_of dones))
+    (was : List ℕ) → old.mbox.content ≡ Some was
+    → Outlives (may_leave_in file store) (was ++ flat_map entry_of (texts_of dones))
 
--- what is left of the record's file begins with bytes that stand for these rows; if there are none, there may be no file
+-- what is left of the record's file begins with bytes that stand for these rows; if there are none, there may be no
+-- file
 abbrev pub ShowsRows : List Row → Option (List ℕ) → Type 0
-ShowsRows rows left = (bytes behind : List ℕ) × ((bytes ≡ []) ⊎ (left ≡ Some (bytes ++ behind))) × Steady (Some bytes) (none_open rows)
+ShowsRows rows left = (bytes behind : List ℕ) × ((bytes ≡ []) ⊎ (left ≡ Some (bytes ++ behind)))
+    × Steady (Some bytes) (none_open rows)
 
 -- whatever a loss of power leaves of it does
 abbrev pub RowsLast : {F : Type 0} → FileGhosts F → F → List Row → Type 0
@@ -91,10 +97,11 @@ KeepsWork file old new =
 
 -- this holds of whatever a loss of power leaves of a file that is there
 abbrev pub Leaves : {F : Type 0} → FileGhosts F → F → (Option (List ℕ) → Type 0) → Type 0
-Leaves file f Is = (bytes : List ℕ) → (file.stored f).content ≡ Some bytes → (left : Option (List ℕ)) → file.may_leave f left → Is left
+Leaves file f Is = (bytes : List ℕ) → (file.stored f).content ≡ Some bytes → (left : Option (List ℕ))
+    → file.may_leave f left → Is left
 
--- bytes that stand for this record, and behind them what a loss of power may leave of what was appended; nothing is appended to an
--- empty file
+-- bytes that stand for this record, and behind them what a loss of power may leave of what was appended; nothing is
+-- appended to an empty file
 pub record IsLeft (was : RecordState) (added : List ℕ) (left : Option (List ℕ)) : Type 0 where
   pub bytes : List ℕ
   pub behind : List ℕ
@@ -113,13 +120,14 @@ pub record AreLeft (rows others : List Row) (left : Option (List ℕ)) : Type 0 
   pub next_is : (next ≡ rows) ⊎ (next ≡ others)
   pub file : IsLeft (record_state rows before) added left
 
--- what these tasks stored and marked outlives a loss of power; and at most a part of one intent, or of the marks of these other ids,
--- may be left behind it
+-- what these tasks stored and marked outlives a loss of power; and at most a part of one intent, or of the marks of
+-- these other ids, may be left behind it
 pub record DonesLast {D F : Type 0} (file : FileGhosts F) (target : Target) (dones : List Done) (next : List (List ℕ))
     (old : Scene) (store : Store D F) (f : F) : Type 0 where
   pub texts : TextsLast file target dones old.store store
   pub rows : RowsLast file f (marked_all old.rows (ids_of dones))
-  pub left : Leaves file f (AreLeft (marked_all old.rows (ids_of dones)) (marked_all (marked_all old.rows (ids_of dones)) next))
+  pub left : Leaves file f (AreLeft (marked_all old.rows (ids_of dones))
+      (marked_all (marked_all old.rows (ids_of dones)) next))
 
 -- one file came, and it is durable
 abbrev pub OneDurable : Maildir → Maildir → Type 0
@@ -127,7 +135,8 @@ OneDurable old new = (f : File) × (new.files ≡ old.files ++ f ∷ []) × IsDu
 
 -- no mark of the task that was cut may be left; or its file came and is durable
 abbrev pub CutLasts : {F : Type 0} → FileGhosts F → Target → Scene → Scene → F → Type 0
-CutLasts file (AsFiles account) old new f = Leaves file f (AreLeft old.rows old.rows) ⊎ OneDurable old.store.maildir new.store.maildir
+CutLasts file (AsFiles account) old new f = Leaves file f (AreLeft old.rows old.rows)
+    ⊎ OneDurable old.store.maildir new.store.maildir
 CutLasts file AsEntries old new f = Unit {0}
 
 -- the same for the tasks of a list that were done, and for the one that was cut
@@ -154,87 +163,118 @@ pub record IsUntouched {F : Type 0} (files : FileGhosts F) (from f : F) : Type 0
   pub no_more : LeavesNoMore (files.may_leave from) (files.may_leave f)
   pub same : files.stored f ≡ files.stored from
 
--- what may be left of the record's file could be left before, or it is these rows, perhaps with a part of what makes those others of them,
--- or it is the others
+-- what may be left of the record's file could be left before, or it is these rows, perhaps with a part of what makes
+-- those others of them, or it is the others
 abbrev pub LeavesMerged : {F : Type 0} → FileGhosts F → List Row → List Row → F → F → Type 0
 LeavesMerged files rows others from f = (left : Option (List ℕ)) → files.may_leave f left
     → files.may_leave from left ⊎ (AreLeft rows others left ⊎ AreLeft others others left)
 
--- what may be left of the record's file could be left before, or a part of what was appended stands behind what the file had
+-- what may be left of the record's file could be left before, or a part of what was appended stands behind what the
+-- file had
 abbrev pub LeavesLeft : {F : Type 0} → FileGhosts F → RecordState → List ℕ → F → F → Type 0
-LeavesLeft files was added from f = (left : Option (List ℕ)) → files.may_leave f left → files.may_leave from left ⊎ IsLeft was added left
+LeavesLeft files was added from f = (left : Option (List ℕ)) → files.may_leave f left
+    → files.may_leave from left ⊎ IsLeft was added left
 
--- what a session leaves of the record's file that was cut while it prepared the record: no more than before, or what a merge leaves
-abbrev pub UnreadyLasts : {F : Type 0} → FileGhosts F → F → {target : Target} {items : List Item} {now : ℕ} {store : Stores} {file : Stored}
+-- what a session leaves of the record's file that was cut while it prepared the record: no more than before, or what a
+-- merge leaves
+abbrev pub UnreadyLasts : {F : Type 0} → FileGhosts F → F
+    → {target : Target} {items : List Item} {now : ℕ} {store : Stores} {file : Stored}
     {store' : Stores} {file' : Stored} → IsMergedAtMost target items now store file store' file' → F → Type 0
 UnreadyLasts files from (inl same) f = LeavesNoMore (files.may_leave from) (files.may_leave f)
 UnreadyLasts files from {target} {items} {now} {store} (inr merged) f =
     LeavesMerged files merged.was.rows (merged_in target store merged.was items now) from f
 
--- nothing is to be fetched or deleted and nothing was written; or what was found is durable, and this holds
-abbrev pub UnlessQuiet : {F : Type 0} → FileGhosts F → F → {Quiet Durable : Type 0} → Quiet ⊎ Durable → Type 0 → F → Type 0
-UnlessQuiet files from (inl quiet) Safe f = IsUntouched files from f
-UnlessQuiet files from (inr durable) Safe f = Safe
+-- the record's file wasn't written; or it was written anew, and is safe
+abbrev pub KeptLasts : {F : Type 0} → FileGhosts F → F → (rows : List Row) (old new : Stored) → IsFileKept rows old new
+    → F → Type 0
+KeptLasts files from rows old new (inl same) f = IsUntouched files from f
+KeptLasts files from rows old new (inr anew) f = (files.stored f ≡ new) × IsSafe files f
 
--- what is ready outlives a loss of power: nothing was written, or the files are safe
-abbrev pub ReadyLasts : {D F : Type 0} → FileGhosts F → F → (settings : Settings) (target : Target) (items : List Item) (now : ℕ)
+-- nothing is to be fetched or deleted, and this is left of the record's file; or what was found is durable, and this
+-- holds
+abbrev pub UnlessQuiet : {F : Type 0} → FileGhosts F → F → {Quiet Durable : Type 0} → (rows : List Row)
+    (old new : Stored) → (Quiet × IsFileKept rows old new) ⊎ Durable → Type 0 → F → Type 0
+UnlessQuiet files from rows old new (inl (quiet, kept)) Safe f = KeptLasts files from rows old new kept f
+UnlessQuiet files from rows old new (inr durable) Safe f = Safe
+
+-- what is ready outlives a loss of power: the record's file was kept, or the files are safe
+abbrev pub ReadyLasts : {D F : Type 0} → FileGhosts F → F
+    → (settings : Settings) (target : Target) (items : List Item) (now : ℕ)
     (old : Stores) (file : Stored) (result : Result Ready Fault) (after : List Row) (new : Stores) (file' : Stored)
     → Readies settings target items now old file result after new file' → Store D F → F → Type 0
-ReadyLasts files from _ _ _ _ _ _ (Ok ready) _ _ _ is store f =
-    UnlessQuiet files from is.durable (IsSafe files f × IsSafeStore files store) f
+ReadyLasts files from _ _ _ _ _ file (Ok ready) after _ file' is store f =
+    UnlessQuiet files from after file file' is.durable (IsSafe files f × IsSafeStore files store) f
 ReadyLasts files from _ _ _ _ _ _ (Err fault) _ _ _ unready store f = UnreadyLasts files from unready.content f
 
 -- the record was made ready, or wasn't; and if this premise holds, this is left
 pub record ReadiesAndLasts {D F : Type 0} (disk : DiskGhosts D) (files : FileGhosts F) (safe : Type 0) (from : F)
-    (settings : Settings) (target : Target) (items : List Item) (now : ℕ) (old : Stores) (result : Result Ready Fault) (after : List Row)
+    (settings : Settings) (target : Target) (items : List Item) (now : ℕ) (old : Stores) (result : Result Ready Fault)
+    (after : List Row)
     (store : Store D F) (f : F) : Type 0 where
-  pub readies : Readies settings target items now old (files.stored from) result after (stores_of disk files store) (files.stored f)
+  pub readies : Readies settings target items now old (files.stored from) result after (stores_of disk files store)
+      (files.stored f)
   pub lasts : safe → ReadyLasts files from _ _ _ _ _ _ _ _ _ _ readies store f
 
--- what was planned was done, or as much as went well: if no flush was refused before, nothing was to be fetched or deleted and nothing
--- was written, or what was done outlives a loss of power
+-- what was planned was done, or as much as went well: if no flush was refused before, nothing was to be fetched or
+-- deleted and the record's file was kept, or what was done outlives a loss of power
 abbrev pub CarriedLasts : {D F : Type 0} → FileGhosts F → Store D F → F → {settings : Settings} {target : Target}
-    {items : List Item} {now : ℕ} {place : Place} {old : Stores} {file : Stored} {lines : List ReportLine} {result : Result (Unit {0}) Cut}
-    {new : Scene} {skipped : Skips} → Carried settings target items now place old file lines result new skipped → Store D F → F → Type 0
-CarriedLasts files was from {settings} {target} {items} {now} {place} {old} {file} {lines} {result} {new} {skipped} carried store f =
-    AreSure files was from → UnlessQuiet files from carried.prepared.durable
-    (Lasts files target (tasks_ahead settings target items now old carried.mid.rows) carried.mid result new carried.does store f) f
+    {items : List Item} {now : ℕ} {place : Place} {old : Stores} {file : Stored} {lines : List ReportLine} {result :
+    Result (Unit {0}) Cut}
+    {new : Scene} {skipped : Skips} → Carried settings target items now place old file lines result new skipped
+    → Store D F → F → Type 0
+CarriedLasts files was from {settings} {target} {items} {now} {place} {old} {file} {lines} {result} {new} {skipped}
+    carried store f =
+    AreSure files was from → UnlessQuiet files from carried.mid.rows file carried.mid.file carried.prepared.durable
+    (Lasts files target (tasks_ahead settings target items now old carried.mid.rows) carried.mid result new
+    carried.does store f) f
 
 -- the same, or the record wasn't ready
 abbrev pub CarriesLast : {D F : Type 0} → FileGhosts F → Store D F → F → (settings : Settings) (target : Target)
-    (items : List Item) (now : ℕ) (place : Place) (old : Stores) (file : Stored) (lines : List ReportLine) (result : Result (Unit {0}) Cut)
+    (items : List Item) (now : ℕ) (place : Place) (old : Stores) (file : Stored) (lines : List ReportLine)
+    (result : Result (Unit {0}) Cut)
     (place' : Place) (new : Stores) (file' : Stored) (lines' : List ReportLine) (skipped : Skips)
-    → Carries settings target items now place old file lines result place' new file' lines' skipped → Store D F → F → Type 0
-CarriesLast files was from _ _ _ _ _ _ _ _ (Ok done) _ _ _ _ _ (rows, carried) store f = CarriedLasts files was from carried store f
+    → Carries settings target items now place old file lines result place' new file' lines' skipped → Store D F
+    → F → Type 0
+CarriesLast files was from _ _ _ _ _ _ _ _ (Ok done) _ _ _ _ _
+    (rows, carried) store f = CarriedLasts files was from carried store f
 CarriesLast files was from _ _ _ _ _ _ _ _ (Err cut) _ _ _ _ _ (rows, inl (none, unprepared)) store f =
     AreSure files was from → UnreadyLasts files from unprepared.unready.content f
-CarriesLast files was from _ _ _ _ _ _ _ _ (Err cut) _ _ _ _ _ (rows, inr carried) store f = CarriedLasts files was from carried store f
+CarriesLast files was from _ _ _ _ _ _ _ _ (Err cut) _ _ _ _ _
+    (rows, inr carried) store f = CarriedLasts files was from carried store f
 
 -- a session up to its QUIT, or until it was cut: before its listing was known it wrote nothing
-abbrev pub ProceedsLast : {D F : Type 0} → FileGhosts F → Store D F → F → (settings : Settings) (target : Target) (now : ℕ)
+abbrev pub ProceedsLast : {D F : Type 0} → FileGhosts F → Store D F → F
+    → (settings : Settings) (target : Target) (now : ℕ)
     (old : Place) (before : Keeping) (result : Result (Unit {0}) Cut) (new : Place) (after : Keeping) (notes : Noted)
     → Proceeds settings target now old before result new after notes → Store D F → F → Type 0
 ProceedsLast files was from settings target now old before (Ok done) new after notes dealt store f =
-    CarriesLast files was from settings target dealt.items now dealt.mid before.store before.file [] (Ok done) new after.store
+    CarriesLast files was from settings target dealt.items now dealt.mid before.store before.file []
+    (Ok done) new after.store
     after.file notes.lines notes.skipped dealt.carries store f
 ProceedsLast files was from _ _ _ _ _ (Err cut) _ _ _ (inl stopped) store f = IsUntouched files from f
 ProceedsLast files was from _ _ _ _ _ (Err cut) _ _ _ (inr (inl wanting)) store f = IsUntouched files from f
 ProceedsLast files was from settings target now old before (Err cut) new after notes (inr (inr dealt)) store f =
-    CarriesLast files was from settings target dealt.items now dealt.mid before.store before.file [] (Err cut) new after.store
+    CarriesLast files was from settings target dealt.items now dealt.mid before.store before.file []
+    (Err cut) new after.store
     after.file notes.lines notes.skipped dealt.carries store f
 
--- a whole session: if no flush was refused before, what was stored as entries and marked for each task that was done outlives a loss of
--- power. Tasks are done in order, and a deletion comes after its message's other task, so a DELE is sent only for a message whose mark does
-abbrev pub SessionLasts : {D F : Type 0} → FileGhosts F → Store D F → F → {settings : Settings} {target : Target} {now : ℕ}
+-- a whole session: if no flush was refused before, what was stored as entries and marked for each task that was done
+-- outlives a loss of power. Tasks are done in order, and a deletion comes after its message's other task, so a DELE is
+-- sent only for a message whose mark does
+abbrev pub SessionLasts : {D F : Type 0} → FileGhosts F → Store D F → F
+    → {settings : Settings} {target : Target} {now : ℕ}
     {link : Link} {before : Keeping} {report : Report} {link' : Link} {after : Keeping}
     → SessionIn settings target now link before report link' after → Store D F → F → Type 0
 SessionLasts files was from session store f = ProceedsLast files was from _ _ _ _ _ _ _ _ _ session.proceeds store f
 
--- a session of an account over these devices, if they are sound after it; and what of its files outlives a loss of power
-abbrev pub RunsSession : {W D F : Type 0} → WireGhosts W → DiskGhosts D → FileGhosts F → ℕ → Holding D F → W → Report → Holding D F → W
+-- a session of an account over these devices, if they are sound after it; and what of its files outlives a loss of
+-- power
+abbrev pub RunsSession : {W D F : Type 0} → WireGhosts W → DiskGhosts D → FileGhosts F → ℕ → Holding D F → W → Report
+    → Holding D F → W
     → Type 0
 RunsSession link disk files now old wire report new wire' =
-    WhereAllSound link.sound link.leads_to (is_sound disk files) files.sound wire wire' old.store new.store old.file new.file
+    WhereAllSound link.sound link.leads_to (is_sound disk files) files.sound wire wire' old.store new.store
+    old.file new.file
     (AfterTakingIn (stores_of disk files old.store) (λ left. (session : SessionIn old.settings
     (target_of old.store (digits_of old.settings)) now (link.history wire) (keeping left (files.stored old.file)) report
     (link.history wire') (keeping (stores_of disk files new.store) (files.stored new.file)))

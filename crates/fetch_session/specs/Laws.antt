@@ -5,7 +5,7 @@ use Rattle.fetch_rules.specs.Record.{RecordState, Row, is_delivered, marked_all,
 use Rattle.mail_store.specs.FlatFile.{Stored}
 use Rattle.mail_store.specs.FileName.{IsAccountText}
 use Rattle.mail_store.specs.Held.{HasDurable}
-use Rattle.mail_store.specs.Maildir.{AfterTaking, AllFlushed, File, IsDurable, IsWithout}
+use Rattle.mail_store.specs.Maildir.{AfterTaking, AllFlushed, File, IsDurable}
 use Rattle.pop3_wire.specs.Link.{Link}
 use Rattle.rc_file.specs.declared.settings.Settings.{Settings}
 use Rattle.pop3_wire.specs.Reading.{WholeReply, reply_bytes}
@@ -14,7 +14,8 @@ use Rattle.fetch_session.specs.declared.fault.Fault.{Fault}
 use Rattle.fetch_session.specs.declared.fault.Cut.{Cut}
 use Rattle.fetch_session.specs.declared.fault.Fault.TheVariants.{StoreRefused, SeenRefused, NoMemory}
 use Rattle.fetch_session.specs.declared.fault.Why.TheVariants.{Refused}
-use Rattle.fetch_session.specs.Task.{Task, Done, stores, tasks_of, turns_of, replies_of, ids_of, files_of, file_from, lines_of}
+use Rattle.fetch_session.specs.Task.{Task, Done, stores, tasks_of, turns_of, replies_of, ids_of, files_of, file_from}
+use Rattle.fetch_session.specs.Task.{lines_of}
 use Rattle.fetch_session.specs.Record.{Keeps, KeepsRows, Saves, Steady}
 use Rattle.fetch_session.specs.Scene.{Scene, Fell, WhereAllSound}
 use Rattle.fetch_session.specs.Target.{AsFiles, IsSoundMaildir, IsSoundMbox, maildir_of, mbox_of}
@@ -28,7 +29,8 @@ use Rattle.pop3_wire.specs.declared.wire.Wire.{Ghosts as WireGhosts}
 
 -- what was got begins with these replies, whole
 abbrev pub CameWhole : List WholeReply → Scene → Scene → Type 0
-CameWhole replies old new = (rest : List ℕ) × (new.place.link.got ≡ old.place.link.got ++ (flat_map reply_bytes replies ++ rest))
+CameWhole replies old new = (rest : List ℕ)
+    × (new.place.link.got ≡ old.place.link.got ++ (flat_map reply_bytes replies ++ rest))
 
 -- one more file, whose reply comes after those taken, only if the store refused; its name may not be durable
 abbrev pub ExtraIs : List ℕ → List Done → List Task → Scene → Fault → Scene → List File → Type 0
@@ -66,31 +68,38 @@ StoppingCutsShort = (account : List ℕ) (tasks : List Task) (old new : Scene) (
 
 -- a session of an account with a Maildir
 abbrev pub MaildirSessions : {W D F : Type 0} → WireGhosts W → DiskGhosts D → FileGhosts F → Type 0
-MaildirSessions {W} {D} {F} link disk files = (now : ℕ) (old new : Holding D F) (wire wire' : W) (report : Report) → IsSameAccount old new
+MaildirSessions {W} {D} {F} link disk files = (now : ℕ) (old new : Holding D F) (wire wire' : W) (report : Report)
+    → IsSameAccount old new
     → RunsSession link disk files now old wire report new wire'
-    → WhereAllSound link.sound link.leads_to (IsSoundMaildir disk) files.sound wire wire' old.store new.store old.file new.file
-    (AfterTaking (maildir_of disk old.store) (λ left. Session old.settings (digits_of old.settings) now (link.history wire)
+    → WhereAllSound link.sound link.leads_to (IsSoundMaildir disk) files.sound wire wire' old.store new.store
+    old.file new.file
+    (AfterTaking (maildir_of disk old.store)
+    (λ left. Session old.settings (digits_of old.settings) now (link.history wire)
     (account_files left (files.stored old.file)) report (link.history wire')
     (account_files (maildir_of disk new.store) (files.stored new.file))))
 
 -- a session of an account with an mboxrd file
 abbrev pub MboxSessions : {W D F : Type 0} → WireGhosts W → DiskGhosts D → FileGhosts F → Type 0
-MboxSessions {W} {D} {F} link disk files = (now : ℕ) (old new : Holding D F) (wire wire' : W) (report : Report) → IsSameAccount old new
+MboxSessions {W} {D} {F} link disk files = (now : ℕ) (old new : Holding D F) (wire wire' : W) (report : Report)
+    → IsSameAccount old new
     → RunsSession link disk files now old wire report new wire'
-    → WhereAllSound link.sound link.leads_to (IsSoundMbox files) files.sound wire wire' old.store new.store old.file new.file
-    (MboxSession old.settings now (link.history wire) (mbox_account_files (mbox_of files old.store) (files.stored old.file)) report
+    → WhereAllSound link.sound link.leads_to (IsSoundMbox files) files.sound wire wire' old.store new.store
+    old.file new.file
+    (MboxSession old.settings now (link.history wire)
+    (mbox_account_files (mbox_of files old.store) (files.stored old.file)) report
     (link.history wire') (mbox_account_files (mbox_of files new.store) (files.stored new.file)))
 
--- of the files that were there before a session, exactly those are missing after it that `taken` gained; others came
+-- each file that was there before a session is there after it, and others may have come; it takes none away
 abbrev pub SessionsKeepFiles : Type 0
-SessionsKeepFiles = (settings : Settings) (account : List ℕ) (now : ℕ) (link : Link) (before : AccountFiles) (report : Report)
+SessionsKeepFiles = (settings : Settings) (account : List ℕ) (now : ℕ) (link : Link) (before : AccountFiles)
+    (report : Report)
     (link' : Link) (after : AccountFiles)
-    → AfterTaking before.maildir (λ left. Session settings account now link (account_files left before.file) report link' after)
-    → (left came gone : List File) × IsWithout before.maildir.files gone left × (after.maildir.files ≡ left ++ came)
-    × (after.maildir.taken ≡ before.maildir.taken ++ gone)
+    → Session settings account now link before report link' after
+    → (came : List File) × (after.maildir.files ≡ before.maildir.files ++ came)
+    × (after.maildir.taken ≡ before.maildir.taken)
 
--- the files that came are durable, but perhaps the last, whose name may not be; and of each message that the record shows as delivered and
--- didn't before a durable file is there
+-- the files that came are durable, but perhaps the last, whose name may not be; and of each message that the record
+-- shows as delivered and didn't before a durable file is there
 pub record LeavesDurable (account : List ℕ) (before after : AccountFiles) : Type 0 where
   pub came : List File
   pub last : List File
@@ -98,14 +107,17 @@ pub record LeavesDurable (account : List ℕ) (before after : AccountFiles) : Ty
   pub durable : AllByRecursion IsDurable came
   pub flushed : AllFlushed last
   pub at_most_one : length last ≤ 1
-  pub shown : (was rows : List Row) (id : List ℕ) → KeepsRows before.file.content was → KeepsRows after.file.content rows
+  pub shown : (was rows : List Row) (id : List ℕ) → KeepsRows before.file.content was
+      → KeepsRows after.file.content rows
       → is_delivered rows id ≡ true → (is_delivered was id ≡ true) ⊎ HasDurable account after.maildir id
 
 -- so a session leaves it, whatever cut it
 abbrev pub SessionsAreDurable : Type 0
-SessionsAreDurable = (settings : Settings) (account : List ℕ) (now : ℕ) (link : Link) (before : AccountFiles) (report : Report)
+SessionsAreDurable = (settings : Settings) (account : List ℕ) (now : ℕ) (link : Link) (before : AccountFiles)
+    (report : Report)
     (link' : Link) (after : AccountFiles)
-    → IsAccountText account → Session settings account now link before report link' after → LeavesDurable account before after
+    → IsAccountText account → Session settings account now link before report link' after
+    → LeavesDurable account before after
 
 -- a file of version 2 that stands for a record and has no torn end stands for that record
 abbrev pub SteadyFilesKeep : Type 0
@@ -113,6 +125,7 @@ SteadyFilesKeep = (content : Option (List ℕ)) (state : RecordState) → Steady
 
 -- the file of a record that wasn't saved stands for the old record or for the new one
 abbrev pub UnsavedFilesKeep : Type 0
-UnsavedFilesKeep = (old : Stored) (was now : RecordState) (fault : Fault) (new : Stored) → Saves old was now (Err fault) new
+UnsavedFilesKeep = (old : Stored) (was now : RecordState) (fault : Fault) (new : Stored)
+    → Saves old was now (Err fault) new
     → Steady old.content was
     → Keeps new.content was ⊎ Keeps new.content now

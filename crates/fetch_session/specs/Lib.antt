@@ -1,3 +1,4 @@
+pub mod Cuts
 pub mod Fault
 pub mod Task
 pub mod Store

@@ -1,5 +1,6 @@
 -- What is done to an mboxrd file and to its record.
-use Rattle.std.specs.Prelude.{◌≡◌, ◌⊎◌, ◌+◌, ℕ, Bool, false, List, ◌++◌, length, Option, None, Some, Result, Ok, Err, true}
+use Rattle.std.specs.Prelude.{◌≡◌, ◌⊎◌, ◌+◌, ℕ, Bool, false, List, ◌++◌, length, Option, None, Some, Result, Ok, Err}
+use Rattle.std.specs.Prelude.{true}
 use Rattle.mail_terms.specs.Listing.{Item}
 use Rattle.fetch_rules.specs.Record.{Row, Intent, Loaded, none_open, marked}
 use Rattle.mail_store.specs.FlatFile.{Stored, holding, counted, edges_of}
@@ -32,7 +33,8 @@ IsStoreFault refused.NoMemory fault = fault ≡ NoMemory
 
 -- ---- before the first text
 
--- the open intent, if there is one, was settled: whether its entry is whole; there is no file; a call was refused; or memory ran out
+-- the open intent, if there is one, was settled: whether its entry is whole; there is no file; a call was refused; or
+-- memory ran out
 abbrev pub SettlesIntent : Option Intent → List Item → Stored → Result Bool Fault → Stored → Type 0
 SettlesIntent None items old (Ok whole) new = (whole ≡ false) × (new ≡ old)
 SettlesIntent None items old (Err fault) new = ⊥
@@ -49,12 +51,16 @@ abbrev pub IsSettledAtMost : Option Intent → List Item → Stored → Stored �
 IsSettledAtMost intent items old new = (new.content ≡ old.content)
     ⊎ ((was : List ℕ) × (old.content ≡ Some was) × (new.content ≡ Some (closed_file intent items was)))
 
--- the file was settled, and an entry may follow it; there is none; a call was refused; no entry may follow; or memory ran out
+-- the file was settled, and an entry may follow it; there is none; a call was refused; no entry may follow; or memory
+-- ran out
 abbrev pub AsksMbox : Option Intent → Stored → List Item → Result Found Fault → Stored → Type 0
-AsksMbox intent old items (Ok found) new = (was : List ℕ) × (old.content ≡ Some was) × (found.stored ≡ is_stored intent items was)
-    × (new ≡ holding old (closed_file intent items was)) × MayGoOn (closed_file intent items was) × (found.held.items ≡ none_held items)
+AsksMbox intent old items (Ok found) new = (was : List ℕ) × (old.content ≡ Some was)
+    × (found.stored ≡ is_stored intent items was)
+    × (new ≡ holding old (closed_file intent items was)) × MayGoOn (closed_file intent items was)
+    × (found.held.items ≡ none_held items)
 AsksMbox intent old items (Err (StoreRefused Missing)) new = (old.content ≡ None) × (new ≡ old)
-AsksMbox intent old items (Err (StoreRefused Refused)) new = (new.failures ≡ old.failures + 1) × IsSettledAtMost intent items old new
+AsksMbox intent old items (Err (StoreRefused Refused)) new = (new.failures ≡ old.failures + 1)
+    × IsSettledAtMost intent items old new
 AsksMbox intent old items (Err (StoreRefused NotMbox)) new = (was : List ℕ) × (old.content ≡ Some was)
     × (MayGoOn (closed_file intent items was) → ⊥) × (new ≡ holding old (closed_file intent items was))
 AsksMbox intent old items (Err NoMemory) new = (new.failures ≡ old.failures) × IsSettledAtMost intent items old new
@@ -84,18 +90,22 @@ IsTakenBack mbox file rows uid text file' = (was : List ℕ) × (mbox.content �
     × Saves file (none_open rows) (with_open rows (intent_of was uid text)) (Ok tt) mid
     × TakesBack mid (with_open rows (intent_of was uid text)) (Ok tt) file'
 
--- the mboxrd file and the record's after a text wasn't appended: the file isn't there; a call was refused, before the intent was saved,
--- or after it, and the intent was closed again, unless a front of the entry may be there; no entry may follow; the record's file was
--- refused; or memory ran out, for the intent, for the entry, or for closing the intent
+-- the mboxrd file and the record's after a text wasn't appended: the file isn't there; a call was refused, before the
+-- intent was saved, or after it, and the intent was closed again, unless a front of the entry may be there; no entry
+-- may follow; the record's file was refused; or memory ran out, for the intent, for the entry, or for closing the
+-- intent
 abbrev pub RefusesEntry : Stored → Stored → List Row → List ℕ → List ℕ → Fault → Stored → Stored → Type 0
-RefusesEntry mbox file rows uid text (StoreRefused Missing) mbox' file' = (mbox.content ≡ None) × (mbox' ≡ mbox) × (file' ≡ file)
+RefusesEntry mbox file rows uid text (StoreRefused Missing) mbox' file' = (mbox.content ≡ None) × (mbox' ≡ mbox)
+    × (file' ≡ file)
 RefusesEntry mbox file rows uid text (StoreRefused Refused) mbox' file' =
     ((mbox' ≡ counted mbox) × ((file' ≡ file) ⊎ IsTakenBack mbox file rows uid text file'))
-    ⊎ (IsIntended mbox file rows uid text file' × ((was front rest : List ℕ) × EntryMayFollow mbox was × (entry_of text ≡ front ++ rest)
+    ⊎ (IsIntended mbox file rows uid text file'
+    × ((was front rest : List ℕ) × EntryMayFollow mbox was × (entry_of text ≡ front ++ rest)
     × (mbox' ≡ counted (counted (holding mbox (was ++ front))))))
 RefusesEntry mbox file rows uid text (StoreRefused NotMbox) mbox' file' = IsOther mbox × (mbox' ≡ mbox)
     × IsTakenBack mbox file rows uid text file'
-RefusesEntry mbox file rows uid text SeenRefused mbox' file' = (mbox' ≡ mbox) × ((was : List ℕ) × (mbox.content ≡ Some was)
+RefusesEntry mbox file rows uid text SeenRefused mbox' file' = (mbox' ≡ mbox)
+    × ((was : List ℕ) × (mbox.content ≡ Some was)
     × Saves file (none_open rows) (with_open rows (intent_of was uid text)) (Err SeenRefused) file')
 RefusesEntry mbox file rows uid text NoMemory mbox' file' =
     ((mbox' ≡ mbox) × ((file' ≡ file) ⊎ IsTakenBack mbox file rows uid text file'))
@@ -103,11 +113,13 @@ RefusesEntry mbox file rows uid text NoMemory mbox' file' =
 RefusesEntry mbox file rows uid text _ mbox' file' = ⊥
 
 -- the entry of a text was appended to the mboxrd file, and the record has its intent; or it was refused
-abbrev pub AppendsText : Stored → Stored → Loaded → List ℕ → List ℕ → Result (Unit {0}) Fault → Stored → Stored → Loaded → Type 0
+abbrev pub AppendsText : Stored → Stored → Loaded → List ℕ → List ℕ → Result (Unit {0}) Fault → Stored → Stored
+    → Loaded → Type 0
 AppendsText mbox file seen uid text (Ok done) mbox' file' seen' = (was : List ℕ) × EntryMayFollow mbox was
     × (mbox' ≡ holding mbox (was ++ entry_of text)) × (seen'.intent ≡ Some (intent_of was uid text))
     × Saves file (none_open seen.rows) (with_open seen.rows (intent_of was uid text)) (Ok tt) file'
-AppendsText mbox file seen uid text (Err fault) mbox' file' seen' = RefusesEntry mbox file seen.rows uid text fault mbox' file'
+AppendsText mbox file seen uid text (Err fault) mbox' file' seen' = RefusesEntry mbox file seen.rows uid text
+    fault mbox' file'
 
 -- the intent of the entry was saved, and the mark that ends it wasn't
 abbrev pub MarksEntry : Stored → Stored → List Row → List ℕ → List ℕ → Fault → Stored → Type 0
@@ -124,14 +136,16 @@ RefusesAgain old fault new = (why : StoreFault) × IsStoreFault why fault × Ref
 -- if a message was deleted, the device told the size and the ends of an mboxrd file, and an entry may follow it
 abbrev pub IsTold : Kind → List ReportLine → Stores → Option Edges → Type 0
 IsTold Files lines store told = Unit {0}
-IsTold Entries lines store told = has_deletions lines ≡ true → (was : List ℕ) × EntryMayFollow store.mbox was × (told ≡ Some (edges_of was))
+IsTold Entries lines store told = has_deletions lines ≡ true
+    → (was : List ℕ) × EntryMayFollow store.mbox was × (told ≡ Some (edges_of was))
 
 -- it was looked at once more; or it was refused
 abbrev pub LooksAgain : Kind → List ReportLine → Stores → Result (Option Edges) Fault → Stores → Type 0
 LooksAgain Files lines old (Ok told) new = new ≡ old
 LooksAgain Files lines old (Err fault) new = ⊥
 LooksAgain Entries lines old (Ok told) new = IsTold Entries lines old told × (new ≡ old)
-LooksAgain Entries lines old (Err fault) new = (has_deletions lines ≡ true) × RefusesAgain old fault new × (new.maildir ≡ old.maildir)
+LooksAgain Entries lines old (Err fault) new = (has_deletions lines ≡ true) × RefusesAgain old fault new
+    × (new.maildir ≡ old.maildir)
 
 -- whether all went well, whatever was told
 abbrev pub went : {A E : Type 0} → Result A E → Result (Unit {0}) E

@@ -43,7 +43,8 @@ fate_of settings step known fetched =
 
 -- whether the age of a message decides if it is deleted: it is delivered, or will be
 abbrev pub waits : Settings → Step → Known → Bool
-waits settings step known = not settings.delete && (not (settings.delete_after == 0) && (known.delivered || step.retrieve))
+waits settings step known = not settings.delete
+    && (not (settings.delete_after == 0) && (known.delivered || step.retrieve))
 
 -- from when on a message first seen at `since` is deleted, as far as 64 bits go: the last second is the greatest size
 abbrev pub due_second : Settings → ℕ → ℕ
@@ -52,13 +53,15 @@ due_second settings since = min (since + min (seconds_per_day * settings.delete_
 -- when a message is old enough to be deleted, if it isn't yet
 abbrev pub due_of : Settings → Step → Known → ℕ → Option ℕ
 due_of settings step known now =
-    if waits settings step known && nat_lt now (due_second settings known.since) then Some (due_second settings known.since) else None
+    if waits settings step known && nat_lt now (due_second settings known.since)
+    then Some (due_second settings known.since) else None
 
 -- what a preview says of one message, if `fetched` before it are fetched
 abbrev pub message_preview_of : Settings → ℕ → ℕ → Step → Known → MessagePreview
 message_preview_of settings now fetched step known = record {
   number = step.number;
   size = known.size;
+  held = known.held;
   fate = fate_of settings step known fetched;
   due = due_of settings step known now;
 }

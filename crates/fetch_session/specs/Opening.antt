@@ -15,7 +15,8 @@ abbrev pub opening : List ℕ → List ℕ → List Turn
 opening name password = login name password ++ (stat ∷ uidl ∷ list ∷ [])
 
 -- all of it was talked, and the replies give this count and these rows
-pub record Opened (name password : List ℕ) (old new : Place) (count : ℕ) (uids : List UidRow) (sizes : List ScanRow) : Type 0 where
+pub record Opened (name password : List ℕ) (old new : Place) (count : ℕ) (uids : List UidRow)
+    (sizes : List ScanRow) : Type 0 where
   pub welcome : List WholeReply
   pub counted : WholeReply
   pub named : WholeReply
@@ -25,11 +26,13 @@ pub record Opened (name password : List ℕ) (old new : Place) (count : ℕ) (ui
   pub names : HasListing IsUidLine named uids
   pub octets : HasListing IsScanLine sized sizes
 
--- the listing is the rows, joined with the count; or the conversation stopped; or the rows don't join; or memory ran out joining them
+-- the listing is the rows, joined with the count; or the conversation stopped; or the rows don't join; or memory ran
+-- out joining them
 abbrev pub Enters : List ℕ → List ℕ → Place → Result (List Item) ClientFault → Place → Type 0
 Enters name password old (Ok items) new = (count : ℕ) × (uids : List UidRow) × (sizes : List ScanRow)
     × Opened name password old new count uids sizes × Joins count uids sizes items
 Enters name password old (Err fault) new = Stopped (opening name password) old new fault
     ⊎ (((fault ≡ ListingsDisagree) × ((count : ℕ) × (uids : List UidRow) × (sizes : List ScanRow)
     × Opened name password old new count uids sizes × (Agree count uids sizes → ⊥)))
-    ⊎ ((fault ≡ NoMemory) × ((count : ℕ) × (uids : List UidRow) × (sizes : List ScanRow) × Opened name password old new count uids sizes)))
+    ⊎ ((fault ≡ NoMemory) × ((count : ℕ) × (uids : List UidRow) × (sizes : List ScanRow)
+    × Opened name password old new count uids sizes)))

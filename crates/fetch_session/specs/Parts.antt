@@ -28,7 +28,8 @@ use Rattle.fetch_session.specs.Task.{Task, skips, stores, rereads, deletes, ids_
 use Rattle.fetch_session.specs.Scene.{Scene, scene, WhereAllSound}
 
 -- the state of a session: where its client is, and what it works on
-abbrev pub scene_of : {W D F H Z : Type 0} → WireGhosts W → DiskGhosts D → FileGhosts F → Client W → Work D F H Z → Scene
+abbrev pub scene_of : {W D F H Z : Type 0} → WireGhosts W → DiskGhosts D → FileGhosts F → Client W
+    → Work D F H Z → Scene
 scene_of link disk file client work = scene (place_of link client) (stores_of disk file work.store)
     (file.stored work.ledger.file) work.ledger.seen.rows work.ledger.lines.items
 
@@ -57,9 +58,10 @@ task_of (Reread number uid) = rereads number uid.now
 task_of (Skip number size) = skips number size
 task_of (Delete number) = deletes number
 
--- ready for these tasks: there is room for their lines, no file is begun, all is written down, and each id that they will mark is
--- legal, has a row and isn't held; if there is one, each name in a Maildir is durable
-pub record IsReadyFor {D F H Z : Type 0} (disk : DiskGhosts D) (file : FileGhosts F) (account : List ℕ) (tasks : List Task)
+-- ready for these tasks: there is room for their lines, no file is begun, all is written down, and each id that they
+-- will mark is legal, has a row and isn't held; if there is one, each name in a Maildir is durable
+pub record IsReadyFor {D F H Z : Type 0} (disk : DiskGhosts D) (file : FileGhosts F) (account : List ℕ)
+    (tasks : List Task)
     (work : Work D F H Z) : Type 0 where
   pub digits : IsAccountText account
   pub room : HasRoom work.ledger.lines (length tasks)
@@ -73,49 +75,59 @@ pub record IsReadyFor {D F H Z : Type 0} (disk : DiskGhosts D) (file : FileGhost
 -- ---- what calls leave as it was
 
 -- it is the same link, its refused calls are counted, and it took this
-pub record KeepsLink {W : Type 0} (link : WireGhosts W) (Took : Place → Result (Unit {0}) Cut → Place → Type 0) (old : Client W)
+pub record KeepsLink {W : Type 0} (link : WireGhosts W) (Took : Place → Result (Unit {0}) Cut → Place → Type 0)
+    (old : Client W)
     (result : Result (Unit {0}) Cut) (new : Client W) : Type 0 where
   pub same : HasSameLink old new
   pub counted : RefusesTillCut (link_of link old) result (link_of link new)
   pub took : link.sound new.wire.now → link.sound old.wire.now × Took (place_of link old) result (place_of link new)
 
--- at most one line was noted, and no more than the mark of this id may be left besides the rows; and if all went well, all is written
--- down, and ids that had a row keep one
-pub record KeepsLedger {F H Z : Type 0} (file : FileGhosts F) (uid : List ℕ) (old : Ledger F H Z) (result : Result (Unit {0}) Cut)
+-- at most one line was noted, and no more than the mark of this id may be left besides the rows; and if all went well,
+-- all is written down, and ids that had a row keep one
+pub record KeepsLedger {F H Z : Type 0} (file : FileGhosts F) (uid : List ℕ) (old : Ledger F H Z)
+    (result : Result (Unit {0}) Cut)
     (new : Ledger F H Z) : Type 0 where
   pub lines : Adds old.lines 1 new.lines
   pub sound : file.sound new.file → file.sound old.file
   pub written : OnOk result (IsWritten file new)
   pub rows : OnOk result ((uid : List ℕ) → has_row old.seen.rows uid ≡ true → has_row new.seen.rows uid ≡ true)
-  pub left : file.sound new.file → IsSafe file old.file → Leaves file new.file (AreLeft old.seen.rows (marked old.seen.rows uid))
+  pub left : file.sound new.file → IsSafe file old.file
+      → Leaves file new.file (AreLeft old.seen.rows (marked old.seen.rows uid))
 
--- nothing was noted, and the rows are the same, also those that may be left; and if all went well, at most the intent of this id is
--- open, and all is written down
-pub record KeepsRecord {F H Z : Type 0} (file : FileGhosts F) (uid : List ℕ) (old : Ledger F H Z) (result : Result (Unit {0}) Fault)
+-- nothing was noted, and the rows are the same, also those that may be left; and if all went well, at most the intent
+-- of this id is open, and all is written down
+pub record KeepsRecord {F H Z : Type 0} (file : FileGhosts F) (uid : List ℕ) (old : Ledger F H Z)
+    (result : Result (Unit {0}) Fault)
     (new : Ledger F H Z) : Type 0 where
   pub lines : new.lines ≡ old.lines
   pub rows : new.seen.rows ≡ old.seen.rows
   pub opened : OnOk result (IsNoneOrOf uid new.seen.intent)
-  pub steady : file.sound new.file → file.sound old.file × OnOk result (Steady (file.stored new.file).content (record_state_in new.seen))
+  pub steady : file.sound new.file
+      → file.sound old.file × OnOk result (Steady (file.stored new.file).content (record_state_in new.seen))
   pub lasts : file.sound new.file → IsSafe file old.file → OnOk result (IsSafe file new.file)
       × ((others : List Row) → Leaves file new.file (AreLeft old.seen.rows others))
 
 -- at most this many lines were noted, the store is of the same kind, and no file is begun in it
-pub record KeepsStore {D F H Z : Type 0} (disk : DiskGhosts D) (file : FileGhosts F) (most : ℕ) (old new : Work D F H Z) : Type 0 where
+pub record KeepsStore {D F H Z : Type 0} (disk : DiskGhosts D) (file : FileGhosts F) (most : ℕ)
+    (old new : Work D F H Z) : Type 0 where
   pub lines : Adds old.ledger.lines most new.ledger.lines
   pub kind : kind_of new.store ≡ kind_of old.store
-  pub none_begun : is_sound disk file new.store → is_sound disk file old.store × ((stores_of disk file new.store).maildir.begun ≡ None)
+  pub none_begun : is_sound disk file new.store → is_sound disk file old.store
+      × ((stores_of disk file new.store).maildir.begun ≡ None)
 
 -- no line was noted, the store is of the same kind, and the same file is begun in it
-pub record KeepsBegun {D F H Z : Type 0} (disk : DiskGhosts D) (file : FileGhosts F) (old new : Work D F H Z) : Type 0 where
+pub record KeepsBegun {D F H Z : Type 0} (disk : DiskGhosts D) (file : FileGhosts F)
+    (old new : Work D F H Z) : Type 0 where
   pub lines : new.ledger.lines ≡ old.ledger.lines
   pub kind : kind_of new.store ≡ kind_of old.store
   pub begun : is_sound disk file new.store → is_sound disk file old.store
       × ((stores_of disk file new.store).maildir.begun ≡ (stores_of disk file old.store).maildir.begun)
 
--- a part of a session that has these tasks: it takes and notes no more than they may; without a mark the record's file is as it was; and
--- if all went well, what was safe is safe, and what was ready for these tasks and others is ready for the others
-pub record KeepsSession {W D F H Z : Type 0} (link : WireGhosts W) (disk : DiskGhosts D) (file : FileGhosts F) (account : List ℕ)
+-- a part of a session that has these tasks: it takes and notes no more than they may; without a mark the record's file
+-- is as it was; and if all went well, what was safe is safe, and what was ready for these tasks and others is ready for
+-- the others
+pub record KeepsSession {W D F H Z : Type 0} (link : WireGhosts W) (disk : DiskGhosts D) (file : FileGhosts F)
+    (account : List ℕ)
     (tasks : List Task) (client : Client W) (work : Work D F H Z) (result : Result (Unit {0}) Cut) (client' : Client W)
     (work' : Work D F H Z) : Type 0 where
   pub talk : KeepsLink link (TookTillCut (most_of (turns_ahead tasks))) client result client'
@@ -129,14 +141,17 @@ pub record KeepsSession {W D F H Z : Type 0} (link : WireGhosts W) (disk : DiskG
 -- ---- what is done
 
 -- these tasks were done, or as far as went well, and if all was safe before, what was done outlives a loss of power
-abbrev pub DoesTasks : {W D F H Z : Type 0} → WireGhosts W → DiskGhosts D → FileGhosts F → List ℕ → List Task → Client W → Work D F H Z
+abbrev pub DoesTasks : {W D F H Z : Type 0} → WireGhosts W → DiskGhosts D → FileGhosts F → List ℕ → List Task → Client W
+    → Work D F H Z
     → Result (Unit {0}) Cut → Client W → Work D F H Z → Type 0
-DoesTasks link disk file account tasks client work result client' work' = WhereWorkSound link disk file client work client' work'
+DoesTasks link disk file account tasks client work result client' work' = WhereWorkSound link disk file client work
+    client' work'
     (λ old new. DoesAndLasts file (IsSafeWork file work) (target_of work.store account) tasks old result new
     work'.store work'.ledger.file)
 
 -- the same, and what is kept of it
-abbrev pub RunsTasks : {W D F H Z : Type 0} → WireGhosts W → DiskGhosts D → FileGhosts F → List ℕ → List Task → Client W → Work D F H Z
+abbrev pub RunsTasks : {W D F H Z : Type 0} → WireGhosts W → DiskGhosts D → FileGhosts F → List ℕ → List Task → Client W
+    → Work D F H Z
     → Result (Unit {0}) Cut → Client W → Work D F H Z → Type 0
 RunsTasks link disk file account tasks client work result client' work' =
     KeepsSession link disk file account tasks client work result client' work'

@@ -10,7 +10,7 @@ use Rattle.pop3_client.specs.Turns.{quit}
 use Rattle.fetch_session.specs.declared.report.ReportLine.{ReportLine}
 use Rattle.fetch_session.specs.declared.fault.Cut.{Cut}
 use Rattle.fetch_session.specs.Task.{Task, says, tasks_planned}
-use Rattle.fetch_session.specs.Readiness.{AreDurable, Settles, Unready, merged_in}
+use Rattle.fetch_session.specs.Readiness.{AreDurable, IsFileKept, Settles, Unready, merged_in}
 use Rattle.fetch_session.specs.Record.{Keeps, Steady}
 use Rattle.fetch_session.specs.Target.{Target, Stores, flags_in}
 use Rattle.fetch_session.specs.declared.report.Skips.{Skips}
@@ -22,14 +22,16 @@ abbrev pub tasks_ahead : Settings → Target → List Item → ℕ → Stores �
 tasks_ahead settings target items now store rows = tasks_planned (planned settings rows items now) items
     (flags_in target store items) ++ says quit ∷ []
 
--- the record was read, merged with the listing and saved. Nothing is to be fetched or deleted and nothing was written, or what was found
--- is durable
-pub record Prepared (settings : Settings) (target : Target) (items : List Item) (now : ℕ) (place : Place) (store : Stores)
+-- the record was read, merged with the listing and saved. Nothing is to be fetched or deleted and the record's file
+-- was kept, or what was found is durable
+pub record Prepared (settings : Settings) (target : Target) (items : List Item) (now : ℕ) (place : Place)
+    (store : Stores)
     (file : Stored) (lines : List ReportLine) (mid : Scene) : Type 0 where
   pub was : RecordState
   pub stood : Keeps file.content was
   pub rows : mid.rows ≡ merged_in target store was items now
-  pub durable : (All IsQuiet (planned settings mid.rows items now) × (mid.file ≡ file)) ⊎ AreDurable target was.rows items store
+  pub durable : (All IsQuiet (planned settings mid.rows items now) × IsFileKept mid.rows file mid.file)
+      ⊎ AreDurable target was.rows items store
   pub saved : Steady mid.file.content (none_open mid.rows)
   pub file_count : mid.file.failures ≡ file.failures
   pub place_is : mid.place ≡ place
@@ -61,5 +63,7 @@ Carries settings target items now place store file lines (Ok done) place' store'
     × Carried settings target items now place store file lines (Ok done) (scene place' store' file' rows lines') skipped
 Carries settings target items now place store file lines (Err cut) place' store' file' lines' skipped =
     (rows : List Row)
-    × (((skipped ≡ none_skipped) × Unprepared target items now place store file lines cut (scene place' store' file' rows lines'))
-    ⊎ Carried settings target items now place store file lines (Err cut) (scene place' store' file' rows lines') skipped)
+    × (((skipped ≡ none_skipped)
+    × Unprepared target items now place store file lines cut (scene place' store' file' rows lines'))
+    ⊎ Carried settings target items now place store file lines (Err cut)
+    (scene place' store' file' rows lines') skipped)

@@ -1,31 +1,32 @@
 -- A session that tells what a run would do, and changes nothing.
-use Rattle.std.specs.Prelude.{◌≡◌, ◌⊎◌, ℕ, Bool, false, List, [], ◌∷◌, length, Option, None, is_some, Result, Ok, Err}
+use Rattle.std.specs.Prelude.{◌≡◌, ◌⊎◌, ℕ, Bool, false, List, [], ◌∷◌, length, Option, None, Some, Result, Ok, Err, Vec}
 use Rattle.mail_terms.specs.Listing.{Item}
 use Rattle.pop3_wire.specs.Link.{Link}
 use Rattle.pop3_wire.specs.Place.{Place, at}
 use Rattle.pop3_client.specs.Conversation.{Talks}
 use Rattle.pop3_client.specs.Turns.{quit}
 use Rattle.rc_file.specs.declared.settings.Settings.{Settings}
-use Rattle.fetch_rules.specs.Record.{Row, Intent, RecordState, merged}
+use Rattle.fetch_rules.specs.Record.{Row, Intent, RecordState}
 use Rattle.fetch_rules.specs.Plan.{planned}
-use Rattle.mail_store.specs.FlatFile.{Stored}
+use Rattle.mail_store.specs.FlatFile.{Stored, counted}
 use Rattle.mail_store.specs.Held.{flags_of}
 use Rattle.mail_store.specs.Maildir.{Maildir}
-use Rattle.mail_store.specs.MboxCalls.{EntryMayFollow}
+use Rattle.mail_store.specs.Mboxrd.{MayGoOn}
 use Rattle.fetch_session.specs.declared.fault.Cut.{Cut}
 use Rattle.pop3_client.specs.declared.fault.ClientFault.{ClientFault}
 use Rattle.fetch_session.specs.declared.fault.Fault.{Fault}
-use Rattle.fetch_session.specs.declared.preview.WorkPreview.{WorkPreview}
-use Rattle.fetch_session.specs.declared.preview.Looked.{Looked}
+use Rattle.fetch_session.specs.declared.fault.Fault.TheVariants.{NoMemory, StoreRefused}
+use Rattle.fetch_session.specs.declared.fault.Why.TheVariants.{Missing, NotMbox, Refused}
+use Rattle.fetch_session.specs.declared.readiness.Found.{Found}
 use Rattle.fetch_session.specs.declared.preview.Preview.{Preview}
 use Rattle.fetch_session.specs.declared.message_preview.MessagePreview.{MessagePreview}
 use Rattle.fetch_session.specs.Fault.{cut_of, fault_of}
 use Rattle.fetch_session.specs.Mbox.{AsksMbox}
 use Rattle.fetch_session.specs.MessagePreview.{message_previews}
-use Rattle.fetch_session.specs.Readiness.{CausesUnready, FindsRefused}
+use Rattle.fetch_session.specs.Readiness.{CausesUnready, FindsRefused, Settles, merged_in}
 use Rattle.fetch_session.specs.Record.{Keeps}
 use Rattle.fetch_session.specs.Session.{Keeping, Enters_with, LeavesLink, outcome_of}
-use Rattle.fetch_session.specs.Target.{Target, AsFiles, AsEntries, Stores, flags_in, none_held}
+use Rattle.fetch_session.specs.Target.{Target, AsFiles, AsEntries, Stores, closed_file, flags_in, is_stored}
 
 -- ---- nothing changes
 
@@ -44,15 +45,29 @@ IsUntouched target old new = HoldsTheSame target old.store new.store × (new.fil
 
 -- ---- what the store holds
 
--- an mboxrd file was looked at, unless a run would settle it first
-abbrev pub LooksAtMbox : Option Intent → Stored → List Item → Result Looked Fault → Stored → Type 0
-LooksAtMbox intent old items (Ok looked) new = (looked.held.items ≡ none_held items) × (looked.unsettled ≡ is_some intent)
-    × (intent ≡ None → (was : List ℕ) × EntryMayFollow old was) × (new ≡ old)
-LooksAtMbox intent old items (Err fault) new = AsksMbox intent old items (Err fault) new × (new.content ≡ old.content)
+-- whether the open intent's entry is whole in an mboxrd file, and an entry may follow once that is settled; or why not.
+-- The file was only looked at
+abbrev pub JudgesMbox : Option Intent → List Item → Stored → Result Bool Fault → Stored → Type 0
+JudgesMbox intent items old (Ok whole) new = ((was : List ℕ) × (old.content ≡ Some was)
+    × (whole ≡ is_stored intent items was) × MayGoOn (closed_file intent items was)) × (new ≡ old)
+JudgesMbox intent items old (Err (StoreRefused Missing)) new = (old.content ≡ None) × (new ≡ old)
+JudgesMbox intent items old (Err (StoreRefused Refused)) new = new ≡ counted old
+JudgesMbox intent items old (Err (StoreRefused NotMbox)) new = ((was : List ℕ) × (old.content ≡ Some was)
+    × (MayGoOn (closed_file intent items was) → ⊥)) × (new ≡ old)
+JudgesMbox intent items old (Err NoMemory) new = new ≡ old
+JudgesMbox intent items old (Err _) new = ⊥
 
-abbrev pub LooksIn : Target → Option Intent → Stores → List Item → Result Looked Fault → Stores → Type 0
-LooksIn (AsFiles account) intent old items (Ok looked) new = (looked.held.items ≡ flags_of account old.maildir items)
-    × (looked.unsettled ≡ false) × (new ≡ old)
+-- what a session would find in an mboxrd file, and what it would leave of it; but it was only looked at
+pub record LooksAtMbox (intent : Option Intent) (old : Stored) (items : List Item) (result : Result Found Fault)
+    (new : Stored) : Type 0 where
+  pub left : Stored
+  pub asks : AsksMbox intent old items result left
+  pub same : new.content ≡ old.content
+  pub count : left.failures ≡ new.failures
+
+abbrev pub LooksIn : Target → Option Intent → Stores → List Item → Result Found Fault → Stores → Type 0
+LooksIn (AsFiles account) intent old items (Ok found) new = (found.held.items ≡ flags_of account old.maildir items)
+    × (found.stored ≡ false) × (new ≡ old)
 LooksIn (AsFiles account) intent old items (Err fault) new = FindsRefused old.maildir fault new.maildir
 LooksIn AsEntries intent old items result new = LooksAtMbox intent old.mbox items result new.mbox
 
@@ -60,49 +75,52 @@ LooksIn AsEntries intent old items result new = LooksAtMbox intent old.mbox item
 
 -- what a preview says of a listing once the record has these rows
 abbrev pub previews_of : Settings → List Row → List Item → List Bool → ℕ → List MessagePreview
-previews_of settings rows items flags now = message_previews settings rows now 0 (planned settings rows items now) items flags
+previews_of settings rows items flags now = message_previews settings rows now 0
+    (planned settings rows items now) items flags
 
--- whether a run would first settle its store: an mboxrd file, if an intent is open
-abbrev pub is_unsettled : Target → Option Intent → Bool
-is_unsettled (AsFiles account) intent = false
-is_unsettled AsEntries intent = is_some intent
-
--- an entry may follow the mboxrd file, unless a run would settle it first
-abbrev pub MayBeFollowed : Target → Option Intent → Stores → Type 0
-MayBeFollowed (AsFiles account) intent store = Unit {0}
-MayBeFollowed AsEntries intent store = intent ≡ None → (was : List ℕ) × EntryMayFollow store.mbox was
-
--- the record's file stands for a record; with what the store holds it gives this preview of the listing. An open intent counts as one
--- whose entry isn't whole
-pub record PreviewsMerged (settings : Settings) (target : Target) (items : List Item) (now : ℕ) (old : Keeping) (unsettled : Bool)
+-- the record's file stands for a record; with what a session would find in the store, and settle there, it gives this
+-- preview of the listing
+pub record PreviewsMerged (settings : Settings) (target : Target) (items : List Item) (now : ℕ) (old : Keeping)
     (told : List MessagePreview) : Type 0 where
   pub was : RecordState
   pub stood : Keeps old.file.content was
-  pub followed : MayBeFollowed target was.intent old.store
-  pub unsettled_is : unsettled ≡ is_unsettled target was.intent
-  pub told_is : told ≡ previews_of settings (merged was.rows items (flags_in target old.store items) now) items
+  pub left : Stores
+  pub settles : Settles target was items old.store left
+  pub told_is : told ≡ previews_of settings (merged_in target old.store was items now) items
       (flags_in target old.store items) now
 
--- this is the preview; or a session with this listing wouldn't be ready either, for this reason; and nothing changed
-abbrev pub PreviewsWork : Settings → Target → List Item → ℕ → Keeping → Result WorkPreview Fault → Keeping → Type 0
-PreviewsWork settings target items now old (Ok work_preview) new =
-    PreviewsMerged settings target items now old work_preview.unsettled work_preview.message_previews.items × IsUntouched target old new
-PreviewsWork settings target items now old (Err fault) new = CausesUnready target items fault old.store old.file new.store new.file
+-- a session with this listing wouldn't be ready, for this reason; of an mboxrd file it may leave something else
+pub record WouldBeUnready (target : Target) (items : List Item) (fault : Fault) (store : Stores) (file : Stored)
+    (store' : Stores) (file' : Stored) : Type 0 where
+  pub left : Stores
+  pub cause : CausesUnready target items fault store file left file'
+  pub maildir : left.maildir ≡ store'.maildir
+  pub count : left.mbox.failures ≡ store'.mbox.failures
+
+-- this is the preview; or a session wouldn't be ready, for this reason; and nothing changed
+abbrev pub PreviewsWork : {Z : Type 0} → Settings → Target → List Item → ℕ → Keeping
+    → Result (Vec MessagePreview Z) Fault → Keeping → Type 0
+PreviewsWork settings target items now old (Ok told) new = PreviewsMerged settings target items now old told.items
+    × IsUntouched target old new
+PreviewsWork settings target items now old (Err fault) new = WouldBeUnready target items fault old.store old.file
+    new.store new.file
     × IsUntouched target old new
 
 -- ---- the session
 
--- how many messages are listed, whether a run would first settle its store, and what it would do with each message
+-- how many messages are listed, and what a run would do with each
 pub record Told : Type 0 where
   pub total : ℕ
-  pub unsettled : Bool
   pub message_previews : List MessagePreview
 
 abbrev pub told_in : Preview → Told
-told_in preview = record { total = preview.total; unsettled = preview.unsettled; message_previews = preview.message_previews.items }
+told_in preview = record {
+  total = preview.total;
+  message_previews = preview.message_previews.items;
+}
 
 abbrev pub told_nothing : ℕ → Told
-told_nothing total = record { total = total; unsettled = false; message_previews = [] }
+told_nothing total = record { total = total; message_previews = [] }
 
 -- logging in or asking for the listings stopped
 pub record NotListed (settings : Settings) (old : Place) (cut : Cut) (new : Place) (told : Told) : Type 0 where
@@ -112,13 +130,14 @@ pub record NotListed (settings : Settings) (old : Place) (cut : Cut) (new : Plac
   pub nothing : told ≡ told_nothing 0
 
 -- the listing is known, and a session wouldn't be ready for it
-pub record NotReady (settings : Settings) (target : Target) (old : Place) (before : Keeping) (cut : Cut) (new : Place) (after : Keeping)
+pub record NotReady (settings : Settings) (target : Target) (old : Place) (before : Keeping) (cut : Cut) (new : Place)
+    (after : Keeping)
     (told : Told) : Type 0 where
   pub items : List Item
   pub fault : Fault
   pub is : cut ≡ cut_of fault None
   pub enters : Enters_with settings old (Ok items) new
-  pub cause : CausesUnready target items fault before.store before.file after.store after.file
+  pub cause : WouldBeUnready target items fault before.store before.file after.store after.file
   pub nothing : told ≡ told_nothing (length items)
 
 -- the preview says what would be done with the listed messages, and QUIT was sent
@@ -128,23 +147,28 @@ pub record Listed (settings : Settings) (target : Target) (now : ℕ) (old : Pla
   pub mid : Place
   pub enters : Enters_with settings old (Ok items) mid
   pub total : told.total ≡ length items
-  pub previews : PreviewsMerged settings target items now before told.unsettled told.message_previews
+  pub previews : PreviewsMerged settings target items now before told.message_previews
   pub quits : Talks (quit ∷ []) mid result new
 
 -- the session came to its end, or stopped
-abbrev pub EndsOrStops : Settings → Target → ℕ → Place → Keeping → Result (Unit {0}) Cut → Place → Keeping → Told → Type 0
-EndsOrStops settings target now old before (Ok done) new after told = Listed settings target now old before (Ok done) new told
+abbrev pub EndsOrStops : Settings → Target → ℕ → Place → Keeping → Result (Unit {0}) Cut → Place → Keeping
+    → Told → Type 0
+EndsOrStops settings target now old before (Ok done) new after told = Listed settings target now old before
+    (Ok done) new told
 EndsOrStops settings target now old before (Err cut) new after told = NotListed settings old cut new told
     ⊎ (NotReady settings target old before cut new after told
-    ⊎ ((why : ClientFault) × (cut ≡ cut_of (fault_of why) None) × Listed settings target now old before (Err why) new told))
+    ⊎ ((why : ClientFault) × (cut ≡ cut_of (fault_of why) None)
+    × Listed settings target now old before (Err why) new told))
 
-abbrev pub PreviewsSession : Settings → Target → ℕ → Place → Keeping → Result (Unit {0}) Cut → Place → Keeping → Told → Type 0
+abbrev pub PreviewsSession : Settings → Target → ℕ → Place → Keeping → Result (Unit {0}) Cut → Place → Keeping
+    → Told → Type 0
 PreviewsSession settings target now old before result new after told =
     EndsOrStops settings target now old before result new after told × IsUntouched target before after
 
--- a whole session, from a link with nothing waiting to be used: it sends the beginning of a session, then QUIT, or after a fault what a
--- session says after it
-pub record Pretends (settings : Settings) (target : Target) (now : ℕ) (link : Link) (before : Keeping) (preview : Preview) (link' : Link)
+-- a whole session, from a link with nothing waiting to be used: it sends the beginning of a session, then QUIT, or
+-- after a fault what a session says after it
+pub record Pretends (settings : Settings) (target : Target) (now : ℕ) (link : Link) (before : Keeping)
+    (preview : Preview) (link' : Link)
     (after : Keeping) : Type 0 where
   pub result : Result (Unit {0}) Cut
   pub mid : Place

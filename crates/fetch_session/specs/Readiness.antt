@@ -1,16 +1,19 @@
 -- What a session has ready before its first task, or why it isn't ready.
-use Rattle.std.specs.Prelude.{◌≡◌, ◌⊎◌, ◌<◌, ℕ, Bool, true, false, All, List, length, map, not, Option, None, Some, Result, Ok, Err, Vec}
+use Rattle.std.specs.Prelude.{◌≡◌, ◌⊎◌, ◌<◌, ℕ, Bool, true, false, All, List, length, map, not, Option, None, Some}
+use Rattle.std.specs.Prelude.{Result, Ok, Err, Vec}
 use Rattle.std.specs.List.{AllByRecursion}
 use Rattle.mail_terms.specs.Listing.{Item}
-use Rattle.fetch_rules.specs.Record.{Row, Intent, RecordState, IsRecord, Loaded, has_row, is_delivered, none_open, merged}
+use Rattle.fetch_rules.specs.Record.{Row, Intent, RecordState, IsRecord, Loaded, has_row, is_delivered, none_open}
+use Rattle.fetch_rules.specs.Record.{merged}
 use Rattle.fetch_rules.specs.Plan.{IsQuiet, planned}
+use Rattle.fetch_rules.specs.RecordFile.{file_of}
 use Rattle.fetch_rules.specs.declared.steps.Step.{Step}
 use Rattle.fetch_session.specs.Task.{tasks_planned}
 use Rattle.rc_file.specs.declared.settings.Settings.{Settings}
 use Rattle.mail_store.specs.FlatFile.{Stored, holding}
 use Rattle.mail_store.specs.Maildir.{AllNamed, Maildir}
 use Rattle.mail_store.specs.Mboxrd.{MayGoOn}
-use Rattle.mail_store.specs.Held.{FoundDurable, flags_of}
+use Rattle.mail_store.specs.Held.{FoundDurable, flags_asked}
 use Rattle.fetch_session.specs.declared.fault.Fault.{Fault}
 use Rattle.fetch_session.specs.declared.fault.Fault.TheVariants.{StoreRefused, SeenRefused, BadSeen, NoMemory}
 use Rattle.fetch_session.specs.declared.fault.Why.TheVariants.{Missing, Refused, NotMbox}
@@ -19,9 +22,10 @@ use Rattle.mail_store.specs.declared.fault.StoreFault.TheVariants as refused
 use Rattle.fetch_session.specs.declared.readiness.Found.{Found}
 use Rattle.fetch_session.specs.declared.readiness.Ready.{Ready}
 use Rattle.fetch_session.specs.Mbox.{AsksMbox, IsSettledAtMost}
-use Rattle.fetch_session.specs.Record.{Keeps, Steady, Misread}
+use Rattle.fetch_session.specs.Record.{Keeps, Steady, Misread, ReadAs}
 use Rattle.mail_store.specs.MboxCalls.{Checks}
-use Rattle.fetch_session.specs.Target.{Kind, Files, Entries, Target, AsFiles, AsEntries, Stores, closed_file, flags_in, in_maildir, rows_in}
+use Rattle.fetch_session.specs.Target.{Kind, Files, Entries, Target, AsFiles, AsEntries, Stores, closed_file, flags_in}
+use Rattle.fetch_session.specs.Target.{in_maildir, none_held, rows_in}
 
 -- a folder isn't there, or a call was refused, or memory ran out
 abbrev pub FindsRefused : Maildir → Fault → Maildir → Type 0
@@ -31,28 +35,38 @@ FindsRefused old NoMemory new = new ≡ old
 FindsRefused old _ new = ⊥
 
 -- for each message, whether these rows don't show it as delivered
-abbrev pub undelivered : List Row → List Item → List Bool
-undelivered rows items = map (λ (item : Item). not (is_delivered rows item.uid)) items
+abbrev pub are_undelivered : List Row → List Item → List Bool
+are_undelivered rows items = map (λ (item : Item). not (is_delivered rows item.uid)) items
 
--- the name of each file of a Maildir is durable, and so is a file of each listed message that is held there and that these rows don't
--- show as delivered
+-- the name of each file of a Maildir is durable, and so is a file of each listed message that is held there and that
+-- these rows don't show as delivered
 abbrev pub AreDurable : Target → List Row → List Item → Stores → Type 0
 AreDurable (AsFiles account) rows items store =
-    AllNamed store.maildir.files × FoundDurable account store.maildir items (undelivered rows items)
+    AllNamed store.maildir.files × FoundDurable account store.maildir items (are_undelivered rows items)
 AreDurable AsEntries rows items store = Unit {0}
 
--- which messages are held was found, and the files of those that aren't delivered are durable; or why not
-abbrev pub FindsHeld : {Z : Type 0} → List ℕ → List Row → Maildir → List Item → Result (Vec Bool Z) Fault → Maildir → Type 0
-FindsHeld account rows old items (Ok flags) new =
-    (flags.items ≡ flags_of account old items) × (new ≡ old) × AreDurable (AsFiles account) rows items (in_maildir old)
-FindsHeld account rows old items (Err fault) new = FindsRefused old fault new
+-- for each message, whether it is held, if all are to be read or these rows don't show it as delivered; else false
+abbrev pub flags_found : Bool → Target → List Row → Stores → List Item → List Bool
+flags_found read_all (AsFiles account) rows store items =
+    flags_asked read_all account store.maildir items (are_undelivered rows items)
+flags_found read_all AsEntries rows store items = none_held items
+
+-- which of the messages that were asked for are held was found, and the files of those that aren't delivered are
+-- durable; or why not
+abbrev pub FindsHeld : {Z : Type 0} → Bool → List ℕ → List Row → Maildir → List Item → Result (Vec Bool Z) Fault
+    → Maildir → Type 0
+FindsHeld read_all account rows old items (Ok flags) new =
+    (flags.items ≡ flags_found read_all (AsFiles account) rows (in_maildir old) items) × (new ≡ old)
+    × AreDurable (AsFiles account) rows items (in_maildir old)
+FindsHeld read_all account rows old items (Err fault) new = FindsRefused old fault new
 
 -- what a store holds was asked of it, after this record was read
-abbrev pub FindsIn : Target → RecordState → Stores → List Item → Result Found Fault → Stores → Type 0
-FindsIn (AsFiles account) was old items (Ok found) new = (found.held.items ≡ flags_of account old.maildir items)
+abbrev pub FindsIn : Bool → Target → RecordState → Stores → List Item → Result Found Fault → Stores → Type 0
+FindsIn read_all (AsFiles account) was old items (Ok found) new =
+    (found.held.items ≡ flags_found read_all (AsFiles account) was.rows old items)
     × (found.stored ≡ false) × (new ≡ old) × AreDurable (AsFiles account) was.rows items old
-FindsIn (AsFiles account) was old items (Err fault) new = FindsRefused old.maildir fault new.maildir
-FindsIn AsEntries was old items result new = AsksMbox was.intent old.mbox items result new.mbox
+FindsIn read_all (AsFiles account) was old items (Err fault) new = FindsRefused old.maildir fault new.maildir
+FindsIn read_all AsEntries was old items result new = AsksMbox was.intent old.mbox items result new.mbox
 
 -- the store was asked, and in an mboxrd file what the open intent had left was cut off or counted
 abbrev pub Settles : Target → RecordState → List Item → Stores → Stores → Type 0
@@ -64,15 +78,27 @@ Settles AsEntries was items old new = (bytes : List ℕ) × (old.mbox.content �
 abbrev pub merged_in : Target → Stores → RecordState → List Item → ℕ → List Row
 merged_in target store was items now = merged (rows_in target store was items) items (flags_in target store items) now
 
--- what the store holds can change neither the record, nor its file, nor what is done: each listed id is recorded as delivered, the steps
--- that are planned neither fetch nor delete anything, no intent is open, and the file needs no change
+-- what the store holds can change neither the record nor what is done: each listed id is recorded as delivered, the
+-- steps that are planned neither fetch nor delete anything, and no intent is open
 pub record IsIdle (settings : Settings) (seen : Loaded) (items : List Item) (now : ℕ) (steps : List Step) : Type 0 where
   pub is_record : IsRecord seen.rows
   pub known : All (λ (item : Item). is_delivered seen.rows item.uid ≡ true) items
   pub planned : steps ≡ planned settings seen.rows items now
   pub quiet : All IsQuiet steps
   pub closed : seen.intent ≡ None
-  pub fresh : seen.stale ≡ false
+
+-- the file was read as a record that must be written anew before something may be appended to it
+abbrev pub IsStale : Option (List ℕ) → Type 0
+IsStale content = (loaded : Loaded) × ReadAs content loaded × (loaded.stale ≡ true)
+
+-- the file stood for these rows, with no intent open, and had to be written anew: so it was
+abbrev pub IsAnew : List Row → Stored → Stored → Type 0
+IsAnew rows old new = Keeps old.content (none_open rows) × IsStale old.content
+    × (new ≡ holding old (file_of rows None))
+
+-- the file is as it was, unless it had to be written anew
+abbrev pub IsFileKept : List Row → Stored → Stored → Type 0
+IsFileKept rows old new = (new ≡ old) ⊎ IsAnew rows old new
 
 -- both folders of a Maildir are there; or one isn't, or a call was refused
 abbrev pub ChecksBoth : {T : Type 0} → Maildir → Result T StoreFault → Maildir → Type 0
@@ -91,7 +117,8 @@ ChecksStore Entries old result new = Checks old.mbox result new.mbox × (new.mai
 abbrev pub Rests : Kind → Stores → List Item → Result Ready Fault → Stores → Type 0
 Rests kind old items (Ok ready) new = ChecksStore {T = Unit {0}} kind old (Ok tt) new
 Rests Files old items (Err fault) new = FindsRefused old.maildir fault new.maildir
-Rests Entries old items (Err fault) new = AsksMbox None old.mbox items (Err fault) new.mbox × (new.maildir ≡ old.maildir)
+Rests Entries old items (Err fault) new = AsksMbox None old.mbox items (Err fault) new.mbox
+    × (new.maildir ≡ old.maildir)
 
 -- the flags are those of the store, as far as the steps use them
 abbrev pub AreAsHeld : List Step → List Item → List Bool → List Bool → Type 0
@@ -104,8 +131,8 @@ pub record HasPlan (settings : Settings) (items : List Item) (now : ℕ) (ready 
   pub rows : AllByRecursion (λ (item : Item). has_row seen.rows item.uid ≡ true) items
   pub closed : seen.intent ≡ None
 
--- the record was read, merged and saved, and the plan made; no intent is open any more. Nothing is to be fetched or deleted and nothing
--- was written, or what was found is durable
+-- the record was read, merged and saved, and the plan made; no intent is open any more. Nothing is to be fetched or
+-- deleted and the record's file was kept, or what was found is durable
 pub record IsReady (settings : Settings) (target : Target) (items : List Item) (now : ℕ) (store : Stores)
     (file : Stored) (ready : Ready) (after : List Row) (store' : Stores) (file' : Stored) : Type 0 where
   pub was : RecordState
@@ -113,7 +140,7 @@ pub record IsReady (settings : Settings) (target : Target) (items : List Item) (
   pub held : AreAsHeld ready.steps.items items ready.held.items (flags_in target store items)
   pub rows : after ≡ merged_in target store was items now
   pub steps : ready.steps.items ≡ planned settings after items now
-  pub durable : (All IsQuiet ready.steps.items × (file' ≡ file)) ⊎ AreDurable target was.rows items store
+  pub durable : (All IsQuiet ready.steps.items × IsFileKept after file file') ⊎ AreDurable target was.rows items store
   pub saved : Steady file'.content (none_open after)
   pub file_count : file'.failures ≡ file.failures
   pub settles : Settles target was items store store'
@@ -124,7 +151,8 @@ UnreadyCause SeenRefused maildir file maildir' file' = (file.failures < file'.fa
 UnreadyCause (BadSeen line) maildir file maildir' file' = Misread file line file' × (maildir' ≡ maildir)
 UnreadyCause (StoreRefused Missing) maildir file maildir' file' = ((maildir.there.new ≡ false)
     ⊎ (maildir.there.cur ≡ false)) × (maildir' ≡ maildir)
-UnreadyCause (StoreRefused Refused) maildir file maildir' file' = maildir' ≡ Rattle.mail_store.specs.Maildir.counted maildir
+UnreadyCause (StoreRefused Refused) maildir file maildir' file' = maildir'
+    ≡ Rattle.mail_store.specs.Maildir.counted maildir
 UnreadyCause NoMemory maildir file maildir' file' = maildir' ≡ maildir
 UnreadyCause _ maildir file maildir' file' = ⊥
 
@@ -134,26 +162,32 @@ IsSettledBy items file mbox mbox' = (mbox'.content ≡ mbox.content)
     ⊎ ((was : RecordState) × Keeps file.content was × IsSettledAtMost was.intent items mbox mbox')
 
 abbrev pub MboxUnready : List Item → Fault → Stored → Stored → Stored → Stored → Type 0
-MboxUnready items SeenRefused mbox file mbox' file' = (file.failures < file'.failures) × IsSettledBy items file mbox mbox'
+MboxUnready items SeenRefused mbox file mbox' file' = (file.failures < file'.failures)
+    × IsSettledBy items file mbox mbox'
 MboxUnready items (BadSeen line) mbox file mbox' file' = Misread file line file' × (mbox' ≡ mbox)
 MboxUnready items (StoreRefused Missing) mbox file mbox' file' = (mbox.content ≡ None) × (mbox' ≡ mbox)
-MboxUnready items (StoreRefused Refused) mbox file mbox' file' = (mbox.failures < mbox'.failures) × IsSettledBy items file mbox mbox'
-MboxUnready items (StoreRefused NotMbox) mbox file mbox' file' = ((bytes : List ℕ) × (mbox'.content ≡ Some bytes) × (MayGoOn bytes → ⊥))
+MboxUnready items (StoreRefused Refused) mbox file mbox' file' = (mbox.failures < mbox'.failures)
+    × IsSettledBy items file mbox mbox'
+MboxUnready items (StoreRefused NotMbox) mbox file mbox' file' =
+    ((bytes : List ℕ) × (mbox'.content ≡ Some bytes) × (MayGoOn bytes → ⊥))
     × IsSettledBy items file mbox mbox'
 MboxUnready items NoMemory mbox file mbox' file' = IsSettledBy items file mbox mbox'
 MboxUnready items _ mbox file mbox' file' = ⊥
 
 abbrev pub CausesUnready : Target → List Item → Fault → Stores → Stored → Stores → Stored → Type 0
-CausesUnready (AsFiles account) items fault store file store' file' = UnreadyCause fault store.maildir file store'.maildir file'
+CausesUnready (AsFiles account) items fault store file store' file' = UnreadyCause fault store.maildir file
+    store'.maildir file'
 CausesUnready AsEntries items fault store file store' file' = MboxUnready items fault store.mbox file store'.mbox file'
 
--- the store was settled and what was found is durable, and the file stands for the record or for the merged one
-pub record IsMerged (target : Target) (items : List Item) (now : ℕ) (store : Stores) (file : Stored) (store' : Stores) (file' : Stored)
+-- the store was settled, what was found changes no row or is durable, and the file stands for the record or for the
+-- merged one
+pub record IsMerged (target : Target) (items : List Item) (now : ℕ) (store : Stores) (file : Stored) (store' : Stores)
+    (file' : Stored)
     : Type 0 where
   pub was : RecordState
   pub stood : Keeps file.content was
   pub settles : Settles target was items store store'
-  pub durable : AreDurable target was.rows items store
+  pub durable : (merged_in target store was items now ≡ was.rows) ⊎ AreDurable target was.rows items store
   pub stands : Keeps file'.content was ⊎ Keeps file'.content (none_open (merged_in target store was items now))
 
 -- the file is as it was, or that
@@ -166,7 +200,8 @@ pub record Unready (target : Target) (items : List Item) (now : ℕ) (store : St
   pub cause : CausesUnready target items fault store file store' file'
   pub content : IsMergedAtMost target items now store file store' file'
 
-abbrev pub Readies : Settings → Target → List Item → ℕ → Stores → Stored → Result Ready Fault → List Row → Stores → Stored → Type 0
+abbrev pub Readies : Settings → Target → List Item → ℕ → Stores → Stored → Result Ready Fault → List Row → Stores
+    → Stored → Type 0
 Readies settings target items now store file
     (Ok ready) after store' file' = IsReady settings target items now store file ready after store' file'
 Readies settings target items now store file

@@ -1,5 +1,6 @@
 -- The report with the reasons why messages are passed over.
-use Rattle.std.specs.Prelude.{ℕ, ◌-◌, ◌==◌, List, [], ◌∷◌, ◌++◌, flat_map, Option, Some, None, option_map, slice_get, if◌then◌else◌, codes}
+use Rattle.std.specs.Prelude.{ℕ, ◌-◌, ◌==◌, List, [], ◌∷◌, ◌++◌, flat_map, Option, Some, None, option_map, slice_get}
+use Rattle.std.specs.Prelude.{if◌then◌else◌, codes}
 use Rattle.std.specs.Fmt.{decimal}
 use Rattle.rc_file.specs.declared.settings.Settings.{Settings}
 use Rattle.fetch_session.specs.declared.message_preview.Fate.{Fate}
@@ -13,7 +14,8 @@ use Rattle.fetch_session.specs.Text.{heading, line_text, message_text, report_te
 
 -- what was planned for message `number`, if that is known
 abbrev pub fate_at : List MessagePreview → ℕ → Option Fate
-fate_at plan number = option_map (λ (message_preview : MessagePreview). message_preview.fate) (slice_get plan (number - 1))
+fate_at plan number = option_map (λ (message_preview : MessagePreview). message_preview.fate)
+    (slice_get plan (number - 1))
 
 -- why a message was passed over for which this was planned; one that is only deleted was delivered before
 abbrev pub skip_text : Fate → List ℕ
@@ -22,20 +24,24 @@ skip_text fate = fate_text fate
 
 -- the line of a message that was passed over, with the reason, if that is known
 abbrev pub skipped_text : ℕ → ℕ → ℕ → Option Fate → List ℕ
-skipped_text total number size None = message_text total number (codes "(" ++ (decimal size ++ codes " octets) skipped\n"))
+skipped_text total number size None = message_text total number
+    (codes "(" ++ (decimal size ++ codes " octets) skipped\n"))
 skipped_text total number size (Some fate) =
-    message_text total number (codes "(" ++ (decimal size ++ (codes " octets) skipped: " ++ (skip_text fate ++ codes "\n"))))
+    message_text total number
+    (codes "(" ++ (decimal size ++ (codes " octets) skipped: " ++ (skip_text fate ++ codes "\n"))))
 
 -- one line
 abbrev pub explained_line : ℕ → ℕ → List MessagePreview → ReportLine → List ℕ
-explained_line verbose total plan (Skipped number size) = if verbose == 2 then skipped_text total number size (fate_at plan number) else []
+explained_line verbose total plan (Skipped number size) = if verbose == 2
+    then skipped_text total number size (fate_at plan number) else []
 explained_line verbose total plan line = line_text verbose total line
 
 -- the report, each line ended by LF; with verbose 0 it is empty
 abbrev pub explained_report : Report → Settings → List MessagePreview → List ℕ
 explained_report report settings plan =
     if settings.verbose == 0 then []
-    else (heading settings ++ flat_map (explained_line settings.verbose report.total plan) report.lines.items) ++ summary report
+    else (heading settings ++ flat_map (explained_line settings.verbose report.total plan) report.lines.items) ++
+    summary report
 
 -- with the reasons, if a plan is known; else as ever
 abbrev pub told_report : List MessagePreview → Report → Settings → List ℕ

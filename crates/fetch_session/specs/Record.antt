@@ -5,7 +5,8 @@ use Rattle.fetch_rules.specs.RecordFile.{Two, file_of}
 use Rattle.fetch_rules.specs.RecordMeaning.{Means, Rows, Fault as Faulty, FileStandsFor}
 use Rattle.fetch_rules.specs.Intents.{ReadAs as BytesReadAs}
 use Rattle.fetch_rules.specs.declared.seen.SeenFault.{SeenFault}
-use Rattle.fetch_rules.specs.declared.seen.SeenFault.TheVariants.{BadHeader, BadRow, RepeatedId, NoMemory as WantsMemory}
+use Rattle.fetch_rules.specs.declared.seen.SeenFault.TheVariants.{BadHeader, BadRow, RepeatedId}
+use Rattle.fetch_rules.specs.declared.seen.SeenFault.TheVariants.{NoMemory as WantsMemory}
 use Rattle.mail_store.specs.FlatFile.{Stored, holding, counted}
 use Rattle.fetch_session.specs.declared.fault.Fault.{Fault}
 use Rattle.fetch_session.specs.declared.fault.Fault.TheVariants.{SeenRefused, BadSeen, NoMemory}
@@ -49,11 +50,13 @@ with_open rows intent = record { rows = rows; intent = Some intent }
 -- the record was written whole; or, refused, the file is as it was or has the record; or memory ran out
 abbrev pub Writes : Stored → RecordState → Result (Unit {0}) Fault → Stored → Type 0
 Writes old state (Ok done) new = new ≡ holding old (file_of state.rows state.intent)
-Writes old state (Err SeenRefused) new = (new ≡ counted old) ⊎ (new ≡ counted (holding old (file_of state.rows state.intent)))
+Writes old state (Err SeenRefused) new = (new ≡ counted old)
+    ⊎ (new ≡ counted (holding old (file_of state.rows state.intent)))
 Writes old state (Err NoMemory) new = new ≡ old
 Writes old state (Err _) new = ⊥
 
--- a changed record was saved; or, refused, the file stands for the old or the new one; or memory ran out, and nothing was done
+-- a changed record was saved; or, refused, the file stands for the old or the new one; or memory ran out, and nothing
+-- was done
 abbrev pub Saves : Stored → RecordState → RecordState → Result (Unit {0}) Fault → Stored → Type 0
 Saves old was now (Ok done) new = (new.failures ≡ old.failures) × (Steady old.content was → Steady new.content now)
 Saves old was now (Err SeenRefused) new = (new.failures ≡ old.failures + 1)
@@ -61,10 +64,11 @@ Saves old was now (Err SeenRefused) new = (new.failures ≡ old.failures + 1)
 Saves old was now (Err NoMemory) new = new ≡ old
 Saves old was now (Err _) new = ⊥
 
--- an open intent was closed, as none of its entry is there; or that was refused, and it may be open; or memory ran out, and nothing
--- was done
+-- an open intent was closed, as none of its entry is there; or that was refused, and it may be open; or memory ran out,
+-- and nothing was done
 abbrev pub TakesBack : Stored → RecordState → Result (Unit {0}) Fault → Stored → Type 0
-TakesBack old was (Ok done) new = Saves old was (none_open was.rows) (Ok tt) new ⊎ Saves old was (none_open was.rows) (Err SeenRefused) new
+TakesBack old was (Ok done) new = Saves old was (none_open was.rows) (Ok tt) new
+    ⊎ Saves old was (none_open was.rows) (Err SeenRefused) new
 TakesBack old was (Err NoMemory) new = new ≡ old
 TakesBack old was (Err _) new = ⊥
 
@@ -72,7 +76,8 @@ TakesBack old was (Err _) new = ⊥
 -- new one; or memory ran out, and nothing was done
 abbrev pub Merges : Stored → RecordState → RecordState → Result (Unit {0}) Fault → Stored → Type 0
 Merges old was now (Ok done) new = (new.failures ≡ old.failures) × Steady new.content now
-Merges old was now (Err SeenRefused) new = (new.failures ≡ old.failures + 1) × (Keeps new.content was ⊎ Keeps new.content now)
+Merges old was now (Err SeenRefused) new = (new.failures ≡ old.failures + 1)
+    × (Keeps new.content was ⊎ Keeps new.content now)
 Merges old was now (Err NoMemory) new = new ≡ old
 Merges old was now (Err _) new = ⊥
 
@@ -102,7 +107,8 @@ Misread old line new = (why : SeenFault) × Means (bytes_in old.content) (Faulty
 -- the record was read, and whether the file is missing or empty; or a call was refused, or the bytes
 -- stand for no record
 abbrev pub Reads : Stored → Loaded → Result Bool Fault → Stored → Type 0
-Reads old loaded (Ok is_new) new = ReadAs old.content loaded × (is_new ≡ false → bytes_in old.content ≢ []) × (new ≡ old)
+Reads old loaded (Ok is_new) new = ReadAs old.content loaded × (is_new ≡ false → bytes_in old.content ≢ [])
+    × (new ≡ old)
 Reads old loaded (Err SeenRefused) new = new ≡ counted old
 Reads old loaded (Err (BadSeen line)) new = Misread old line new
 Reads old loaded (Err NoMemory) new = new ≡ old

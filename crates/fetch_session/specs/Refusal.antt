@@ -18,7 +18,8 @@ use Rattle.pop3_client.specs.Texts.{Fetching}
 
 -- the most octets that a session of this many messages takes: first lines, two listings, and a text for each message
 abbrev pub session_limit : ℕ → ℕ
-session_limit messages = line_limit * (2 * messages + 10) + 2 * (line_limit * (message_limit + 1)) + messages * text_limit
+session_limit messages = line_limit * (2 * messages + 10) + 2 * (line_limit * (message_limit + 1))
+    + messages * text_limit
 
 -- at most `most` octets were got between these two
 abbrev pub GotAtMost : ℕ → Link → Link → Type 0
@@ -44,7 +45,8 @@ pub record Took (limit : ℕ) (old new : Place) : Type 0 where
   pub got : new.link.got ≡ old.link.got ++ gained
   pub within : length old.waiting + length gained ≤ limit + length new.waiting
 
--- a text is under way, or at its end: what was used before it was asked for, and the most of its reply, are within the limit together
+-- a text is under way, or at its end: what was used before it was asked for, and the most of its reply, are within the
+-- limit together
 pub record TookSoFar (limit : ℕ) (old new : Place) (rest : Rest) : Type 0 where
   pub before : ℕ
   pub number : ℕ

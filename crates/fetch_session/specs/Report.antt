@@ -132,8 +132,10 @@ most_bytes n = min n greatest_size
 abbrev pub most_lines : ℕ
 most_lines = 2 * message_limit
 
--- the report of a session with this outcome: `total` messages were listed, the plan passes over `skipped`, and these lines were noted
-pub record Reports (outcome : Outcome) (total : ℕ) (skipped : Skips) (lines : List ReportLine) (report : Report) : Type 0 where
+-- the report of a session with this outcome: `total` messages were listed, the plan passes over `skipped`, and these
+-- lines were noted
+pub record Reports (outcome : Outcome) (total : ℕ) (skipped : Skips) (lines : List ReportLine)
+    (report : Report) : Type 0 where
   pub outcome_is : report.outcome ≡ outcome
   pub total_is : report.total ≡ total
   pub retrieved_is : report.retrieved ≡ retrieved_in lines

@@ -14,7 +14,8 @@ use Rattle.pop3_wire.specs.Bodies.{Rest}
 use Rattle.pop3_wire.specs.declared.unstuffer.Spot.TheVariants.{Done as AtEnd}
 use Rattle.pop3_client.specs.Texts.{Fetching, Fetched, body_text}
 use Rattle.mail_store.specs.FileName.{stem_of}
-use Rattle.fetch_session.specs.Task.{Task, says, stores, Done, IsAnswered, turns_in, tasks_of, turns_of, replies_of, ids_of}
+use Rattle.fetch_session.specs.Task.{Task, says, stores, Done, IsAnswered, turns_in, tasks_of, turns_of, replies_of}
+use Rattle.fetch_session.specs.Task.{ids_of}
 use Rattle.fetch_session.specs.Task.{file_from, delivered, lines_of}
 use Rattle.fetch_session.specs.Store.{RefusesText, Gained, Appended, Brings}
 use Rattle.fetch_session.specs.Target.{Target, AsFiles, AsEntries, Stores}
@@ -34,7 +35,8 @@ pub record Scene : Type 0 where
 abbrev pub scene : Place → Stores → Stored → List Row → List ReportLine → Scene
 scene place store file rows lines = record { place = place; store = store; file = file; rows = rows; lines = lines }
 
--- these tasks were done: their turns talked, each with its own reply, their texts stored, and their ids marked and saved
+-- these tasks were done: their turns talked, each with its own reply, their texts stored, and their ids marked and
+-- saved
 pub record Went (target : Target) (dones : List Done) (old new : Scene) : Type 0 where
   pub talked : Talked (turns_of dones) (replies_of dones) old.place new.place
   pub each : AllByRecursion IsAnswered dones
@@ -97,7 +99,8 @@ pub record NoRoom (next : Task) (old new : Scene) (cut : Cut) : Type 0 where
   pub rows : new.rows ≡ old.rows
   pub lines : new.lines ≡ old.lines
 
--- the text was read, and it wasn't appended: its intent may be open, and a front of its entry may follow the file's bytes
+-- the text was read, and it wasn't appended: its intent may be open, and a front of its entry may follow the file's
+-- bytes
 pub record NoEntry (next : Task) (old new : Scene) (cut : Cut) : Type 0 where
   pub none : cut.rest ≡ None
   pub number : ℕ
@@ -105,7 +108,8 @@ pub record NoEntry (next : Task) (old new : Scene) (cut : Cut) : Type 0 where
   pub reply : WholeReply
   pub is : next ≡ stores number uid
   pub talked : Talked (retr number ∷ []) (reply ∷ []) old.place new.place
-  pub refuses : RefusesEntry old.store.mbox old.file old.rows uid (body_text reply.body) cut.fault new.store.mbox new.file
+  pub refuses : RefusesEntry old.store.mbox old.file old.rows uid
+      (body_text reply.body) cut.fault new.store.mbox new.file
   pub rows : new.rows ≡ old.rows
   pub lines : new.lines ≡ old.lines
 
@@ -144,7 +148,8 @@ NotSaved AsEntries next old new cut = EntryNotSaved next old new cut
 
 -- a task was begun, and not brought to its end
 abbrev pub Stops : Target → Task → Scene → Cut → Scene → Type 0
-Stops target next old cut new = Broken next old new cut ⊎ (NotStored target next old new cut ⊎ NotSaved target next old new cut)
+Stops target next old cut new = Broken next old new cut
+    ⊎ (NotStored target next old new cut ⊎ NotSaved target next old new cut)
 
 -- some of the tasks went well, and the next one stopped
 pub record Fell (target : Target) (tasks : List Task) (old : Scene) (cut : Cut) (new : Scene) : Type 0 where
@@ -178,4 +183,5 @@ Does target tasks old (Err cut) new = Fell target tasks old cut new
 abbrev pub WhereAllSound : {W D F : Type 0} → (W → Type 0) → (W → W → Type 0) → (D → Type 0) → (F → Type 0) → W → W
     → D → D → F → F → Type 0 → Type 0
 WhereAllSound wire_is leads_to disk_is file_is wire wire' disk disk' file file' did =
-    wire_is wire' → disk_is disk' → file_is file' → wire_is wire × disk_is disk × file_is file × leads_to wire wire' × did
+    wire_is wire' → disk_is disk' → file_is file'
+    → wire_is wire × disk_is disk × file_is file × leads_to wire wire' × did

@@ -51,7 +51,8 @@ abbrev pub keeps_files : AccountFiles → Keeping
 keeps_files account = keeping (in_maildir account.maildir) account.file
 
 abbrev pub Enters_with : Settings → Place → Result (List Item) ClientFault → Place → Type 0
-Enters_with settings old result new = Enters (string_bytes settings.username) (string_bytes settings.password) old result new
+Enters_with settings old result new = Enters (string_bytes settings.username)
+    (string_bytes settings.password) old result new
 
 -- the conversation stopped before a listing was known: nothing was stored
 pub record NotEntered (settings : Settings) (old : Place) (before : Keeping) (cut : Cut) (new : Place) (after : Keeping)
@@ -83,7 +84,8 @@ pub record Dealt (settings : Settings) (target : Target) (now : ℕ) (old : Plac
 
 -- a session up to its QUIT, or until it was cut
 abbrev pub Proceeds : Settings → Target → ℕ → Place → Keeping → Result (Unit {0}) Cut → Place → Keeping → Noted → Type 0
-Proceeds settings target now old before (Ok done) new after notes = Dealt settings target now old before (Ok done) new after notes
+Proceeds settings target now old before (Ok done) new after notes = Dealt settings target now old before
+    (Ok done) new after notes
 Proceeds settings target now old before (Err cut) new after notes = NotEntered settings old before cut new after notes
     ⊎ (NoRoom settings old before cut new after notes ⊎ Dealt settings target now old before (Err cut) new after notes)
 
@@ -98,7 +100,8 @@ LeavesLink (Ok done) mid link = link ≡ mid.link
 LeavesLink (Err cut) mid link = (new : Place) × Left cut mid new × (link ≡ new.link)
 
 -- a whole session, from a link with nothing waiting to be used
-pub record SessionIn (settings : Settings) (target : Target) (now : ℕ) (link : Link) (before : Keeping) (report : Report)
+pub record SessionIn (settings : Settings) (target : Target) (now : ℕ) (link : Link) (before : Keeping)
+    (report : Report)
     (link' : Link) (after : Keeping) : Type 0 where
   pub result : Result (Unit {0}) Cut
   pub mid : Place

@@ -1,5 +1,6 @@
 -- What storing one text does.
-use Rattle.std.specs.Prelude.{◌≡◌, ◌⊎◌, ◌≤◌, ℕ, Bool, false, List, [], ◌∷◌, ◌++◌, length, Option, None, Some, Result, Ok, Err, option_map}
+use Rattle.std.specs.Prelude.{◌≡◌, ◌⊎◌, ◌≤◌, ℕ, Bool, false, List, [], ◌∷◌, ◌++◌, length, Option, None, Some, Result}
+use Rattle.std.specs.Prelude.{Ok, Err, option_map}
 use Rattle.std.specs.List.{flat_map}
 use Rattle.mail_store.specs.FlatFile.{Stored}
 use Rattle.mail_store.specs.Mboxrd.{entry_of}
@@ -43,7 +44,8 @@ Brings AsEntries dones old new = Appended old.mbox new.mbox (texts_of dones)
 pub record MayGain (stem : List ℕ) (old new : Maildir) : Type 0 where
   pub none_begun : new.begun ≡ None
   pub came : (new.files ≡ old.files)
-      ⊎ ((content : List ℕ) × (is_named : Bool) × (new.files ≡ old.files ++ record (sized_file stem content) { is_named = is_named } ∷ []))
+      ⊎ ((content : List ℕ) × (is_named : Bool)
+      × (new.files ≡ old.files ++ record (sized_file stem content) { is_named = is_named } ∷ []))
 
 -- ---- a text, piece by piece
 
@@ -59,8 +61,10 @@ Starts old name (Err fault) new = ((fault ≡ StoreRefused Missing) × (old.ther
 
 -- the bytes were appended to the file that is being written, or none is any more
 abbrev pub Puts : Maildir → List ℕ → Result (Unit {0}) Fault → Maildir → Type 0
-Puts old bytes (Ok done) new = (d : Draft) → old.begun ≡ Some d → new ≡ begun_with old (draft d.name (d.content ++ bytes))
-Puts old bytes (Err fault) new = (fault ≡ StoreRefused Refused) × ((d : Draft) → old.begun ≡ Some d → new ≡ counted (dropped old))
+Puts old bytes (Ok done) new = (d : Draft) → old.begun ≡ Some d
+    → new ≡ begun_with old (draft d.name (d.content ++ bytes))
+Puts old bytes (Err fault) new = (fault ≡ StoreRefused Refused)
+    × ((d : Draft) → old.begun ≡ Some d → new ≡ counted (dropped old))
 
 -- what was written is there under this name and durable; or, refused, it may be there
 abbrev pub Ends : Maildir → List ℕ → Result (Unit {0}) Fault → Maildir → Type 0
@@ -68,8 +72,8 @@ Ends old name (Ok done) new = (d : Draft) → old.begun ≡ Some d → new ≡ w
 Ends old name (Err fault) new = (fault ≡ StoreRefused Refused) × ((d : Draft) → old.begun ≡ Some d
     → (new ≡ counted (dropped old)) ⊎ MayHave old (mail name d.content) new)
 
--- the store refused a text of which this much has come: no file came, or, only if the text had come whole, its file did, which a
--- loss of power may take
+-- the store refused a text of which this much has come: no file came, or, only if the text had come whole, its file
+-- did, which a loss of power may take
 abbrev pub RefusesText : Maildir → List ℕ → Rest → List ℕ → Fault → Maildir → Type 0
 RefusesText old stem rest text fault new = ((fault ≡ StoreRefused Missing) × (old.there.tmp ≡ false) × (new ≡ old))
     ⊎ ((fault ≡ StoreRefused Refused) × ((new ≡ counted (dropped old))

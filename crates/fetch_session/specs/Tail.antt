@@ -19,8 +19,8 @@ turns_in Nothing = []
 turns_in Leave = quit ∷ []
 turns_in Undo = rset ∷ quit ∷ []
 
--- after a refused command other than QUIT, QUIT; after a refused store or a refused or bad record, RSET, and QUIT once that
--- is answered well; after any other fault, nothing
+-- after a refused command other than QUIT, QUIT; after a refused store or a refused or bad record, RSET, and QUIT once
+-- that is answered well; after any other fault, nothing
 abbrev pub tail : Fault → Tail
 tail (Refused Quit) = Nothing
 tail (Refused to) = Leave
@@ -34,7 +34,8 @@ abbrev pub Drops : Option Rest → Place → Result (Unit {0}) ClientFault → P
 Drops None old (Ok done) new = new ≡ old
 Drops None old (Err fault) new = ⊥
 Drops (Some rest) old result new = (rest.spot ≡ Done → (result ≡ Ok tt) × (new ≡ old))
-    × ((number : ℕ) (start : Place) (text : List ℕ) → Fetching (retr number) start old rest text → TakesRest (retr number) start result new)
+    × ((number : ℕ) (start : Place) (text : List ℕ) → Fetching (retr number) start old rest text
+    → TakesRest (retr number) start result new)
 
 -- what was sent and what came went on from before, and what was sent since is a front of what these turns send
 pub record WentOn (turns : List Turn) (old new : Place) : Type 0 where

@@ -28,7 +28,13 @@ pub record Stores : Type 0 where
   pub mbox : Stored
 
 abbrev pub no_maildir : Maildir
-no_maildir = record { there = record { tmp = false; new = false; cur = false }; files = []; begun = None; failures = 0; taken = [] }
+no_maildir = record {
+  there = record { tmp = false; new = false; cur = false };
+  files = [];
+  begun = None;
+  failures = 0;
+  taken = [];
+}
 
 abbrev pub no_mbox : Stored
 no_mbox = record { content = None; failures = 0 }
@@ -121,4 +127,5 @@ mail_in (Some bytes) = bytes
 -- the rows of a record once its open intent is closed
 abbrev pub rows_in : Target → Stores → RecordState → List Item → List Row
 rows_in (AsFiles account) store was items = was.rows
-rows_in AsEntries store was items = closed_rows (is_stored was.intent items (mail_in store.mbox.content)) was.rows was.intent
+rows_in AsEntries store was items = closed_rows (is_stored was.intent items (mail_in store.mbox.content))
+    was.rows was.intent

@@ -19,8 +19,8 @@ use Rattle.fetch_session.specs.Text.{heading, message_text}
 abbrev pub days_of : ℕ → ℕ
 days_of second = min (second / seconds_per_day) 2932896 + 719468
 
--- the whole years, each from 1 March, in this many days of a 400-year cycle, by the days without leap days: one less for each 1,460 days,
--- one more for each 36,524, one less for 146,096
+-- the whole years, each from 1 March, in this many days of a 400-year cycle, by the days without leap days: one less
+-- for each 1,460 days, one more for each 36,524, one less for 146,096
 abbrev pub years_of : ℕ → ℕ
 years_of days = (days + days / 36524 - (days / 1460 + days / 146096)) / 365
 
@@ -85,10 +85,12 @@ is_deletion FetchedAndDeleted = true
 is_deletion _ = false
 
 abbrev pub fetched_in : List MessagePreview → ℕ
-fetched_in message_previews = count_by (λ (message_preview : MessagePreview). is_fetch message_preview.fate) message_previews
+fetched_in message_previews = count_by (λ (message_preview : MessagePreview). is_fetch message_preview.fate)
+    message_previews
 
 abbrev pub deleted_in : List MessagePreview → ℕ
-deleted_in message_previews = count_by (λ (message_preview : MessagePreview). is_deletion message_preview.fate) message_previews
+deleted_in message_previews = count_by (λ (message_preview : MessagePreview). is_deletion message_preview.fate)
+    message_previews
 
 -- the last line
 abbrev pub counts_text : ℕ → ℕ → ℕ → List ℕ
@@ -96,15 +98,10 @@ counts_text total fetched deleted = decimal fetched ++ (codes " of " ++ (decimal
     ++ (codes " messages would be fetched, " ++ (decimal deleted ++ codes " deleted\n"))))
 
 abbrev pub counts : Preview → List ℕ
-counts preview = counts_text preview.total (fetched_in preview.message_previews.items) (deleted_in preview.message_previews.items)
-
--- what is said before the messages
-abbrev pub notice : Bool → List ℕ
-notice unsettled =
-    if unsettled then codes "the last entry of the mbox file is looked at first: if it is whole, its message is not fetched\n" else []
+counts preview = counts_text preview.total (fetched_in preview.message_previews.items)
+    (deleted_in preview.message_previews.items)
 
 -- what a run would do, each line ended by LF
 abbrev pub preview_text : Preview → Settings → List ℕ
 preview_text preview settings =
-    ((heading settings ++ notice preview.unsettled) ++ flat_map (message_preview_text preview.total) preview.message_previews.items)
-    ++ counts preview
+    (heading settings ++ flat_map (message_preview_text preview.total) preview.message_previews.items) ++ counts preview

@@ -4,7 +4,8 @@ use Rattle.std.specs.Fmt.{decimal}
 use Rattle.std.specs.String.{string_bytes}
 use Rattle.rc_file.specs.declared.settings.Settings.{Settings}
 use Rattle.pop3_client.specs.declared.fault.Asked.{Asked}
-use Rattle.pop3_client.specs.declared.fault.Asked.TheVariants.{Greeting, User, Pass, Stat, Uidl, List as ListAsked, Retr, Dele, Rset, Quit}
+use Rattle.pop3_client.specs.declared.fault.Asked.TheVariants.{Greeting, User, Pass, Stat, Uidl, List as ListAsked}
+use Rattle.pop3_client.specs.declared.fault.Asked.TheVariants.{Retr, Dele, Rset, Quit}
 use Rattle.fetch_session.specs.declared.fault.Why.{Why}
 use Rattle.fetch_session.specs.declared.fault.Why.TheVariants as why
 use Rattle.fetch_session.specs.declared.fault.Fault.{Fault}
@@ -65,19 +66,23 @@ heading settings = codes "SimplePOP3Retriever:" ++ (string_bytes settings.userna
 
 -- what is said of message `number` of `total`
 abbrev pub message_text : ℕ → ℕ → List ℕ → List ℕ
-message_text total number said = codes "msg " ++ (decimal number ++ (codes "/" ++ (decimal total ++ (codes " " ++ said))))
+message_text total number said = codes "msg " ++
+    (decimal number ++ (codes "/" ++ (decimal total ++ (codes " " ++ said))))
 
 -- one line; a message that was passed over has one only with verbose 2
 abbrev pub line_text : ℕ → ℕ → ReportLine → List ℕ
-line_text verbose total (Delivered number octets) = message_text total number (codes "(" ++ (decimal octets ++ codes " bytes) delivered\n"))
-line_text verbose total (Held number octets) = message_text total number (codes "(" ++ (decimal octets ++ codes " bytes) already held\n"))
+line_text verbose total (Delivered number octets) = message_text total number
+    (codes "(" ++ (decimal octets ++ codes " bytes) delivered\n"))
+line_text verbose total (Held number octets) = message_text total number
+    (codes "(" ++ (decimal octets ++ codes " bytes) already held\n"))
 line_text verbose total (Skipped number size) =
     if verbose == 2 then message_text total number (codes "(" ++ (decimal size ++ codes " octets) skipped\n")) else []
 line_text verbose total (Deleted number) = message_text total number (codes "deleted\n")
 
 -- the last line
 abbrev pub summary : Report → List ℕ
-summary report = decimal report.retrieved ++ (codes " messages (" ++ (decimal report.bytes ++ (codes " bytes) retrieved, "
+summary report = decimal report.retrieved ++
+    (codes " messages (" ++ (decimal report.bytes ++ (codes " bytes) retrieved, "
     ++ (decimal report.skipped ++ (codes " skipped, " ++ (decimal report.deleted ++ codes " deleted\n"))))))
 
 -- the report, each line ended by LF; with verbose 0 it is empty

@@ -71,7 +71,8 @@ fn append_text<F: FlatFile, H: BuildHasher>(
     requires legal { IsLegalId uid.now }
     requires row { has_row ledger.old.seen.rows uid.now ≡ true }
     requires closed { ledger.old.seen.intent ≡ None }
-    requires steady { F.sound ledger.old.file → Steady (F.stored ledger.old.file).content (none_open ledger.old.seen.rows) }
+    requires steady { F.sound ledger.old.file
+        → Steady (F.stored ledger.old.file).content (none_open ledger.old.seen.rows) }
     ensures ledger { KeepsRecord F.FlatFile uid.now ledger.old result ledger.new }
     ensures before { F.sound mbox.new → F.sound mbox.old }
     ensures appends { F.sound mbox.new → F.sound ledger.new.file → F.sound mbox.old × F.sound ledger.old.file
@@ -111,11 +112,14 @@ pub(crate) fn take_into_mbox<W: Wire, F: FlatFile, H: BuildHasher>(
     ensures link { KeepsLink W.Wire (TookTillCut (most (retr number))) client.old result client.new }
     ensures ledger { KeepsLedger F.FlatFile uid.now ledger.old result ledger.new }
     ensures before { F.sound mbox.new → F.sound mbox.old }
-    ensures takes { WhereAllSound W.sound W.leads_to F.sound F.sound client.old.wire.now client.new.wire.now mbox.old mbox.new
+    ensures takes { WhereAllSound W.sound W.leads_to F.sound F.sound client.old.wire.now client.new.wire.now
+        mbox.old mbox.new
         ledger.old.file ledger.new.file (TakesTask AsEntries (stores number uid.now)
-        (scene (place_of W.Wire client.old) (in_mbox (F.stored mbox.old)) (F.stored ledger.old.file) ledger.old.seen.rows
+        (scene (place_of W.Wire client.old) (in_mbox (F.stored mbox.old))
+        (F.stored ledger.old.file) ledger.old.seen.rows
         ledger.old.lines.items) result
-        (scene (place_of W.Wire client.new) (in_mbox (F.stored mbox.new)) (F.stored ledger.new.file) ledger.new.seen.rows
+        (scene (place_of W.Wire client.new) (in_mbox (F.stored mbox.new))
+        (F.stored ledger.new.file) ledger.new.seen.rows
         ledger.new.lines.items)) }
     ensures keeps { F.sound mbox.new → F.sound ledger.new.file
         → KeepsWhole (F.stored mbox.old).content (F.may_leave mbox.old) (F.may_leave mbox.new)

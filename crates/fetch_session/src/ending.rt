@@ -49,7 +49,8 @@ pub fn end<W: Wire, D: MaildirDisk, F: FlatFile, H: BuildHasher>(
 ) -> Result<Option<Edges>, Cut>
     requires { IsReady D.MaildirDisk F.FlatFile work.old }
     ensures told { IfOk result (λ told. is_sound D.MaildirDisk F.FlatFile work.new.store
-        → IsTold (kind_of work.old.store) work.old.ledger.lines.items (stores_of D.MaildirDisk F.FlatFile work.old.store) told) }
+        → IsTold (kind_of work.old.store) work.old.ledger.lines.items
+        (stores_of D.MaildirDisk F.FlatFile work.old.store) told) }
     ensures link { KeepsLink W.Wire (TookWithTail tail_limit) client.old (went result) client.new }
     ensures store { KeepsStore D.MaildirDisk F.FlatFile 0 work.old work.new }
     ensures runs { (account : List ℕ) → RunsTasks W.Wire D.MaildirDisk F.FlatFile account (says quit ∷ [])

@@ -40,6 +40,8 @@ pub struct MessagePreview {
     pub number: u32,
     /// The listed size, in octets.
     pub size: u64,
+    /// Whether the store holds it. Then it isn't stored again, even if it is fetched.
+    pub held: bool,
     /// What would be done with it, or why nothing.
     pub fate: Fate,
     /// If it isn't old enough to be deleted: when it will be, in seconds since 1970.
@@ -132,7 +134,8 @@ pub(crate) fn message_previews<H: BuildHasher>(
     requires all_flags { length held.now ≡ length listing.now }
     requires all_steps { length steps.now ≡ length listing.now }
     ensures { IfOk result
-        (λ told. told.items ≡ message_previews terms.entry.settings.now seen.now.rows terms.entry.now 0 steps.now listing.now held.now) }
+        (λ told. told.items ≡ message_previews terms.entry.settings.now seen.now.rows terms.entry.now 0 steps.now
+        listing.now held.now) }
 {
     let mut told = Vec::with_capacity(alloc, steps.len())?;
     let mut fetched: u64 = 0;
@@ -142,6 +145,7 @@ pub(crate) fn message_previews<H: BuildHasher>(
         told.push(MessagePreview {
             number: step.number,
             size: known.size,
+            held: known.held,
             fate: fate_of(terms.settings, step, known, fetched),
             due: due_of(terms.settings, step, known, terms.now),
         })?;
@@ -153,7 +157,8 @@ pub(crate) fn message_previews<H: BuildHasher>(
 impl LeftOut {
     /// Counts a message with this fate, if it is left out although it isn't known.
     fn count(&mut self, fate: Fate)
-        requires { (self.old.too_large < 4294967295) × (self.old.past_limit < 4294967295) × (self.old.repeated < 4294967295) }
+        requires { (self.old.too_large < 4294967295) × (self.old.past_limit < 4294967295)
+            × (self.old.repeated < 4294967295) }
         ensures { self.new ≡ with_fate self.old fate }
     {
         match fate {
@@ -174,7 +179,8 @@ fn left_out<H: BuildHasher>(
     steps: &[Step],
 ) -> LeftOut
     requires { length steps.now ≡ length listing.now }
-    ensures { result ≡ left_out_of (message_previews terms.entry.settings.now seen.now.rows terms.entry.now 0 steps.now listing.now
+    ensures { result ≡ left_out_of
+        (message_previews terms.entry.settings.now seen.now.rows terms.entry.now 0 steps.now listing.now
         (none_held listing.now)) }
 {
     let mut left = none_skipped().left_out;

@@ -5,7 +5,8 @@ ghost use Rattle.std.specs.Vec.{vec_len};
 ghost use Rattle.rc_file.specs.Settings.{IsValid};
 ghost use Rattle.mail_store.specs.FileName.{IsAccountText};
 ghost use Rattle.fetch_session.specs.Account.{IsSameAccount};
-ghost use Rattle.fetch_session.specs.Refusal.{IsWithinLimits, RefusesByOutcome, GotAtMost, session_limit, TookWithTail, opening_limit, step_limit, tail_limit};
+ghost use Rattle.fetch_session.specs.Refusal.{IsWithinLimits, RefusesByOutcome, GotAtMost, session_limit, TookWithTail};
+ghost use Rattle.fetch_session.specs.Refusal.{opening_limit, step_limit, tail_limit};
 ghost use Rattle.fetch_session.specs.Lasting.{ProceedsLast, RunsSession};
 ghost use Rattle.fetch_session.specs.Parts.{KeepsLink, KeepsStore, WhereWorkSound};
 ghost use Rattle.fetch_session.specs.Report.{most_lines, none_skipped};
@@ -48,7 +49,8 @@ fn proceed<W: Wire, D: MaildirDisk, F: FlatFile, H: BuildHasher, L: Listener>(
     requires none_begun { NoneBegun D.MaildirDisk F.FlatFile work.old.store }
     requires nothing { (counts.old.total ≡ 0) × (counts.old.skipped ≡ none_skipped)
         × (work.old.ledger.lines.items ≡ []) × (vec_len work.old.ledger.lines ≡ 0) }
-    ensures link { KeepsLink W.Wire (TookWithTail (opening_limit + (counts.new.total * step_limit + tail_limit))) client.old result
+    ensures link { KeepsLink W.Wire (TookWithTail (opening_limit + (counts.new.total * step_limit + tail_limit)))
+        client.old result
         client.new }
     ensures store { KeepsStore D.MaildirDisk F.FlatFile most_lines work.old work.new }
     ensures proceeds { WhereWorkSound W.Wire D.MaildirDisk F.FlatFile client.old work.old client.new work.new

@@ -43,11 +43,13 @@ pub fn carry_out<W: Wire, D: MaildirDisk, F: FlatFile, H: BuildHasher, L: Listen
     requires legal { AllByRecursion (λ item. IsLegalId item.uid) listing.now }
     requires none_skipped { skipped.old ≡ none_skipped }
     requires few { length listing.now ≤ message_limit }
-    ensures link { KeepsLink W.Wire (TookWithTail (length listing.now * step_limit + tail_limit)) client.old result client.new }
+    ensures link { KeepsLink W.Wire (TookWithTail (length listing.now * step_limit + tail_limit)) client.old result
+        client.new }
     ensures store { KeepsStore D.MaildirDisk F.FlatFile (2 * length listing.now) work.old work.new }
     ensures carries { WhereWorkSound W.Wire D.MaildirDisk F.FlatFile client.old work.old client.new work.new
         (λ old new. AfterTakingIn old.store (λ left. (is : Carries terms.entry.settings.now
-        (target_of work.old.store terms.entry.account.now) listing.now terms.entry.now old.place left old.file old.lines result
+        (target_of work.old.store terms.entry.account.now) listing.now terms.entry.now old.place left old.file
+        old.lines result
         new.place new.store new.file new.lines skipped.new)
         × CarriesLast F.FlatFile work.old.store work.old.ledger.file _ _ _ _ _ _ _ _ _ _ _ _ _ _ is
         work.new.store work.new.ledger.file)) }

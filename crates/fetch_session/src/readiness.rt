@@ -3,7 +3,7 @@ ghost use Rattle.std.specs.Prelude.{◌≡◌, ◌≢◌, ◌⊎◌, ℕ, Bool, 
 ghost use Rattle.std.specs.Prelude.{All, None, Some, length, OnOk, IfOk, IfSome};
 ghost use Rattle.std.specs.List.{AllByRecursion};
 ghost use Rattle.fetch_rules.specs.Intents.{closed_rows};
-ghost use Rattle.fetch_rules.specs.Record.{Loaded, has_row, is_delivered, none_open, merged};
+ghost use Rattle.fetch_rules.specs.Record.{IsRecord, Loaded, has_row, is_delivered, none_open, merged};
 ghost use Rattle.fetch_rules.specs.RecordFile.{file_of};
 ghost use Rattle.fetch_rules.specs.Plan.{IsQuiet, planned};
 ghost use Rattle.fetch_session.specs.Mbox.{AsksMbox, SettlesIntent};
@@ -12,8 +12,10 @@ ghost use Rattle.mail_store.specs.Power.{LeavesNoMore};
 ghost use Rattle.fetch_session.specs.Lasting.{AreSure, IsSafe, IsSafeStore, LeavesMerged, ReadiesAndLasts, is_sure};
 ghost use Rattle.fetch_session.specs.Parts.{KeepsBegun};
 ghost use Rattle.fetch_session.specs.Target.{AfterTakingIn, flags_in, is_sound, kind_of, stores_of, target_of};
-ghost use Rattle.fetch_session.specs.Readiness.{AreAsHeld, ChecksStore, FindsHeld, FindsIn, HasPlan, IsIdle, Rests, undelivered};
-ghost use Rattle.fetch_session.specs.Record.{Gets, Reads, ReadAs, Merges, IsLineFault, IsSecured, Steady, bytes_in, record_state_in};
+ghost use Rattle.fetch_session.specs.Readiness.{AreAsHeld, ChecksStore, FindsHeld, FindsIn, HasPlan, IsIdle, Rests};
+ghost use Rattle.fetch_session.specs.Readiness.{are_undelivered, flags_found};
+ghost use Rattle.fetch_session.specs.Record.{Gets, Reads, ReadAs, Merges, IsLineFault, IsSecured, Steady, bytes_in};
+ghost use Rattle.fetch_session.specs.Record.{record_state_in};
 
 use crate::account::Store;
 use crate::fault::Fault;
@@ -21,11 +23,12 @@ use crate::record::{grow, save};
 use crate::terms::Terms;
 use crate::work::{Ledger, Work};
 use fetch_rules::{
-    Listing, Seen, SeenFault, Step, ask_nothing, delivered_has_row, known_listings_change_nothing,
-    listed_has_row, plan, plan_of_known,
+    Listing, Seen, SeenFault, Step, ask_nothing, delivered_has_row, held_is_delivered,
+    known_listings_change_nothing, listed_has_row, marked_is_delivered,
+    merges_ask_only_for_new_ids, plan, plan_of_known, plans_fetch_what_is_asked_for,
 };
 use mail_store::{
-    AccountId, FlatFile, Folder, MaildirDisk, StoreFault, check_mbox, flush_held, listed_size,
+    Asked, FlatFile, Folder, MaildirDisk, StoreFault, check_mbox, flush_held, listed_size,
     peek_mbox, settle_file,
 };
 use std::alloc::{AllocError, Global};
@@ -86,6 +89,7 @@ pub(crate) fn read<F: FlatFile, H: BuildHasher>(
         × Reads (F.stored file.old) seen.new result (F.stored file.new) }
     ensures keeps { F.sound file.new → LeavesNoMore (F.may_leave file.old) (F.may_leave file.new) }
     ensures sure { F.sound file.new → F.is_sure file.old → F.is_sure file.new }
+    ensures is_record { OnOk result (IsRecord seen.new.rows) }
 {
     let bytes = load(alloc, file)?;
     match seen.reread(&bytes) {
@@ -113,7 +117,7 @@ fn undelivered<H: BuildHasher>(
     seen: &Seen<H>,
     listing: &Listing,
 ) -> Result<Vec<bool>, AllocError>
-    ensures { IfOk result (λ flags. flags.items ≡ undelivered seen.now.rows listing.now) }
+    ensures { IfOk result (λ flags. flags.items ≡ are_undelivered seen.now.rows listing.now) }
 {
     let mut flags = Vec::new(alloc);
     for i in 0..listing.len() {
@@ -122,21 +126,26 @@ fn undelivered<H: BuildHasher>(
     Ok(flags)
 }
 
-/// Asks which messages a Maildir holds, and flushes the files of those that are held and that the record
-/// doesn't show as delivered yet.
+/// Asks which of the messages a Maildir holds that the record doesn't show as delivered, or of all if all are
+/// to be read. The files of the former that are held are flushed.
 fn find_held<D: MaildirDisk, H: BuildHasher>(
     alloc: Global,
     disk: &mut D,
     seen: &Seen<H>,
-    account: &AccountId,
+    terms: Terms<'_>,
     listing: &Listing,
 ) -> Result<Vec<bool>, Fault>
     ensures length { IfOk result (λ flags. length flags.items ≡ length listing.now) }
     ensures finds { D.sound disk.new → D.sound disk.old
-        × AfterTaking (D.maildir disk.old) (λ left. FindsHeld account.now seen.now.rows left listing.now result (D.maildir disk.new)) }
+        × AfterTaking (D.maildir disk.old) (λ left. FindsHeld terms.entry.settings.now.read_all
+        terms.entry.account.now seen.now.rows left listing.now result (D.maildir disk.new)) }
 {
     let flags = undelivered(alloc, seen, listing)?;
-    Ok(flush_held(alloc, disk, account, listing, &flags)?)
+    let asked = Asked {
+        all: terms.settings.read_all,
+        flags: &flags,
+    };
+    Ok(flush_held(alloc, disk, terms.account, listing, asked)?)
 }
 
 /// Settles the open intent of the record in the mboxrd file, by the size that is listed for its
@@ -177,32 +186,35 @@ fn ask_mbox<F: FlatFile, H: BuildHasher>(
     Ok(Found { held, stored })
 }
 
-/// Asks the store which messages it holds. In a Maildir the files of those that the record doesn't show
-/// as delivered are flushed. An open intent of the record is settled in the mboxrd
+/// Asks the store which messages it holds. In a Maildir only those are looked up that the record doesn't
+/// show as delivered, unless all are to be read, and the files of those are flushed. An open intent of the record is settled in the mboxrd
 /// file; in a Maildir it can't be, and counts as one without an entry.
 fn ask_store<D: MaildirDisk, F: FlatFile, H: BuildHasher>(
     alloc: Global,
     store: &mut Store<D, F>,
     seen: &Seen<H>,
-    account: &AccountId,
+    terms: Terms<'_>,
     listing: &Listing,
 ) -> Result<Found, Fault>
     ensures kind { kind_of store.new ≡ kind_of store.old }
     ensures length { IfOk result (λ found. length found.held.items ≡ length listing.now) }
     ensures stays { is_sound D.MaildirDisk F.FlatFile store.new → is_sound D.MaildirDisk F.FlatFile store.old
-        × ((stores_of D.MaildirDisk F.FlatFile store.new).maildir.begun ≡ (stores_of D.MaildirDisk F.FlatFile store.old).maildir.begun)
+        × ((stores_of D.MaildirDisk F.FlatFile store.new).maildir.begun
+        ≡ (stores_of D.MaildirDisk F.FlatFile store.old).maildir.begun)
         × IfOk result (λ found. (found.held.items
-        ≡ flags_in (target_of store.old account.now) (stores_of D.MaildirDisk F.FlatFile store.new) listing.now)
+        ≡ flags_found terms.entry.settings.now.read_all (target_of store.old terms.entry.account.now) seen.now.rows
+        (stores_of D.MaildirDisk F.FlatFile store.new) listing.now)
         × AllNamed (stores_of D.MaildirDisk F.FlatFile store.new).maildir.files) }
     ensures finds { is_sound D.MaildirDisk F.FlatFile store.new → is_sound D.MaildirDisk F.FlatFile store.old
-        × AfterTakingIn (stores_of D.MaildirDisk F.FlatFile store.old) (λ left. FindsIn (target_of store.old account.now)
+        × AfterTakingIn (stores_of D.MaildirDisk F.FlatFile store.old)
+        (λ left. FindsIn terms.entry.settings.now.read_all (target_of store.old terms.entry.account.now)
         (record_state_in seen.now) left listing.now result (stores_of D.MaildirDisk F.FlatFile store.new)) }
     ensures lasts { is_sound D.MaildirDisk F.FlatFile store.new → is_sure F.FlatFile store.old
         → OnOk result (IsSafeStore F.FlatFile store.new) }
 {
     match store {
         Store::Maildir(disk) => Ok(Found {
-            held: find_held(alloc, disk, seen, account, listing)?,
+            held: find_held(alloc, disk, seen, terms, listing)?,
             stored: false,
         }),
         Store::Mboxrd(mbox) => ask_mbox(alloc, mbox, seen, listing),
@@ -223,17 +235,20 @@ fn take_in<F: FlatFile, H: BuildHasher>(
     requires lengths { length found.now.held.items ≡ length listing.now }
     requires stands { F.sound file.old → ReadAs (F.stored file.old).content seen.old }
     requires begun { F.sound file.old → is_new ≡ false → bytes_in (F.stored file.old).content ≢ [] }
-    ensures rows { OnOk result (seen.new.rows ≡ merged (closed_rows found.now.stored seen.old.rows seen.old.intent) listing.now
+    ensures rows { OnOk result
+        (seen.new.rows ≡ merged (closed_rows found.now.stored seen.old.rows seen.old.intent) listing.now
         found.now.held.items now) }
     ensures closed { OnOk result (seen.new.intent ≡ None) }
     ensures renewed { F.sound file.new → seen.old.stale ≡ true
         → OnOk result ((F.stored file.new).content ≡ Some (file_of seen.new.rows None)) }
     ensures merges { F.sound file.new → F.sound file.old
         × Merges (F.stored file.old) (record_state_in seen.old) (none_open
-        (merged (closed_rows found.now.stored seen.old.rows seen.old.intent) listing.now found.now.held.items now)) result
+        (merged (closed_rows found.now.stored seen.old.rows seen.old.intent) listing.now found.now.held.items now))
+        result
         (F.stored file.new) }
     ensures lasts { F.sound file.new → IsSafe F.FlatFile file.old → LeavesMerged F.FlatFile seen.old.rows
-        (merged (closed_rows found.now.stored seen.old.rows seen.old.intent) listing.now found.now.held.items now) file.old file.new
+        (merged (closed_rows found.now.stored seen.old.rows seen.old.intent) listing.now found.now.held.items now)
+        file.old file.new
         × OnOk result (IsSafe F.FlatFile file.new) }
 {
     seen.close(found.stored);
@@ -244,9 +259,8 @@ fn take_in<F: FlatFile, H: BuildHasher>(
     grow(file, &group)
 }
 
-/// The steps of the plan, if nothing that the store holds can change the record, its file or what
-/// is done: each listed id is recorded as delivered, nothing is to be fetched or deleted, and the
-/// file needs no change.
+/// The steps of the plan, if nothing that the store holds can change the record or what is done: each
+/// listed id is recorded as delivered, nothing is to be fetched or deleted, and no intent is open.
 fn idle_steps<H: BuildHasher>(
     alloc: Global,
     terms: Terms<'_>,
@@ -256,7 +270,7 @@ fn idle_steps<H: BuildHasher>(
     ensures { IfOk result (λ found. IfSome found (λ steps.
         IsIdle terms.entry.settings.now seen.now listing.now terms.entry.now steps.items)) }
 {
-    if terms.settings.read_all || seen.needs_rewrite() || seen.intent().is_some() {
+    if terms.settings.read_all || seen.intent().is_some() {
         return Ok(None);
     }
     if !seen.knows(listing) {
@@ -305,6 +319,40 @@ fn rest<D: MaildirDisk, F: FlatFile>(
     Ok(Ready { held, steps })
 }
 
+/// What is ready if nothing that the store holds can change what is done. The store is only checked, and
+/// the record is written anew if its file needs that.
+fn stay_idle<D: MaildirDisk, F: FlatFile, H: BuildHasher>(
+    work: &mut Work<D, F, H>,
+    terms: Terms<'_>,
+    listing: &Listing,
+    steps: Vec<Step>,
+) -> Result<Ready, Fault>
+    requires stands { F.sound work.old.ledger.file
+        → ReadAs (F.stored work.old.ledger.file).content work.old.ledger.seen }
+    requires idle { IsIdle terms.settings.now work.old.ledger.seen listing.now terms.now steps.items }
+    ensures store { KeepsBegun D.MaildirDisk F.FlatFile work.old work.new }
+    ensures steps { IfOk result (λ ready. ready.steps.items ≡ steps.items) }
+    ensures length { IfOk result (λ ready. length ready.held.items ≡ length listing.now) }
+    ensures seen { work.new.ledger.seen ≡ work.old.ledger.seen }
+    ensures steady { F.sound work.new.ledger.file → F.sound work.old.ledger.file
+        × OnOk result (Steady (F.stored work.new.ledger.file).content (none_open work.old.ledger.seen.rows)) }
+    ensures readies { is_sound D.MaildirDisk F.FlatFile work.new.store → F.sound work.new.ledger.file
+        → is_sound D.MaildirDisk F.FlatFile work.old.store × F.sound work.old.ledger.file
+        × ReadiesAndLasts D.MaildirDisk F.FlatFile (Unit {0}) work.old.ledger.file terms.entry.settings.now
+        (target_of work.old.store terms.entry.account.now) listing.now terms.entry.now
+        (stores_of D.MaildirDisk F.FlatFile work.old.store) result work.old.ledger.seen.rows work.new.store
+        work.new.ledger.file }
+{
+    known_listings_change_nothing();
+    let ready = rest(work.ledger.alloc, &mut work.store, listing, steps)?;
+    let Ledger { file, seen, .. } = &mut work.ledger;
+    if !seen.needs_rewrite() {
+        return Ok(ready);
+    }
+    save(file, seen)?;
+    Ok(ready)
+}
+
 /// Settles the open intent of the record that was read, merges the listing and what the store holds
 /// of it, saves the record if that changed it, and makes the plan.
 fn prepare_by_store<D: MaildirDisk, F: FlatFile, H: BuildHasher>(
@@ -313,31 +361,37 @@ fn prepare_by_store<D: MaildirDisk, F: FlatFile, H: BuildHasher>(
     listing: &Listing,
     is_new: bool,
 ) -> Result<Ready, Fault>
-    requires stands { F.sound work.old.ledger.file → ReadAs (F.stored work.old.ledger.file).content work.old.ledger.seen }
-    requires begun { F.sound work.old.ledger.file → is_new ≡ false → bytes_in (F.stored work.old.ledger.file).content ≢ [] }
+    requires stands { F.sound work.old.ledger.file
+        → ReadAs (F.stored work.old.ledger.file).content work.old.ledger.seen }
+    requires begun { F.sound work.old.ledger.file → is_new ≡ false
+        → bytes_in (F.stored work.old.ledger.file).content ≢ [] }
+    requires is_record { IsRecord work.old.ledger.seen.rows }
     ensures store { KeepsBegun D.MaildirDisk F.FlatFile work.old work.new }
-    ensures plans { IfOk result (λ ready. HasPlan terms.entry.settings.now listing.now terms.entry.now ready work.new.ledger.seen) }
-    ensures held { is_sound D.MaildirDisk F.FlatFile work.new.store → IfOk result (λ ready. (ready.held.items
-        ≡ flags_in (target_of work.old.store terms.entry.account.now) (stores_of D.MaildirDisk F.FlatFile work.new.store) listing.now)
+    ensures plans { IfOk result
+        (λ ready. HasPlan terms.entry.settings.now listing.now terms.entry.now ready work.new.ledger.seen) }
+    ensures held { is_sound D.MaildirDisk F.FlatFile work.new.store → IfOk result (λ ready.
+        AreAsHeld ready.steps.items listing.now ready.held.items
+        (flags_in (target_of work.old.store terms.entry.account.now)
+        (stores_of D.MaildirDisk F.FlatFile work.new.store) listing.now)
         × AllNamed (stores_of D.MaildirDisk F.FlatFile work.new.store).maildir.files) }
     ensures steady { F.sound work.new.ledger.file → F.sound work.old.ledger.file
         × OnOk result (Steady (F.stored work.new.ledger.file).content (none_open work.new.ledger.seen.rows)) }
     ensures readies { is_sound D.MaildirDisk F.FlatFile work.new.store → F.sound work.new.ledger.file
         → is_sound D.MaildirDisk F.FlatFile work.old.store × F.sound work.old.ledger.file
-        × AfterTakingIn (stores_of D.MaildirDisk F.FlatFile work.old.store) (λ left. ReadiesAndLasts D.MaildirDisk F.FlatFile
+        × AfterTakingIn (stores_of D.MaildirDisk F.FlatFile work.old.store)
+        (λ left. ReadiesAndLasts D.MaildirDisk F.FlatFile
         (is_sure F.FlatFile work.old.store × IsSafe F.FlatFile work.old.ledger.file) work.old.ledger.file
-        terms.entry.settings.now (target_of work.old.store terms.entry.account.now) listing.now terms.entry.now left result
+        terms.entry.settings.now (target_of work.old.store terms.entry.account.now) listing.now terms.entry.now
+        left result
         work.new.ledger.seen.rows work.new.store work.new.ledger.file) }
 {
     listed_has_row();
+    held_is_delivered();
+    marked_is_delivered();
+    merges_ask_only_for_new_ids();
+    plans_fetch_what_is_asked_for();
     let alloc = work.ledger.alloc;
-    let found = ask_store(
-        alloc,
-        &mut work.store,
-        &work.ledger.seen,
-        terms.account,
-        listing,
-    )?;
+    let found = ask_store(alloc, &mut work.store, &work.ledger.seen, terms, listing)?;
     let Ledger { file, seen, .. } = &mut work.ledger;
     take_in(file, seen, listing, &found, terms.now, is_new)?;
     let steps = plan(alloc, terms.settings, seen, listing, terms.now)?;
@@ -349,35 +403,41 @@ fn prepare_by_store<D: MaildirDisk, F: FlatFile, H: BuildHasher>(
 
 /// Reads the record, settles its open intent, merges the listing and what the store holds of it,
 /// saves the record if that changed it, and makes the plan. A store isn't asked what it holds if
-/// that can change nothing: then nothing is fetched, deleted, written or flushed.
+/// that can change nothing: then nothing is fetched or deleted, and nothing is written or flushed but a
+/// record that has to be written anew.
 pub fn prepare<D: MaildirDisk, F: FlatFile, H: BuildHasher>(
     work: &mut Work<D, F, H>,
     terms: Terms<'_>,
     listing: &Listing,
 ) -> Result<Ready, Fault>
     ensures store { KeepsBegun D.MaildirDisk F.FlatFile work.old work.new }
-    ensures plans { IfOk result (λ ready. HasPlan terms.entry.settings.now listing.now terms.entry.now ready work.new.ledger.seen) }
-    ensures held { is_sound D.MaildirDisk F.FlatFile work.new.store → IfOk result (λ ready. AreAsHeld ready.steps.items listing.now
+    ensures plans { IfOk result
+        (λ ready. HasPlan terms.entry.settings.now listing.now terms.entry.now ready work.new.ledger.seen) }
+    ensures held { is_sound D.MaildirDisk F.FlatFile work.new.store
+        → IfOk result (λ ready. AreAsHeld ready.steps.items listing.now
         ready.held.items
-        (flags_in (target_of work.old.store terms.entry.account.now) (stores_of D.MaildirDisk F.FlatFile work.new.store) listing.now)) }
-    ensures named { is_sound D.MaildirDisk F.FlatFile work.new.store → IfOk result (λ ready. All IsQuiet ready.steps.items
+        (flags_in (target_of work.old.store terms.entry.account.now)
+        (stores_of D.MaildirDisk F.FlatFile work.new.store) listing.now)) }
+    ensures named { is_sound D.MaildirDisk F.FlatFile work.new.store
+        → IfOk result (λ ready. All IsQuiet ready.steps.items
         ⊎ AllNamed (stores_of D.MaildirDisk F.FlatFile work.new.store).maildir.files) }
     ensures steady { F.sound work.new.ledger.file → F.sound work.old.ledger.file
         × OnOk result (Steady (F.stored work.new.ledger.file).content (none_open work.new.ledger.seen.rows)) }
     ensures readies { is_sound D.MaildirDisk F.FlatFile work.new.store → F.sound work.new.ledger.file
         → is_sound D.MaildirDisk F.FlatFile work.old.store × F.sound work.old.ledger.file
-        × AfterTakingIn (stores_of D.MaildirDisk F.FlatFile work.old.store) (λ left. ReadiesAndLasts D.MaildirDisk F.FlatFile
+        × AfterTakingIn (stores_of D.MaildirDisk F.FlatFile work.old.store)
+        (λ left. ReadiesAndLasts D.MaildirDisk F.FlatFile
         (AreSure F.FlatFile work.old.store work.old.ledger.file) work.old.ledger.file
-        terms.entry.settings.now (target_of work.old.store terms.entry.account.now) listing.now terms.entry.now left result
+        terms.entry.settings.now (target_of work.old.store terms.entry.account.now) listing.now terms.entry.now
+        left result
         work.new.ledger.seen.rows work.new.store work.new.ledger.file) }
 {
     delivered_has_row();
-    known_listings_change_nothing();
     let alloc = work.ledger.alloc;
     let Ledger { file, seen, .. } = &mut work.ledger;
     let is_new = read(alloc, file, seen)?;
     if let Some(steps) = idle_steps(alloc, terms, seen, listing)? {
-        return rest(alloc, &mut work.store, listing, steps);
+        return stay_idle(work, terms, listing, steps);
     }
     secure(file)?;
     prepare_by_store(work, terms, listing, is_new)

@@ -1,7 +1,8 @@
 //! Why messages are passed over: how a listener learns it, and a report that says it.
 ghost use Rattle.std.specs.Prelude.{◌≡◌, ◌-◌, ◌++◌, IfOk, length, option_map, slice_get};
 ghost use Rattle.std.specs.String.{string_bytes};
-ghost use Rattle.fetch_session.specs.Reasons.{explained_line, explained_report, fate_at, skip_text, skipped_text, told_report};
+ghost use Rattle.fetch_session.specs.Reasons.{explained_line, explained_report, fate_at, skip_text, skipped_text};
+ghost use Rattle.fetch_session.specs.Reasons.{told_report};
 
 use crate::listener::Listener;
 use crate::message_preview::{Fate, MessagePreview, message_previews};

@@ -6,7 +6,8 @@ ghost use Rattle.fetch_rules.specs.Record.{RecordState, Row, has_row, none_open,
 ghost use Rattle.fetch_rules.specs.RecordFile.{Two, file_of};
 ghost use Rattle.fetch_rules.specs.RecordMeaning.{Means, Rows};
 ghost use Rattle.fetch_rules.specs.RecordGrowth.{Grows};
-ghost use Rattle.fetch_session.specs.Record.{Writes, Saves, Steady, TakesBack, bytes_in, record_state_in, intent_at, with_open};
+ghost use Rattle.fetch_session.specs.Record.{Writes, Saves, Steady, TakesBack, bytes_in, record_state_in, intent_at};
+ghost use Rattle.fetch_session.specs.Record.{with_open};
 ghost use Rattle.fetch_session.specs.Lasting.{AreLeft, IsLeft, IsSafe, RowsStillLast, Leaves, LeavesLeft};
 ghost use Rattle.mail_store.specs.Power.{LeavesEither};
 
@@ -21,7 +22,8 @@ pub(crate) fn save<F: FlatFile, H: BuildHasher>(file: &mut F, seen: &Seen<H>) ->
     ensures stands { Means (file_of seen.now.rows seen.now.intent) (Rows Two seen.now.rows seen.now.intent false) }
     ensures saves { F.sound file.new → F.sound file.old
         × Writes (F.stored file.old) (record_state_in seen.now) result (F.stored file.new) }
-    ensures leaves { F.sound file.new → LeavesEither (F.may_leave file.old) (file_of seen.now.rows None) (F.may_leave file.new) }
+    ensures leaves { F.sound file.new
+        → LeavesEither (F.may_leave file.old) (file_of seen.now.rows None) (F.may_leave file.new) }
     ensures lasts { F.sound file.new → OnOk result (IsSafe F.FlatFile file.new) }
 {
     bytes_stand();
@@ -38,7 +40,8 @@ pub(crate) fn grow<F: FlatFile>(file: &mut F, group: &[u8]) -> Result<(), Fault>
     ensures keeps { F.sound file.new → ((rows : List Row) → RowsStillLast F.FlatFile rows file.old file.new) }
     ensures lasts { F.sound file.new → IsSafe F.FlatFile file.old → OnOk result (IsSafe F.FlatFile file.new) }
     ensures leaves { F.sound file.new → IsSafe F.FlatFile file.old
-        → ((was : RecordState) → Steady (F.stored file.old).content was → Leaves F.FlatFile file.new (IsLeft was group.now)
+        → ((was : RecordState) → Steady (F.stored file.old).content was
+        → Leaves F.FlatFile file.new (IsLeft was group.now)
         × LeavesLeft F.FlatFile was group.now file.old file.new) }
 {
     appended_counts();
@@ -70,10 +73,12 @@ pub(crate) fn intend<F: FlatFile, H: BuildHasher>(
     ensures steady { F.sound file.new → F.sound file.old
         × OnOk result (Steady (F.stored file.new).content (with_open seen.old.rows (intent_at uid.now start len))) }
     ensures saves { F.sound file.new → F.sound file.old
-        × Saves (F.stored file.old) (none_open seen.old.rows) (with_open seen.old.rows (intent_at uid.now start len)) result
+        × Saves (F.stored file.old) (none_open seen.old.rows)
+        (with_open seen.old.rows (intent_at uid.now start len)) result
         (F.stored file.new) }
     ensures keeps { F.sound file.new → ((rows : List Row) → RowsStillLast F.FlatFile rows file.old file.new)
-        × (IsSafe F.FlatFile file.old → ((others : List Row) → Leaves F.FlatFile file.new (AreLeft seen.old.rows others))) }
+        × (IsSafe F.FlatFile file.old
+        → ((others : List Row) → Leaves F.FlatFile file.new (AreLeft seen.old.rows others))) }
     ensures lasts { F.sound file.new → IsSafe F.FlatFile file.old → OnOk result (IsSafe F.FlatFile file.new) }
 {
     let line = seen.intend(uid, start, len)?;
@@ -92,7 +97,8 @@ pub(crate) fn take_back<F: FlatFile, H: BuildHasher>(
         × TakesBack (F.stored file.old) (record_state_in seen.old) result (F.stored file.new) }
     ensures keeps { F.sound file.new → RowsStillLast F.FlatFile seen.old.rows file.old file.new }
     ensures leaves { F.sound file.new → ((others : List Row)
-        → Leaves F.FlatFile file.old (AreLeft seen.old.rows others) → Leaves F.FlatFile file.new (AreLeft seen.old.rows others)) }
+        → Leaves F.FlatFile file.old (AreLeft seen.old.rows others)
+        → Leaves F.FlatFile file.new (AreLeft seen.old.rows others)) }
 {
     bytes_stand();
     seen.close(false);
@@ -111,12 +117,15 @@ pub(crate) fn remember<F: FlatFile, H: BuildHasher>(
     requires steady { F.sound file.old → Steady (F.stored file.old).content (record_state_in seen.old) }
     requires own { IsNoneOrOf uid.now seen.old.intent }
     ensures rows { OnOk result (seen.new.rows ≡ marked seen.old.rows uid.now) }
-    ensures steady { F.sound file.new → F.sound file.old × OnOk result (Steady (F.stored file.new).content (none_open seen.new.rows)) }
+    ensures steady { F.sound file.new
+        → F.sound file.old × OnOk result (Steady (F.stored file.new).content (none_open seen.new.rows)) }
     ensures closed { OnOk result (seen.new.intent ≡ None) }
     ensures saves { F.sound file.new → F.sound file.old
-        × Saves (F.stored file.old) (record_state_in seen.old) (none_open (marked seen.old.rows uid.now)) result (F.stored file.new) }
+        × Saves (F.stored file.old) (record_state_in seen.old) (none_open (marked seen.old.rows uid.now)) result
+        (F.stored file.new) }
     ensures keeps { F.sound file.new → ((rows : List Row) → RowsStillLast F.FlatFile rows file.old file.new)
-        × (IsSafe F.FlatFile file.old → Leaves F.FlatFile file.new (AreLeft seen.old.rows (marked seen.old.rows uid.now))) }
+        × (IsSafe F.FlatFile file.old
+        → Leaves F.FlatFile file.new (AreLeft seen.old.rows (marked seen.old.rows uid.now))) }
     ensures lasts { F.sound file.new → IsSafe F.FlatFile file.old → OnOk result (IsSafe F.FlatFile file.new) }
 {
     let group = seen.mark_rows(uid)?;

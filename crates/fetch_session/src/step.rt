@@ -134,8 +134,10 @@ fn do_step<W: Wire, D: MaildirDisk, F: FlatFile, H: BuildHasher>(
     step: Step,
     first: Task<'_>,
 ) -> Result<(), Cut>
-    requires { IsReadyFor D.MaildirDisk F.FlatFile account.now (task_of first ∷ deleting step.delete step.number) work.old }
-    ensures { RunsTasks W.Wire D.MaildirDisk F.FlatFile account.now (task_of first.entry ∷ deleting step.delete step.number)
+    requires { IsReadyFor D.MaildirDisk F.FlatFile account.now
+        (task_of first ∷ deleting step.delete step.number) work.old }
+    ensures { RunsTasks W.Wire D.MaildirDisk F.FlatFile account.now
+        (task_of first.entry ∷ deleting step.delete step.number)
         client.old work.old result client.new work.new }
 {
     turns_join();
@@ -174,7 +176,8 @@ pub fn do_steps<W: Wire, D: MaildirDisk, F: FlatFile, H: BuildHasher, L: Listene
     requires ready { IsReadyFor D.MaildirDisk F.FlatFile account.now
         (tasks_planned plan.steps.now plan.listing.now plan.held.now) work.old }
     ensures runs { RunsTasks W.Wire D.MaildirDisk F.FlatFile account.now
-        (tasks_planned plan.entry.steps.now plan.entry.listing.now plan.entry.held.now) client.old work.old result client.new work.new }
+        (tasks_planned plan.entry.steps.now plan.entry.listing.now plan.entry.held.now) client.old work.old result
+        client.new work.new }
     ensures heard { L.goes_on listener.old listener.new }
 {
     turns_join();

@@ -96,7 +96,8 @@ pub(crate) fn store_text<W: Wire, D: MaildirDisk>(
     requires open { body.spot ≢ Done }
     requires within { body.left ≤ text_limit }
     requires none_begun { D.sound disk.old → (D.maildir disk.old).begun ≡ None }
-    requires not_there { D.sound disk.old → (size : ℕ) → IsThere (D.maildir disk.old) (sized (string_bytes stem) size) → ⊥ }
+    requires not_there { D.sound disk.old → (size : ℕ)
+        → IsThere (D.maildir disk.old) (sized (string_bytes stem) size) → ⊥ }
     requires named { D.sound disk.old → AllNamed (D.maildir disk.old).files }
     ensures link { HasSameLink client.old client.new }
     ensures counted { RefusesTillCut (link_of W.Wire client.old) result (link_of W.Wire client.new) }
@@ -211,13 +212,17 @@ pub(crate) fn take_into_maildir<W: Wire, D: MaildirDisk, F: FlatFile, H: BuildHa
     ensures grows { D.sound disk.new → D.sound disk.old
         × MayGain (stem_of account.now uid.now) (D.maildir disk.old) (D.maildir disk.new)
         × OnOk result (AllNamed (D.maildir disk.new).files) }
-    ensures takes { WhereAllSound W.sound W.leads_to D.sound F.sound client.old.wire.now client.new.wire.now disk.old disk.new
+    ensures takes { WhereAllSound W.sound W.leads_to D.sound F.sound client.old.wire.now client.new.wire.now
+        disk.old disk.new
         ledger.old.file ledger.new.file (TakesTask (AsFiles account.now) (stores number uid.now)
-        (scene (place_of W.Wire client.old) (in_maildir (D.maildir disk.old)) (F.stored ledger.old.file) ledger.old.seen.rows
+        (scene (place_of W.Wire client.old) (in_maildir (D.maildir disk.old))
+        (F.stored ledger.old.file) ledger.old.seen.rows
         ledger.old.lines.items) result
-        (scene (place_of W.Wire client.new) (in_maildir (D.maildir disk.new)) (F.stored ledger.new.file) ledger.new.seen.rows
+        (scene (place_of W.Wire client.new) (in_maildir (D.maildir disk.new))
+        (F.stored ledger.new.file) ledger.new.seen.rows
         ledger.new.lines.items)) }
-    ensures keeps { F.sound ledger.new.file → ((rows : List Row) → RowsStillLast F.FlatFile rows ledger.old.file ledger.new.file) }
+    ensures keeps { F.sound ledger.new.file
+        → ((rows : List Row) → RowsStillLast F.FlatFile rows ledger.old.file ledger.new.file) }
     ensures lasts { D.sound disk.new → F.sound ledger.new.file → IsSafe F.FlatFile ledger.old.file
         → OnOk result (IsSafe F.FlatFile ledger.new.file)
         × OnErr result (Leaves F.FlatFile ledger.new.file (AreLeft ledger.old.seen.rows ledger.old.seen.rows)

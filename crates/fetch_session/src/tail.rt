@@ -66,7 +66,8 @@ fn drop_under_way<W: Wire>(
 pub fn leave<W: Wire>(client: &mut Client<'_, W>, cut: Cut)
     ensures link { HasSameLink client.old client.new }
     ensures counted { RefusesAtMostOne (link_of W.Wire client.old) (link_of W.Wire client.new) }
-    ensures silent { cut.rest ≡ None → tail cut.fault ≡ Tail.Nothing → RefusesNone (link_of W.Wire client.old) (link_of W.Wire client.new) }
+    ensures silent { cut.rest ≡ None → tail cut.fault ≡ Tail.Nothing
+        → RefusesNone (link_of W.Wire client.old) (link_of W.Wire client.new) }
     ensures leaves { WhereSound W.sound W.leads_to client.old.wire.now client.new.wire.now
         (Left cut (place_of W.Wire client.old) (place_of W.Wire client.new)) }
 {

@@ -1,8 +1,8 @@
 //! The text of a preview. It contains nothing of a password.
-ghost use Rattle.std.specs.Prelude.{◌≡◌, ◌++◌, IfOk, codes, if◌then◌else◌};
+ghost use Rattle.std.specs.Prelude.{◌≡◌, IfOk};
 ghost use Rattle.std.specs.String.{string_bytes};
 ghost use Rattle.fetch_session.specs.Telling.{counts, date_of, date_text, due_text, deleted_in, fate_text};
-ghost use Rattle.fetch_session.specs.Telling.{fetched_in, message_preview_text, notice, preview_text};
+ghost use Rattle.fetch_session.specs.Telling.{fetched_in, message_preview_text, preview_text};
 
 use crate::message_preview::{Fate, MessagePreview};
 use crate::preview::Preview;
@@ -129,17 +129,6 @@ fn counts(alloc: Global, preview: &Preview) -> Result<String, AllocError>
     format!(in alloc; "{fetched} of {total} messages would be fetched, {deleted} deleted\n")
 }
 
-/// What is said before the messages.
-fn notice(unsettled: bool) -> &'static str
-    ensures { result.now ≡ notice unsettled }
-{
-    if unsettled {
-        "the last entry of the mbox file is looked at first: if it is whole, its message is not fetched\n"
-    } else {
-        ""
-    }
-}
-
 /// What a run would do, each line ended by LF: whose mail it is, what would be done with each message, and
 /// counts. `verbose` has no effect.
 pub fn preview_text(
@@ -150,7 +139,6 @@ pub fn preview_text(
     ensures { IfOk result (λ text. string_bytes text ≡ preview_text preview.now settings.now) }
 {
     let mut text = heading(alloc, settings)?;
-    text.push_str(notice(preview.unsettled))?;
     for message_preview in &preview.message_previews {
         text.push_str(message_preview_text(alloc, preview.total, message_preview)?.as_str())?;
     }

@@ -1,6 +1,0 @@
-use Rattle.std.proofs.Common.{false, sym, ◌∙◌}
-use Rattle.std.proofs.lemmas.Simd.{splat_is_map}
-use Rattle.fetch_session.proofs.preview.none_held.Goals as goal
-
-pub returns-clause-held : goal.returns-clause-held
-returns-clause-held c = c.in_ok-held.ensures.items_if_clones_equal (λ y same. same) ∙ splat_is_map c.args.listing.now c.len.result false (sym c.len.ensures.count)
