@@ -16,15 +16,15 @@ use Rattle.fetch_session.specs.Account.{digits_of}
 use Rattle.fetch_session.specs.Record.{KeepsRows}
 use Rattle.mail_terms.specs.UniqueId.{has_id, is_legal_id}
 use Rattle.run_law.specs.Mails.{WorldsShrink, ids_of, selected, texts_of}
-use Rattle.run_law.specs.Accounts.{AccountMail, copies, without_flags}
+use Rattle.run_law.specs.Accounts.{AccountMail, copies, has_named, without_flags}
 use Rattle.run_law.specs.Runs.{WorldsShowMaildrops, SessionsKeepOrder, LikeStatesAreKept, WithdrawnLeaveKept, LossesLeaveKept, after_occasion, mail_of, plain, IsSound, World, State, IsLastStored as LastIn, Kept as IsKeptIn, KeptHoldsWhatIsLeft, StartsKept, NothingTakenHoldsExactly, Event, Fetched, Between, Expired, Withdrawn, TakenAway, BroughtBack, Forgotten, PowerLost, after_event, after_events, world_after, world_left}
-use Rattle.run_law.specs.Sessions.{SendsOnly, SessionsAreServed}
+use Rattle.run_law.specs.Sessions.{SendsOnly}
 use Rattle.run_law.specs.Events.{is_safe, state_with, Occasion as OccasionIn, IsSession as IsSessionIn, Fetched as FetchedIn}
 use Rattle.run_law.specs.Order.{StaysAway as StaysAwayIn}
 use Rattle.fetch_rules.specs.Wanted.{is_within}
 use Rattle.std.proofs.lemmas.List.Folds.{list_any-append}
 use Rattle.run_law.specs.Promises.{DeletesOneOf}
-use Rattle.fetch_runs.proofs.Lists.{all_append, all_ids_at, bytes_same, all_map, any_filter, either, is_some, same_rows}
+use Rattle.fetch_runs.proofs.Lists.{all_append, bytes_same, all_map, any_filter, either, is_some, same_rows}
 use Rattle.fetch_runs.specs.Steps.{holds, IsStep, SessionIsAStep}
 use Rattle.fetch_runs.specs.Headline.{Promises, SayTheSentence, TakesNoneAway, Occasion, maildrop_at, IsSession, Follows, IsLastStored, by_rows, HoldsAPrefix, IsHeldAfter, Promised, IsKept, Headline, EmptyIsKept, HeadlineFromEmpty, IsRun, contents_of, IsRecorded, IsWordForWord, LeaveAway, HeadlineWordForWord, StaysAway, LostRecordsAreForgotten, NewProcessesAreBetween, StopsAreRuns, after_session, AreTaken, TakingsAreEvents}
 use Rattle.fetch_runs.proofs.Talk.{begins_of}
@@ -85,8 +85,9 @@ none_of : {X : Type 0} (xs : List X) → is_some xs ≡ false → xs ≡ []
 none_of [] e = refl
 none_of (x ∷ xs) e = absurd (both_ways true e refl)
 
-then_held : (held held' taken : Bool) → (held ≡ true → held' ≡ true) → (held' || ((held || taken) && not held')) ≡ true → (held' ≡ true) ⊎ (taken ≡ true)
-then_held held held' taken stays e = grind (arith, stays, e)
+then_held : (held held' taken named : Bool) → (held ≡ true → held' ≡ true) → (held' || (((held || taken) && not held') || (taken && not named))) ≡ true
+    → (held' ≡ true) ⊎ (taken ≡ true)
+then_held held held' taken named stays e = grind (arith, stays, e)
 
 module _ (laws : Laws) (world : World) (state : State AccountFiles) (occasion : Occasion AccountFiles) (sound : IsSound world) (rows : List Row) (keeps : KeepsRows state.account.file.content rows)
     (is_kept : IsKeptIn world (by_rows rows state)) (is : IsSession world state occasion) where
@@ -127,7 +128,7 @@ module _ (laws : Laws) (world : World) (state : State AccountFiles) (occasion : 
     session_promised =
         let (promises, kept) = laws.sessions world (by_rows rows state) over_account occasion.come sound is_kept is_session is.settings.max_size refl in
         let held_after : (id : List ℕ) → is_safe (mail_of world) (state_with (mail_of world) (plain (by_rows rows state)) (holds s.rows' occasion.after.maildir)) id ≡ true → IsHeldAfter world state occasion id =
-        λ id safe. then_held (is_held world.account state.account.maildir id) (is_held world.account occasion.after.maildir id) (has_id state.taken id)
+        λ id safe. then_held (is_held world.account state.account.maildir id) (is_held world.account occasion.after.maildir id) (has_id state.taken id) (has_named world.account occasion.after.maildir id)
         (came_held (names_id world.account id) state.account.maildir.files occasion.after.maildir.files _ promises.added) safe in (
           (
             λ ended. either _ _ _ (all_map _ _ (λ m out. elim out [
@@ -165,19 +166,6 @@ module _ (laws : Laws) (world : World) (state : State AccountFiles) (occasion : 
                 let promises = (laws.sessions world (by_rows rows state) over_account occasion.come sound is_kept is_session is.settings.max_size refl).0 in
                 sym (held_is (stem_of world.account id) occasion.after.maildir.files)
                 ∙ came_held (λ n. bytes_eq (stem_of world.account id) (stem n)) state.account.maildir.files occasion.after.maildir.files _ promises.added held
-
--- what its QUIT removed is recorded
-pub vanished_recorded : SessionIsAStep → SessionsAreServed → OneRecord → (world : World) (state : State AccountFiles) (occasion : Occasion AccountFiles) → IsKept world state → IsSession world state occasion
-    → (id : List ℕ) → has_id occasion.vanished id ≡ true → IsRecorded occasion.after id
-vanished_recorded steps served one world state occasion (rows, keeps, kept) is id gone =
-    let step = steps occasion.settings (digits_of occasion.settings) occasion.now occasion.link state.account rows occasion.report occasion.link' occasion.after is.settings.valid keeps is.session in
-    let went = served occasion.settings (digits_of occasion.settings) (holds rows state.account.maildir) step.sent step.got step.effect (holds step.rows' occasion.after.maildir) (maildrop_at world.all state.gone occasion) occasion.vanished step.stepped
-    (is.served step.sent step.got step.sent_is step.got_is) in
-    let begun = all_ids_at (λ (x : List ℕ). has_id step.effect.begun x ≡ true) occasion.vanished id went.1 gone in
-    elim went.0 [
-      | inl left ↦ absurd (let never = rw left.begun at begun in cc)
-      | inr stored ↦ (step.rows', step.keeps, all_ids_at (λ (x : List ℕ). is_delivered step.rows' x ≡ true) step.effect.begun id stored.0.begun begun)
-    ]
 
 -- ---- what happens between sessions
 
@@ -396,20 +384,20 @@ others_left front other (f ∷ fs) apart =
 -- ---- what is left of an id's files
 
 -- one file fewer
-fewer_copies : (front : List ℕ) (a b : List File) (f : File)
+pub fewer_copies : (front : List ℕ) (a b : List File) (f : File)
     → (copies (a ++ b) front ≡ copies (a ++ f ∷ b) front) ⊎ (length (copies (a ++ b) front) < length (copies (a ++ f ∷ b) front))
 fewer_copies front [] b f = grind arith
 fewer_copies front (x ∷ a) b f = let fewer = fewer_copies front a b f in grind (arith, fewer)
 
 -- of which more may be durable
-reached_copies : (front : List ℕ) (fs left : List File) → AreReached fs left → copies left front ≡ copies fs front
+pub reached_copies : (front : List ℕ) (fs left : List File) → AreReached fs left → copies left front ≡ copies fs front
 reached_copies front [] [] are = refl
 reached_copies front [] (g ∷ left) never = absurd never
 reached_copies front (f ∷ fs) [] never = absurd never
 reached_copies front (f ∷ fs) (g ∷ left) (same, are) = let rest = reached_copies front fs left are in grind (arith, same.name, same.content, rest)
 
 -- all that an id's files held, or less
-part_copies : (front : List ℕ) (fs left : List File) → IsPart fs left → (copies left front ≡ copies fs front) ⊎ (length (copies left front) < length (copies fs front))
+pub part_copies : (front : List ℕ) (fs left : List File) → IsPart fs left → (copies left front ≡ copies fs front) ⊎ (length (copies left front) < length (copies fs front))
 part_copies front fs left ([], are) = inl (reached_copies front fs left are)
 part_copies front fs left (f ∷ gone, (a, b, are, is)) =
     let less = part_copies front (a ++ b) left (gone, is) in let fewer = fewer_copies front a b f in

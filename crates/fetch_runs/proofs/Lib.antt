@@ -1,9 +1,10 @@
 mod Bridge
 mod Calls
 mod HeadlineLemmas
+mod LeftRecords
+mod LegalRows
 mod Lists
-mod Power
-mod PowerSessions
+mod Losses
 mod StateDone
 mod StateLaw
 mod Talk

@@ -5,7 +5,9 @@ use Rattle.pop3_wire.specs.World.{Message}
 use Rattle.pop3_wire.specs.declared.wire.Wire.{Ghosts as WireGhosts}
 use Rattle.mail_store.specs.declared.maildir.disk.MaildirDisk.{Ghosts as DiskGhosts}
 use Rattle.mail_store.specs.declared.file.flat_file.FlatFile.{Ghosts as FileGhosts}
-use Rattle.mail_store.specs.FileName.{stem_of}
+use Rattle.mail_store.specs.FileName.{is_held, stem_of}
+use Rattle.std.specs.List.{AllByRecursion}
+use Rattle.mail_store.specs.Loss.{LosesPower}
 use Rattle.mail_store.specs.Maildir.{Maildir, WereTaken}
 use Rattle.mail_terms.specs.UniqueId.{is_legal_id}
 use Rattle.fetch_rules.specs.Record.{Intent}
@@ -19,9 +21,11 @@ use Rattle.fetch_session.specs.declared.report.Report.{Report}
 use Rattle.fetch_session.specs.Account.{Holding, IsSameAccount, digits_of}
 use Rattle.fetch_session.specs.Lasting.{RunsSession}
 use Rattle.run_law.specs.Accounts.{AccountMail, copies, files}
-use Rattle.run_law.specs.Events.{Mail, IsMaildrop, State, state_with, Occasion, IsSession, after_session, IsBetween}
-use Rattle.run_law.specs.Promises.{Kept, Promises}
+use Rattle.run_law.specs.Events.{Mail, IsMaildrop, State, is_safe, state_with, Occasion, IsSession, after_session}
+use Rattle.run_law.specs.Events.{IsBetween}
+use Rattle.run_law.specs.Promises.{Kept, Promises, ShowsNext}
 use Rattle.run_law.specs.Sessions.{Served}
+use Rattle.fetch_runs.specs.Losses.{IsCrashSafe, IsDurableFront, IsSure, KeepsDurable, KeepsFronts, LeavesDurably}
 
 -- ---- one call
 
@@ -48,16 +52,16 @@ WasMade link disk file now old wire report new wire' =
     IsValid old.settings × IsSameAccount old new × RunsSession link disk file now old wire report new wire'
 
 -- the account with these settings over these devices, whose store is of this kind
-abbrev pub holding : {D F S : Type 0} → (S → Store D F) → Settings → Devices S F → Holding D F
-holding In settings devices = record { settings = settings; store = In devices.store; file = devices.file }
+abbrev pub account_over : {D F S : Type 0} → (S → Store D F) → Settings → Devices S F → Holding D F
+account_over In settings devices = record { settings = settings; store = In devices.store; file = devices.file }
 
 -- a call was made with these devices, they do what their traits say, and all that the link gained came from an honest
 -- server with the call's maildrop
 pub record IsCall {W D F S : Type 0} (link : WireGhosts W) (disk : DiskGhosts D) (file : FileGhosts F)
     (In : S → Store D F) (is_sound : S → Type 0) (text_of : List ℕ → List ℕ) (devices : Devices S F) (call : Call W S F)
     : Type 0 where
-  pub made : WasMade link disk file call.now (holding In call.settings devices) call.wire call.report
-      (holding In call.settings call.after) call.wire'
+  pub made : WasMade link disk file call.now (account_over In call.settings devices) call.wire call.report
+      (account_over In call.settings call.after) call.wire'
   pub link_sound : link.sound call.wire'
   pub store_sound : is_sound call.after.store
   pub file_sound : file.sound call.after.file
@@ -90,43 +94,83 @@ pub record Shows {D F : Type 0} (disk : DiskGhosts D) (file : FileGhosts F) (dev
 abbrev pub with_left : Mail → State → Maildir → State
 with_left mail state left = state_with mail state (record state.account { maildir = left })
 
--- a law: once readers took some files away while it was under way, each call is a session
+-- a law: once readers took some files away while it was under way, each call is a session, which took none away, and
+-- what it shows is durable
 abbrev pub CallsAreSessions : {W D F : Type 0} → WireGhosts W → DiskGhosts D → FileGhosts F → Type 0
 CallsAreSessions {W} {D} {F} link disk file = (mail : Mail) (account : AccountMail) (devices : Devices D F)
     (call : Call W D F) → Shows disk file devices account → digits_of call.settings ≡ mail.account
-    → IsCall link disk file InMaildir disk.sound mail.text devices call → (left : Maildir) × WereTaken account.maildir left
+    → IsCall link disk file InMaildir disk.sound mail.text devices call
+    → (left : Maildir) × WereTaken account.maildir left
     × (occasion : Occasion AccountMail) × IsOccasion link call (Shows disk file call.after) occasion
     × IsSession mail (record account { maildir = left }) occasion
+    × (occasion.after.maildir.taken ≡ left.taken)
+    × LeavesDurably file mail.account devices.file call.after.file (record account { maildir = left }) occasion.after
 
--- readers were seen to take files away during the call, and over what they left it was a session that kept its promises
+-- readers were seen to take files away during the call, and none was besides; over what they left it was a session that
+-- kept its promises. If a loss of power could do no harm before it, none can after it
 pub record IsPromised {W D F : Type 0} (link : WireGhosts W) (disk : DiskGhosts D) (file : FileGhosts F) (mail : Mail)
-    (state : State) (call : Call W D F) : Type 0 where
+    (state : State) (devices : Devices D F) (call : Call W D F) : Type 0 where
   pub left : Maildir
   pub taken : WereTaken state.account.maildir left
   pub occasion : Occasion AccountMail
   pub is : IsOccasion link call (Shows disk file call.after) occasion
+  pub taken_is : occasion.after.maildir.taken ≡ left.taken
   pub promises : Promises mail (with_left mail state left) occasion
+  pub safe : IsSure file devices.file call.after.file → IsCrashSafe (file.may_leave devices.file) mail state
+      → IsCrashSafe (file.may_leave call.after.file) mail (after_session mail (with_left mail state left) occasion)
+  pub in_order : (all : List Message) → AllByRecursion (λ (m : Message). is_legal_id m.uid ≡ true) all
+      → (front : IsDurableFront mail state all) → ShowsNext occasion front.is.done front.is.rest
+      → IsDurableFront mail (after_session mail (with_left mail state left) occasion) all
+
+-- of the account's messages no other is held than such as were held or taken away
+abbrev pub HoldsNoMore : Mail → State → AccountMail → Type 0
+HoldsNoMore mail state after = (id : List ℕ) → is_legal_id id ≡ true
+    → is_held mail.account after.maildir id ≡ true → is_safe mail state id ≡ true
+
+-- a loss of power left this account, whose record can be read, and new devices over it; of what these hold all is
+-- durable
+pub record IsLeftByLoss {D F : Type 0} (disk : DiskGhosts D) (file : FileGhosts F) (from left : Devices D F)
+    (account : AccountMail) : Type 0 where
+  pub maildir : LosesPower (disk.maildir from.store) (disk.maildir left.store)
+  pub record_is : file.may_leave from.file (file.stored left.file).content
+  pub durable : (bytes : Option (List ℕ)) → file.may_leave left.file bytes → bytes ≡ (file.stored left.file).content
+  pub shows : Shows disk file left account
 
 -- ---- any list of calls
 
--- a call; or what others leave: these devices, which then show this account. Each call's maildrop tells of the server
+-- a call; or what others leave, or a loss of power: these devices, which then show this account. Each call's maildrop
+-- tells of the server
 pub data Happening (Call Devices Account : Type 0) : Type 0 where
   Called : Call → Happening Call Devices Account
   Others : Devices → Account → Happening Call Devices Account
+  PowerLost : Devices → Account → Happening Call Devices Account
 
--- the devices show a kept state; if the next of these happens, a call keeps its promises, and they do so after it
+-- the devices show a kept state; if the next of these happens, a call keeps its promises, and they do so after it. If
+-- a loss of power can do no harm, what it takes doesn't count as taken away: it is neither recorded then nor gone from
+-- the server, so that the next calls fetch it again
 abbrev pub ArePromised : {W D F : Type 0} → WireGhosts W → DiskGhosts D → FileGhosts F → Mail → State → Devices D F
     → List (Happening (Call W D F) (Devices D F) AccountMail) → Type 0
 ArePromised link disk file mail state devices [] = Shows disk file devices state.account × Kept mail state
 ArePromised link disk file mail state devices (Called call ∷ later) = Shows disk file devices state.account
     × Kept mail state × (digits_of call.settings ≡ mail.account → IsCall link disk file InMaildir disk.sound mail.text
-    devices call → (is : IsPromised link disk file mail state call)
+    devices call → (is : IsPromised link disk file mail state devices call)
     × ArePromised link disk file mail (after_session mail (with_left mail state is.left) is.occasion) call.after later)
 ArePromised link disk file mail state devices (Others left account ∷ later) = Shows disk file devices state.account
     × Kept mail state × (Shows disk file left account → IsBetween mail state.account account
-    → ArePromised link disk file mail (state_with mail state account) left later)
+    → (KeepsDurable file mail.account state.account devices.file left.file account
+    → IsCrashSafe (file.may_leave devices.file) mail state
+    → IsCrashSafe (file.may_leave left.file) mail (state_with mail state account))
+    × (KeepsDurable file mail.account state.account devices.file left.file account → HoldsNoMore mail state account
+    → KeepsFronts mail state (state_with mail state account))
+    × ArePromised link disk file mail (state_with mail state account) left later)
+ArePromised link disk file mail state devices (PowerLost left account ∷ later) = Shows disk file devices state.account
+    × Kept mail state × (IsCrashSafe (file.may_leave devices.file) mail state
+    → IsLeftByLoss disk file devices left account
+    → IsCrashSafe (file.may_leave left.file) mail (record state { account = account })
+    × KeepsFronts mail state (record state { account = account })
+    × ArePromised link disk file mail (record state { account = account }) left later)
 
--- the law: so it is of any list of calls and of what others leave, from a kept state on
+-- the law: so it is of any list of calls, of what others leave, and of losses of power, from a kept state on
 abbrev pub CallsKeepPromises : {W D F : Type 0} → WireGhosts W → DiskGhosts D → FileGhosts F → Type 0
 CallsKeepPromises {W} {D} {F} link disk file = (mail : Mail) (state : State) (devices : Devices D F)
     (list : List (Happening (Call W D F) (Devices D F) AccountMail)) → Shows disk file devices state.account
@@ -135,4 +179,5 @@ CallsKeepPromises {W} {D} {F} link disk file = (mail : Mail) (state : State) (de
 -- a law: a record without rows and a Maildir without files of the account are a kept state
 abbrev pub EmptyAccountsAreKept : Type 0
 EmptyAccountsAreKept = (mail : Mail) (state : State) → state.account.rows ≡ [] → state.gone ≡ []
-    → ((id : List ℕ) → is_legal_id id ≡ true → copies (files state.account) (stem_of mail.account id) ≡ []) → Kept mail state
+    → ((id : List ℕ) → is_legal_id id ≡ true → copies (files state.account) (stem_of mail.account id) ≡ [])
+    → Kept mail state

@@ -37,7 +37,8 @@ SentBehind begun tail sent = ((later : List ℕ) × (asking begun ≡ sent ++ la
 
 -- what a link gained: these turns were sent, and each was answered by its reply, whole and good; what was got
 -- begins with these replies; after them perhaps one turn was begun, and then the tail
-pub record Conversation (done : List Turn) (replies : List WholeReply) (begun tail : List Turn) (sent got : List ℕ) : Type 0 where
+pub record Conversation (done : List Turn) (replies : List WholeReply) (begun tail : List Turn)
+    (sent got : List ℕ) : Type 0 where
   pub good : AllZip IsGood done replies
   pub rest : List ℕ
   pub heard : got ≡ flat_map reply_bytes replies ++ rest
@@ -83,13 +84,15 @@ CountsTexts outcome done begun count = (retrieved_by done ≡ count)
 
 -- a session that didn't get past its opening
 pub record Opens (settings : Settings) (report : Report) (sent got : List ℕ) : Type 0 where
-  pub said : Converses (opening (string_bytes settings.username) (string_bytes settings.password)) (tail_behind report.outcome) sent got
+  pub said : Converses (opening (string_bytes settings.username) (string_bytes settings.password))
+      (tail_behind report.outcome) sent got
   pub commands : List Command
   pub asked : Asked commands sent
   pub front : IsFrontOfPlan (string_bytes settings.username) (string_bytes settings.password) [] commands
 
 -- the rows are those that the record's file stood for, with the listing and what was found held merged into them
-pub record AreFound (account : List ℕ) (now : ℕ) (maildir : Maildir) (file : Stored) (items : List Item) (rows : List Row) : Type 0 where
+pub record AreFound (account : List ℕ) (now : ℕ) (maildir : Maildir) (file : Stored) (items : List Item)
+    (rows : List Row) : Type 0 where
   pub was : List Row
   pub stood : KeepsRows file.content was
   pub merged_is : rows ≡ merged was items (flags_of account maildir items) now
@@ -107,7 +110,8 @@ pub record SpeaksByPlan (settings : Settings) (account : List ℕ) (now : ℕ) (
       ⊎ ((said.done ≡ opening (string_bytes settings.username) (string_bytes settings.password)) × (said.begun ≡ []))
   pub commands : List Command
   pub asked : Asked commands sent
-  pub front : IsFrontOfPlan (string_bytes settings.username) (string_bytes settings.password) (planned settings rows items now) commands
+  pub front : IsFrontOfPlan (string_bytes settings.username) (string_bytes settings.password)
+      (planned settings rows items now) commands
   pub listed : (hello user pass stat uidl list : WholeReply) × (more : List WholeReply)
       × (said.replies ≡ hello ∷ user ∷ pass ∷ stat ∷ uidl ∷ list ∷ more) × IsListed stat uidl list items
   pub counts : CountsTexts report.outcome said.done said.begun report.retrieved

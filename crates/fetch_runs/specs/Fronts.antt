@@ -44,8 +44,8 @@ UncutSessionsDoTasks = (settings : Settings) (account : List ℕ) (now : ℕ) (l
     → Session settings account now link before report link' after → report.outcome ≡ Ended
     → Uncut settings account now link before link' after
 
--- these tasks were done, and the next one, which sends a line, wasn't begun: their files came, and the record's file shows
--- their ids as delivered
+-- these tasks were done, and the next one, which sends a line, wasn't begun: their files came, and the record's file
+-- shows their ids as delivered
 pub record IsLeftBetween (account : List ℕ) (before : AccountFiles) (ready : Scene) (front : List Done) (next : Done)
     (left : AccountFiles) : Type 0 where
   pub turn : Turn
@@ -63,7 +63,8 @@ pub record IsLeftWithin (account : List ℕ) (before : AccountFiles) (ready : Sc
   pub file : Steady left.file.content (none_open (marked_all ready.rows (ids_of front)))
 
 -- a session that was cut, and that sent and got only a prefix of what this one did, left these files
-pub record IsCutThere (settings : Settings) (account : List ℕ) (now : ℕ) (link : Link) (before : AccountFiles) (link' : Link)
+pub record IsCutThere (settings : Settings) (account : List ℕ) (now : ℕ) (link : Link) (before : AccountFiles)
+    (link' : Link)
     (items : List Item) (ready : Scene) (left : AccountFiles) : Type 0 where
   pub fault : Fault
   pub lines : List ReportLine
@@ -72,22 +73,26 @@ pub record IsCutThere (settings : Settings) (account : List ℕ) (now : ℕ) (li
   pub files : HasTheSameFiles after left
   pub sent : (later : List ℕ) × (link'.sent ≡ cut.sent ++ later)
   pub got : (later : List ℕ) × (link'.got ≡ cut.got ++ later)
-  pub session : (report : Report) → Reports (WasCut fault) (length items) (skips_planned settings ready.rows items now) lines report
+  pub session : (report : Report)
+      → Reports (WasCut fault) (length items) (skips_planned settings ready.rows items now) lines report
       → Session settings account now link before report cut after
 
 -- the session, cut there, with this report
 abbrev pub cut_at : Occasion AccountFiles → Link → AccountFiles → Report → Occasion AccountFiles
 cut_at occasion link after report = record occasion { report = report; link' = link; after = after; vanished = [] }
 
--- a law: at each such point of an uncut session of a run, a session was cut there and left what is there. It is one of the
--- run, too, whatever the report that tells of it
+-- a law: at each such point of an uncut session of a run, a session was cut there and left what is there. It is one of
+-- the run, too, whatever the report that tells of it
 abbrev pub FrontsAreSessions : Type 0
-FrontsAreSessions = (world : World) (state : State AccountFiles) (occasion : Occasion AccountFiles) → IsSession world state occasion
-    → (uncut : Uncut occasion.settings (digits_of occasion.settings) occasion.now occasion.link state.account occasion.link' occasion.after)
+FrontsAreSessions = (world : World) (state : State AccountFiles) (occasion : Occasion AccountFiles)
+    → IsSession world state occasion
+    → (uncut : Uncut occasion.settings (digits_of occasion.settings) occasion.now occasion.link state.account
+    occasion.link' occasion.after)
     → (front back : List Done) (next : Done) (left : AccountFiles) → uncut.dones ≡ front ++ next ∷ back
     → IsLeftBetween (digits_of occasion.settings) state.account uncut.ready front next left
     ⊎ IsLeftWithin (digits_of occasion.settings) state.account uncut.ready front next left
-    → (there : IsCutThere occasion.settings (digits_of occasion.settings) occasion.now occasion.link state.account occasion.link'
+    → (there : IsCutThere occasion.settings (digits_of occasion.settings) occasion.now occasion.link state.account
+    occasion.link'
     uncut.items uncut.ready left)
     × ((report : Report) → Reports (WasCut there.fault) (length uncut.items)
     (skips_planned occasion.settings uncut.ready.rows uncut.items occasion.now) there.lines report

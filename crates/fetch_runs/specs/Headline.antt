@@ -20,16 +20,18 @@ use Rattle.fetch_session.specs.declared.report.Outcome.TheVariants.{Ended}
 use Rattle.fetch_session.specs.declared.report.Report.{Report}
 use Rattle.run_law.specs.Mails.{is_selected, messages_after, selected, texts_of}
 use Rattle.run_law.specs.Accounts.{AccountMail, KeepsOthers, copies, files, without_flags}
-use Rattle.run_law.specs.Runs.{World, IsSound, State, IsHeldOrTaken, IsNeither, Kept as IsKeptIn, HoldsExactly, HoldsWhatIsLeft}
+use Rattle.run_law.specs.Runs.{World, IsSound, State, IsHeldOrTaken, IsNeither, Kept as IsKeptIn, HoldsExactly}
+use Rattle.run_law.specs.Runs.{HoldsWhatIsLeft}
 use Rattle.run_law.specs.Promises.{DeletesOneOf}
-use Rattle.run_law.specs.Runs.{Event, Fetched, Between, Expired, Withdrawn, TakenAway, BroughtBack, Forgotten, PowerLost}
+use Rattle.run_law.specs.Runs.{Event, Fetched, Between, Expired, Withdrawn, TakenAway, BroughtBack, Forgotten}
+use Rattle.run_law.specs.Runs.{PowerLost}
 use Rattle.run_law.specs.Runs.{after_event, after_events, world_after, world_left}
 use Rattle.run_law.specs.Sessions.{SendsOnly, Served}
 use Rattle.fetch_runs.specs.Steps.{holds}
 
--- A `World` is whose mail it is, by the digits in the names of the account's files; the limit on sizes; and all mail that ever comes, in
--- order of arrival, without what was withdrawn. It is sound (`IsSound`) if these digits can be an account's, unique-ids are legal and
--- distinct, and texts are whole.
+-- A `World` is whose mail it is, by the digits in the names of the account's files; the limit on sizes; and all mail
+-- that ever comes, in order of arrival, without what was withdrawn. It is sound (`IsSound`) if these digits can be an
+-- account's, unique-ids are legal and distinct, and texts are whole.
 
 -- settings that an rc file can give, for this account and with this limit on sizes; the others are a session's own
 pub record AreSettings (world : World) (settings : Settings) : Type 0 where
@@ -62,7 +64,8 @@ pub record IsSession (world : World) (state : State AccountFiles) (occasion : Oc
   pub settings : AreSettings world occasion.settings
   pub session : Session occasion.settings (digits_of occasion.settings) occasion.now occasion.link state.account
       occasion.report occasion.link' occasion.after
-  pub served : (sent got : List ℕ) → occasion.link'.sent ≡ occasion.link.sent ++ sent → occasion.link'.got ≡ occasion.link.got ++ got
+  pub served : (sent got : List ℕ) → occasion.link'.sent ≡ occasion.link.sent ++ sent
+      → occasion.link'.got ≡ occasion.link.got ++ got
       → Served (maildrop_at world.all state.gone occasion) sent got occasion.vanished
 
 -- the record's file still stands for the rows that it stood for
@@ -89,7 +92,8 @@ pub record IsTakenAway (world : World) (before : AccountFiles) (id : List ℕ) (
       → contents_of world after other ≡ contents_of world before other
 
 -- it was taken away, and one file holds its text again; all else of the account is as it was
-pub record IsBroughtBack (world : World) (state : State AccountFiles) (id : List ℕ) (after : AccountFiles) : Type 0 where
+pub record IsBroughtBack (world : World) (state : State AccountFiles) (id : List ℕ)
+    (after : AccountFiles) : Type 0 where
   pub legal : is_legal_id id ≡ true
   pub taken : has_id state.taken id ≡ true
   pub text : contents_of world after id ≡ texts_of world.all id
@@ -112,12 +116,13 @@ pub record IsForgotten (world : World) (before after : AccountFiles) : Type 0 wh
 abbrev pub IsRecorded : AccountFiles → List ℕ → Type 0
 IsRecorded state id = (rows : List Row) × KeepsRows state.file.content rows × (is_delivered rows id ≡ true)
 
--- the record doesn't show the message, the server still has it, and no later one of the selected messages is held or was
--- taken away: a text and its name are flushed before its row is written, and before the next one is stored
+-- the record doesn't show the message, the server still has it, and no later one of the selected messages is held or
+-- was taken away: a text and its name are flushed before its row is written, and before the next one is stored
 pub record IsLastStored (world : World) (state : State AccountFiles) (id : List ℕ) : Type 0 where
   pub unrecorded : IsRecorded state.account id → ⊥
   pub on_server : has_id state.gone id ≡ false
-  pub last : AllByRecursion (λ (message : Message). IsNeither world.account state.account.maildir state.taken message.uid)
+  pub last : AllByRecursion
+      (λ (message : Message). IsNeither world.account state.account.maildir state.taken message.uid)
       (messages_after id (selected world.max_size world.all))
 
 -- the record's file stands for rows of which each that is delivered was so before, or is held or was taken away
@@ -126,8 +131,8 @@ ShowsWhatIsLeft world state after rows = (now : List Row) × KeepsRows after.fil
     × ((id : List ℕ) → is_delivered now id ≡ true
     → (is_delivered rows id ≡ true) ⊎ IsHeldOrTaken world.account after.maildir state.taken id)
 
--- power is lost. For each legal id the files hold what they held; or there is none, and the message was taken away before
--- and stored again, or is the last that was stored
+-- power is lost. For each legal id the files hold what they held; or there is none, and the message was taken away
+-- before and stored again, or is the last that was stored
 pub record IsPowerLost (world : World) (state : State AccountFiles) (after : AccountFiles) : Type 0 where
   pub record_is : (rows : List Row) → KeepsRows state.account.file.content rows → ShowsWhatIsLeft world state after rows
   pub mail : (id : List ℕ) → is_legal_id id ≡ true → (contents_of world after id ≡ contents_of world state.account id)
@@ -166,31 +171,37 @@ HoldsAPrefix world state = HoldsWhatIsLeft world (by_rows [] state)
 
 -- a message is held when a session returns, or was taken away before it began
 abbrev pub IsHeldAfter : World → State AccountFiles → Occasion AccountFiles → List ℕ → Type 0
-IsHeldAfter world state occasion id = (is_held world.account occasion.after.maildir id ≡ true) ⊎ (has_id state.taken id ≡ true)
+IsHeldAfter world state occasion id = (is_held world.account occasion.after.maildir id ≡ true)
+    ⊎ (has_id state.taken id ≡ true)
 
 -- a session retrieved as many texts as the limit on their number says; 0 is no limit
 abbrev pub IsFull : {Account : Type 0} → Occasion Account → Type 0
 IsFull occasion = (0 < occasion.settings.max_count) × (occasion.report.retrieved ≡ occasion.settings.max_count)
 
--- after an uncut session that isn't full each message of the maildrop is held, or was taken away, or is larger than the limit
+-- after an uncut session that isn't full each message of the maildrop is held, or was taken away, or is larger than the
+-- limit
 abbrev pub LeavesOutOnlyBeyondLimits : World → State AccountFiles → Occasion AccountFiles → Type 0
 LeavesOutOnlyBeyondLimits world state occasion = occasion.report.outcome ≡ Ended → IsFull occasion
-    ⊎ AllByRecursion (λ (message : Message). IsHeldAfter world state occasion message.uid ⊎ (is_selected world.max_size message ≡ false))
+    ⊎ AllByRecursion (λ (message : Message). IsHeldAfter world state occasion message.uid
+    ⊎ (is_selected world.max_size message ≡ false))
     (maildrop_at world.all state.gone occasion)
 
 -- each DELE that a session sent, the last perhaps in part, is for such a message
-pub record DeletesOnly {Account : Type 0} (occasion : Occasion Account) (maildrop : List Message) (Is : List ℕ → Type 0) : Type 0 where
+pub record DeletesOnly {Account : Type 0} (occasion : Occasion Account) (maildrop : List Message) (Is : List ℕ
+    → Type 0) : Type 0 where
   pub sent : List ℕ
   pub sent_is : occasion.link'.sent ≡ occasion.link.sent ++ sent
   pub sends : SendsOnly (DeletesOneOf maildrop Is) sent
 
 -- each DELE is for a message that is held when the session returns, or was taken away before it began
 abbrev pub DeletesOnlyHeld : World → State AccountFiles → Occasion AccountFiles → Type 0
-DeletesOnlyHeld world state occasion = DeletesOnly occasion (maildrop_at world.all state.gone occasion) (IsHeldAfter world state occasion)
+DeletesOnlyHeld world state occasion = DeletesOnly occasion (maildrop_at world.all state.gone occasion)
+    (IsHeldAfter world state occasion)
 
 -- files of other names stay
 abbrev pub OthersStay : World → State AccountFiles → State AccountFiles → Type 0
-OthersStay world before after = KeepsOthers world.account (holds [] before.account.maildir) (holds [] after.account.maildir)
+OthersStay world before after = KeepsOthers world.account (holds [] before.account.maildir)
+    (holds [] after.account.maildir)
 
 -- every file of `new` and `cur` is there as before, in whichever folder and with whatever marks, and what
 -- was added comes after them: so a session loses none
@@ -227,7 +238,8 @@ IsKept world state = (rows : List Row) × KeepsRows state.account.file.content r
 
 -- the sentence: from a kept state, over any list of sessions and of what happens between them
 abbrev pub Headline : Type 0
-Headline = (world : World) (start : State AccountFiles) (events : List (Event Occasion AccountFiles)) → IsSound world → IsKept world start
+Headline = (world : World) (start : State AccountFiles) (events : List (Event Occasion AccountFiles)) → IsSound world
+    → IsKept world start
     → IsRun world start events
     → Promises world start events × IsKept (world_left world events) (after_events after_session start events)
 
@@ -249,10 +261,12 @@ pub record AreTaken (world : World) (state : State AccountFiles) (left : Maildir
   pub gone : (after_events after_session state events).gone ≡ state.gone
 
 -- whichever files are taken away in a kept state, there are such events. What is taken away during a session is taken
--- away before the names are told, and so before the session; or after that, and so after the session, which sees none of it
+-- away before the names are told, and so before the session; or after that, and so after the session, which sees none
+-- of it
 abbrev pub TakingsAreEvents : Type 0
 TakingsAreEvents = (world : World) (state : State AccountFiles) (left : Maildir) → IsSound world → IsKept world state
-    → WereTaken state.account.maildir left → (events : List (Event Occasion AccountFiles)) × AreTaken world state left events
+    → WereTaken state.account.maildir left → (events : List (Event Occasion AccountFiles))
+    × AreTaken world state left events
 
 -- ---- from the first session on
 
@@ -270,7 +284,8 @@ EmptyIsKept = (world : World) (start : State AccountFiles) → IsEmpty world sta
 
 -- so the sentence holds from the first session on
 abbrev pub HeadlineFromEmpty : Type 0
-HeadlineFromEmpty = (world : World) (start : State AccountFiles) (events : List (Event Occasion AccountFiles)) → IsSound world
+HeadlineFromEmpty = (world : World) (start : State AccountFiles) (events : List (Event Occasion AccountFiles))
+    → IsSound world
     → IsEmpty world start → IsRun world start events → Promises world start events
 
 -- ---- if nothing is taken away or withdrawn
@@ -290,7 +305,8 @@ pub record IsWordForWord (world : World) (state : State AccountFiles) (occasion 
   pub left_out : occasion.report.outcome ≡ Ended → IsFull occasion ⊎ AllByRecursion (λ (message : Message).
       (is_held world.account occasion.after.maildir message.uid ≡ true) ⊎ (is_selected world.max_size message ≡ false))
       (maildrop_at world.all state.gone occasion)
-  pub deletes : DeletesOnly occasion (maildrop_at world.all state.gone occasion) (λ id. is_held world.account occasion.after.maildir id ≡ true)
+  pub deletes : DeletesOnly occasion (maildrop_at world.all state.gone occasion)
+      (λ id. is_held world.account occasion.after.maildir id ≡ true)
 
 abbrev pub SaysTheSentence : World → State AccountFiles → Event Occasion AccountFiles → Type 0
 SaysTheSentence world state (Fetched occasion) = IsWordForWord world state occasion
@@ -303,7 +319,8 @@ SayTheSentence world state (event ∷ events) = HoldsExactlyAPrefix world state
 
 -- then the sentence holds word for word
 abbrev pub HeadlineWordForWord : Type 0
-HeadlineWordForWord = (world : World) (start : State AccountFiles) (events : List (Event Occasion AccountFiles)) → IsSound world
+HeadlineWordForWord = (world : World) (start : State AccountFiles) (events : List (Event Occasion AccountFiles))
+    → IsSound world
     → IsKept world start → IsRun world start events
     → start.taken ≡ [] → TakesNoneAway events → SayTheSentence world start events
 
@@ -321,9 +338,11 @@ LeaveAway id (_ ∷ events) = LeaveAway id events
 
 -- then a message that is recorded as delivered and isn't held is never stored again
 abbrev pub StaysAway : Type 0
-StaysAway = (world : World) (start : State AccountFiles) (events : List (Event Occasion AccountFiles)) (id : List ℕ) → IsSound world
+StaysAway = (world : World) (start : State AccountFiles) (events : List (Event Occasion AccountFiles)) (id : List ℕ)
+    → IsSound world
     → IsKept world start → IsRun world start events
-    → LeaveAway id events → is_legal_id id ≡ true → IsRecorded start.account id → contents_of world start.account id ≡ []
+    → LeaveAway id events → is_legal_id id ≡ true → IsRecorded start.account id
+    → contents_of world start.account id ≡ []
     → contents_of world (after_events after_session start events).account id ≡ []
 
 -- ---- a record that is lost
@@ -335,7 +354,8 @@ pub record HasLostRecord (before after : AccountFiles) : Type 0 where
 
 -- that is such an event
 abbrev pub LostRecordsAreForgotten : Type 0
-LostRecordsAreForgotten = (world : World) (before after : AccountFiles) → HasLostRecord before after → IsForgotten world before after
+LostRecordsAreForgotten = (world : World) (before after : AccountFiles) → HasLostRecord before after
+    → IsForgotten world before after
 
 -- ---- a program that starts anew, and one that is stopped
 
@@ -347,11 +367,13 @@ pub record HasTheSameFiles (before after : AccountFiles) : Type 0 where
 -- a new process, whose counts begin at 0 and which has begun no file, and folders that were made are changes
 -- between two sessions
 abbrev pub NewProcessesAreBetween : Type 0
-NewProcessesAreBetween = (world : World) (before after : AccountFiles) → HasTheSameFiles before after → IsBetween world before after
+NewProcessesAreBetween = (world : World) (before after : AccountFiles) → HasTheSameFiles before after
+    → IsBetween world before after
 
 -- a program was stopped in a session: the files are as that session leaves them if every call is refused from
 -- that moment on, the first of them with or without effect. That is a session that was cut
-pub record IsStopped {Account : Type 0} (Happened : Type 0) (AreSame : Account → Account → Type 0) (occasion : Occasion Account)
+pub record IsStopped {Account : Type 0} (Happened : Type 0) (AreSame : Account → Account → Type 0)
+    (occasion : Occasion Account)
     (left : Account) : Type 0 where
   pub session : Happened
   pub cut : occasion.report.outcome ≢ Ended

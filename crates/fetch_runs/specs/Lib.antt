@@ -2,6 +2,6 @@ pub mod Calls
 pub mod Conversations
 pub mod Fronts
 pub mod Headline
+pub mod Losses
 pub mod MboxCalls
-pub mod Power
 pub mod Steps

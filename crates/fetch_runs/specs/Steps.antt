@@ -1,4 +1,5 @@
--- A session of the code, as the law over runs takes it, and what holds of one session, whatever its server says or if it is honest.
+-- A session of the code, as the law over runs takes it, and what holds of one session, whatever its server says or if
+-- it is honest.
 use Rattle.std.specs.Prelude.{◌≡◌, ◌↔◌, ◌⊎◌, ◌+◌, ℕ, true, false, List, [], ◌∷◌, ◌++◌, map, length, Some, Bool}
 use Rattle.pop3_wire.specs.declared.command.Command.{Command}
 use Rattle.pop3_wire.specs.declared.command.Command.TheVariants.{User, Pass, Stat, UidlAll, ListAll}
@@ -79,14 +80,16 @@ pub record IsStep (settings : Settings) (account : List ℕ) (now : ℕ) (link :
   pub keeps : KeepsRows after.file.content rows'
   pub stepped : Stepped settings account (holds rows before.maildir) sent got effect (holds rows' after.maildir)
   pub left : (Leaves (holds rows before.maildir) effect (holds rows' after.maildir) × (report.retrieved ≡ 0))
-      ⊎ IsCounted settings account (holds rows before.maildir) effect (holds rows' after.maildir) report stepped.sends.commands
+      ⊎ IsCounted settings account (holds rows before.maildir) effect
+      (holds rows' after.maildir) report stepped.sends.commands
       stepped.sends.asked.part
 
 -- a law: if the record's file stood for these rows, a session is a step
 abbrev pub SessionIsAStep : Type 0
 SessionIsAStep = (settings : Settings) (account : List ℕ) (now : ℕ) (link : Link) (before : AccountFiles)
     (rows : List Row) (report : Report) (link' : Link) (after : AccountFiles)
-    → IsValid settings → KeepsRows before.file.content rows → Session settings account now link before report link' after
+    → IsValid settings → KeepsRows before.file.content rows
+    → Session settings account now link before report link' after
     → IsStep settings account now link before rows report link' after
 
 -- a law: if the record's file stood for these rows, a session is a step that loses and changes no file of
@@ -95,7 +98,8 @@ SessionIsAStep = (settings : Settings) (account : List ℕ) (now : ℕ) (link : 
 abbrev pub AnyServer : Type 0
 AnyServer = (settings : Settings) (account : List ℕ) (now : ℕ) (link : Link) (before : AccountFiles)
     (rows : List Row) (report : Report) (link' : Link) (after : AccountFiles)
-    → IsValid settings → KeepsRows before.file.content rows → Session settings account now link before report link' after
+    → IsValid settings → KeepsRows before.file.content rows
+    → Session settings account now link before report link' after
     → (step : IsStep settings account now link before rows report link' after)
     × IsSafeSession settings account (holds rows before.maildir) step.sent step.effect (holds step.rows' after.maildir)
 
@@ -106,7 +110,8 @@ abbrev pub HonestSessions : Type 0
 HonestSessions = (settings : Settings) (account : List ℕ) (now : ℕ) (link : Link) (before : AccountFiles)
     (rows : List Row) (report : Report) (link' : Link) (after : AccountFiles)
     (drop : List Message) (marks : List Bool)
-    → IsValid settings → KeepsRows before.file.content rows → Session settings account now link before report link' after
+    → IsValid settings → KeepsRows before.file.content rows
+    → Session settings account now link before report link' after
     → ((sent got : List ℕ) → link'.sent ≡ link.sent ++ sent → link'.got ≡ link.got ++ got → Honest drop sent got marks)
     → (step : IsStep settings account now link before rows report link' after)
     × (Leaves (holds rows before.maildir) step.effect (holds step.rows' after.maildir)
@@ -116,18 +121,24 @@ HonestSessions = (settings : Settings) (account : List ℕ) (now : ℕ) (link : 
 
 -- an account with this record and this mboxrd file; a missing file has no bytes
 abbrev pub mbox_holds : RecordState → Stored → MboxMail
-mbox_holds record_state mbox = record { rows = record_state.rows; intent = record_state.intent; file = mail_in mbox.content }
+mbox_holds record_state mbox = record {
+  rows = record_state.rows;
+  intent = record_state.intent;
+  file = mail_in mbox.content;
+}
 
 -- the account as it was left, by how many texts the report counts and how many of these are recorded: one fewer
 -- only if the record wasn't saved
-pub record IsMboxCounted (settings : Settings) (before : MboxMail) (effect : Effect) (after : MboxMail) (report : Report) : Type 0 where
+pub record IsMboxCounted (settings : Settings) (before : MboxMail) (effect : Effect) (after : MboxMail)
+    (report : Report) : Type 0 where
   pub figures : MboxCounted settings before effect after
   pub retrieved_is : report.retrieved ≡ figures.k
   pub one_less : figures.j + 1 ≡ figures.k → (report.outcome ≡ Cut SeenRefused) ⊎ (report.outcome ≡ Cut NoMemory)
 
 -- what the link gained, what was done to the account, and the record that its file stands for afterwards: the
 -- account is as it was, or settled; or it was settled, the listing merged, and texts appended and recorded
-pub record IsMboxStep (settings : Settings) (now : ℕ) (link : Link) (before : MboxAccountFiles) (record_state : RecordState)
+pub record IsMboxStep (settings : Settings) (now : ℕ) (link : Link) (before : MboxAccountFiles)
+    (record_state : RecordState)
     (report : Report) (link' : Link) (after : MboxAccountFiles) : Type 0 where
   pub sent : List ℕ
   pub got : List ℕ
@@ -138,15 +149,19 @@ pub record IsMboxStep (settings : Settings) (now : ℕ) (link : Link) (before : 
   pub now_is : effect.now ≡ now
   pub ended_is : (effect.ended ≡ true) ↔ (report.outcome ≡ Ended)
   pub keeps : Keeps after.file.content record_state'
-  pub stepped : MboxStepped settings (mbox_holds record_state before.mbox) sent got effect (mbox_holds record_state' after.mbox)
-  pub left : (MboxLeaves (mbox_holds record_state before.mbox) effect (mbox_holds record_state' after.mbox) × (report.retrieved ≡ 0))
+  pub stepped : MboxStepped settings (mbox_holds record_state before.mbox) sent got effect
+      (mbox_holds record_state' after.mbox)
+  pub left : (MboxLeaves (mbox_holds record_state before.mbox) effect (mbox_holds record_state' after.mbox)
+      × (report.retrieved ≡ 0))
       ⊎ IsMboxCounted settings (mbox_holds record_state before.mbox) effect (mbox_holds record_state' after.mbox) report
 
 -- a law: if the record's file stood for this record, a session is a step
 abbrev pub MboxSessionIsAStep : Type 0
-MboxSessionIsAStep = (settings : Settings) (now : ℕ) (link : Link) (before : MboxAccountFiles) (record_state : RecordState)
+MboxSessionIsAStep = (settings : Settings) (now : ℕ) (link : Link) (before : MboxAccountFiles)
+    (record_state : RecordState)
     (report : Report) (link' : Link) (after : MboxAccountFiles)
-    → IsValid settings → Keeps before.file.content record_state → MboxSession settings now link before report link' after
+    → IsValid settings → Keeps before.file.content record_state
+    → MboxSession settings now link before report link' after
     → IsMboxStep settings now link before record_state report link' after
 
 -- a law: if the record's file stood for this record, a session is a step that keeps what the mboxrd file holds,
@@ -155,18 +170,22 @@ MboxSessionIsAStep = (settings : Settings) (now : ℕ) (link : Link) (before : M
 abbrev pub MboxAnyServer : Type 0
 MboxAnyServer = (settings : Settings) (now : ℕ) (link : Link) (before : MboxAccountFiles) (record_state : RecordState)
     (report : Report) (link' : Link) (after : MboxAccountFiles)
-    → IsValid settings → Keeps before.file.content record_state → MboxSession settings now link before report link' after
+    → IsValid settings → Keeps before.file.content record_state
+    → MboxSession settings now link before report link' after
     → (step : IsMboxStep settings now link before record_state report link' after)
-    × MboxIsSafe settings (mbox_holds record_state before.mbox) step.sent step.effect (mbox_holds step.record_state' after.mbox)
+    × MboxIsSafe settings (mbox_holds record_state before.mbox) step.sent step.effect
+    (mbox_holds step.record_state' after.mbox)
 
 -- a law: if all that the link gained is honest for this maildrop, a session left the account as it was, its file
 -- perhaps cut back; or its joined listing is the maildrop's, and what it appended are the entries of messages of
 -- the maildrop, with their texts, and at most a beginning of one more
 abbrev pub MboxHonestSessions : Type 0
-MboxHonestSessions = (settings : Settings) (now : ℕ) (link : Link) (before : MboxAccountFiles) (record_state : RecordState)
+MboxHonestSessions = (settings : Settings) (now : ℕ) (link : Link) (before : MboxAccountFiles)
+    (record_state : RecordState)
     (report : Report) (link' : Link) (after : MboxAccountFiles)
     (drop : List Message) (marks : List Bool)
-    → IsValid settings → Keeps before.file.content record_state → MboxSession settings now link before report link' after
+    → IsValid settings → Keeps before.file.content record_state
+    → MboxSession settings now link before report link' after
     → ((sent got : List ℕ) → link'.sent ≡ link.sent ++ sent → link'.got ≡ link.got ++ got → Honest drop sent got marks)
     → (step : IsMboxStep settings now link before record_state report link' after)
     × (MboxLeaves (mbox_holds record_state before.mbox) step.effect (mbox_holds step.record_state' after.mbox)
@@ -176,13 +195,16 @@ MboxHonestSessions = (settings : Settings) (now : ℕ) (link : Link) (before : M
 -- order
 pub record AddsTexts (settings : Settings) (before : MboxMail) (effect : Effect) (after : MboxMail) : Type 0 where
   pub all : length effect.texts ≡ length (mbox_wanted settings before effect)
-  pub texts : (first : List (List ℕ)) → MboxFile (settled effect.listing before).file first → MboxFile after.file (first ++ effect.texts)
+  pub texts : (first : List (List ℕ)) → MboxFile (settled effect.listing before).file first
+      → MboxFile after.file (first ++ effect.texts)
 
 -- a law: if the record's file stood for this record, a session is a step, and if it ended, it added these texts
 abbrev pub MboxSessionsAddTexts : Type 0
-MboxSessionsAddTexts = (settings : Settings) (now : ℕ) (link : Link) (before : MboxAccountFiles) (record_state : RecordState)
+MboxSessionsAddTexts = (settings : Settings) (now : ℕ) (link : Link) (before : MboxAccountFiles)
+    (record_state : RecordState)
     (report : Report) (link' : Link) (after : MboxAccountFiles)
-    → IsValid settings → Keeps before.file.content record_state → MboxSession settings now link before report link' after
+    → IsValid settings → Keeps before.file.content record_state
+    → MboxSession settings now link before report link' after
     → (step : IsMboxStep settings now link before record_state report link' after)
     × (report.outcome ≡ Ended
     → AddsTexts settings (mbox_holds record_state before.mbox) step.effect (mbox_holds step.record_state' after.mbox))

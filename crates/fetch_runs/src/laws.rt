@@ -6,9 +6,8 @@ ghost use Rattle.fetch_runs.specs.Fronts.{FrontsAreSessions, UncutSessionsDoTask
 ghost use Rattle.fetch_runs.specs.Headline.{EmptyIsKept, Headline, HeadlineFromEmpty, HeadlineWordForWord};
 ghost use Rattle.fetch_runs.specs.Headline.{LostRecordsAreForgotten, NewProcessesAreBetween, StaysAway};
 ghost use Rattle.fetch_runs.specs.Headline.{StopsAreRuns, TakingsAreEvents};
+ghost use Rattle.fetch_runs.specs.Losses.{DurableAccountsAreSafe, DurableFrontsBegin};
 ghost use Rattle.fetch_runs.specs.MboxCalls.{MboxCallsAreSessions, MboxCallsKeepPromises};
-ghost use Rattle.fetch_runs.specs.Power.{AllMayBeDurable, EventsKeepPower, HeadlineOn, LossesAreEvents};
-ghost use Rattle.fetch_runs.specs.Power.{SessionsAndPower, TakingsRunOn};
 ghost use Rattle.fetch_runs.specs.Steps.{AnyServer, HonestSessions, MboxAnyServer, MboxHonestSessions};
 ghost use Rattle.fetch_runs.specs.Steps.{MboxSessionIsAStep, MboxSessionsAddTexts, SessionIsAStep};
 
@@ -17,11 +16,13 @@ use fetch_rules::{
     listed_has_row, marked_is_delivered, marked_keeps_rows, plans_fetch_wanted,
     torn_is_ignored_or_seen,
 };
-use fetch_session::{sessions_by_store, steady_files_keep, unsaved_files_keep};
+use fetch_session::{
+    sessions_are_durable, sessions_by_store, sessions_keep_files, steady_files_keep,
+    unsaved_files_keep,
+};
 use mail_store::{
-    FlatFile, MaildirDisk, account_texts_are_digits, calls_keep_files_flushed, entries_add_texts,
-    flags_tell_what_is_held, losses_leave_what_is_durable, names_are_bases, names_have_stems,
-    stems_differ,
+    FlatFile, MaildirDisk, account_texts_are_digits, entries_add_texts, flags_tell_what_is_held,
+    names_are_bases, names_have_stems, stems_differ,
 };
 use pop3_client::{conversations_are_paced, turns_join};
 use pop3_wire::{Wire, fronts_are_asked};
@@ -29,8 +30,8 @@ use run_law::{
     counted_stores, events_keep_promises, holds_exactly, holds_what_is_left, honest_is_granted,
     honest_sessions_append_messages, honest_sessions_bring_messages, kept_states,
     mbox_counted_stores, mbox_sessions_append, mbox_sessions_are_safe, mbox_starts,
-    one_more_is_last, others_leave_kept, sessions_are_safe, sessions_are_served, starts_kept,
-    stays_away, worlds_shrink,
+    others_leave_kept, sessions_are_safe, sessions_are_served, starts_kept, stays_away,
+    worlds_shrink,
 };
 
 /// What a link gains in a session is one conversation that follows the plan. What was sent is the
@@ -150,79 +151,6 @@ pub fn recorded_stay_away()
     headline();
 }
 
-/// A loss of power is part of a run, whatever it leaves of the Maildir and of a record's file that can be
-/// read, if the bytes of all files are durable and so is the name of a file of each message, but perhaps of the
-/// last that was stored or of what was taken away before, and no more may be left of the record than it shows
-/// and such files hold.
-pub fn losses_are_events<F: FlatFile>()
-    ensures { LossesAreEvents F.FlatFile }
-{
-    headline();
-    losses_leave_what_is_durable();
-}
-
-/// So it is if all is durable.
-pub fn all_durable<F: FlatFile>()
-    ensures { AllMayBeDurable F.FlatFile }
-{
-    files_stand_for_one_record();
-}
-
-/// So it is after a session, if it was before.
-pub fn sessions_and_power<F: FlatFile>()
-    ensures { SessionsAndPower F.FlatFile }
-{
-    headline();
-    session_is_a_step();
-    sessions_are_served();
-    files_stand_for_one_record();
-    bytes_have_one_meaning();
-    appended_counts();
-    torn_is_ignored_or_seen();
-    marked_is_delivered();
-    held_is_delivered();
-    one_more_is_last();
-    stems_differ();
-    names_have_stems();
-    names_are_bases();
-    steady_files_keep();
-    unsaved_files_keep();
-}
-
-/// Files that readers take away from a kept state, also during a session, are events, also over a device of
-/// the record's file made anew, of which a loss of power leaves no more.
-#[tactic(auto, using(crate::proofs::Power::takings_run_on))]
-pub fn takings_run_on<F: FlatFile>()
-    ensures { TakingsRunOn F.FlatFile }
-{
-    headline();
-    stems_differ();
-    calls_keep_files_flushed();
-}
-
-/// Each event keeps it, with what is kept besides; a loss of power is an event, and leaves a state from which it
-/// goes on.
-#[tactic(auto, using(crate::proofs::Power::events_keep_power))]
-pub fn events_keep_power<F: FlatFile>()
-    ensures { EventsKeepPower F.FlatFile }
-{
-    files_stand_for_one_record();
-    losses_leave_what_is_durable();
-    losses_are_events::<F>();
-    all_durable::<F>();
-    sessions_and_power::<F>();
-}
-
-/// The headline over the device of the record's file: after any list of sessions, losses of power and other
-/// events, each with what is kept besides, all that the headline promises holds.
-pub fn headline_over_devices<F: FlatFile>()
-    ensures { HeadlineOn F.FlatFile }
-{
-    headline();
-    worlds_shrink();
-    events_keep_power::<F>();
-}
-
 /// A record's file that is missing or empty is one that forgot, whatever it held.
 #[tactic(auto, using(crate::proofs::HeadlineLemmas::lost_records_are_forgotten))]
 pub fn lost_records_are_forgotten()
@@ -333,8 +261,20 @@ pub fn mbox_any_server()
 pub fn calls_are_sessions<W: Wire, D: MaildirDisk, F: FlatFile>()
     ensures { CallsAreSessions W.Wire D.MaildirDisk F.FlatFile }
 {
-    sessions_by_store::<W, D, F>();
     session_is_a_step();
+    sessions_keep_files();
+    sessions_are_durable();
+    account_texts_are_digits();
+    files_stand_for_one_record();
+    bytes_have_one_meaning();
+    appended_counts();
+    torn_is_ignored_or_seen();
+    marked_is_delivered();
+    held_is_delivered();
+    names_have_stems();
+    names_are_bases();
+    steady_files_keep();
+    unsaved_files_keep();
 }
 
 /// The statement, for a Maildir: where a unique-id always names one text, after any list of calls of
@@ -346,7 +286,8 @@ pub fn calls_are_sessions<W: Wire, D: MaildirDisk, F: FlatFile>()
 ///
 /// At any moment, also during a call, a mail reader may move files between `new` and `cur`, change their
 /// marks, and take them away. Between two calls a process may start anew, readers may put messages back, and
-/// the record may be lost or be replaced by an older one.
+/// the record may be lost or be replaced by an older one. Power may be lost: that takes only messages that are
+/// neither recorded nor gone from the server, and such as were taken away before and stored again.
 pub fn calls_keep_promises<W: Wire, D: MaildirDisk, F: FlatFile>()
     ensures { CallsKeepPromises W.Wire D.MaildirDisk F.FlatFile }
 {
@@ -354,7 +295,25 @@ pub fn calls_keep_promises<W: Wire, D: MaildirDisk, F: FlatFile>()
     calls_are_sessions::<W, D, F>();
     events_keep_promises();
     others_leave_kept();
+    files_stand_for_one_record();
+    sessions_are_served();
+    names_have_stems();
+    names_are_bases();
 }
+
+/// A kept state is safe from a loss of power if the files of the account are durable, and nothing else may be
+/// left of the record's file than what it holds: so is what a new device finds after a loss of power.
+pub fn durable_accounts_are_safe<F: FlatFile>()
+    ensures { DurableAccountsAreSafe F.FlatFile }
+{
+    files_stand_for_one_record();
+}
+
+/// So is a front, if the files of the account are durable: its messages have durable names or were taken away.
+#[tactic(auto, using(crate::proofs::Losses::durable_fronts_begin))]
+pub fn durable_fronts_begin()
+    ensures { DurableFrontsBegin }
+{}
 
 /// The statement may begin with an account without rows in its record and without a file of its own.
 #[tactic(auto, using(crate::proofs::Calls::empty_is_kept))]
@@ -376,8 +335,9 @@ pub fn mbox_calls_are_sessions<W: Wire, D: MaildirDisk, F: FlatFile>()
 /// and under any limits, the file holds what it held before the first one, followed by the entries of
 /// messages, each once, in the order in which they were fetched, and by at most a beginning of one more
 /// entry, whose intent is then open; after an uncut call nothing of another entry is left, and only what its
-/// own limits exclude is left out; and DELE was sent only for messages whose entry is whole. If a server
-/// shows the messages of a list in their order, the first of these have entries.
+/// own limits exclude is left out; and DELE was sent only for messages whose entry is whole, or that were
+/// recorded before the first call or before others last wrote the file. If a server shows the messages of a
+/// list in their order, the first of these have entries.
 ///
 /// Between two calls a process may start anew. While no intent is open afterwards, others may write the file,
 /// and the record may be lost or replaced: what there is then counts as from before the first call.

@@ -1,2 +1,4 @@
+mod FetchLemmas
+mod FirstFetches
 mod LocalLemmas
 mod LoopLemmas

@@ -16,6 +16,11 @@ use Rattle.rc_file.specs.Settings.{IsValid}
 use Rattle.rc_file.specs.declared.settings.Settings.{Settings}
 use Rattle.fetch_rules.specs.Plan.{planned}
 use Rattle.fetch_rules.specs.declared.steps.Step.{Step}
+use Rattle.mail_store.specs.declared.maildir.disk.MaildirDisk.{Ghosts as DiskGhosts}
+use Rattle.mail_store.specs.declared.file.flat_file.FlatFile.{Ghosts as FileGhosts}
+use Rattle.fetch_session.specs.declared.account.Store.{Store}
+use Rattle.fetch_session.specs.declared.account.Store.TheVariants.{Maildir as InMaildir, Mboxrd as InMbox}
+use Rattle.fetch_session.specs.Target.{IsSoundMaildir, IsSoundMbox, is_sound}
 use Rattle.fetch_session.specs.declared.report.Outcome.{Outcome}
 use Rattle.fetch_session.specs.declared.report.Outcome.TheVariants.{Ended, Cut as WasCut}
 use Rattle.fetch_session.specs.Refusal.{RefusesByOutcome}
@@ -26,7 +31,7 @@ use Rattle.pop3_server.specs.Maildrop.{Mail, there}
 use Rattle.pop3_server.specs.ServerMachine.{Machine}
 use Rattle.pop3_server.specs.HonestLoop.{IsNew, GivesHonest}
 use Rattle.pop3_server.specs.LoopLink.{Loop, Serves}
-use Rattle.local_fetch.specs.Local.{AreServed, AreSessions, AreWithout, FetchesBy, FetchesFrom, MboxFetchesFrom, loop_to, unused}
+use Rattle.local_fetch.specs.Local.{AreSessions, AreWithout, IsServed, loop_to, unused}
 use Rattle.run_law.specs.Plans.{step_commands, plan_commands, IsFrontOfPlan}
 use Rattle.pop3_server.specs.HonestServer.{IsOfSession, IsAsked, AreLeft}
 
@@ -80,64 +85,59 @@ all_left : (messages : List Message) → AreWithout messages [] messages
 all_left [] = (refl, refl)
 all_left (m ∷ messages) = inl (messages, refl, all_left messages)
 
+-- the store is of one of the two kinds
+pub by_kind : {D F Goal : Type 0} (disk : DiskGhosts D) (file : FileGhosts F) (store : Store D F) → (IsSoundMaildir disk store → Goal)
+    → (IsSoundMbox file store → Goal) → is_sound disk file store → Goal
+by_kind disk file (InMaildir device) maildir mbox sound = maildir sound
+by_kind disk file (InMbox device) maildir mbox sound = mbox sound
+
 module _ {M : Type 0} (sound : M → Type 0) (mail : M → Mail) (honesty : GivesHonest sound mail) where
-  -- the session is over the server's link, and all that it sends over a new one follows a plan
-  over : (Made : Link → Type 0) (settings : Settings) {server new : Machine M} {start loop : Loop M} → start ≡ loop_to server → new ≡ loop.machine
-      → (Made unused → (sent : List ℕ) × (loop.link.sent ≡ sent) × FollowsPlan settings sent) → IsNew (loop_to server) → Serves sound mail start loop → Made start.link → sound new.drop
-      → AllByRecursion IsMessage (there (mail server.drop).slots) → FetchesBy mail (Made unused) server new loop.link
-  over Made settings {server} {loop} first last sends is_new serves session sound' messages =
-      let made = rw first at session in
-      let (sent, sent_is, s) = sends made in
+  -- all that was sent over the new server's link follows a plan
+  over : (settings : Settings) {server : Machine M} {loop : Loop M} → (sent : List ℕ) × (loop.link.sent ≡ sent) × FollowsPlan settings sent
+      → IsNew (loop_to server) → Serves sound mail (loop_to server) loop → sound loop.machine.drop
+      → AllByRecursion IsMessage (there (mail server.drop).slots) → IsServed mail server loop.machine loop.link
+  over settings {server} {loop} (sent, sent_is, s) is_new serves sound' messages =
       let before = there (mail server.drop).slots in
-      let all = honesty (loop_to server) loop s.commands s.asked.part is_new (rw first at serves)
+      let all = honesty (loop_to server) loop s.commands s.asked.part is_new serves
       (each_asked s.commands (of_session (string_bytes settings.username) (string_bytes settings.password) s.steps s.commands s.front) s.asked.numbers s.asked.sendable) s.asked.no_line
-      (sent_is ∙ s.asked.whole ∙ ap (λ (l : List ℕ). l ++ s.asked.part) (sym (flat_map-map ended line_of s.commands))) (rw last at sound') messages in
-      rw last (elim all.3 [
+      (sent_is ∙ s.asked.whole ∙ ap (λ (l : List ℕ). l ++ s.asked.part) (sym (flat_map-map ended line_of s.commands))) sound' messages in
+      elim all.3 [
         | inl still ↦ record {
-          session = made;
           vanished = [];
           served = record { marks = all.0; honest = all.1; quits = inl refl; marked = tt };
           left = rw (all.2.before_quit still) (all_left before);
         }
         | inr quits ↦
             let (ids, marked, left) = missing before all.0 (there (mail loop.machine.drop).slots) all.2.left in
-            record { session = made; vanished = ids; served = record { marks = all.0; honest = all.1; quits = inr quits; marked = marked }; left = left }
-      ])
+            record { vanished = ids; served = record { marks = all.0; honest = all.1; quits = inr quits; marked = marked }; left = left }
+      ]
 
-  pub fetches : SessionsAreConversations → (settings : Settings) (account : List ℕ) (now : ℕ) (server new : Machine M) (start loop : Loop M) (before : AccountFiles) (report : Report) (after : AccountFiles)
-      → start ≡ loop_to server → new ≡ loop.machine → IsNew (loop_to server) → IsValid settings → Serves sound mail start loop
-      → Session settings account now start.link before report loop.link after → sound new.drop
-      → AllByRecursion IsMessage (there (mail server.drop).slots) → FetchesFrom mail settings account now server new loop.link before report after
-  fetches conversations settings account now server new start loop before report after first last is_new valid =
-      over (λ (l : Link). Session settings account now l before report loop.link after) settings first last sends is_new
-    where
-      sends : Session settings account now unused before report loop.link after → (sent : List ℕ) × (loop.link.sent ≡ sent) × FollowsPlan settings sent
-      sends session =
-          let said = conversations settings account now unused before report loop.link after valid session in
-          let follows : FollowsPlan settings said.0 = elim said.4 [
-            | inl opens ↦ record { steps = []; commands = opens.commands; asked = opens.asked; front = opens.front }
-            | inr plan ↦ record { steps = planned settings plan.rows plan.items now; commands = plan.commands; asked = plan.asked; front = plan.front }
-          ] in
-          (said.0, said.2, follows)
+  pub fetches : SessionsAreConversations → (settings : Settings) (account : List ℕ) (now : ℕ) (server : Machine M) (loop : Loop M) (before : AccountFiles) (report : Report) (after : AccountFiles)
+      → IsNew (loop_to server) → IsValid settings → Serves sound mail (loop_to server) loop
+      → Session settings account now unused before report loop.link after → sound loop.machine.drop
+      → AllByRecursion IsMessage (there (mail server.drop).slots) → IsServed mail server loop.machine loop.link
+  fetches conversations settings account now server loop before report after is_new valid serves session =
+      let said = conversations settings account now unused before report loop.link after valid session in
+      let follows : FollowsPlan settings said.0 = elim said.4 [
+        | inl opens ↦ record { steps = []; commands = opens.commands; asked = opens.asked; front = opens.front }
+        | inr plan ↦ record { steps = planned settings plan.rows plan.items now; commands = plan.commands; asked = plan.asked; front = plan.front }
+      ] in
+      over settings (said.0, said.2, follows) is_new serves
 
-  pub mbox_fetches : MboxSessionsFollowPlans → (settings : Settings) (now : ℕ) (server new : Machine M) (start loop : Loop M) (before : MboxAccountFiles) (report : Report) (after : MboxAccountFiles)
-      → start ≡ loop_to server → new ≡ loop.machine → IsNew (loop_to server) → IsValid settings → Serves sound mail start loop
-      → MboxSession settings now start.link before report loop.link after → sound new.drop
-      → AllByRecursion IsMessage (there (mail server.drop).slots) → MboxFetchesFrom mail settings now server new loop.link before report after
-  mbox_fetches plans settings now server new start loop before report after first last is_new valid =
-      over (λ (l : Link). MboxSession settings now l before report loop.link after) settings first last
-      (plans settings now unused before report loop.link after valid) is_new
-
--- ---- such sessions are those of the headlines
+  pub mbox_fetches : MboxSessionsFollowPlans → (settings : Settings) (now : ℕ) (server : Machine M) (loop : Loop M) (before : MboxAccountFiles) (report : Report) (after : MboxAccountFiles)
+      → IsNew (loop_to server) → IsValid settings → Serves sound mail (loop_to server) loop
+      → MboxSession settings now unused before report loop.link after → sound loop.machine.drop
+      → AllByRecursion IsMessage (there (mail server.drop).slots) → IsServed mail server loop.machine loop.link
+  mbox_fetches plans settings now server loop before report after is_new valid serves session =
+      over settings (plans settings now unused before report loop.link after valid session) is_new serves
 
 -- the octets of a link that wasn't used before are all that it gained
-served_by : (link : Link) {was drop : List Message} {vanished : List (List ℕ)} → was ≡ drop → Served was link.sent link.got vanished
+pub served_by : (link : Link) {was drop : List Message} {vanished : List (List ℕ)} → was ≡ drop → Served was link.sent link.got vanished
     → (sent got : List ℕ) → link.sent ≡ sent → link.got ≡ got → Served drop sent got vanished
 served_by link same served sent got sent_is got_is = rw (← same, ← sent_is, ← got_is) served
 
-pub are_sessions : {M : Type 0} (mail : M → Mail) → AreSessions mail
-are_sessions mail world state settings now come old new link report after are local drop =
-    record { settings = are; session = local.session; served = served_by link drop local.served }
+-- ---- such sessions are those of the headlines
 
-pub are_served : {M : Type 0} (mail : M → Mail) → AreServed mail
-are_served mail settings now old new link before report after maildrop local drop = served_by link drop local.served
+pub are_sessions : {M : Type 0} (mail : M → Mail) → AreSessions mail
+are_sessions mail world state settings now come old new link report after are session is drop =
+    record { settings = are; session = session; served = served_by link drop is.served }

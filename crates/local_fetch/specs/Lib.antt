@@ -1,2 +1,3 @@
+pub mod Fetches
 pub mod Local
 pub mod LoopLaws

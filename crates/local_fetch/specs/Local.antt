@@ -1,17 +1,24 @@
 -- One session over a server in memory.
 use Rattle.std.specs.Prelude.{◌≡◌, ◌⊎◌, ℕ, false, List, [], ◌∷◌}
+use Rattle.std.specs.List.{AllByRecursion}
 use Rattle.pop3_wire.specs.Link.{Link}
-use Rattle.pop3_wire.specs.World.{Message, maildrop_of}
+use Rattle.pop3_wire.specs.World.{Message, IsMessage, maildrop_of}
+use Rattle.pop3_wire.specs.declared.wire.Wire.{Ghosts as WireGhosts}
 use Rattle.run_law.specs.Sessions.{Served}
+use Rattle.run_law.specs.Runs.{State, World}
 use Rattle.rc_file.specs.declared.settings.Settings.{Settings}
+use Rattle.mail_store.specs.declared.maildir.disk.MaildirDisk.{Ghosts as DiskGhosts}
+use Rattle.mail_store.specs.declared.file.flat_file.FlatFile.{Ghosts as FileGhosts}
+use Rattle.pop3_server.specs.declared.maildrop.Maildrop.{Ghosts as DropGhosts}
 use Rattle.pop3_server.specs.Maildrop.{Mail, there}
 use Rattle.pop3_server.specs.ServerMachine.{Machine, greeting}
 use Rattle.pop3_server.specs.LoopLink.{Loop}
-use Rattle.fetch_session.specs.Account.{digits_of}
+use Rattle.fetch_session.specs.Account.{Holding, digits_of}
 use Rattle.fetch_session.specs.declared.report.Report.{Report}
-use Rattle.fetch_session.specs.Session.{AccountFiles, MboxAccountFiles, Session, MboxSession}
+use Rattle.fetch_session.specs.Session.{AccountFiles, Session}
+use Rattle.fetch_session.specs.Target.{is_sound}
+use Rattle.fetch_runs.specs.Calls.{WasMade}
 use Rattle.fetch_runs.specs.Headline.{AreSettings, Occasion, IsSession}
-use Rattle.run_law.specs.Runs.{State, World}
 
 -- a link that wasn't used yet
 abbrev pub unused : Link
@@ -27,25 +34,23 @@ AreWithout [] vanished after = (vanished ≡ []) × (after ≡ [])
 AreWithout (m ∷ before) vanished after = ((rest : List Message) × (after ≡ m ∷ rest) × AreWithout before vanished rest)
     ⊎ ((more : List (List ℕ)) × (vanished ≡ m.uid ∷ more) × AreWithout before more after)
 
--- the session was run over a new server's link, and was served as by an honest server with this maildrop: what was got is
--- honest, and what vanished was marked, and vanished with a QUIT
-pub record FetchesBy {M : Type 0} (mail : M → Mail) (Made : Type 0) (old new : Machine M) (link : Link) : Type 0 where
-  pub session : Made
+-- what the link got came from an honest server with the messages that the server had, and those of them that vanished
+-- were marked, and vanished with a QUIT
+pub record IsServed {M : Type 0} (mail : M → Mail) (old new : Machine M) (link : Link) : Type 0 where
   pub vanished : List (List ℕ)
   pub served : Served (there (mail old.drop).slots) link.sent link.got vanished
   pub left : AreWithout (there (mail old.drop).slots) vanished (there (mail new.drop).slots)
 
--- a session of an account with a Maildir
-abbrev pub FetchesFrom : {M : Type 0} → (M → Mail) → Settings → List ℕ → ℕ → Machine M → Machine M → Link → AccountFiles → Report
-    → AccountFiles → Type 0
-FetchesFrom mail settings account now old new link before report after =
-    FetchesBy mail (Session settings account now unused before report link after) old new link
-
--- a session of an account with an mboxrd file
-abbrev pub MboxFetchesFrom : {M : Type 0} → (M → Mail) → Settings → ℕ → Machine M → Machine M → Link → MboxAccountFiles → Report
-    → MboxAccountFiles → Type 0
-MboxFetchesFrom mail settings now old new link before report after =
-    FetchesBy mail (MboxSession settings now unused before report link after) old new link
+-- what the contract of `fetch_local` says of each call: it was a call of `session` over an unused link to this server,
+-- which did what its trait says; and if the devices and the maildrop did so too, an honest server answered
+pub record WasFetched {M D F : Type 0} (link : WireGhosts (Loop M)) (disk : DiskGhosts D) (file : FileGhosts F)
+    (drop : DropGhosts M) (now : ℕ) (old : Holding D F) (server : Machine M) (report : Report) (new : Holding D F)
+    (wire : Loop M) : Type 0 where
+  pub made : WasMade link disk file now old (loop_to server) report new wire
+  pub link_sound : link.sound wire
+  pub served : is_sound disk file new.store → file.sound new.file → drop.sound wire.machine.drop
+      → AllByRecursion IsMessage (there (drop.mail server.drop).slots)
+      → IsServed drop.mail server wire.machine wire.link
 
 -- a session over a link that wasn't used before
 abbrev pub occasion_of : {K : Type 0} → Settings → ℕ → Report → Link → K → ℕ → List (List ℕ) → Occasion K
@@ -60,18 +65,10 @@ occasion_of settings now report link after come vanished = record {
   vanished = vanished;
 }
 
--- a law: over the maildrop of a world, such a session is one that the headline is about
+-- a law: over the maildrop of a world, a session that was so served is one that the headline is about
 abbrev pub AreSessions : {M : Type 0} → (M → Mail) → Type 0
 AreSessions {M} mail = (world : World) (state : State AccountFiles) (settings : Settings) (now come : ℕ)
     (old new : Machine M) (link : Link) (report : Report) (after : AccountFiles)
-    → AreSettings world settings
-    → (local : FetchesFrom mail settings (digits_of settings) now old new link state.account report after)
-    → there (mail old.drop).slots ≡ maildrop_of world.all come state.gone
-    → IsSession world state (occasion_of settings now report link after come local.vanished)
-
--- a law: with an mboxrd file, what such a session's link gained came from an honest server with this maildrop
-abbrev pub AreServed : {M : Type 0} → (M → Mail) → Type 0
-AreServed {M} mail = (settings : Settings) (now : ℕ) (old new : Machine M) (link : Link) (before : MboxAccountFiles) (report : Report)
-    (after : MboxAccountFiles) (maildrop : List Message)
-    → (local : MboxFetchesFrom mail settings now old new link before report after) → there (mail old.drop).slots ≡ maildrop
-    → (sent got : List ℕ) → link.sent ≡ sent → link.got ≡ got → Served maildrop sent got local.vanished
+    → AreSettings world settings → Session settings (digits_of settings) now unused state.account report link after
+    → (is : IsServed mail old new link) → there (mail old.drop).slots ≡ maildrop_of world.all come state.gone
+    → IsSession world state (occasion_of settings now report link after come is.vanished)

@@ -1,6 +1,7 @@
 -- A link whose answers are a server's: two calls together do what one call may do.
 use Rattle.std.specs.List.{flat_map}
-use Rattle.std.proofs.Common.{refl, sym, ◌∙◌, append_assoc, inl, inr, ◌≡◌, ℕ, true, false, List, [], ◌∷◌, ◌++◌, append-nil, true≢false}
+use Rattle.std.proofs.Common.{refl, sym, ◌∙◌, append_assoc, inl, inr, ◌≡◌, true, false, [], ◌++◌}
+use Rattle.std.proofs.Common.{append-nil, true≢false}
 use Rattle.std.proofs.lemmas.Grind.{flat_map-append}
 use Rattle.std.proofs.lemmas.Bool.{cases_Bool}
 use Rattle.pop3_wire.specs.Line.{ended}
@@ -27,12 +28,14 @@ same_trans sound mail a b c p q = record {
   unanswered = record {
     failures = q.unanswered.failures ∙ p.unanswered.failures;
     removals = q.unanswered.removals ∙ p.unanswered.removals;
-    messages = λ s. let second = q.unanswered.messages s in let first = p.unanswered.messages second.0 in (first.0, second.1 ∙ first.1);
+    messages = λ s. let second = q.unanswered.messages s in let first = p.unanswered.messages second.0 in
+        (first.0, second.1 ∙ first.1);
   };
 }
 
 -- no line was answered
-pub serves_none : {D : Type 0} (sound : D → Type 0) (mail : D → Mail) (old new : Loop D) → SameServer sound mail old.machine new.machine
+pub serves_none : {D : Type 0} (sound : D → Type 0) (mail : D → Mail) (old new : Loop D)
+    → SameServer sound mail old.machine new.machine
     → new.answers ≡ old.answers → new.link.sent ≡ old.link.sent → new.waiting ≡ old.waiting → (IsTold old → IsTold new)
     → (new.down ≡ false → new.machine ≡ old.machine) → (old.down ≡ true → new.down ≡ true) → Serves sound mail old new
 serves_none sound mail old new same answers sent waiting told stays goes = record {
@@ -53,7 +56,8 @@ serves_none sound mail old new same answers sent waiting told stays goes = recor
 }
 
 pub serves_same : {D : Type 0} (sound : D → Type 0) (mail : D → Mail) (w : Loop D) → Serves sound mail w w
-serves_same sound mail w = serves_none sound mail w w (same_refl sound mail w.machine) refl refl refl (λ h. h) (λ _. refl) (λ h. h)
+serves_same sound mail w = serves_none sound mail w w (same_refl sound mail w.machine) refl refl refl (λ h. h)
+    (λ _. refl) (λ h. h)
 
 -- if the link was down after the first part, nothing was answered in the second one
 pub serves_on : {D : Type 0} (sound : D → Type 0) (mail : D → Mail) (u v w : Loop D) → Serves sound mail u v
@@ -83,19 +87,26 @@ serves_on {D} sound mail u v w p q = record {
       (rw (first.0, later.0), rw (first.1, later.1), rw (first.2, later.2), later.3);
 }
   where
-    ran : (last : Machine D) × AnswersLines sound mail u.machine (p.lines ++ q.lines) ((p.more ++ q.more) ++ (p.lost ++ q.lost)) last
+    ran : (last : Machine D) × AnswersLines sound mail u.machine (p.lines ++ q.lines)
+        ((p.more ++ q.more) ++ (p.lost ++ q.lost)) last
         × SameServer sound mail last w.machine
         × (w.down ≡ false → (p.lost ++ q.lost ≡ []) × (w.machine ≡ last) × (IsAnswered u → IsAnswered w))
     ran = elim (cases_Bool v.down) [
       | inl down ↦
           let over = q.over down in
           let run = rw over.0 at q.run in
-          let same = same_trans sound mail p.last v.machine w.machine p.same (rw run.1 at q.same) in
-          (p.last, rw (over.0, over.1, over.2) (simp append-nil p.run), same, λ up. absurd (true≢false (sym over.3 ∙ up)))
+          let same = same_trans sound mail p.last v.machine w.machine p.same (rw run.1 at q.same) in (
+            p.last,
+            rw (over.0, over.1, over.2) (simp append-nil p.run),
+            same,
+            λ up. absurd
+                (true≢false (sym over.3 ∙ up)),
+          )
       | inr up ↦
           let whole = p.whole up in
           let first = rw (whole.0, append-nil, ← whole.1) at p.run in
-          let run = runs_on sound mail u.machine v.machine q.last p.lines q.lines p.more (q.more ++ q.lost) first q.run in (
+          let run = runs_on sound mail u.machine v.machine q.last p.lines q.lines p.more
+          (q.more ++ q.lost) first q.run in (
             q.last,
             rw (whole.0, append_assoc p.more) run,
             q.same,

@@ -1,7 +1,16 @@
 //! Laws over what sessions over a server in memory did.
-ghost use Rattle.local_fetch.specs.Local.{AreServed, AreSessions};
+ghost use Rattle.local_fetch.specs.Fetches.{FetchesFromNothing, FetchesKeepPromises, FirstFetchesKeepMail};
+ghost use Rattle.local_fetch.specs.Fetches.{MboxFetchesFromNothing, MboxFetchesKeepPromises};
+ghost use Rattle.local_fetch.specs.Local.{AreSessions};
 
-use pop3_server::Maildrop;
+use crate::loop_wire::LoopWire;
+use fetch_runs::{calls_keep_promises, empty_accounts_are_kept, mbox_calls_keep_promises};
+use folder_store::{FolderMaildir, HostFile};
+use mail_store::{FlatFile, MaildirDisk, MemoryFile, MemoryMaildir};
+use pop3_server::{Maildrop, MemoryDrop};
+use pop3_wire::Wire;
+use run_law::mbox_starts;
+use test_devices::{MemoryFolder, MemoryFolders};
 
 /// A law: over the maildrop of a world, what [`fetch_local`](crate::fetch_local) did is one of the
 /// sessions that the headline is about.
@@ -10,9 +19,71 @@ pub fn local_sessions_are_sessions<M: Maildrop>()
     ensures { AreSessions M.mail }
 {}
 
-/// A law: with an mboxrd file, what the link of [`fetch_local`](crate::fetch_local) gained came from an
-/// honest server with the messages of its maildrop, as the statement asks of each call.
-#[tactic(auto, using(crate::proofs::LocalLemmas::are_served))]
-pub fn local_mbox_sessions_are_served<M: Maildrop>()
-    ensures { AreServed M.mail }
-{}
+/// A law: all that `calls_keep_promises` promises holds of any list of calls of
+/// [`fetch_local`](crate::fetch_local). That their servers are honest is no premise.
+pub fn fetches_keep_promises<M: Maildrop, D: MaildirDisk, F: FlatFile>()
+    ensures { FetchesKeepPromises ⟦<LoopWire<M> as Wire>⟧ D.MaildirDisk F.FlatFile M.Maildrop }
+{
+    calls_keep_promises::<LoopWire<M>, D, F>();
+}
+
+/// What the promises come to, for the first call of an account with a Maildir: each message that is no longer on
+/// the server is held; and if the call is uncut and has no limits, each message that the server had is in one
+/// file, with its text.
+pub fn first_fetches_keep_mail<M: Maildrop, D: MaildirDisk, F: FlatFile>()
+    ensures { FirstFetchesKeepMail ⟦<LoopWire<M> as Wire>⟧ D.MaildirDisk F.FlatFile M.Maildrop }
+{
+    fetches_keep_promises::<M, D, F>();
+    empty_accounts_are_kept();
+}
+
+/// A law: all that `mbox_calls_keep_promises` promises holds of any list of calls of
+/// [`fetch_local`](crate::fetch_local).
+pub fn mbox_fetches_keep_promises<M: Maildrop, D: MaildirDisk, F: FlatFile>()
+    ensures { MboxFetchesKeepPromises ⟦<LoopWire<M> as Wire>⟧ D.MaildirDisk F.FlatFile M.Maildrop }
+{
+    mbox_calls_keep_promises::<LoopWire<M>, D, F>();
+}
+
+/// The statement can hold: in memory, from a Maildir without files and no record on, all that it promises holds
+/// of any list of calls of [`fetch_local`](crate::fetch_local). The only premises are that the ids of a
+/// server's mail are distinct and name one text, which ends in LF, and that fewer calls lacked memory than can
+/// be counted.
+pub fn fetch_in_memory()
+    ensures { FetchesFromNothing ⟦<LoopWire<MemoryDrop> as Wire>⟧ ⟦<MemoryMaildir as MaildirDisk>⟧
+        ⟦<MemoryFile as FlatFile>⟧ ⟦<MemoryDrop as Maildrop>⟧ }
+{
+    fetches_keep_promises::<MemoryDrop, MemoryMaildir, MemoryFile>();
+    empty_accounts_are_kept();
+}
+
+/// The same over folders in memory, where a mail reader moves files and takes them away before each call.
+pub fn fetch_in_folders<'a>()
+    ensures { FetchesFromNothing ⟦<LoopWire<MemoryDrop> as Wire>⟧ ⟦<FolderMaildir<MemoryFolders> as MaildirDisk>⟧
+        ⟦<HostFile<'a, MemoryFolder> as FlatFile>⟧ ⟦<MemoryDrop as Maildrop>⟧ }
+{
+    fetches_keep_promises::<MemoryDrop, FolderMaildir<MemoryFolders>, HostFile<'a, MemoryFolder>>();
+    empty_accounts_are_kept();
+}
+
+/// The same for an mboxrd file in memory, whatever it holds at first, if each call reads only what is new.
+pub fn mbox_fetch_in_memory()
+    ensures { MboxFetchesFromNothing ⟦<LoopWire<MemoryDrop> as Wire>⟧ ⟦<MemoryMaildir as MaildirDisk>⟧
+        ⟦<MemoryFile as FlatFile>⟧ ⟦<MemoryDrop as Maildrop>⟧ }
+{
+    mbox_fetches_keep_promises::<MemoryDrop, MemoryMaildir, MemoryFile>();
+    mbox_starts();
+}
+
+/// The same for one in a folder in memory.
+pub fn mbox_fetch_in_folders<'a>()
+    ensures { MboxFetchesFromNothing ⟦<LoopWire<MemoryDrop> as Wire>⟧ ⟦<FolderMaildir<MemoryFolders> as MaildirDisk>⟧
+        ⟦<HostFile<'a, MemoryFolder> as FlatFile>⟧ ⟦<MemoryDrop as Maildrop>⟧ }
+{
+    mbox_fetches_keep_promises::<
+        MemoryDrop,
+        FolderMaildir<MemoryFolders>,
+        HostFile<'a, MemoryFolder>,
+    >();
+    mbox_starts();
+}

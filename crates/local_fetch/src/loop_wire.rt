@@ -93,7 +93,8 @@ impl<D: Maildrop> LoopWire<D> {
     /// The length of the first whole line that waits, without its CR LF, while the server is open.
     #[tactic(auto, using(crate::proofs::LoopLemmas::line_found))]
     fn next_line(&self) -> Option<usize>
-        ensures some { IfSome result (λ n. (is_open self.now.machine.state ≡ true) × HasLine (length self.now.waiting) self.now.waiting n) }
+        ensures some { IfSome result (λ n. (is_open self.now.machine.state ≡ true)
+            × HasLine (length self.now.waiting) self.now.waiting n) }
         ensures none { IfNone result (IsAnswered self.now) }
     {
         if !self.server.is_open() {
@@ -159,7 +160,10 @@ impl<D: Maildrop> LoopWire<D> {
     /// Takes the link down, and counts the refused call.
     fn refuse(&mut self) -> WireDown
         ensures counted { self.new.link.failures ≡ counted_up self.old.link.failures }
-        ensures same { self.new ≡ record self.old { down = true; link = with_failures self.new.link.failures self.old.link } }
+        ensures same { self.new ≡ record self.old {
+          down = true;
+          link = with_failures self.new.link.failures self.old.link;
+        } }
     {
         self.down = true;
         self.failures.count_up();
@@ -176,7 +180,8 @@ impl<D: Maildrop> Wire for LoopWire<D> {
 
     fn send(&mut self, bytes: &[u8]) -> Result<(), WireDown>
         ensures counted { CountsFailure self.old.link result self.new.link }
-        ensures sent { WhereSound (λ w. w.link.failures < greatest_count) (λ u v. Serves D.sound D.mail u v) self.old self.new
+        ensures sent { WhereSound (λ w. w.link.failures < greatest_count)
+            (λ u v. Serves D.sound D.mail u v) self.old self.new
             (Sends self.old.link bytes.now result self.new.link) }
         // A call that succeeds has answered every whole line that was sent to an open server; after a
         // refused one all calls are refused.
@@ -199,7 +204,8 @@ impl<D: Maildrop> Wire for LoopWire<D> {
         requires { 0 < length buf.old }
         ensures within { IfOk result (λ n. n ≤ length buf.new) }
         ensures counted { CountsFailure self.old.link result self.new.link }
-        ensures got { WhereSound (λ w. w.link.failures < greatest_count) (λ u v. Serves D.sound D.mail u v) self.old self.new
+        ensures got { WhereSound (λ w. w.link.failures < greatest_count)
+            (λ u v. Serves D.sound D.mail u v) self.old self.new
             (Receives self.old.link result buf.new self.new.link) }
         // It is refused only after a refused call, and 0 says that nothing is left.
         ensures down { MatchResult result (λ _. (self.old.down ≡ false) × (self.new.down ≡ false))

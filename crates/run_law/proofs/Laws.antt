@@ -5,17 +5,15 @@ use Rattle.std.specs.List.{AllByRecursion, filter}
 use Rattle.std.proofs.lemmas.Bool.{both_ways, false_from_ne_true, or_left, cases_Bool, or_parts, or_right, cond_both, or_cases}
 use Rattle.mail_terms.specs.UniqueId.{is_legal_id, has_id}
 use Rattle.pop3_wire.specs.World.{Message}
-use Rattle.mail_store.specs.Maildir.{Maildir}
 use Rattle.mail_store.specs.FileName.{stem_of, is_held}
 use Rattle.run_law.specs.Mails.{ids_of, selected, texts_of, is_selected, without, messages_after}
-use Rattle.run_law.specs.Accounts.{AccountMail, files, copies}
+use Rattle.run_law.specs.Accounts.{AccountMail, copies, files, has_named}
 use Rattle.run_law.specs.Events.{IsOf, is_safe, IsSafe, Fetched, state_with}
 use Rattle.run_law.specs.Promises.{EventsKeepPromises}
 use Rattle.run_law.specs.Runs.{mail_of, text_in, plain, World, State, HoldsOf, IsNeither, StartsKept, IsSound, IsHeldOrTaken, Kept, IsLastStored, after_occasion, WorldsShowMaildrops, SessionsKeepOrder, LikeStatesAreKept, WithdrawnLeaveKept, LossesLeaveKept, KeptHoldsWhatIsLeft, NothingTakenHoldsExactly}
 use Rattle.run_law.proofs.Ids.{all_take, are_distinct, ids_filtered, is_some, Distinct, bytes_same, has_texts, all_map, all_filter, all_ids_at, bytes_self, distinct_filter, distinct_is, members, all_parts, ids_both, no_texts, other_id, all_both, front_is}
-use Rattle.run_law.proofs.Core.{distinct_here, next_here, prefix_left, done_legal, done_texts, IsLegal, done_distinct, parts_apart}
+use Rattle.run_law.proofs.Core.{distinct_here, next_here, prefix_left, done_legal, done_texts, IsLegal, done_distinct}
 use Rattle.std.proofs.Math.Logic.{⊎_elim, ⊎_map}
-use Rattle.run_law.specs.Power.{OneMoreIsLast, with_maildir}
 use Rattle.run_law.proofs.Promised.{held_copies, one_text, session_holds}
 
 -- ---- lists
@@ -209,39 +207,6 @@ losses_leave_kept world before after is kept loses = record {
           | inr (none, inr lastly) ↦ inr (rw kept.front.prefix at lastly.last)
         ]))
 
--- ---- one more file
-
-module _ (world : World) (is : IsSound world) (before : State AccountMail) (kept : Kept world before) (maildir : Maildir) (id : List ℕ) (legal : is_legal_id id ≡ true)
-    (none : copies (files before.account) (stem_of world.account id) ≡ [])
-    (others : (other : List ℕ) → is_legal_id other ≡ true → bytes_eq other id ≡ false → copies maildir.files (stem_of world.account other) ≡ copies (files before.account) (stem_of world.account other))
-    (untaken : has_id before.taken id ≡ false) where
-  held_same : (other : List ℕ) → copies maildir.files (stem_of world.account other) ≡ copies (files before.account) (stem_of world.account other) → is_held world.account maildir other ≡ is_held world.account before.account.maildir other
-  held_same other e = held_copies world.account (record before.account { maildir = maildir }) other ∙ ap is_some e ∙ sym (held_copies world.account before.account other)
-
-  abbrev now : State AccountMail
-  now = with_maildir maildir before
-
-  unsafe : IsHeldOrTaken world.account before.account.maildir before.taken id → ⊥
-  unsafe (l, safe) = ⊎_elim (λ h. both_ways _ (held_copies world.account before.account id ∙ ap is_some none) h) (λ t. both_ways _ untaken t) safe
-
-  apart : Distinct (ids_of kept.front.rest) × ((m : Message) → has_id (ids_of kept.front.rest) m.uid ≡ true → has_id (ids_of kept.front.done) m.uid ≡ false)
-  apart = parts_apart kept.front.done kept.front.rest (rw kept.front.prefix at (distinct_filter (is_selected world.max_size) world.all (distinct_is world.all is.mail.distinct)))
-
-  neither : (m : Message) → has_id (ids_of kept.front.rest) m.uid ≡ true → IsLegal m → bytes_eq m.uid id ≡ false → IsNeither world.account maildir before.taken m.uid
-  neither m there l other = let parts = or_parts _ _ (sym (kept.front.is_done m.uid l) ∙ apart.1 m there) in
-      (held_same m.uid (others m.uid l other) ∙ parts.0, parts.1)
-
-  pub lastly : IsLastStored world now id
-  lastly = record {
-    unrecorded = false_from_ne_true _ (λ e. unsafe (either_way world before id (kept.once.recorded id e)));
-    on_server = false_from_ne_true _ (λ g. unsafe (either_way world before id (all_ids_at _ _ kept.once.gone g)));
-    last = rw (kept.front.prefix, after_later id kept.front.done kept.front.rest (false_from_ne_true _ (λ d. unsafe (done_safe is kept id d)))) (after_one _ id kept.front.rest apart.0
-        (all_both _ (members kept.front.rest) (all_parts _ kept.front.done _ (rw kept.front.prefix at (all_filter _ (is_selected world.max_size) _ (all_map _ is.mail.messages (λ m h. h.legal))))).1 neither));
-  }
-
-pub one_more_is_last : OneMoreIsLast
-one_more_is_last world state maildir id is kept legal none others = ⊎_map (λ taken. taken) (lastly world is state kept maildir id legal none others) (cases_Bool (has_id state.taken id))
-
 -- ---- one session
 
 pub worlds_show_maildrops : WorldsShowMaildrops
@@ -251,8 +216,8 @@ pub sessions_keep_order : EventsKeepPromises → SessionsKeepOrder
 sessions_keep_order law world before o come is kept session same shown =
     let one = law (mail_of world) (plain before) (Fetched o) is.account kept.once session in
     let legal : AllByRecursion IsLegal (selected world.max_size world.all) = all_filter _ (is_selected world.max_size) _ (all_map _ is.mail.messages (λ m k. k.legal)) in
-    let front = one.0.in_order (selected world.max_size world.all) legal kept.front
-    (rw (same, shown) (next_here world.max_size come before.gone kept.front.done kept.front.rest is.mail kept.front.prefix (all_map _ kept.once.gone (λ id safe. safe_done is kept id (either_way world before id safe))))) in (
+    let front = (one.0.in_order (selected world.max_size world.all) legal kept.front
+    (rw (same, shown) (next_here world.max_size come before.gone kept.front.done kept.front.rest is.mail kept.front.prefix (all_map _ kept.once.gone (λ id safe. safe_done is kept id (either_way world before id safe)))))).0 in (
       one.0,
       record {
         once = record { holds = one.1.holds; recorded = λ id d. ((one.1.recorded id d).0, safe_still id (one.1.recorded id d).1); gone = all_map _ one.1.gone (λ id safe. (safe.0, safe_still id safe.1)) };
@@ -264,11 +229,11 @@ sessions_keep_order law world before o come is kept session same shown =
     held_stays : (id : List ℕ) → is_held world.account before.account.maildir id ≡ true → is_held world.account o.after.maildir id ≡ true
     held_stays id = session_holds (law (mail_of world) (plain before) (Fetched o) is.account kept.once session).0 id
 
-    by_bits : (held held' taken : Bool) → (held ≡ true → held' ≡ true) → (held' || ((held || taken) && not held')) ≡ (held' || taken)
-    by_bits held held' taken f = grind (arith, f)
+    by_bits : (held held' taken named : Bool) → (held ≡ true → held' ≡ true) → (held' || (((held || taken) && not held') || (taken && not named))) ≡ (held' || taken)
+    by_bits held held' taken named f = grind (arith, f)
 
     same_safe : (id : List ℕ) → is_safe (mail_of world) (state_with (mail_of world) (plain before) o.after) id ≡ is_safe_in world (after_occasion before o) id
-    same_safe id = by_bits _ _ (has_id before.taken id) (held_stays id)
+    same_safe id = by_bits _ _ (has_id before.taken id) (has_named world.account o.after.maildir id) (held_stays id)
 
     safe_still : (id : List ℕ) → is_safe (mail_of world) (state_with (mail_of world) (plain before) o.after) id ≡ true → is_safe_in world (after_occasion before o) id ≡ true
     safe_still id e = sym (same_safe id) ∙ e

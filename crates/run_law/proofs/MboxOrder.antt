@@ -1,4 +1,4 @@
--- With an mboxrd file: what holds in any order, and the order of the maildrops, give the second headline.
+-- With an mboxrd file: what holds in any order, and the order of the maildrops, give the headline.
 use Rattle.std.proofs.Common.{◌≡◌, ◌||◌, inl, inr, ℕ, List, [], ◌∷◌, ◌++◌, true, false, map, refl, sym, ◌∙◌, ap, append_assoc}
 use Rattle.std.specs.List.{AllByRecursion}
 use Rattle.std.proofs.lemmas.Bool.{both_ways, false_from_ne_true, or_left}

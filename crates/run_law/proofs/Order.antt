@@ -1,5 +1,5 @@
 -- What holds in any order, and the order of the maildrops, give the headline.
-use Rattle.std.proofs.Common.{◌≡◌, ◌⊎◌, inl, inr, ℕ, List, [], ◌∷◌, ◌++◌, Bool, true, false, length, refl, sym, ◌∙◌, ap, arith, length-append, not, ◌&&◌, ◌||◌}
+use Rattle.std.proofs.Common.{◌≡◌, ◌⊎◌, inl, inr, ℕ, List, [], ◌∷◌, ◌++◌, Bool, true, false, length, sym, ◌∙◌, ap, arith, length-append, not, ◌&&◌, ◌||◌}
 use Rattle.std.specs.List.{AllByRecursion}
 use Rattle.std.proofs.lemmas.Bool.{both_ways, false_from_ne_true, or_left, cases_Bool}
 use Rattle.std.proofs.lemmas.List.{append-nil}
@@ -9,9 +9,9 @@ use Rattle.pop3_wire.specs.World.{Message, IsWorld}
 use Rattle.fetch_rules.specs.Record.{is_delivered}
 use Rattle.mail_store.specs.FileName.{stem_of, is_held}
 use Rattle.run_law.specs.Mails.{ids_of, is_selected, selected, without, texts_of}
-use Rattle.run_law.specs.Accounts.{AccountMail, files, copies}
+use Rattle.run_law.specs.Accounts.{AccountMail, files, copies, has_named}
 use Rattle.run_law.specs.Below.{Below}
-use Rattle.run_law.specs.Events.{IsMaildrop, State, is_safe, IsSafe, Occasion, Event, Fetched, Between, Expired, Withdrawn, after_event}
+use Rattle.run_law.specs.Events.{IsMaildrop, State, IsSafe, Occasion, Event, Fetched, Between, Expired, Withdrawn, after_event}
 use Rattle.run_law.specs.Promises.{IsFront, Kept, Promised, EventsKeepPromises}
 use Rattle.run_law.specs.Order.{World, IsSound, world_after, KeepsOrder, HoldsAPrefix, Headline, NoneTaken, StaysAway}
 use Rattle.run_law.proofs.Ids.{all_filter, all_ids_at, all_map, all_parts, are_distinct, distinct_filter, distinct_is, front_is, is_some, no_texts, all_at}
@@ -68,17 +68,18 @@ module _ (world : World) (sound : IsSound world) (state : State) (kept : Kept wo
   -- what an event leaves has a front
   front_after : (event : Event (Occasion AccountMail) AccountMail) → Promised mail state event → KeepsOrder world state event
       → IsFront mail (after_event mail state event) (selected (world_after world event).max_size (world_after world event).all)
-  front_after (Fetched o) promises (same, come, is) = promises.in_order (selected max_size all) selected_legal front
-      (rw (same, is) (next_here max_size come state.gone front.done front.rest mail_is front.prefix (all_map _ kept.gone safe_done)))
+  front_after (Fetched o) promises (same, come, is) = (promises.in_order (selected max_size all) selected_legal front
+      (rw (same, is) (next_here max_size come state.gone front.done front.rest mail_is front.prefix (all_map _ kept.gone safe_done)))).0
   front_after (Between after) promises back = record {
     done = front.done;
     rest = front.rest;
     prefix = front.prefix;
-    is_done = λ id l. front.is_done id l ∙ same_safe (is_safe mail state id) (is_held mail.account after.maildir id) (back id l);
+    is_done = λ id l. front.is_done id l
+        ∙ same_safe (is_held mail.account state.account.maildir id) (state.taken id) (is_held mail.account after.maildir id) (has_named mail.account after.maildir id) (back id l);
   }
     where
-      same_safe : (safe held : Bool) → (held ≡ true → safe ≡ true) → safe ≡ (held || (safe && not held))
-      same_safe safe held h = grind (arith, h)
+      same_safe : (held taken held' named : Bool) → (held' ≡ true → (held || taken) ≡ true) → (held || taken) ≡ (held' || (((held || taken) && not held') || (taken && not named)))
+      same_safe held taken held' named h = grind (arith, h)
   front_after (Expired ids) promises order = record { done = front.done; rest = front.rest; prefix = front.prefix; is_done = front.is_done }
   front_after (Withdrawn ids) promises none = record {
     done = front.done;
@@ -116,13 +117,14 @@ headline law world state (Withdrawn ids ∷ events) sound kept front = (
 
 -- ---- if nothing is taken away
 
-untaken : (safe held taken held' : Bool) → safe ≡ (held || taken) → taken ≡ false → (held ≡ true → held' ≡ true) → (safe && not held') ≡ false
-untaken safe held taken held' e none stays = grind (arith, e, none, stays)
+untaken : (held taken held' named : Bool) → taken ≡ false → (held ≡ true → held' ≡ true) → (((held || taken) && not held') || (taken && not named)) ≡ false
+untaken held taken held' named none stays = grind (arith, none, stays)
 
 pub none_taken : EventsKeepPromises → NoneTaken
 none_taken law mail state (Fetched o) account kept is takes none id =
-    untaken _ (is_held mail.account state.account.maildir id) (state.taken id) _ refl (none id) (session_holds (law mail state (Fetched o) account kept is).0 id)
-none_taken law mail state (Between after) account kept is takes none id = untaken _ (is_held mail.account state.account.maildir id) (state.taken id) _ refl (none id) (takes id)
+    untaken (is_held mail.account state.account.maildir id) (state.taken id) _ (has_named mail.account o.after.maildir id) (none id) (session_holds (law mail state (Fetched o) account kept is).0 id)
+none_taken law mail state (Between after) account kept is takes none id =
+    untaken (is_held mail.account state.account.maildir id) (state.taken id) _ (has_named mail.account after.maildir id) (none id) (takes id)
 none_taken law mail state (Expired ids) account kept is takes none id = none id
 none_taken law mail state (Withdrawn ids) account kept is takes none id = none id
 

@@ -18,7 +18,7 @@ use Rattle.mail_store.specs.Maildir.{File}
 use Rattle.mail_terms.specs.MaildirName.{base}
 use Rattle.mail_store.specs.FileName.{names_id, name_of, stem, is_held, stem_of, IsAccountText}
 use Rattle.run_law.specs.Mails.{ids_of, item_of, listing_of, texts_of}
-use Rattle.run_law.specs.Accounts.{AccountMail, KeepsOthers, copies, count_files, files, without_flags}
+use Rattle.run_law.specs.Accounts.{AccountMail, KeepsOthers, copies, count_files, files, has_named, without_flags}
 use Rattle.run_law.specs.Steps.{Effect, Leaves, Stores, IsHonest, wanted_at, merged_rows, ids_wanted}
 use Rattle.run_law.specs.Sessions.{SendsOnly, IsBegun, SessionsAreServed}
 use Rattle.run_law.specs.Below.{Below}
@@ -96,8 +96,13 @@ unheld_part false xs = refl
 pub one_text : (text_of : List ℕ → List ℕ) (ms : List Message) → Distinct (ids_of ms) → AllByRecursion (IsOf text_of) ms → (id : List ℕ) → has_id (ids_of ms) id ≡ true → texts_of ms id ≡ text_of id ∷ []
 one_text text_of ms d each id = all_at (λ x. texts_of ms x ≡ text_of x ∷ []) ms (all_both ms (each_text ms d) each (λ m e h. e ∙ ap (λ (t : List ℕ). t ∷ []) h.text))
 
-more_done : (done held got taken held' : Bool) → done ≡ (held || taken) → held' ≡ (held || got) → (done || (got && not done)) ≡ (held' || ((held || taken) && not held'))
-more_done done held got taken held' e f = grind (arith, e, f)
+filter_within : (p q : Message → Bool) (ms : List Message) → AllByRecursion (λ (m : Message). p m ≡ true → q m ≡ true) ms → filter p (filter q ms) ≡ filter p ms
+filter_within p q [] all = refl
+filter_within p q (m ∷ ms) all = grind (arith, all.0, filter_within p q ms all.1)
+
+more_done : (done held got taken held' named : Bool) → done ≡ (held || taken) → held' ≡ (held || got)
+    → (done || (got && not done)) ≡ (held' || (((held || taken) && not held') || (taken && not named)))
+more_done done held got taken held' named e f = grind (arith, e, f)
 
 -- ---- what was sent
 
@@ -225,18 +230,31 @@ module _ (laws : Below) {mail : Mail} (account_is : IsAccountText mail.account) 
     | inr marks ↦ rw marks (marks_stay laws rows (ids_wanted (take s.recorded (wanted_at o.settings mail.account state.account e))) id (known_parts id ∙ or_left _ _ recorded))
   ]
 
+  -- what isn't done isn't held
+  new_unheld : (done : List Message) → ((id : List ℕ) → is_legal_id id ≡ true → has_id (ids_of done) id ≡ is_safe mail state id)
+      → AllByRecursion (λ (m : Message). not (has_id (ids_of done) m.uid) ≡ true → not (held m.uid) ≡ true) got
+  new_unheld done is_done = all_map got (all_got IsLegal legal_drop) (λ m l undone. unsafe (has_id (ids_of done) m.uid) (held m.uid) (state.taken m.uid) (is_done m.uid l) undone)
+    where
+      unsafe : (done held taken : Bool) → done ≡ (held || taken) → not done ≡ true → not held ≡ true
+      unsafe true held taken e f = absurd (both_ways false refl f)
+      unsafe false true taken e f = absurd (both_ways false refl e)
+      unsafe false false taken e f = refl
+
   -- what came is the next, if what could come is
-  front_after : (all : List Message) → AllByRecursion IsLegal all → (front : IsFront mail state all) → ShowsNext o front.done front.rest → IsFront mail after all
+  front_after : (all : List Message) → AllByRecursion IsLegal all → (front : IsFront mail state all) → ShowsNext o front.done front.rest
+      → (later : IsFront mail after all) × (later.done ≡ front.done ++ filter (λ (m : Message). not (has_id (ids_of front.done) m.uid)) came)
   front_after all legal front next =
-      let known = all_map _ legal_drop (λ m l d. front.is_done m.uid l ∙ (known_safe m.uid d).1) in
-      record {
-        done = front.done ++ added fetch front.done front.rest known next s.stored;
-        rest = (added_begins fetch front.done front.rest known next s.stored).0;
-        prefix = prefix_after fetch front.done front.rest known next front.prefix s.stored;
-        is_done = λ id l. ids_both front.done (added fetch front.done front.rest known next s.stored) id
-            ∙ ap (λ b. has_id (ids_of front.done) id || b) (ids_filtered (λ x. not (has_id (ids_of front.done) x)) got id)
-            ∙ more_done _ _ _ _ _ (front.is_done id l) (held_now id l);
-      }
+      let known = all_map _ legal_drop (λ m l d. front.is_done m.uid l ∙ (known_safe m.uid d).1) in (
+        record {
+          done = front.done ++ added fetch front.done front.rest known next s.stored;
+          rest = (added_begins fetch front.done front.rest known next s.stored).0;
+          prefix = prefix_after fetch front.done front.rest known next front.prefix s.stored;
+          is_done = λ id l. ids_both front.done (added fetch front.done front.rest known next s.stored) id
+              ∙ ap (λ b. has_id (ids_of front.done) id || b) (ids_filtered (λ x. not (has_id (ids_of front.done) x)) got id)
+              ∙ more_done _ _ _ _ _ (has_named mail.account o.after.maildir id) (front.is_done id l) (held_now id l);
+        },
+        ap (λ l. front.done ++ l) (sym (filter_within (λ (m : Message). not (has_id (ids_of front.done) m.uid)) (λ (m : Message). not (held m.uid)) got (new_unheld front.done front.is_done))),
+      )
 
   stored_kept : (e.ended ≡ o.ended) → (o.ended ≡ true → o.retrieved ≡ length (wanted_at o.settings mail.account state.account e)) → SendsOnly (IsBegun e.listing e.begun) o.sent
       → AllByRecursion (λ id. has_id e.begun id ≡ true) o.vanished → Promises mail state o × Kept mail after
@@ -288,7 +306,8 @@ left_kept {mail} {state} o e kept left ended sends vanished = (
     new = tt;
     others = λ name content other. ap (λ fs. count_files fs name content) left.same;
     recorded = λ id recorded. rw left.rows recorded;
-    in_order = λ all legal front next. record { done = front.done; rest = front.rest; prefix = front.prefix; is_done = λ id l. front.is_done id l ∙ unchanged id };
+    in_order = λ all legal front next.
+        (record { done = front.done; rest = front.rest; prefix = front.prefix; is_done = λ id l. front.is_done id l ∙ unchanged id }, sym (append-nil front.done));
   },
   record {
     holds = λ id l. rw left.same (kept.holds id l);

@@ -1,10 +1,10 @@
 -- What an account holds between sessions. A reader that moves files between `new` and `cur` or changes their
 -- marks changes nothing here.
-use Rattle.std.specs.Prelude.{◌≡◌, ◌&&◌, ℕ, true, false, List, map, length, bytes_eq}
-use Rattle.std.specs.List.{filter}
+use Rattle.std.specs.Prelude.{◌≡◌, ◌&&◌, ℕ, Bool, true, false, List, map, length, bytes_eq}
+use Rattle.std.specs.List.{filter, list_any}
 use Rattle.fetch_rules.specs.Record.{Row}
 use Rattle.mail_store.specs.Maildir.{File, Maildir, file}
-use Rattle.mail_store.specs.FileName.{stem, stem_of}
+use Rattle.mail_store.specs.FileName.{names_id, stem, stem_of}
 use Rattle.mail_terms.specs.UniqueId.{is_legal_id}
 
 -- the rows of the record, and the Maildir
@@ -23,6 +23,10 @@ without_flags fs = map (λ (f : File). file f.name f.content) fs
 -- the contents of the files whose names have this stem
 abbrev pub copies : List File → List ℕ → List (List ℕ)
 copies fs front = map (λ (f : File). f.content) (filter (λ (f : File). bytes_eq front (stem f.name)) fs)
+
+-- a file of the id is there whose name is durable
+abbrev pub has_named : List ℕ → Maildir → List ℕ → Bool
+has_named account maildir id = list_any (λ (f : File). names_id account id f.name && f.is_named) maildir.files
 
 -- how many files have this name, without its marks, and this content
 abbrev pub count_files : List File → List ℕ → List ℕ → ℕ

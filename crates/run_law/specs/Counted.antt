@@ -15,10 +15,12 @@ Adds settings account before effect n after = without_flags after.maildir.files 
 -- the record is the merged one, with delivered set for the first n of the wanted messages
 abbrev pub Records : Settings → List ℕ → AccountMail → Effect → ℕ → AccountMail → Type 0
 Records settings account before effect n after =
-    after.rows ≡ marked_all (merged_rows account before effect) (ids_wanted (take n (wanted_at settings account before effect)))
+    after.rows ≡ marked_all (merged_rows account before effect)
+    (ids_wanted (take n (wanted_at settings account before effect)))
 
 -- `retrieved` is k; which faults allow one fewer or one more isn't stated here
-pub record Counted (settings : Settings) (account : List ℕ) (before : AccountMail) (effect : Effect) (after : AccountMail) : Type 0 where
+pub record Counted (settings : Settings) (account : List ℕ) (before : AccountMail) (effect : Effect)
+    (after : AccountMail) : Type 0 where
   pub k : ℕ
   pub j : ℕ
   pub number : (k ≡ length effect.texts) ⊎ (k + 1 ≡ length effect.texts)

@@ -11,7 +11,7 @@ use Rattle.rc_file.specs.declared.settings.Settings.{Settings}
 use Rattle.pop3_wire.specs.World.{Message}
 use Rattle.mail_store.specs.FileName.{is_held, stem_of}
 use Rattle.run_law.specs.Mails.{ids_of}
-use Rattle.run_law.specs.Accounts.{AccountMail, copies}
+use Rattle.run_law.specs.Accounts.{AccountMail, copies, has_named}
 use Rattle.run_law.specs.Steps.{Effect, wanted_at}
 use Rattle.run_law.specs.Sessions.{Served, Session}
 
@@ -31,7 +31,8 @@ pub record IsMaildrop (text_of : List ℕ → List ℕ) (maildrop : List Message
   pub each : AllByRecursion (IsOf text_of) maildrop
   pub distinct : AreDistinct (ids_of maildrop)
 
--- an account; the ids that are gone from the server; and which messages were taken away: they were held and aren't
+-- an account; the ids that are gone from the server; and which messages were taken away: they were held and aren't, or
+-- only under a name that a loss of power may take
 pub record State : Type 0 where
   pub account : AccountMail
   pub gone : List (List ℕ)
@@ -67,7 +68,8 @@ pub record IsSession (mail : Mail) (before : AccountMail) (occasion : Occasion A
   pub effect : Effect
   pub session : Session occasion.settings mail.account before occasion.sent occasion.got effect occasion.after
   pub ended : effect.ended ≡ occasion.ended
-  pub counted : occasion.ended ≡ true → occasion.retrieved ≡ length (wanted_at occasion.settings mail.account before effect)
+  pub counted : occasion.ended ≡ true
+      → occasion.retrieved ≡ length (wanted_at occasion.settings mail.account before effect)
 
 -- a session; what others do to the files and the record; and messages that are gone from the server without a
 -- session, after they were held, or before. `Visit` and `After` are what is known of a session, and of what others left
@@ -77,12 +79,14 @@ pub data Event (Visit After : Type 0) : Type 0 where
   Expired : List (List ℕ) → Event Visit After
   Withdrawn : List (List ℕ) → Event Visit After
 
--- the state once this is its account: what was held or taken away, and isn't held, was taken away
+-- the state once this is its account: what was held or taken away, and isn't held, was taken away; and what was taken
+-- away before still counts so until a file of it is there whose name is durable
 abbrev pub state_with : Mail → State → AccountMail → State
 state_with mail state after = record {
   account = after;
   gone = state.gone;
-  taken = λ id. is_safe mail state id && not (is_held mail.account after.maildir id);
+  taken = λ id. (is_safe mail state id && not (is_held mail.account after.maildir id))
+      || (state.taken id && not (has_named mail.account after.maildir id));
 }
 
 abbrev pub after_session : Mail → State → Occasion AccountMail → State

@@ -14,7 +14,6 @@ pub mod MboxSessions
 pub mod Mboxes
 pub mod Order
 pub mod Plans
-pub mod Power
 pub mod Promises
 pub mod Readings
 pub mod Runs

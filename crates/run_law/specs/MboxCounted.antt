@@ -22,15 +22,18 @@ pub record OpensAt (settings : Settings) (before : MboxMail) (effect : Effect) (
 
 -- k texts are appended, and as many recorded: no intent is open and nothing follows, or the next one's is
 -- open and a prefix of its entry follows
-pub record AllRecorded (settings : Settings) (before : MboxMail) (effect : Effect) (k : ℕ) (after : MboxMail) : Type 0 where
+pub record AllRecorded (settings : Settings) (before : MboxMail) (effect : Effect) (k : ℕ)
+    (after : MboxMail) : Type 0 where
   pub text : List ℕ
   pub front : List ℕ
   pub behind : List ℕ
   pub file : after.file ≡ bytes_at before effect k ++ front
-  pub ending : ((after.intent ≡ None) × (front ≡ [])) ⊎ (OpensAt settings before effect k text after × (entry_of text ≡ front ++ behind))
+  pub ending : ((after.intent ≡ None) × (front ≡ []))
+      ⊎ (OpensAt settings before effect k text after × (entry_of text ≡ front ++ behind))
 
 -- k texts are appended, and one fewer recorded: the last one's intent is open
-pub record LastUnrecorded (settings : Settings) (before : MboxMail) (effect : Effect) (k j : ℕ) (after : MboxMail) : Type 0 where
+pub record LastUnrecorded (settings : Settings) (before : MboxMail) (effect : Effect) (k j : ℕ)
+    (after : MboxMail) : Type 0 where
   pub one_less : j + 1 ≡ k
   pub text : List ℕ
   pub file : after.file ≡ bytes_at before effect k
@@ -40,7 +43,8 @@ pub record MboxCounted (settings : Settings) (before : MboxMail) (effect : Effec
   pub k : ℕ
   pub j : ℕ
   pub number : (k ≡ length effect.texts) ⊎ (k + 1 ≡ length effect.texts)
-  pub rows : after.rows ≡ marked_all (mbox_rows before effect) (ids_wanted (take j (mbox_wanted settings before effect)))
+  pub rows : after.rows ≡ marked_all (mbox_rows before effect)
+      (ids_wanted (take j (mbox_wanted settings before effect)))
   pub marks : ((j ≡ k) × AllRecorded settings before effect k after) ⊎ LastUnrecorded settings before effect k j after
   pub begun : AllByRecursion (λ id. is_delivered after.rows id ≡ true) effect.begun
   pub ended : effect.ended ≡ true → (j ≡ length (mbox_wanted settings before effect)) × (after.intent ≡ None)

@@ -1,6 +1,6 @@
--- Sessions of an account with an mboxrd file that read only what is new, and what others do between them, in what its files mean: the
--- rows of its record and its open intent, and the bytes of the mboxrd file. A server may show any messages, in any order, and each
--- session may have other limits: what stays is that a unique-id names one text.
+-- Sessions of an account with an mboxrd file that read only what is new, and what others do between them, in what its
+-- files mean: the rows of its record and its open intent, and the bytes of the mboxrd file. A server may show any
+-- messages, in any order, and each session may have other limits: what stays is that a unique-id names one text.
 use Rattle.std.specs.Prelude.{◌≡◌, ◌⊎◌, ◌||◌, ℕ, Bool, true, false, List, ◌∷◌, ◌++◌, length}
 use Rattle.std.specs.List.{AllByRecursion}
 use Rattle.std.proofs.Common.{inl, inr}
@@ -24,8 +24,8 @@ pub record Base : Type 0 where
 abbrev pub is_entered : Base → List Message → List ℕ → Bool
 is_entered base done id = base.had id || has_id (ids_of done) id
 
--- it was a session of the account that read only what is new, whatever cut it, and all that it got came from an honest server with
--- this maildrop
+-- it was a session of the account that read only what is new, whatever cut it, and all that it got came from an honest
+-- server with this maildrop
 pub record IsMboxSession (text_of : List ℕ → List ℕ) (before : MboxMail) (occasion : Occasion MboxMail) : Type 0 where
   pub maildrop : IsMaildrop text_of occasion.maildrop
   pub served : Served occasion.maildrop occasion.sent occasion.got occasion.vanished

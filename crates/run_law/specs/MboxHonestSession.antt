@@ -15,15 +15,16 @@ use Rattle.run_law.specs.Steps.{Effect}
 abbrev pub IsIn : List Message → Message → Type 0
 IsIn drop message = (place : ℕ) × (slice_get drop place ≡ Some message)
 
--- the joined listing is the maildrop's; what was appended are the entries of messages of the maildrop, with their texts,
--- and at most a beginning of one more
+-- the joined listing is the maildrop's; what was appended are the entries of messages of the maildrop, with their
+-- texts, and at most a beginning of one more
 pub record AppendsMessages (drop : List Message) (before : MboxMail) (effect : Effect) (after : MboxMail) : Type 0 where
   pub listing : effect.listing ≡ listing_of drop
   pub messages : List Message
   pub each : AllByRecursion (IsIn drop) messages
   pub rest : List ℕ
   pub file : after.file ≡ (settled effect.listing before).file ++ (entries_of messages ++ rest)
-  pub at_most : (rest ≡ []) ⊎ ((next : Message) × (behind : List ℕ) × IsIn drop next × (entry_of next.text ≡ rest ++ behind))
+  pub at_most : (rest ≡ [])
+      ⊎ ((next : Message) × (behind : List ℕ) × IsIn drop next × (entry_of next.text ≡ rest ++ behind))
 
 -- a law: if the conversation is honest, a session asked for no message, or appended messages of the maildrop and
 -- nothing else

@@ -46,4 +46,5 @@ MboxSessionsAppend = (base : Base) (done : List Message) (before : MboxMail) (oc
 
 -- a law: it may begin with any account that has no open intent, also after others wrote its file or its record
 abbrev pub MboxStarts : Type 0
-MboxStarts = (base : Base) (account : MboxMail) → account.intent ≡ None → HoldsEntries (base_from base account) [] account
+MboxStarts = (base : Base) (account : MboxMail) → account.intent ≡ None
+    → HoldsEntries (base_from base account) [] account

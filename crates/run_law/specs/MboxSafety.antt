@@ -16,15 +16,18 @@ abbrev pub StandsAfter : List Item → MboxMail → MboxMail → List ℕ → Ty
 StandsAfter listing before after text =
     (front behind : List ℕ) × (after.file ≡ (settled listing before).file ++ (front ++ (entry_of text ++ behind)))
 
--- the settled record shows the id as delivered, or the session appended the entry of the text that it got by this number
+-- the settled record shows the id as delivered, or the session appended the entry of the text that it got by this
+-- number
 abbrev pub MboxMayBeDeleted : Settings → MboxMail → Effect → MboxMail → ℕ → List ℕ → Type 0
 MboxMayBeDeleted settings before effect after number id = (is_delivered (settled effect.listing before).rows id ≡ true)
     ⊎ WasFetched (mbox_wanted settings before effect) effect.texts (StandsAfter effect.listing before after) number id
 
 -- the file is as it was, or begins with what it held after it was settled; and each DELE that was sent, the
 -- last perhaps in part, asks for such a message
-pub record MboxIsSafe (settings : Settings) (before : MboxMail) (sent : List ℕ) (effect : Effect) (after : MboxMail) : Type 0 where
-  pub file : (after.file ≡ before.file) ⊎ ((more : List ℕ) × (after.file ≡ (settled effect.listing before).file ++ more))
+pub record MboxIsSafe (settings : Settings) (before : MboxMail) (sent : List ℕ) (effect : Effect)
+    (after : MboxMail) : Type 0 where
+  pub file : (after.file ≡ before.file)
+      ⊎ ((more : List ℕ) × (after.file ≡ (settled effect.listing before).file ++ more))
   pub sends : SendsOnly (DeletesAllowed effect.listing (MboxMayBeDeleted settings before effect after)) sent
 
 -- a law: every session is safe in this way, whatever its server says

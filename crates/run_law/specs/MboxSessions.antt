@@ -26,12 +26,14 @@ pub record MboxSession (settings : Settings) (before : MboxMail) (sent got : Lis
     (after : MboxMail) : Type 0 where
   pub sends : SendsOnly (IsBegun effect.listing effect.begun) sent
   pub step : (MboxLeaves before effect after × AsksForNone sends.commands sends.asked.part)
-      ⊎ (MboxStores settings before effect after × Reads (mbox_wanted settings before effect) sends.commands sent got effect)
+      ⊎ (MboxStores settings before effect after
+      × Reads (mbox_wanted settings before effect) sends.commands sent got effect)
 
--- a law: what a session did over an honest link is what it read of the maildrop, and a DELE was begun for each message that its QUIT
--- removed
+-- a law: what a session did over an honest link is what it read of the maildrop, and a DELE was begun for each message
+-- that its QUIT removed
 abbrev pub MboxSessionsAreServed : Type 0
-MboxSessionsAreServed = (settings : Settings) (before : MboxMail) (sent got : List ℕ) (effect : Effect) (after : MboxMail)
+MboxSessionsAreServed = (settings : Settings) (before : MboxMail) (sent got : List ℕ) (effect : Effect)
+    (after : MboxMail)
     (drop : List Message) (vanished : List (List ℕ))
     → MboxSession settings before sent got effect after → Served drop sent got vanished
     → (MboxLeaves before effect after

@@ -1,5 +1,6 @@
 -- What an account with an mboxrd holds between sessions, and what one session does to it.
-use Rattle.std.specs.Prelude.{◌≡◌, ◌⊎◌, ◌≤◌, ℕ, Bool, true, false, List, [], ◌++◌, map, take, length, Option, Some, None, slice_get}
+use Rattle.std.specs.Prelude.{◌≡◌, ◌⊎◌, ◌≤◌, ℕ, Bool, true, false, List, [], ◌++◌, map, take, length, Option, Some}
+use Rattle.std.specs.Prelude.{None, slice_get}
 use Rattle.std.specs.List.{flat_map, AllByRecursion}
 use Rattle.mail_terms.specs.Listing.{Item}
 use Rattle.fetch_rules.specs.Record.{Intent, Row, is_delivered, marked_all, merged}
@@ -43,7 +44,8 @@ none_held listing = map (λ _. false) listing
 
 -- the record after it was settled and the listing was merged into it
 abbrev pub mbox_rows : MboxMail → Effect → List Row
-mbox_rows before effect = merged (settled effect.listing before).rows effect.listing (none_held effect.listing) effect.now
+mbox_rows before effect = merged (settled effect.listing before).rows effect.listing
+    (none_held effect.listing) effect.now
 
 abbrev pub mbox_wanted : Settings → MboxMail → Effect → List (ℕ × Item)
 mbox_wanted settings before effect = wanted settings (mbox_rows before effect) effect.listing
@@ -82,18 +84,21 @@ pub record MboxLeaves (before : MboxMail) (effect : Effect) (after : MboxMail) :
   pub ended : effect.ended ≡ false
 
 -- the entry of the next wanted message was about to be appended
-pub record IsBroken (settings : Settings) (before : MboxMail) (effect : Effect) (stored : ℕ) (after : MboxMail) : Type 0 where
+pub record IsBroken (settings : Settings) (before : MboxMail) (effect : Effect) (stored : ℕ)
+    (after : MboxMail) : Type 0 where
   pub message : ℕ × Item
   pub text : List ℕ
   pub wanted : slice_get (mbox_wanted settings before effect) stored ≡ Some message
   pub got : slice_get effect.texts stored ≡ Some text
-  pub opened : IsOpen ((settled effect.listing before).file ++ entries (take stored effect.texts)) message.1.uid text after
+  pub opened : IsOpen ((settled effect.listing before).file ++ entries (take stored effect.texts))
+      message.1.uid text after
 
 -- the account was settled, the listing merged, and the first `stored` of the wanted messages appended and recorded
 pub record MboxStores (settings : Settings) (before : MboxMail) (effect : Effect) (after : MboxMail) : Type 0 where
   pub stored : ℕ
   pub fetched : stored ≤ length effect.texts
-  pub rows : after.rows ≡ marked_all (mbox_rows before effect) (ids_wanted (take stored (mbox_wanted settings before effect)))
+  pub rows : after.rows ≡ marked_all (mbox_rows before effect)
+      (ids_wanted (take stored (mbox_wanted settings before effect)))
   pub ending : IsClosed ((settled effect.listing before).file ++ entries (take stored effect.texts)) after
       ⊎ IsBroken settings before effect stored after
   pub begun : AllByRecursion (λ id. is_delivered after.rows id ≡ true) effect.begun

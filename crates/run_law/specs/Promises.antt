@@ -1,5 +1,6 @@
 -- What a session of an account with a Maildir promises, and what holds before and after it.
-use Rattle.std.specs.Prelude.{◌≡◌, ◌⊎◌, ◌<◌, ◌≤◌, ◌-◌, ◌&&◌, ◌||◌, not, ℕ, Bool, true, false, List, ◌∷◌, ◌++◌, map, length, Some, slice_get}
+use Rattle.std.specs.Prelude.{◌≡◌, ◌⊎◌, ◌<◌, ◌≤◌, ◌-◌, ◌&&◌, ◌||◌, not, ℕ, Bool, true, false, List, ◌∷◌, ◌++◌, map}
+use Rattle.std.specs.Prelude.{length, Some, slice_get}
 use Rattle.std.specs.List.{AllByRecursion, filter}
 use Rattle.mail_terms.specs.UniqueId.{is_legal_id, has_id}
 use Rattle.fetch_rules.specs.Record.{is_delivered}
@@ -12,7 +13,8 @@ use Rattle.mail_store.specs.FileName.{is_held, mail_file, IsAccountText}
 use Rattle.run_law.specs.Mails.{ids_of}
 use Rattle.run_law.specs.Accounts.{AccountMail, KeepsOthers, without_flags}
 use Rattle.run_law.specs.Sessions.{SendsOnly}
-use Rattle.run_law.specs.Events.{Mail, State, is_safe, IsSafe, HoldsEachOnce, Occasion, Event, Fetched, state_with, after_session, after_event, Happens, IsBetween}
+use Rattle.run_law.specs.Events.{Mail, State, is_safe, IsSafe, HoldsEachOnce, Occasion, Event, Fetched, state_with}
+use Rattle.run_law.specs.Events.{after_session, after_event, Happens, IsBetween}
 
 -- whether a session may fetch a message, if it knows those with such ids
 abbrev pub may_fetch : Settings → (List ℕ → Bool) → Message → Bool
@@ -75,7 +77,8 @@ pub record Promises (mail : Mail) (state : State) (occasion : Occasion AccountMa
   pub recorded : (id : List ℕ) → is_delivered state.account.rows id ≡ true → is_delivered occasion.after.rows id ≡ true
   pub in_order : (all : List Message) → AllByRecursion (λ (m : Message). is_legal_id m.uid ≡ true) all
       → (front : IsFront mail state all) → ShowsNext occasion front.done front.rest
-      → IsFront mail (after_session mail state occasion) all
+      → (later : IsFront mail (after_session mail state occasion) all)
+      × (later.done ≡ front.done ++ filter (λ (m : Message). not (has_id (ids_of front.done) m.uid)) came)
 
 -- nothing is promised of what others do
 abbrev pub Promised : Mail → State → Event (Occasion AccountMail) AccountMail → Type 0
@@ -90,10 +93,12 @@ pub record Kept (mail : Mail) (state : State) : Type 0 where
 
 -- the law: an event keeps its promises, and leads from a kept state to a kept state
 abbrev pub EventsKeepPromises : Type 0
-EventsKeepPromises = (mail : Mail) (state : State) (event : Event (Occasion AccountMail) AccountMail) → IsAccountText mail.account
+EventsKeepPromises = (mail : Mail) (state : State) (event : Event (Occasion AccountMail) AccountMail)
+    → IsAccountText mail.account
     → Kept mail state → Happens mail state event → Promised mail state event × Kept mail (after_event mail state event)
 
 -- a law: others leave a kept state
 abbrev pub OthersLeaveKept : Type 0
-OthersLeaveKept = (mail : Mail) (state : State) (after : AccountMail) → Kept mail state → IsBetween mail state.account after
+OthersLeaveKept = (mail : Mail) (state : State) (after : AccountMail) → Kept mail state
+    → IsBetween mail state.account after
     → Kept mail (state_with mail state after)

@@ -7,7 +7,8 @@ use Rattle.pop3_wire.specs.declared.reply.Status.TheVariants.{Positive}
 use Rattle.pop3_wire.specs.Line.{IsLine, ended}
 use Rattle.pop3_wire.specs.Body.{Body}
 use Rattle.pop3_wire.specs.Reply.{IsFirstLine}
-use Rattle.pop3_wire.specs.Reading.{WholeReply, body_bytes, reply_bytes, has_body, IsBodyIf, IsUidLine, IsScanLine, HasListing, GivesCount}
+use Rattle.pop3_wire.specs.Reading.{WholeReply, body_bytes, reply_bytes, has_body, IsBodyIf, IsUidLine, IsScanLine}
+use Rattle.pop3_wire.specs.Reading.{HasListing, GivesCount}
 use Rattle.pop3_wire.specs.Honest.{Grants, Asked, Honest, no_marks}
 use Rattle.pop3_wire.specs.World.{Message}
 use Rattle.mail_terms.specs.Listing.{Item, Joins}
@@ -46,7 +47,8 @@ AreGranted drop marks (command ∷ commands) (reply ∷ replies) =
 
 -- in an honest conversation each whole and positive reply is what the command asks of the maildrop
 abbrev pub HonestIsGranted : Type 0
-HonestIsGranted = (drop : List Message) (sent got : List ℕ) (marks : List Bool) (commands : List Command) (replies : List WholeReply)
+HonestIsGranted = (drop : List Message) (sent got : List ℕ) (marks : List Bool) (commands : List Command)
+    (replies : List WholeReply)
     → (honest : Honest drop sent got marks) → Talked commands replies sent got
     → AreGranted drop (no_marks drop) commands replies
 
@@ -92,4 +94,5 @@ ListingIsMaildrop = (drop : List Message) (name word : List ℕ) (commands : Lis
 abbrev pub MarksAreAsked : Type 0
 MarksAreAsked = (drop : List Message) (sent got : List ℕ) (marks : List Bool)
     → (honest : Honest drop sent got marks) → (place : ℕ) → slice_get marks place ≡ Some true
-    → (front behind : List Command) × (number : ℕ) × (honest.commands ≡ front ++ Dele number ∷ behind) × (number - 1 ≡ place)
+    → (front behind : List Command) × (number : ℕ) × (honest.commands ≡ front ++ Dele number ∷ behind)
+    × (number - 1 ≡ place)

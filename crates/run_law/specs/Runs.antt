@@ -1,6 +1,7 @@
--- The account of a server that keeps its order, with lists of what is gone from it and of what was taken away: what the headline over
--- files takes from what holds in any order.
-use Rattle.std.specs.Prelude.{◌≡◌, ◌⊎◌, ◌≤◌, ℕ, true, false, not, List, [], ◌∷◌, ◌++◌, take, length, if◌then◌else◌, bytes_eq}
+-- The account of a server that keeps its order, with lists of what is gone from it and of what was taken away: what the
+-- headline over files takes from what holds in any order.
+use Rattle.std.specs.Prelude.{◌≡◌, ◌⊎◌, ◌≤◌, ℕ, true, false, not, List, [], ◌∷◌, ◌++◌, take, length, if◌then◌else◌}
+use Rattle.std.specs.Prelude.{bytes_eq}
 use Rattle.std.specs.List.{AllByRecursion, filter}
 use Rattle.fetch_rules.specs.Record.{is_delivered}
 use Rattle.mail_store.specs.FileName.{stem_of, is_held, IsAccountText}
@@ -19,9 +20,10 @@ pub record State (K : Type 0) : Type 0 where
   pub gone : List (List ℕ)
   pub taken : List (List ℕ)
 
--- a session; anything that leaves the record and the messages of the account as they are; messages that are gone from the
--- server after they were fetched, or before; a message that its reader throws away or files elsewhere, or puts back; a
--- record that is lost, or is replaced by an older one; and a loss of power. `Session` is what is known of a session
+-- a session; anything that leaves the record and the messages of the account as they are; messages that are gone from
+-- the server after they were fetched, or before; a message that its reader throws away or files elsewhere, or puts
+-- back; a record that is lost, or is replaced by an older one; and a loss of power. `Session` is what is known of a
+-- session
 pub data Event (Session : Type 0 → Type 0) (Account : Type 0) : Type 0 where
   Fetched : Session Account → Event Session Account
   Between : Account → Event Session Account
@@ -45,9 +47,11 @@ after_event after_session before (Forgotten after) = record before { account = a
 after_event after_session before (PowerLost after) = record before { account = after }
 
 -- what a list of events leaves
-abbrev pub after_events : {S : Type 0 → Type 0} {K : Type 0} → (State K → S K → State K) → State K → List (Event S K) → State K
+abbrev pub after_events : {S : Type 0 → Type 0} {K : Type 0} → (State K → S K → State K) → State K
+    → List (Event S K) → State K
 after_events after_session before [] = before
-after_events after_session before (event ∷ events) = after_events after_session (after_event after_session before event) events
+after_events after_session before (event ∷ events) = after_events after_session
+    (after_event after_session before event) events
 
 -- what stays throughout: the account's text, the limit on sizes, and all mail that wasn't withdrawn
 pub record World : Type 0 where
@@ -72,23 +76,24 @@ world_left world (event ∷ events) = world_left (world_after world event) event
 
 -- the message is held in this Maildir, or is one of those that were taken away
 abbrev pub IsHeldOrTaken : List ℕ → Maildir → List (List ℕ) → List ℕ → Type 0
-IsHeldOrTaken account maildir taken id = (is_legal_id id ≡ true) × ((is_held account maildir id ≡ true) ⊎ (has_id taken id ≡ true))
+IsHeldOrTaken account maildir taken id = (is_legal_id id ≡ true)
+    × ((is_held account maildir id ≡ true) ⊎ (has_id taken id ≡ true))
 
 -- the message is neither held there nor taken away
 abbrev pub IsNeither : List ℕ → Maildir → List (List ℕ) → List ℕ → Type 0
 IsNeither account maildir taken id = (is_held account maildir id ≡ false) × (has_id taken id ≡ false)
 
--- the record doesn't show the message, the server still has it, and no later one of the selected messages is held or was
--- taken away: a text and its name are flushed before its row is written, and before the next one is stored
+-- the record doesn't show the message, the server still has it, and no later one of the selected messages is held or
+-- was taken away: a text and its name are flushed before its row is written, and before the next one is stored
 pub record IsLastStored (world : World) (before : State AccountMail) (id : List ℕ) : Type 0 where
   pub unrecorded : is_delivered before.account.rows id ≡ false
   pub on_server : has_id before.gone id ≡ false
   pub last : AllByRecursion (λ (m : Message). IsNeither world.account before.account.maildir before.taken m.uid)
       (messages_after id (selected world.max_size world.all))
 
--- power is lost. For each legal id the files of its stem hold what they held; or there is none, and the message was taken
--- away before and stored again, or is the last that was stored. What the record shows as delivered it showed before, or it
--- is held or was taken away
+-- power is lost. For each legal id the files of its stem hold what they held; or there is none, and the message was
+-- taken away before and stored again, or is the last that was stored. What the record shows as delivered it showed
+-- before, or it is held or was taken away
 pub record LosesPower (world : World) (before : State AccountMail) (after : AccountMail) : Type 0 where
   pub mail : (id : List ℕ) → is_legal_id id ≡ true
       → (copies (files after) (stem_of world.account id) ≡ copies (files before.account) (stem_of world.account id))
@@ -131,30 +136,37 @@ WorldsShowMaildrops = (world : World) (come : ℕ) (gone : List (List ℕ)) → 
 
 -- a law: a session over a maildrop in this order, with this limit, keeps its promises and leaves a kept state
 abbrev pub SessionsKeepOrder : Type 0
-SessionsKeepOrder = (world : World) (before : State AccountMail) (occasion : Occasion AccountMail) (come : ℕ) → IsSound world
-    → Kept world before → IsSession (mail_of world) before.account occasion → occasion.settings.max_size ≡ world.max_size
+SessionsKeepOrder = (world : World) (before : State AccountMail) (occasion : Occasion AccountMail) (come : ℕ)
+    → IsSound world
+    → Kept world before → IsSession (mail_of world) before.account occasion
+    → occasion.settings.max_size ≡ world.max_size
     → occasion.maildrop ≡ maildrop_of world.all come before.gone
     → Promises (mail_of world) (plain before) occasion × Kept world (after_occasion before occasion)
 
--- for each legal id the files hold what they held, or nothing, and it is held or was taken away just if it was so before; or it was taken
--- away, and one file holds its text again. The record shows no more, and what is gone is held or was taken away
+-- for each legal id the files hold what they held, or nothing, and it is held or was taken away just if it was so
+-- before; or it was taken away, and one file holds its text again. The record shows no more, and what is gone is held
+-- or was taken away
 pub record IsLike (world : World) (before after : State AccountMail) : Type 0 where
   pub each : (id : List ℕ) → is_legal_id id ≡ true
-      → (((copies (files after.account) (stem_of world.account id) ≡ copies (files before.account) (stem_of world.account id))
+      → (((copies (files after.account) (stem_of world.account id)
+      ≡ copies (files before.account) (stem_of world.account id))
       ⊎ (copies (files after.account) (stem_of world.account id) ≡ []))
       × (is_safe (mail_of world) (plain after) id ≡ is_safe (mail_of world) (plain before) id))
-      ⊎ ((has_id before.taken id ≡ true) × (copies (files after.account) (stem_of world.account id) ≡ texts_of world.all id))
+      ⊎ ((has_id before.taken id ≡ true)
+      × (copies (files after.account) (stem_of world.account id) ≡ texts_of world.all id))
   pub delivered : (id : List ℕ) → is_delivered after.account.rows id ≡ true → is_delivered before.account.rows id ≡ true
   pub gone : AllByRecursion (IsHeldOrTaken world.account before.account.maildir before.taken) after.gone
 
 -- a law: such a state is kept
 abbrev pub LikeStatesAreKept : Type 0
-LikeStatesAreKept = (world : World) (before after : State AccountMail) → IsSound world → Kept world before → IsLike world before after
+LikeStatesAreKept = (world : World) (before after : State AccountMail) → IsSound world → Kept world before
+    → IsLike world before after
     → Kept world after
 
 -- a law: so it is without messages that are neither held nor were taken away
 abbrev pub WithdrawnLeaveKept : Type 0
-WithdrawnLeaveKept = (world : World) (before : State AccountMail) (ids : List (List ℕ)) → IsSound world → Kept world before
+WithdrawnLeaveKept = (world : World) (before : State AccountMail) (ids : List (List ℕ)) → IsSound world
+    → Kept world before
     → AllByRecursion (IsNeither world.account before.account.maildir before.taken) ids
     → Kept (record world { all = without ids world.all }) before
 
@@ -178,13 +190,16 @@ pub record HoldsExactly (world : World) (account : AccountMail) : Type 0 where
 pub record HoldsWhatIsLeft (world : World) (state : State AccountMail) : Type 0 where
   pub j : ℕ
   pub below : j ≤ length (selected world.max_size world.all)
-  pub contents : (id : List ℕ) → is_legal_id id ≡ true → HoldsOf world state (take j (selected world.max_size world.all)) id
+  pub contents : (id : List ℕ) → is_legal_id id ≡ true
+      → HoldsOf world state (take j (selected world.max_size world.all)) id
   pub ids : (id : List ℕ) → is_legal_id id ≡ true → is_held world.account state.account.maildir id ≡ true
       → has_id (ids_of (take j (selected world.max_size world.all))) id ≡ true
-  pub once : (id : List ℕ) → is_legal_id id ≡ true → length (copies (files state.account) (stem_of world.account id)) ≤ 1
+  pub once : (id : List ℕ) → is_legal_id id ≡ true
+      → length (copies (files state.account) (stem_of world.account id)) ≤ 1
 
 abbrev pub KeptHoldsWhatIsLeft : Type 0
-KeptHoldsWhatIsLeft = (world : World) (state : State AccountMail) → IsSound world → Kept world state → HoldsWhatIsLeft world state
+KeptHoldsWhatIsLeft = (world : World) (state : State AccountMail) → IsSound world → Kept world state
+    → HoldsWhatIsLeft world state
 
 -- if nothing was taken away, the account holds exactly the first j
 abbrev pub NothingTakenHoldsExactly : Type 0

@@ -16,7 +16,8 @@ IsAmong x xs = (front behind : List _) × (xs ≡ front ++ x ∷ behind)
 
 -- the wanted message of this number has the id, and the text that the session got by that number was kept
 abbrev pub WasFetched : List (ℕ × Item) → List (List ℕ) → (List ℕ → Type 0) → ℕ → List ℕ → Type 0
-WasFetched wanted texts WasKept number id = (message : ℕ × Item) × (text : List ℕ) × IsAmong (message, text) (zip wanted texts)
+WasFetched wanted texts WasKept number id = (message : ℕ × Item) × (text : List ℕ)
+    × IsAmong (message, text) (zip wanted texts)
     × (message.0 ≡ number) × (message.1.uid ≡ id) × WasKept text
 
 -- a DELE gives the number, counted from 1, of a message that may be deleted by this number and its id; no other command
@@ -26,12 +27,13 @@ DeletesAllowed listing MayBe (Dele number) =
     (0 < number) × (item : Item) × (slice_get listing (number - 1) ≡ Some item) × MayBe number item.uid
 DeletesAllowed listing MayBe _ = Unit {0}
 
--- the id was recorded as delivered before the session, or was held, or the text that the session got by this number is in
--- one of the files that it added, under the name of the id
+-- the id was recorded as delivered before the session, or was held, or the text that the session got by this number is
+-- in one of the files that it added, under the name of the id
 abbrev pub MayBeDeleted : Settings → List ℕ → AccountMail → Effect → List File → ℕ → List ℕ → Type 0
 MayBeDeleted settings account before effect gained number id =
     ((is_delivered before.rows id ≡ true) ⊎ (is_held account before.maildir id ≡ true))
-    ⊎ WasFetched (wanted_at settings account before effect) effect.texts (λ text. IsAmong (mail_file account id text) gained) number id
+    ⊎ WasFetched (wanted_at settings account before effect) effect.texts
+    (λ text. IsAmong (mail_file account id text) gained) number id
 
 -- every file of `new` and `cur` is still there, with what it held; and each DELE that was sent, the last
 -- perhaps in part, asks for such a message

@@ -1,5 +1,6 @@
 -- Sessions, given by what their links gained.
-use Rattle.std.specs.Prelude.{◌≡◌, ◌⊎◌, ◌&&◌, ◌<◌, ◌-◌, ℕ, Bool, true, List, [], ◌∷◌, ◌++◌, map, take, length, Some, slice_get}
+use Rattle.std.specs.Prelude.{◌≡◌, ◌⊎◌, ◌&&◌, ◌<◌, ◌-◌, ℕ, Bool, true, List, [], ◌∷◌, ◌++◌, map, take, length, Some}
+use Rattle.std.specs.Prelude.{slice_get}
 use Rattle.std.specs.List.{AllByRecursion}
 use Rattle.pop3_wire.specs.declared.command.Command.{Command}
 use Rattle.pop3_wire.specs.declared.command.Command.TheVariants.{User, Pass, Stat, UidlAll, ListAll, Dele, Quit}
@@ -18,12 +19,14 @@ use Rattle.run_law.specs.Readings.{Talked, Retrieves, IsListed}
 -- a DELE's number counts from 1, the id of its message is among those begun, and no other message of the
 -- listing has that id
 abbrev pub IsBegun : List Item → List (List ℕ) → Command → Type 0
-IsBegun listing begun (Dele number) = (item : Item) × (slice_get listing (number - 1) ≡ Some item) × (has_id begun item.uid ≡ true)
+IsBegun listing begun (Dele number) = (item : Item) × (slice_get listing (number - 1) ≡ Some item)
+    × (has_id begun item.uid ≡ true)
     × (0 < number) × ((is_first listing (number, item) && is_last listing (number, item)) ≡ true)
 IsBegun listing begun _ = Unit {0}
 
 -- what was read in the replies: the listing, and the texts of the first of the wanted messages
-pub record Reads (wanted : List (ℕ × Item)) (commands : List Command) (sent got : List ℕ) (effect : Effect) : Type 0 where
+pub record Reads (wanted : List (ℕ × Item)) (commands : List Command) (sent got : List ℕ)
+    (effect : Effect) : Type 0 where
   pub name : List ℕ
   pub word : List ℕ
   pub more : List Command
@@ -34,10 +37,12 @@ pub record Reads (wanted : List (ℕ × Item)) (commands : List Command) (sent g
   pub uidl : WholeReply
   pub list : WholeReply
   pub replies : List WholeReply
-  pub talked : Talked (User name ∷ Pass word ∷ Stat ∷ UidlAll ∷ ListAll ∷ more) (user ∷ pass ∷ stat ∷ uidl ∷ list ∷ replies) sent got
+  pub talked : Talked (User name ∷ Pass word ∷ Stat ∷ UidlAll ∷ ListAll ∷ more)
+      (user ∷ pass ∷ stat ∷ uidl ∷ list ∷ replies) sent got
   pub listed : IsListed stat uidl list effect.listing
   pub found : List (ℕ × List ℕ)
-  pub retrieves : Retrieves (User name ∷ Pass word ∷ Stat ∷ UidlAll ∷ ListAll ∷ more) (user ∷ pass ∷ stat ∷ uidl ∷ list ∷ replies) found
+  pub retrieves : Retrieves (User name ∷ Pass word ∷ Stat ∷ UidlAll ∷ ListAll ∷ more)
+      (user ∷ pass ∷ stat ∷ uidl ∷ list ∷ replies) found
   pub texts : effect.texts ≡ map (λ (p : ℕ × List ℕ). p.1) found
   pub numbers : map (λ (p : ℕ × List ℕ). p.0) found ≡ map (λ (p : ℕ × Item). p.0) (take (length found) wanted)
 
@@ -58,7 +63,8 @@ pub record Session (settings : Settings) (account : List ℕ) (before : AccountM
     (effect : Effect) (after : AccountMail) : Type 0 where
   pub sends : SendsOnly (IsBegun effect.listing effect.begun) sent
   pub step : Leaves before effect after
-      ⊎ (Stores settings account before effect after × Reads (wanted_at settings account before effect) sends.commands sent got effect)
+      ⊎ (Stores settings account before effect after
+      × Reads (wanted_at settings account before effect) sends.commands sent got effect)
 
 -- the id is that of a message that is marked
 abbrev pub IsMarked : List Message → List Bool → List ℕ → Type 0
@@ -72,10 +78,11 @@ pub record Served (drop : List Message) (sent got : List ℕ) (vanished : List (
   pub quits : (vanished ≡ []) ⊎ ((front behind : List Command) × (honest.commands ≡ front ++ Quit ∷ behind))
   pub marked : AllByRecursion (IsMarked drop marks) vanished
 
--- a law: what a session did over an honest link is what it read of the maildrop, and a DELE was begun for each message that its QUIT
--- removed
+-- a law: what a session did over an honest link is what it read of the maildrop, and a DELE was begun for each message
+-- that its QUIT removed
 abbrev pub SessionsAreServed : Type 0
-SessionsAreServed = (settings : Settings) (account : List ℕ) (before : AccountMail) (sent got : List ℕ) (effect : Effect)
+SessionsAreServed = (settings : Settings) (account : List ℕ) (before : AccountMail) (sent got : List ℕ)
+    (effect : Effect)
     (after : AccountMail) (drop : List Message) (vanished : List (List ℕ))
     → Session settings account before sent got effect after → Served drop sent got vanished
     → (Leaves before effect after

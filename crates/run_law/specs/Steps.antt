@@ -28,7 +28,8 @@ pub record Effect : Type 0 where
 
 -- the record after the listing and the files were merged into it
 abbrev pub merged_rows : List ℕ → AccountMail → Effect → List Row
-merged_rows account before effect = merged before.rows effect.listing (flags_of account before.maildir effect.listing) effect.now
+merged_rows account before effect = merged before.rows effect.listing
+    (flags_of account before.maildir effect.listing) effect.now
 
 -- the messages that are fetched, with their numbers
 abbrev pub wanted_at : Settings → List ℕ → AccountMail → Effect → List (ℕ × Item)
@@ -54,7 +55,8 @@ pub record Leaves (before : AccountMail) (effect : Effect) (after : AccountMail)
   pub ended : effect.ended ≡ false
 
 -- the listing was joined, and the first of the wanted messages were stored and recorded
-pub record Stores (settings : Settings) (account : List ℕ) (before : AccountMail) (effect : Effect) (after : AccountMail) : Type 0 where
+pub record Stores (settings : Settings) (account : List ℕ) (before : AccountMail) (effect : Effect)
+    (after : AccountMail) : Type 0 where
   -- how many of the wanted messages are held, and how many of these are recorded
   pub stored : ℕ
   pub recorded : ℕ
@@ -62,7 +64,8 @@ pub record Stores (settings : Settings) (account : List ℕ) (before : AccountMa
   pub fetched : stored ≤ length effect.texts
   pub came : without_flags after.maildir.files ≡ without_flags before.maildir.files
       ++ map (file_for account)
-      (filter (is_unheld account before.maildir) (zip (take stored (wanted_at settings account before effect)) effect.texts))
+      (filter (is_unheld account before.maildir)
+      (zip (take stored (wanted_at settings account before effect)) effect.texts))
   pub rows : (after.rows ≡ before.rows)
       ⊎ (after.rows ≡ marked_all (merged_rows account before effect)
       (ids_wanted (take recorded (wanted_at settings account before effect))))
@@ -82,6 +85,7 @@ pub record IsHonest (wanted : List (ℕ × Item)) (drop : List Message) (effect 
 
 -- a law: from every account, over every maildrop, there is a session that ends
 abbrev pub CanEnd : Type 0
-CanEnd = (account : List ℕ) (before : AccountMail) (settings : Settings) (drop : List Message) (now : ℕ) → AreDistinct (ids_of drop)
+CanEnd = (account : List ℕ) (before : AccountMail) (settings : Settings) (drop : List Message) (now : ℕ)
+    → AreDistinct (ids_of drop)
     → (effect : Effect) × (after : AccountMail) × Stores settings account before effect after
     × IsHonest (wanted_at settings account before effect) drop effect × (effect.ended ≡ true)

@@ -14,7 +14,6 @@ ghost use Rattle.run_law.specs.MboxSafety.{MboxSessionsAreSafe};
 ghost use Rattle.run_law.specs.MboxSessions.{MboxSessionsAreServed};
 ghost use Rattle.run_law.specs.Order.{Headline, NoneTaken, StaysAway};
 ghost use Rattle.run_law.specs.Mails.{WorldsShrink};
-ghost use Rattle.run_law.specs.Power.{OneMoreIsLast};
 ghost use Rattle.run_law.specs.Promises.{EventsKeepPromises, OthersLeaveKept};
 ghost use Rattle.run_law.specs.Runs.{KeptHoldsWhatIsLeft, LikeStatesAreKept, LossesLeaveKept};
 ghost use Rattle.run_law.specs.Runs.{NothingTakenHoldsExactly, SessionsKeepOrder, StartsKept};
@@ -109,12 +108,6 @@ pub fn kept_states()
 #[tactic(auto, using(crate::proofs::Core::worlds_shrink))]
 pub fn worlds_shrink()
     ensures { WorldsShrink }
-{}
-
-/// If one more message is held than in a kept state, it was taken away before, or it is the last that
-/// was stored: a loss of power may take its file.
-pub fn one_more_is_last()
-    ensures { OneMoreIsLast }
 {}
 
 /// A kept state holds exactly the first of the selected messages, each once, except for those
@@ -231,7 +224,7 @@ pub fn mbox_starts()
     ensures { MboxStarts }
 {}
 
-/// The second headline, over accounts: with a server that keeps its order and one limit on sizes, the
+/// With an mboxrd, over accounts: with a server that keeps its order and one limit on sizes, the
 /// mboxrd file holds what it held before, followed by the entries of the first of the selected messages
 /// that weren't recorded before, each once, and by at most a prefix of the next entry.
 #[tactic(auto, using(crate::proofs::MboxOrder::mbox_headline))]
@@ -242,7 +235,7 @@ pub fn mbox_headline()
     mbox_starts();
 }
 
-/// With an mboxrd: the second headline may begin with any file, and with a record that has no open intent
+/// With an mboxrd: this may begin with any file, and with a record that has no open intent
 /// and shows exactly a prefix of the selected messages as delivered, as an empty one does.
 #[tactic(auto, using(crate::proofs::MboxOrder::rewritten))]
 pub fn mbox_starts_in_order()

@@ -1,0 +1,392 @@
+-- What a session leaves of a record's file, and what a loss of power may leave of that, shows as delivered only what it showed or
+-- could show before, and messages of which a file is there whose name is durable.
+use Rattle.std.proofs.Common.{◌≡◌, ◌⊎◌, inl, inr, ℕ, suc, List, [], ◌∷◌, ◌++◌, true, false, length, Option, subst, arith, bytes_eq, sym, ⊎_elim, Bool, ap, ◌∙◌, Contains, ◌+◌, None, Some, ◌||◌, length-append, Result, Ok, Err, refl, All, ◌-◌, ◌%◌, ◌==◌, take, ◌&&◌}
+use mathlib.Core.Logic.{⊎_map}
+use Rattle.std.specs.List.{AllByRecursion, list_all, list_any}
+use Rattle.std.proofs.lemmas.Bool.{both_ways, cases_Bool, and_parts, or_cases}
+use Rattle.std.proofs.lemmas.Bool.Decides.{nat_tests}
+use Rattle.std.proofs.lemmas.List.{append-nil, append_cancel_left}
+use Rattle.std.proofs.lemmas.List.Concat.{flat_map-append}
+use Rattle.std.proofs.lemmas.List.Elements.{Contains-push, recursion_from_All}
+use Rattle.std.proofs.lemmas.List.Folds.{list_any_at}
+use Rattle.std.proofs.lemmas.Slice.Eq.{bytes_eq-Decides}
+use Rattle.fetch_rules.specs.Plan.{IsQuiet, planned}
+use Rattle.fetch_rules.specs.Record.{Row, has_row, is_delivered, marked, marked_all, merged, none_open}
+use Rattle.fetch_rules.specs.RecordFile.{Two, file_of}
+use Rattle.fetch_rules.specs.RecordGrowth.{AppendedCounts, OneMeaning, OneRecord}
+use Rattle.fetch_rules.specs.RecordMeaning.{Fault, FileStandsFor, Rows}
+use Rattle.fetch_rules.specs.RecordTorn.{IsPartOf, TornIsIgnoredOrSeen, ends_at_zero}
+use Rattle.fetch_rules.specs.declared.steps.Step.{Step}
+use Rattle.fetch_rules.specs.declared.seen.SeenFault.TheVariants.{BadRow}
+use Rattle.fetch_session.specs.Lasting.{AreLeft, CarriedLasts, CarriesLast, IsUntouched, Lasts, Leaves, LeavesMerged, ProceedsLast, SessionLasts, UnlessQuiet, UnreadyLasts, IsSafe}
+use Rattle.fetch_session.specs.Laws.{LeavesDurable, SessionsAreDurable, SteadyFilesKeep, UnsavedFilesKeep}
+use Rattle.fetch_session.specs.Plan.{Carried, Carries, tasks_ahead}
+use Rattle.fetch_session.specs.Readiness.{AreDurable, IsMerged, IsMergedAtMost, IsAnew, IsFileKept}
+use Rattle.fetch_session.specs.Record.{KeepsRows}
+use Rattle.fetch_session.specs.Scene.{Does, FileNotSaved, NoFile, Scene, Stops, Went, scene}
+use Rattle.fetch_session.specs.Session.{Keeping, Proceeds, Session, account_files, keeps_files}
+use Rattle.fetch_session.specs.Store.{RefusesText}
+use Rattle.fetch_session.specs.Target.{AsFiles, Stores, flags_in, in_maildir}
+use Rattle.fetch_session.specs.Task.{Done, Task, file_from, files_in, files_of, ids_ahead, ids_in, ids_of, stores, tasks_of, tasks_planned}
+use Rattle.fetch_session.specs.declared.account.Store.TheVariants.{Maildir as InMaildir}
+use Rattle.fetch_session.specs.declared.fault.Cut.{Cut}
+use Rattle.fetch_session.specs.declared.report.Report.{Report}
+use Rattle.fetch_session.specs.declared.report.Skips.{Skips}
+use Rattle.mail_store.specs.FileName.{IsAccountText, NamesAreBases, NamesHaveStems, is_held, names_id, sized_file, stem, stem_of}
+use Rattle.mail_store.specs.FlatFile.{Stored}
+use Rattle.mail_store.specs.Held.{HasDurable, flags_of}
+use Rattle.mail_store.specs.Maildir.{AllNamed, File, IsNamed, Maildir}
+use Rattle.mail_store.specs.Settling.{MayBeLeft, block_size, is_lost}
+use Rattle.mail_store.specs.declared.file.flat_file.FlatFile.{Ghosts as FileGhosts}
+use Rattle.mail_terms.specs.Listing.{Item, is_flagged}
+use Rattle.pop3_wire.specs.Link.{Link}
+use Rattle.pop3_wire.specs.Place.{Place, at}
+use Rattle.rc_file.specs.declared.settings.Settings.{Settings}
+use Rattle.run_law.specs.Accounts.{has_named}
+use Rattle.fetch_runs.specs.Losses.{IsSure, LeavesDurably}
+use Rattle.fetch_runs.specs.Steps.{holds}
+use Rattle.fetch_runs.proofs.Lists.{bytes_same, same_rows}
+use Rattle.fetch_runs.proofs.StateLaw.{unready_files}
+use Rattle.fetch_runs.proofs.Talk.{both_none}
+
+-- ---- what is left of an append
+
+part_of : (place : ℕ) (added left : List ℕ) → MayBeLeft place added left → IsPartOf added left
+part_of place added [] is = tt
+part_of place [] (byte ∷ left) never = absurd never
+part_of place (word ∷ words) (byte ∷ left) (is, more) =
+    let some : block_size - place % block_size ≡ suc (511 - place % block_size) = omega arith in
+    let zero_byte : is_lost place (byte ∷ left) ≡ true → byte ≡ 0 = λ lost. grind (arith, nat_tests, subst (λ k. list_all (λ b. b == 0) (take k (byte ∷ left)) ≡ true) some lost) in
+    (⊎_map (λ same. same) zero_byte is, part_of (place + 1) words left more)
+
+-- ---- the rows that are left
+
+pub left_stands : OneRecord → OneMeaning → AppendedCounts → TornIsIgnoredOrSeen → (rows others now : List Row) (left : Option (List ℕ)) → AreLeft rows others left → KeepsRows left now
+    → (now ≡ rows) ⊎ (now ≡ others)
+left_stands one meaning counts torn rows others now left is (intent, stands) = elim is.file.begun [
+  | inl none ↦ inl (same_rows one (Some is.file.bytes) now rows (intent, rw (none, append-nil) at there) (is.before, (Two, false, is.file.stands)))
+  | inr some ↦ elim (cases_Bool (bytes_eq is.file.behind is.added)) [
+    | inl same ↦ rw (same_rows one (Some (is.file.bytes ++ is.added)) now is.next (intent, rw ((bytes_eq-Decides is.file.behind is.added).0 same) at there)
+        (is.after, (Two, false, counts is.file.bytes is.added rows is.next is.before is.after some is.file.stands is.grows))) is.next_is
+    | inr apart ↦
+        let ignored = torn is.file.bytes is.added is.file.behind rows is.next is.before is.after some is.file.stands is.grows
+        (part_of (length is.file.bytes) is.added is.file.behind is.file.part)
+        (λ same. both_ways _ apart ((bytes_eq-Decides is.file.behind is.added).1 same)) in
+        elim (cases_Bool (ends_at_zero is.file.behind)) [
+          | inl zeros ↦ inl (same_rows one (Some (is.file.bytes ++ is.file.behind)) now rows (intent, there) (is.before, (Two, _, ignored.0 zeros)))
+          | inr line ↦ absurd (cc (meaning (is.file.bytes ++ is.file.behind) (Fault (BadRow (ignored.1 line).0)) (Rows there.0 now intent there.1) (ignored.1 line).1 there.2))
+        ]
+  ]
+]
+  where
+    there : FileStandsFor (Some (is.file.bytes ++ is.file.behind)) now intent
+    there = rw is.file.is at stands
+
+-- ---- names of files
+
+pub no_more : {A : Type 0} (xs ys : List A) (x : A) → ys ≡ xs → ys ≡ xs ++ x ∷ [] → ⊥
+no_more xs ys x same more = absurd (omega (arith, ap length same, ap length more, length-append xs (x ∷ [])))
+
+-- what is flagged is held
+pub flag_held : (account : List ℕ) (maildir : Maildir) (items : List Item) (id : List ℕ) → is_flagged items (flags_of account maildir items) id ≡ true → is_held account maildir id ≡ true
+flag_held account maildir [] id never = absurd (both_ways false refl never)
+flag_held account maildir (i ∷ items) id flagged = grind (arith, flagged, bytes_same i.uid id, flag_held account maildir items id)
+
+-- a file of the id that is there and whose name is durable
+has_file : (account : List ℕ) (maildir : Maildir) (id : List ℕ) (g : File) → Contains maildir.files g → names_id account id g.name ≡ true → IsNamed g → has_named account maildir id ≡ true
+has_file account maildir id g (k, below, is) names named =
+    list_any_at (λ (h : File). names_id account id h.name && h.is_named) maildir.files k g below (ap (λ (h : File). names_id account id h.name && h.is_named) is ∙ grind (arith, names, named))
+
+-- what is held has one if all names are durable
+pub all_named : (account : List ℕ) (files : List File) (id : List ℕ) → AllNamed files → list_any (λ (h : File). names_id account id h.name) files ≡ true
+    → list_any (λ (h : File). names_id account id h.name && h.is_named) files ≡ true
+all_named account [] id named never = never
+all_named account (g ∷ files) id (one, named) held = grind (arith, one, held, all_named account files id named)
+
+-- ---- a session that had nothing to fetch or to delete
+
+-- tasks that mark nothing store nothing
+pub no_files : (account : List ℕ) (dones : List Done) → ids_ahead (tasks_of dones) ≡ [] → files_of account dones ≡ []
+no_files account [] none = refl
+no_files account (d ∷ dones) none =
+    let parts = both_none (ids_in d.task) (ids_ahead (tasks_of dones)) none in
+    rw (by d.task parts.0) (no_files account dones parts.1)
+  where
+    by : (task : Task) → ids_in task ≡ [] → files_in account task d.replies ≡ []
+    by (stores number uid) never = absurd cc
+    by other none = refl
+
+pub quiet_ids : (steps : List Step) (items : List Item) (held : List Bool) → AllByRecursion IsQuiet steps → ids_ahead (tasks_planned steps items held) ≡ []
+quiet_ids (s ∷ ss) (i ∷ is) (h ∷ hs) quiet = grind (arith, quiet.0.0, quiet.0.1, quiet_ids ss is hs quiet.1)
+quiet_ids steps items held quiet = refl
+
+module _ (account : List ℕ) (settings : Settings) (items : List Item) (now : ℕ) (place : Place) (left : Maildir) (file : Stored) where
+  -- no file came
+  quiet_came : (result : Result (Unit {0}) Cut) (new : Scene) (skipped : Skips) → (c : Carried settings (AsFiles account) items now place (in_maildir left) file [] result new skipped)
+      → All IsQuiet (planned settings c.mid.rows items now) → new.store.maildir.files ≡ left.files
+  quiet_came result new skipped c quiet = by result c.does
+    where
+      none : ids_ahead (tasks_ahead settings (AsFiles account) items now (in_maildir left) c.mid.rows) ≡ []
+      none = simp (flat_map-append, append-nil)
+          (quiet_ids (planned settings c.mid.rows items now) items (flags_in (AsFiles account) (in_maildir left) items) (recursion_from_All IsQuiet _ quiet))
+
+      none_came : {later : Scene} (dones : List Done) → Went (AsFiles account) dones c.mid later → ids_ahead (tasks_of dones) ≡ [] → later.store.maildir.files ≡ left.files
+      none_came dones went none = went.stored.came ∙ ap (λ (s : Stores). s.maildir.files ++ files_of account dones) c.prepared.settles ∙ rw (no_files account dones none) (append-nil left.files)
+
+      by : (result : Result (Unit {0}) Cut) → Does (AsFiles account) (tasks_ahead settings (AsFiles account) items now (in_maildir left) c.mid.rows) c.mid result new → new.store.maildir.files ≡ left.files
+      by (Ok done) all = none_came all.dones all.went (rw all.all at none)
+      by (Err cut) fell = stopped fell.stops ∙ none_came fell.dones fell.went parts.0
+        where
+          parts : (ids_ahead (tasks_of fell.dones) ≡ []) × (ids_in fell.next ≡ [])
+          parts =
+              let both = both_none (ids_ahead (tasks_of fell.dones)) (ids_ahead (fell.next ∷ fell.later))
+              (rw (fell.split, flat_map-append ids_in (tasks_of fell.dones) (fell.next ∷ fell.later)) at none) in
+              (both.0, (both_none (ids_in fell.next) (ids_ahead fell.later) both.1).0)
+
+          stopped : Stops (AsFiles account) fell.next fell.mid cut new → new.store.maildir.files ≡ fell.mid.store.maildir.files
+          stopped (inl broken) = ap (λ (s : Stores). s.maildir.files) broken.store
+          stopped (inr (inl n)) = absurd (cc (rw n.is at parts.1))
+          stopped (inr (inr u)) = absurd (cc (rw u.is at parts.1))
+
+-- ---- a session
+
+-- the laws that are used
+pub record LeftLaws : Type 0 where
+  pub one : OneRecord
+  pub meaning : OneMeaning
+  pub counts : AppendedCounts
+  pub torn : TornIsIgnoredOrSeen
+  pub marks : (rows : List Row) (uid other : List ℕ) → is_delivered (marked rows uid) other ≡ is_delivered rows other || (has_row rows other && bytes_eq uid other)
+  pub flagged : (rows : List Row) (listing : List Item) (held : List Bool) (now : ℕ) (uid : List ℕ)
+      → is_delivered (merged rows listing held now) uid ≡ is_delivered rows uid || is_flagged listing held uid
+  pub stems : NamesHaveStems
+  pub bases : NamesAreBases
+  pub steady : SteadyFilesKeep
+  pub unsaved : UnsavedFilesKeep
+  pub durable : SessionsAreDurable
+
+module _ (laws : LeftLaws) {D F : Type 0} (files : FileGhosts F) (device device' : D) (settings : Settings) (account : List ℕ) (text : IsAccountText account) (now : ℕ) (link : Link) (left : Maildir) (from f : F)
+    (report : Report) (link' : Link) (maildir : Maildir) (session : Session settings account now link (account_files left (files.stored from)) report link' (account_files maildir (files.stored f)))
+    (was rows : List Row) (stood : KeepsRows (files.stored from).content was) (keeps : KeepsRows (files.stored f).content rows) where
+  pub durable : LeavesDurable account (account_files left (files.stored from)) (account_files maildir (files.stored f))
+  durable = laws.durable settings account now link (account_files left (files.stored from)) report link' (account_files maildir (files.stored f)) text session
+
+  has_is : (id : List ℕ) → HasDurable account maildir id → has_named account maildir id ≡ true
+  has_is id (g, there, names, is) = has_file account maildir id g there names is.0
+
+  pub shown : (id : List ℕ) → is_delivered rows id ≡ true → (is_delivered was id ≡ true) ⊎ (has_named account maildir id ≡ true)
+  shown id d = ⊎_map (λ x. x) (has_is id) (durable.shown was rows id stood keeps d)
+
+  abbrev Said : Option (List ℕ) → List ℕ → Type 0
+  Said could id = (is_delivered was id ≡ true) ⊎ ((has_named account maildir id ≡ true) ⊎ files.may_leave from could)
+
+  abbrev pub Answered : Type 0
+  Answered = (could : Option (List ℕ)) (then : List Row) → files.may_leave f could → KeepsRows could then → (id : List ℕ) → is_delivered then id ≡ true → Said could id
+
+  by_rows : (could : Option (List ℕ)) (id : List ℕ) → is_delivered rows id ≡ true → Said could id
+  by_rows could id d = ⊎_map (λ x. x) inl (shown id d)
+
+  by_was : (could : Option (List ℕ)) (id : List ℕ) (old : List Row) → KeepsRows (files.stored from).content old → is_delivered old id ≡ true → Said could id
+  by_was could id old keeps_old d = inl (rw (same_rows laws.one (files.stored from).content old was keeps_old stood) at d)
+
+  untouched : IsUntouched files from f → Answered
+  untouched un could then may k id d = inr (inr (un.no_more could may))
+
+  module _ (sure : IsSure files from f) where
+    shown_by : (had others : List Row) → Leaves files f (AreLeft had others) → ((id : List ℕ) → is_delivered had id ≡ true → is_delivered rows id ≡ true)
+        → ((could : Option (List ℕ)) (id : List ℕ) → is_delivered others id ≡ true → Said could id) → Answered
+    shown_by had others leaves within more could then may k id d = by (files.stored f).content refl
+      where
+        by : (content : Option (List ℕ)) → (files.stored f).content ≡ content → Said could id
+        by None none = absurd (cc (rw (rw (sure.1 none could may) at k).1.0 at d))
+        by (Some bytes) some = elim (left_stands laws.one laws.meaning laws.counts laws.torn had others then could (leaves bytes some could may) k) [
+          | inl same ↦ by_rows could id (within id (rw same at d))
+          | inr same ↦ more could id (rw same at d)
+        ]
+
+    -- the record was written anew, and this alone may be left
+    anew : (now_rows : List Row) (kept : Stored) → files.stored f ≡ kept → IsAnew now_rows (files.stored from) kept → IsSafe files f → Answered
+    anew now_rows kept same is_anew safe could then may k id d =
+        let whole : (files.stored f).content ≡ Some (file_of now_rows None) = ap (λ (s : Stored). s.content) (same ∙ is_anew.2) in
+        let is : could ≡ (files.stored f).content = (safe.1 (file_of now_rows None) whole).1 could may ∙ sym whole in
+        by_rows could id (rw (same_rows laws.one (files.stored f).content then rows (rw is at k) keeps) at d)
+
+    -- ---- it was cut while it prepared the record
+
+    module _ (items : List Item) (same : maildir.files ≡ left.files) where
+      -- the record was merged, or was about to be
+      module _ (m : IsMerged (AsFiles account) items now (in_maildir left) (files.stored from) (in_maildir maildir) (files.stored f)) where
+        abbrev here : List Row
+        here = merged m.was.rows items (flags_of account left items) now
+
+        stands : (could : Option (List ℕ)) (then : List Row) → KeepsRows could then → AreLeft m.was.rows here could ⊎ AreLeft here here could → (then ≡ m.was.rows) ⊎ (then ≡ here)
+        stands could then k (inl are) = left_stands laws.one laws.meaning laws.counts laws.torn m.was.rows here then could are k
+        stands could then k (inr are) = ⊎_elim inr inr (left_stands laws.one laws.meaning laws.counts laws.torn here here then could are k)
+
+        of_was : (could : Option (List ℕ)) (id : List ℕ) → is_delivered m.was.rows id ≡ true → Said could id
+        of_was could id = by_was could id m.was.rows (m.was.intent, m.stood)
+
+        of_merged : (could : Option (List ℕ)) (id : List ℕ) → is_delivered here id ≡ true → Said could id
+        of_merged could id delivered = elim m.durable [
+          | inl same_merged ↦ of_was could id (subst (λ (some : List Row). is_delivered some id ≡ true) same_merged delivered)
+          | inr durable ↦ ⊎_elim (of_was could id) (λ flagged. inr (inl (rw same (all_named account left.files id durable.0 (flag_held account left items id flagged)))))
+              (or_cases _ _ (sym (laws.flagged m.was.rows items (flags_of account left items) now id) ∙ delivered))
+        ]
+
+        merged_left : LeavesMerged files m.was.rows here from f → Answered
+        merged_left leaves could then may k id d = elim (leaves could may) [
+          | inl before ↦ inr (inr before)
+          | inr are ↦ ⊎_elim (λ is. of_was could id (rw is at d)) (λ is. of_merged could id (rw is at d)) (stands could then k are)
+        ]
+
+      unready : (content : IsMergedAtMost (AsFiles account) items now (in_maildir left) (files.stored from) (in_maildir maildir) (files.stored f)) → UnreadyLasts files from content f → Answered
+      unready (inl same_content) no_more could then may k id d = inr (inr (no_more could may))
+      unready (inr m) leaves could then may k id d = merged_left m leaves could then may k id d
+
+    -- ---- its tasks were begun
+
+    module _ (items : List Item) (place : Place) (rows' : List Row) where
+      abbrev end_with : Scene
+      end_with = scene session.mid (in_maildir maildir) (files.stored f) rows' session.notes.lines
+
+      abbrev CarriedTo : Result (Unit {0}) Cut → Type 0
+      CarriedTo result = Carried settings (AsFiles account) items now place (in_maildir left) (files.stored from) [] result end_with session.notes.skipped
+
+      -- it did all its tasks
+      answer_ok : (c : CarriedTo (Ok tt)) → CarriedLasts files (InMaildir device) from c (InMaildir device') f → Answered
+      answer_ok c lasts = by c.prepared.durable (lasts (tt, sure.0))
+        where
+          within : (id : List ℕ) → is_delivered (marked_all c.mid.rows (ids_of c.does.dones)) id ≡ true → is_delivered rows id ≡ true
+          within id d =
+              rw (same_rows laws.one (files.stored f).content rows rows' keeps (None, laws.steady (files.stored f).content (none_open rows') (c.does.went.saved c.prepared.saved)), c.does.went.rows) d
+
+          by : (durable : (All IsQuiet (planned settings c.mid.rows items now) × IsFileKept c.mid.rows (files.stored from) c.mid.file) ⊎ AreDurable (AsFiles account) c.prepared.was.rows items (in_maildir left))
+              → UnlessQuiet files from c.mid.rows (files.stored from) c.mid.file durable (Lasts files (AsFiles account) (tasks_ahead settings (AsFiles account) items now (in_maildir left) c.mid.rows) c.mid (Ok tt) end_with c.does (InMaildir device') f) f → Answered
+          by (inl (quiet, inl kept)) un = untouched un
+          by (inl (quiet, inr is_anew)) safe = anew c.mid.rows c.mid.file safe.0 is_anew safe.1
+          by (inr durable) lasts = shown_by (marked_all c.mid.rows (ids_of c.does.dones)) (marked_all c.mid.rows (ids_of c.does.dones)) lasts.left within (λ could id d. by_rows could id (within id d))
+
+      -- it was cut
+      module _ {cut : Cut} (c : CarriedTo (Err cut))
+          (lasts : Lasts files (AsFiles account) (tasks_ahead settings (AsFiles account) items now (in_maildir left) c.mid.rows) c.mid (Err cut) end_with c.does (InMaildir device') f) where
+        abbrev rows_then : List Row
+        rows_then = marked_all c.mid.rows (ids_of c.does.dones)
+
+        abbrev Has : List Row → Type 0
+        Has old = (id : List ℕ) → is_delivered old id ≡ true → is_delivered rows id ≡ true
+
+        -- the record's file is as it was after the tasks that were done
+        same_has : files.stored f ≡ c.does.mid.file → Has rows_then
+        same_has same id d =
+            rw (same_rows laws.one c.does.mid.file.content rows c.does.mid.rows (rw same at keeps) (None, laws.steady c.does.mid.file.content (none_open c.does.mid.rows) (c.does.went.saved c.prepared.saved)), c.does.went.rows) d
+
+        unmarked : Leaves files f (AreLeft c.does.mid.rows c.does.mid.rows) → files.stored f ≡ c.does.mid.file → Answered
+        unmarked leaves same = shown_by rows_then rows_then (rw c.does.went.rows at leaves) (same_has same) (λ could id d. by_rows could id (same_has same id d))
+
+        marked_one : (number : ℕ) (uid : List ℕ) → c.does.next ≡ stores number uid → (g : File) → maildir.files ≡ c.does.mid.store.maildir.files ++ g ∷ [] → names_id account uid g.name ≡ true
+            → IsNamed g → Has rows_then → Answered
+        marked_one number uid is g came names named within =
+            shown_by rows_then (marked rows_then uid) (subst (λ (t : Task). Leaves files f (AreLeft rows_then (marked_all rows_then (ids_in t)))) is lasts.0.left) within
+            (λ could id d. ⊎_elim (λ had. by_rows could id (within id had))
+            (λ both. inr (inl (has_file account maildir id g (rw came (Contains-push c.does.mid.store.maildir.files g)) (rw (bytes_same uid id (and_parts (has_row rows_then id) (bytes_eq uid id) both).1) at names) named)))
+            (or_cases _ _ (sym (laws.marks rows_then uid id) ∙ d)))
+
+        -- the file that came is this one
+        same_one : (g h : File) → maildir.files ≡ c.does.mid.store.maildir.files ++ h ∷ [] → maildir.files ≡ c.does.mid.store.maildir.files ++ g ∷ [] → h ≡ g
+        same_one g h came came' = cc (append_cancel_left c.does.mid.store.maildir.files (h ∷ []) (g ∷ []) (sym came ∙ came'))
+
+        named_one : (uid written : List ℕ) → names_id account uid (sized_file (stem_of account uid) written).name ≡ true
+        named_one uid written = (bytes_eq-Decides (stem_of account uid) _).1 (sym (ap stem (laws.bases account uid (length written) text) ∙ laws.stems account uid (length written) text))
+
+        -- nothing came
+        nothing : maildir.files ≡ c.does.mid.store.maildir.files → files.stored f ≡ c.does.mid.file → Answered
+        nothing same same_record = ⊎_elim (λ un. unmarked un same_record) (λ (g, came, is). absurd (no_more c.does.mid.store.maildir.files maildir.files g same came)) lasts.1
+
+        refused : (n : NoFile account c.does.next c.does.mid end_with cut) → RefusesText c.does.mid.store.maildir (stem_of account n.uid) n.rest n.text cut.fault maildir → Answered
+        refused n (inl missing) = nothing (ap (λ (m : Maildir). m.files) missing.2) n.file
+        refused n (inr (is, inl same)) = nothing (ap (λ (m : Maildir). m.files) same) n.file
+        refused n (inr (is, inr (done, (is_named, there)))) = elim lasts.1 [
+          | inl un ↦ unmarked un n.file
+          | inr (g, came', durable) ↦
+              marked_one n.number n.uid n.is g came' (rw (← same_one g (record (sized_file (stem_of account n.uid) n.text) { is_named = is_named }) (ap (λ (m : Maildir). m.files) there) came') (named_one n.uid n.text)) durable.0 (same_has n.file)
+        ]
+
+        unsaved : (u : FileNotSaved account c.does.next c.does.mid end_with cut) → Answered
+        unsaved u = marked_one u.number u.uid u.is (file_from account u.uid u.reply) u.stored.came (named_one u.uid _) refl within
+          where
+            within : Has rows_then
+            within id d = elim (laws.unsaved c.does.mid.file (none_open c.does.mid.rows) (none_open (marked c.does.mid.rows u.uid)) cut.fault (files.stored f) u.saves (c.does.went.saved c.prepared.saved)) [
+              | inl old ↦ rw (same_rows laws.one (files.stored f).content rows c.does.mid.rows keeps (None, old), c.does.went.rows) d
+              | inr new ↦ rw (same_rows laws.one (files.stored f).content rows (marked c.does.mid.rows u.uid) keeps (None, new), c.does.went.rows, laws.marks rows_then u.uid id, d) refl
+            ]
+
+        answer_cut : Answered
+        answer_cut = elim c.does.stops [
+          | inl broken ↦ nothing (ap (λ (s : Stores). s.maildir.files) broken.store) broken.file
+          | inr (inl n) ↦ refused n n.refuses
+          | inr (inr u) ↦ unsaved u
+        ]
+
+    pub records_left : SessionLasts files (InMaildir device) from session (InMaildir device') f → Answered
+    records_left lasts = by session.result session.proceeds lasts
+      where
+        by : (result : Result (Unit {0}) Cut)
+            → (proceeds : Proceeds settings (AsFiles account) now (at link []) (keeps_files (account_files left (files.stored from))) result session.mid (keeps_files (account_files maildir (files.stored f))) session.notes)
+            → ProceedsLast files (InMaildir device) from _ _ _ _ _ _ _ _ _ proceeds (InMaildir device') f → Answered
+        by (Ok done) dealt lasts = answer_ok dealt.items dealt.mid dealt.carries.0 dealt.carries.1 lasts
+        by (Err cut) (inl stopped) un = untouched un
+        by (Err cut) (inr (inl wanting)) un = untouched un
+        by (Err cut) (inr (inr dealt)) lasts = of dealt.carries lasts
+          where
+            of : (carries : Carries settings (AsFiles account) dealt.items now dealt.mid (in_maildir left) (files.stored from) [] (Err cut) session.mid (in_maildir maildir) (files.stored f) session.notes.lines session.notes.skipped)
+                → CarriesLast files (InMaildir device) from settings (AsFiles account) dealt.items now dealt.mid (in_maildir left) (files.stored from) [] (Err cut) session.mid (in_maildir maildir) (files.stored f)
+                session.notes.lines session.notes.skipped carries (InMaildir device') f → Answered
+            of (rows', inl (none_said, unprepared)) all =
+                unready dealt.items (unready_files cut.fault left (files.stored from) maildir (files.stored f) unprepared.unready.cause) unprepared.unready.content (all (tt, sure.0))
+            of (rows', inr c) all = by_plan c.prepared.durable (all (tt, sure.0))
+              where
+                by_plan : (durable : (All IsQuiet (planned settings c.mid.rows dealt.items now) × IsFileKept c.mid.rows (files.stored from) c.mid.file) ⊎ AreDurable (AsFiles account) c.prepared.was.rows dealt.items (in_maildir left))
+                    → UnlessQuiet files from c.mid.rows (files.stored from) c.mid.file durable (Lasts files (AsFiles account) (tasks_ahead settings (AsFiles account) dealt.items now (in_maildir left) c.mid.rows) c.mid (Err cut) (end_with dealt.items dealt.mid rows') c.does (InMaildir device') f) f → Answered
+                by_plan (inl (quiet, inl kept)) un = untouched un
+                by_plan (inl (quiet, inr is_anew)) safe = anew c.mid.rows c.mid.file safe.0 is_anew safe.1
+                by_plan (inr is) lasts = answer_cut dealt.items dealt.mid rows' c lasts
+
+  -- no file came, or each name was durable
+  none_or_named : (durable.came ++ durable.last ≡ []) ⊎ AllNamed left.files
+  none_or_named = by session.result session.proceeds
+    where
+      same : maildir.files ≡ left.files → (durable.came ++ durable.last ≡ []) ⊎ AllNamed left.files
+      same alike = inl (append_cancel_left left.files (durable.came ++ durable.last) [] (sym durable.files ∙ alike ∙ sym (append-nil left.files)))
+
+      of : {items : List Item} {place : Place} {rows' : List Row} {result : Result (Unit {0}) Cut}
+          → Carried settings (AsFiles account) items now place (in_maildir left) (files.stored from) [] result (scene session.mid (in_maildir maildir) (files.stored f) rows' session.notes.lines) session.notes.skipped
+          → (durable.came ++ durable.last ≡ []) ⊎ AllNamed left.files
+      of {items} {place} {rows'} {result} c = elim c.prepared.durable [
+        | inl quiet ↦ same (quiet_came account settings items now place left (files.stored from) result (scene session.mid (in_maildir maildir) (files.stored f) rows' session.notes.lines) session.notes.skipped c quiet.0)
+        | inr found ↦ inr found.0
+      ]
+
+      by : (result : Result (Unit {0}) Cut)
+          → Proceeds settings (AsFiles account) now (at link []) (keeps_files (account_files left (files.stored from))) result session.mid (keeps_files (account_files maildir (files.stored f))) session.notes
+          → (durable.came ++ durable.last ≡ []) ⊎ AllNamed left.files
+      by (Ok done) dealt = of dealt.carries.1
+      by (Err cut) (inl stopped) = same (ap (λ (k : Keeping). k.store.maildir.files) stopped.same)
+      by (Err cut) (inr (inl wanting)) = same (ap (λ (k : Keeping). k.store.maildir.files) wanting.same)
+      by (Err cut) (inr (inr dealt)) = elim dealt.carries.1 [
+        | inl (none_said, unprepared) ↦ same (unready_files cut.fault left (files.stored from) maildir (files.stored f) unprepared.unready.cause)
+        | inr c ↦ of c
+      ]
+
+  -- what it leaves, over what its devices show
+  pub leaves_durably : SessionLasts files (InMaildir device) from session (InMaildir device') f → LeavesDurably files account from f (holds was left) (holds rows maildir)
+  leaves_durably lasts = record {
+    came = durable.came;
+    last = durable.last;
+    files = durable.files;
+    durable = durable.durable;
+    flushed = durable.flushed;
+    at_most_one = durable.at_most_one;
+    named = none_or_named;
+    shown = shown;
+    left = λ sure could then opened may stands id d. records_left sure lasts could then may (opened, stands) id d;
+  }

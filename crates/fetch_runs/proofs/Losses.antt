@@ -1,0 +1,549 @@
+-- A loss of power between two calls leaves a kept state, if what is recorded or gone is durable; and calls and others keep that.
+use Rattle.std.proofs.Common.{◌≡◌, ◌⊎◌, inl, inr, ℕ, List, [], ◌∷◌, ◌++◌, true, false, length, Option, refl, sym, ◌∙◌, arith, bytes_eq, ⊎_elim, Bool, ap, subst, map, append_assoc, ◌≤◌, ◌<◌, not, ◌+◌, ◌||◌, ◌&&◌}
+use Rattle.std.specs.List.{AllByRecursion, filter, list_any}
+use Rattle.std.proofs.lemmas.Bool.{both_ways, cases_Bool, or_left, or_right, or_cases}
+use Rattle.std.proofs.lemmas.List.{append-nil, append_cancel_left, nil_from_length}
+use Rattle.std.proofs.lemmas.List.Elements.{filter-append}
+use Rattle.std.proofs.lemmas.List.Folds.{list_any-append}
+use Rattle.mail_terms.specs.UniqueId.{has_id, is_legal_id}
+use Rattle.pop3_wire.specs.World.{Message}
+use Rattle.mail_store.specs.FileName.{is_held, mail_file, names_id, stem, stem_of}
+use Rattle.mail_store.specs.Loss.{AreLeftAs, LosesPower}
+use Rattle.mail_store.specs.Maildir.{AllNamed, AreReached, File, IsDurable, IsWithout, Maildir, WereTaken, file}
+use Rattle.mail_store.specs.declared.file.flat_file.FlatFile.{Ghosts as FileGhosts}
+use Rattle.fetch_rules.specs.Record.{Intent, is_delivered}
+use Rattle.fetch_rules.specs.RecordGrowth.{OneRecord}
+use Rattle.fetch_rules.specs.RecordMeaning.{FileStandsFor}
+use Rattle.run_law.specs.Accounts.{AccountMail, copies, has_named, without_flags}
+use Rattle.run_law.specs.Events.{IsBetween, IsSafe, IsSession, Mail, Occasion, State, after_session, is_safe, state_with}
+use Rattle.run_law.specs.Mails.{ids_of}
+use Rattle.run_law.specs.Promises.{IsFront, Kept, Promises, ShowsNext}
+use Rattle.run_law.specs.Sessions.{SessionsAreServed}
+use Rattle.run_law.specs.Steps.{IsHonest, Leaves, Stores, wanted_at}
+use Rattle.fetch_runs.specs.Losses.{DurableAccountsAreSafe, DurableFrontsBegin, IsCrashSafe, IsDurableFront, IsDurableFor, IsFlushedFor, IsSure, KeepsDurable, LeavesDurably, lasts}
+use Rattle.fetch_runs.proofs.HeadlineLemmas.{fewer_copies, held_some, part_copies, reached_copies, some_held}
+use Rattle.fetch_runs.proofs.LeftRecords.{all_named}
+use Rattle.fetch_runs.proofs.Lists.{all_append, all_both, all_filter, all_front, all_ids_at, all_map, bytes_same, bytes_self, same_rows}
+use Rattle.fetch_runs.proofs.LegalRows.{kept_legal}
+
+-- ---- files whose names are durable
+
+abbrev pub any_named : (List ℕ → Bool) → List File → Bool
+any_named p fs = list_any (λ (f : File). p f.name && f.is_named) fs
+
+named_any : (p : List ℕ → Bool) (fs : List File) → any_named p fs ≡ true → list_any (λ (f : File). p f.name) fs ≡ true
+named_any p [] never = never
+named_any p (f ∷ fs) any = grind (arith, any, named_any p fs)
+
+-- a loss of power leaves them, and all that it leaves is durable
+any_left : (p : List ℕ → Bool) (fs left : List File) → AreLeftAs fs left → any_named p fs ≡ true → list_any (λ (f : File). p f.name) left ≡ true
+any_left p [] left is never = absurd (both_ways false refl never)
+any_left p (f ∷ fs) left (inl (gone, rest)) any = grind (arith, gone, any, any_left p fs left rest)
+any_left p (f ∷ fs) left (inr (g, rest, is, like, more)) any = rw is (grind (arith, like.name, any, any_left p fs rest more))
+
+-- nothing comes by it
+any_before : (p : List ℕ → Bool) (fs left : List File) → AreLeftAs fs left → list_any (λ (f : File). p f.name) left ≡ true → list_any (λ (f : File). p f.name) fs ≡ true
+any_before p [] left is any = rw is at any
+any_before p (f ∷ fs) left (inl (gone, rest)) any = or_right _ _ (any_before p fs left rest any)
+any_before p (f ∷ fs) left (inr (g, rest, is, like, more)) any = ⊎_elim (λ here. or_left _ _ (ap p (sym like.name) ∙ here)) (λ later. or_right _ _ (any_before p fs rest more later)) (or_cases _ _ (rw is at any))
+
+left_durable : (fs left : List File) → AreLeftAs fs left → AllByRecursion IsDurable left
+left_durable [] left is = rw is tt
+left_durable (f ∷ fs) left (inl (gone, rest)) = left_durable fs left rest
+left_durable (f ∷ fs) left (inr (g, rest, is, like, more)) = rw is (like.durable, left_durable fs rest more)
+
+copies_yes : (front : List ℕ) (f : File) (fs : List File) → bytes_eq front (stem f.name) ≡ true → copies (f ∷ fs) front ≡ f.content ∷ copies fs front
+copies_yes front f fs same = grind (arith, same)
+
+copies_no : (front : List ℕ) (f : File) (fs : List File) → bytes_eq front (stem f.name) ≡ false → copies (f ∷ fs) front ≡ copies fs front
+copies_no front f fs apart = grind (arith, apart)
+
+left_step : (front : List ℕ) (f g : File) (fs rest : List File) → g.name ≡ f.name → (bytes_eq front (stem f.name) ≡ true → g.content ≡ f.content)
+    → (copies rest front ≡ copies fs front) ⊎ (length (copies rest front) < length (copies fs front))
+    → (copies (g ∷ rest) front ≡ copies (f ∷ fs) front) ⊎ (length (copies (g ∷ rest) front) < length (copies (f ∷ fs) front))
+left_step front f g fs rest name content less = ⊎_elim by_same by_apart (cases_Bool (bytes_eq front (stem f.name)))
+  where
+    too : {b : Bool} → bytes_eq front (stem f.name) ≡ b → bytes_eq front (stem g.name) ≡ b
+    too same = ap (λ name. bytes_eq front (stem name)) name ∙ same
+
+    by_same : bytes_eq front (stem f.name) ≡ true → (copies (g ∷ rest) front ≡ copies (f ∷ fs) front) ⊎ (length (copies (g ∷ rest) front) < length (copies (f ∷ fs) front))
+    by_same same = elim less [
+      | inl e ↦ inl (copies_yes front g rest (too same) ∙ ap (λ first. first ∷ copies rest front) (content same) ∙ ap (λ more. f.content ∷ more) e ∙ sym (copies_yes front f fs same))
+      | inr fewer ↦ inr (grind (arith, fewer, copies_yes front g rest (too same), copies_yes front f fs same))
+    ]
+
+    by_apart : bytes_eq front (stem f.name) ≡ false → (copies (g ∷ rest) front ≡ copies (f ∷ fs) front) ⊎ (length (copies (g ∷ rest) front) < length (copies (f ∷ fs) front))
+    by_apart apart = rw (copies_no front g rest (too apart), copies_no front f fs apart) less
+
+-- of an id's files, if their bytes are durable, it leaves all that they held, or less
+left_copies : (front : List ℕ) (fs left : List File) → AreLeftAs fs left → AllByRecursion (λ (f : File). bytes_eq front (stem f.name) ≡ true → f.is_flushed ≡ true) fs
+    → (copies left front ≡ copies fs front) ⊎ (length (copies left front) < length (copies fs front))
+left_copies front [] left is flushed = inl (rw is refl)
+left_copies front (f ∷ fs) left (inl (gone, rest)) flushed = let less = left_copies front fs left rest flushed.1 in grind (arith, less)
+left_copies front (f ∷ fs) left (inr (g, rest, is, like, more)) flushed =
+    rw is (left_step front f g fs rest like.name (λ same. like.content (flushed.0 same)) (left_copies front fs rest more flushed.1))
+
+-- what is held has one, if the account's files are durable
+durable_named : (account : List ℕ) (fs : List File) (id : List ℕ) → is_legal_id id ≡ true → AllByRecursion (IsDurableFor account) fs
+    → list_any (λ (f : File). names_id account id f.name) fs ≡ true → any_named (names_id account id) fs ≡ true
+durable_named account [] id legal all never = never
+durable_named account (f ∷ fs) id legal all held = let here : names_id account id f.name ≡ true → f.is_named ≡ true = λ names. (all.0 id legal names).0 in grind (arith, here, held, durable_named account fs id legal all.1)
+
+-- ---- readers
+
+any_reached : (p : List ℕ → Bool) (fs left : List File) → AreReached fs left → any_named p fs ≡ true → any_named p left ≡ true
+any_reached p [] [] are any = any
+any_reached p [] (g ∷ left) never any = absurd never
+any_reached p (f ∷ fs) [] never any = absurd never
+any_reached p (f ∷ fs) (g ∷ left) (same, are) any = grind (arith, same.name, same.named, any, any_reached p fs left are)
+
+one_fewer : (front : List ℕ) (a b : List File) (f : File) → bytes_eq front (stem f.name) ≡ true → length (copies (a ++ b) front) < length (copies (a ++ f ∷ b) front)
+one_fewer front [] b f is = grind (arith, is)
+one_fewer front (x ∷ a) b f is = grind (arith, one_fewer front a b f is)
+
+abbrev has : List ℕ → List File → Bool
+has front fs = list_any (λ (f : File). bytes_eq front (stem f.name) && f.is_named) fs
+
+-- a message that is held once, under a durable name, and still is, still has such a name
+named_stays : (front : List ℕ) (gone fs left : List File) → IsWithout fs gone left → length (copies fs front) ≤ 1 → has front fs ≡ true
+    → list_any (λ (f : File). bytes_eq front (stem f.name)) left ≡ true → has front left ≡ true
+named_stays front [] fs left are once named held = any_reached (λ name. bytes_eq front (stem name)) fs left are named
+named_stays front (f ∷ gone) fs left (a, b, are, is) once named held =
+    let mid : has front (a ++ f ∷ b) ≡ true = any_reached (λ name. bytes_eq front (stem name)) fs (a ++ f ∷ b) are named in
+    let same = ap length (reached_copies front fs (a ++ f ∷ b) are) in
+    let fewer = fewer_copies front a b f in
+    let part = part_copies front (a ++ b) left (gone, is) in
+    ⊎_elim (λ (there : has front (a ++ b) ≡ true). named_stays front gone (a ++ b) left is (grind (arith, once, fewer, same)) there held)
+    (λ (none : has front (a ++ b) ≡ false).
+    let less = one_fewer front a b f (its_name mid none) in
+    absurd (held_some front left held (nil_from_length (copies left front) (grind (arith, part, less, once, same)))))
+    (cases_Bool (has front (a ++ b)))
+  where
+    its_name : has front (a ++ f ∷ b) ≡ true → has front (a ++ b) ≡ false → bytes_eq front (stem f.name) ≡ true
+    its_name mid none = grind (arith, mid, none, list_any-append (λ (g : File). bytes_eq front (stem g.name) && g.is_named) a (f ∷ b), list_any-append (λ (g : File). bytes_eq front (stem g.name) && g.is_named) a b)
+
+all_cut : (P : File → Type 0) (a b : List File) (f : File) → AllByRecursion P (a ++ f ∷ b) → AllByRecursion P (a ++ b)
+all_cut P [] b f all = all.1
+all_cut P (x ∷ a) b f all = (all.0, all_cut P a b f all.1)
+
+flushed_reached : (account : List ℕ) (fs left : List File) → AreReached fs left → AllByRecursion (IsFlushedFor account) fs → AllByRecursion (IsFlushedFor account) left
+flushed_reached account [] [] are all = tt
+flushed_reached account [] (g ∷ left) never all = absurd never
+flushed_reached account (f ∷ fs) [] never all = absurd never
+flushed_reached account (f ∷ fs) (g ∷ left) (same, are) all = (λ id legal names. same.flushed (all.0 id legal (rw same.name at names)), flushed_reached account fs left are all.1)
+
+flushed_stays : (account : List ℕ) (gone fs left : List File) → IsWithout fs gone left → AllByRecursion (IsFlushedFor account) fs → AllByRecursion (IsFlushedFor account) left
+flushed_stays account [] fs left are all = flushed_reached account fs left are all
+flushed_stays account (f ∷ gone) fs left (a, b, are, is) all =
+    flushed_stays account gone (a ++ b) left is (all_cut (IsFlushedFor account) a b f (flushed_reached account fs (a ++ f ∷ b) are all))
+
+-- ---- what lasts
+
+lasts_bits : (named held taken named' held' : Bool) → (named ≡ true → held ≡ true) → (named ≡ true → held' ≡ true → named' ≡ true) → (named || taken) ≡ true
+    → (named' || (((held || taken) && not held') || (taken && not named'))) ≡ true
+lasts_bits true held taken named' true is stays some = or_left _ _ (stays refl refl)
+lasts_bits true held taken named' false is stays some = let there = is refl in grind (arith, there)
+lasts_bits false held taken named' held' is stays some = grind (arith, some)
+
+-- it still does, if a durable name stays while the message is held
+lasts_on : (mail : Mail) (state : State) (after : AccountMail) (id : List ℕ)
+    → (has_named mail.account state.account.maildir id ≡ true → is_held mail.account after.maildir id ≡ true → has_named mail.account after.maildir id ≡ true)
+    → lasts mail state id ≡ true → lasts mail (state_with mail state after) id ≡ true
+lasts_on mail state after id stays = lasts_bits (has_named mail.account state.account.maildir id) (is_held mail.account state.account.maildir id) (state.taken id)
+    (has_named mail.account after.maildir id) (is_held mail.account after.maildir id) (named_any (names_id mail.account id) state.account.maildir.files) stays
+
+-- ---- others, and readers
+
+pub others_keep_safe : OneRecord → {F : Type 0} (file : FileGhosts F) (from f : F) (mail : Mail) (state : State) (after : AccountMail) (intent : Option Intent) → Kept mail state
+    → FileStandsFor (file.stored f).content after.rows intent → IsBetween mail state.account after → KeepsDurable file mail.account state.account from f after
+    → IsCrashSafe (file.may_leave from) mail state → IsCrashSafe (file.may_leave f) mail (state_with mail state after)
+others_keep_safe one file from f mail state after intent kept stands between keeps safe = record {
+  flushed = keeps.flushed;
+  recorded = shown;
+  left = λ left rows opened may is id d. elim (keeps.record_is left may) [
+    | inl same ↦
+        let d' = rw (same_rows one (file.stored f).content rows after.rows (opened, rw same at is) (intent, stands)) at d in
+        ((kept.recorded id (between.shows_no_more id d')).0, shown id d')
+    | inr before ↦ let was = safe.left left rows opened before is id d in (was.0, on id was.0 was.1)
+  ];
+  gone = all_both (IsSafe mail state) (λ id. lasts mail state id ≡ true) (λ id. lasts mail (state_with mail state after) id ≡ true) (λ id is. on id is.0) state.gone kept.gone safe.gone;
+}
+  where
+    on : (id : List ℕ) → is_legal_id id ≡ true → lasts mail state id ≡ true → lasts mail (state_with mail state after) id ≡ true
+    on id legal = lasts_on mail state after id (keeps.named id legal)
+
+    shown : (id : List ℕ) → is_delivered after.rows id ≡ true → lasts mail (state_with mail state after) id ≡ true
+    shown id d = let was = between.shows_no_more id d in on id (kept.recorded id was).0 (safe.recorded id was)
+
+module _ (mail : Mail) (state : State) (left : Maildir) (kept : Kept mail state) (taken : WereTaken state.account.maildir left) where
+  once : {texts : List (List ℕ)} {text : List ℕ} → (texts ≡ []) ⊎ (texts ≡ text ∷ []) → length texts ≤ 1
+  once (inl none) = rw none (omega arith)
+  once (inr one) = rw one (omega arith)
+
+  pub lasts_left : (id : List ℕ) → is_legal_id id ≡ true → lasts mail state id ≡ true → lasts mail (state_with mail state (record state.account { maildir = left })) id ≡ true
+  lasts_left id legal = lasts_on mail state (record state.account { maildir = left }) id
+      (named_stays (stem_of mail.account id) taken.gone state.account.maildir.files left.files taken.files (once (kept.holds id legal)))
+
+  -- nothing came
+  pub held_back : (id : List ℕ) → is_held mail.account left id ≡ true → is_held mail.account state.account.maildir id ≡ true
+  held_back id held =
+      let part = part_copies (stem_of mail.account id) state.account.maildir.files left.files (taken.gone, taken.files) in
+      let some = held_some (stem_of mail.account id) left.files held in
+      some_held mail.account id state.account.maildir.files (λ none. some (by_none none part))
+    where
+      by_none : copies state.account.maildir.files (stem_of mail.account id) ≡ [] → (copies left.files (stem_of mail.account id) ≡ copies state.account.maildir.files (stem_of mail.account id))
+          ⊎ (length (copies left.files (stem_of mail.account id)) < length (copies state.account.maildir.files (stem_of mail.account id))) → copies left.files (stem_of mail.account id) ≡ []
+      by_none none (inl same) = same ∙ none
+      by_none none (inr fewer) = nil_from_length (copies left.files (stem_of mail.account id)) (omega (arith, rw none at fewer))
+
+-- readers took some files away while a call was under way; the record's device is as it was
+pub left_keeps_safe : (may_leave : Option (List ℕ) → Type 0) (mail : Mail) (state : State) (left : Maildir) → Kept mail state → WereTaken state.account.maildir left
+    → IsCrashSafe may_leave mail state → IsCrashSafe may_leave mail (state_with mail state (record state.account { maildir = left }))
+left_keeps_safe may_leave mail state left kept taken safe = record {
+  flushed = flushed_stays mail.account taken.gone state.account.maildir.files left.files taken.files safe.flushed;
+  recorded = λ id d. on id (kept.recorded id d).0 (safe.recorded id d);
+  left = λ bytes rows opened may is id d. let was = safe.left bytes rows opened may is id d in (was.0, on id was.0 was.1);
+  gone = all_both (IsSafe mail state) (λ id. lasts mail state id ≡ true) (λ id. lasts mail next id ≡ true) (λ id is. on id is.0) state.gone kept.gone safe.gone;
+}
+  where
+    next : State
+    next = state_with mail state (record state.account { maildir = left })
+
+    on : (id : List ℕ) → is_legal_id id ≡ true → lasts mail state id ≡ true → lasts mail next id ≡ true
+    on id legal = lasts_left mail state left kept taken id legal
+
+-- ---- a call
+
+module _ {F : Type 0} (file : FileGhosts F) (from f : F) (mail : Mail) (state : State) (occasion : Occasion AccountMail) (leaves : LeavesDurably file mail.account from f state.account occasion.after) where
+  stays : (id : List ℕ) → has_named mail.account state.account.maildir id ≡ true → has_named mail.account occasion.after.maildir id ≡ true
+  stays id named = rw (leaves.files, list_any-append (λ (g : File). names_id mail.account id g.name && g.is_named) state.account.maildir.files (leaves.came ++ leaves.last)) (or_left _ _ named)
+
+  -- a file that came is there
+  came_there : (id : List ℕ) → any_named (names_id mail.account id) leaves.came ≡ true → has_named mail.account occasion.after.maildir id ≡ true
+  came_there id named = rw (
+    leaves.files,
+    list_any-append (λ (g : File). names_id mail.account id g.name && g.is_named) state.account.maildir.files (leaves.came ++ leaves.last),
+    list_any-append (λ (g : File). names_id mail.account id g.name && g.is_named) leaves.came leaves.last,
+  ) (or_right _ _ (or_left _ _ named))
+
+  lasts_call : (id : List ℕ) → lasts mail state id ≡ true → lasts mail (after_session mail state occasion) id ≡ true
+  lasts_call id = lasts_on mail state occasion.after id (λ named held. stays id named)
+
+pub calls_keep_safe : SessionsAreServed → {F : Type 0} (file : FileGhosts F) (from f : F) (mail : Mail) (state : State) (occasion : Occasion AccountMail) → Kept mail state
+    → IsSession mail state.account occasion → LeavesDurably file mail.account from f state.account occasion.after → IsSure file from f
+    → IsCrashSafe (file.may_leave from) mail state → IsCrashSafe (file.may_leave f) mail (after_session mail state occasion)
+calls_keep_safe served file from f mail state occasion kept is leaves sure safe = record {
+  flushed = flushed_after;
+  recorded = shown;
+  left = λ left rows opened may stands id d. (
+    kept_legal left rows (opened, stands) id d,
+    elim (leaves.left sure left rows opened may stands id d) [
+      | inl was ↦ on id (safe.recorded id was)
+      | inr (inl named) ↦ or_left _ _ named
+      | inr (inr could) ↦ on id (safe.left left rows opened could stands id d).1
+    ],
+  );
+  gone = all_append (λ id. lasts mail after id ≡ true) state.gone occasion.vanished (all_map (λ id. lasts mail state id ≡ true) (λ id. lasts mail after id ≡ true) on state.gone safe.gone)
+      (all_map (λ id. has_id is.effect.begun id ≡ true) (λ id. lasts mail after id ≡ true) (λ id begun. shown id (marked id begun)) occasion.vanished went.1);
+}
+  where
+    after : State
+    after = after_session mail state occasion
+
+    went : (Leaves state.account is.effect occasion.after
+        ⊎ (Stores occasion.settings mail.account state.account is.effect occasion.after × IsHonest (wanted_at occasion.settings mail.account state.account is.effect) occasion.maildrop is.effect))
+        × AllByRecursion (λ id. has_id is.effect.begun id ≡ true) occasion.vanished
+    went = served occasion.settings mail.account state.account occasion.sent occasion.got is.effect occasion.after occasion.maildrop occasion.vanished is.session is.served
+
+    flushed_after : AllByRecursion (IsFlushedFor mail.account) occasion.after.maildir.files
+    flushed_after = rw leaves.files (all_append (IsFlushedFor mail.account) state.account.maildir.files (leaves.came ++ leaves.last) safe.flushed (all_append (IsFlushedFor mail.account) leaves.came leaves.last
+        (all_map IsDurable (IsFlushedFor mail.account) (λ g durable id legal names. durable.1) leaves.came leaves.durable)
+        (all_map (λ (g : File). g.is_flushed ≡ true) (IsFlushedFor mail.account) (λ g flushed id legal names. flushed) leaves.last leaves.flushed)))
+
+    marked : (id : List ℕ) → has_id is.effect.begun id ≡ true → is_delivered occasion.after.rows id ≡ true
+    marked id begun = elim went.0 [
+      | inl left ↦ absurd (let never = rw left.begun at begun in cc)
+      | inr stored ↦ all_ids_at (λ (x : List ℕ). is_delivered occasion.after.rows x ≡ true) is.effect.begun id stored.0.begun begun
+    ]
+
+    on : (id : List ℕ) → lasts mail state id ≡ true → lasts mail after id ≡ true
+    on = lasts_call file from f mail state occasion leaves
+
+    shown : (id : List ℕ) → is_delivered occasion.after.rows id ≡ true → lasts mail after id ≡ true
+    shown id d = ⊎_elim (λ was. on id (safe.recorded id was)) (or_left _ _) (leaves.shown id d)
+
+-- ---- a loss of power
+
+pub losses_leave_kept : (may_leave : Option (List ℕ) → Type 0) (mail : Mail) (state : State) (after : AccountMail) (left : Option (List ℕ)) (intent : Option Intent) → Kept mail state
+    → IsCrashSafe may_leave mail state → LosesPower state.account.maildir after.maildir → may_leave left → FileStandsFor left after.rows intent → Kept mail (record state { account = after })
+losses_leave_kept may_leave mail state after left intent kept safe loses may stands = record {
+  holds = λ id legal. same_or_none (kept.holds id legal) (left_copies (stem_of mail.account id) state.account.maildir.files after.maildir.files loses.files
+      (all_map (IsFlushedFor mail.account) (λ (f : File). bytes_eq (stem_of mail.account id) (stem f.name) ≡ true → f.is_flushed ≡ true) (λ f flushed. flushed id legal) state.account.maildir.files safe.flushed));
+  recorded = λ id d. let was = safe.left left after.rows intent may stands id d in (was.0, still id was.1);
+  gone = all_both (IsSafe mail state) (λ id. lasts mail state id ≡ true) (IsSafe mail (record state { account = after })) (λ id is last. (is.0, still id last)) state.gone kept.gone safe.gone;
+}
+  where
+    same_or_none : {was now : List (List ℕ)} {text : List ℕ} → (was ≡ []) ⊎ (was ≡ text ∷ []) → (now ≡ was) ⊎ (length now < length was) → (now ≡ []) ⊎ (now ≡ text ∷ [])
+    same_or_none {was} {now} {text} once less = grind (arith, once, less, nil_from_length now)
+
+    still : (id : List ℕ) → lasts mail state id ≡ true → is_safe mail (record state { account = after }) id ≡ true
+    still id last = ⊎_elim (λ named. or_left _ _ (any_left (names_id mail.account id) state.account.maildir.files after.maildir.files loses.files named)) (or_right _ _) (or_cases _ _ last)
+
+pub durable_is_safe : OneRecord → {F : Type 0} (file : FileGhosts F) → DurableAccountsAreSafe file
+durable_is_safe one file f mail state intent kept stands durable same = record {
+  flushed = all_map (IsDurableFor mail.account) (IsFlushedFor mail.account) (λ g is id legal names. (is id legal names).1) state.account.maildir.files durable;
+  recorded = λ id d. let is = kept.recorded id d in on id is.0 is.1;
+  left = λ left rows opened may is id d.
+      let here = kept.recorded id (rw (same_rows one (file.stored f).content rows state.account.rows (opened, rw (same left may) at is) (intent, stands)) at d) in (here.0, on id here.0 here.1);
+  gone = all_map (IsSafe mail state) (λ id. lasts mail state id ≡ true) (λ id is. on id is.0 is.1) state.gone kept.gone;
+}
+  where
+    on : (id : List ℕ) → is_legal_id id ≡ true → is_safe mail state id ≡ true → lasts mail state id ≡ true
+    on id legal safe = ⊎_elim (λ held. or_left _ _ (durable_named mail.account state.account.maildir.files id legal durable held)) (or_right _ _) (or_cases _ _ safe)
+
+pub all_left_durable : (account : List ℕ) (old new : Maildir) → LosesPower old new → AllByRecursion (IsDurableFor account) new.files
+all_left_durable account old new loses = all_map IsDurable (IsDurableFor account) (λ g is id legal names. is) new.files (left_durable old.files new.files loses.files)
+
+-- ---- in order
+
+pub safe_bits : (held taken held' named : Bool) → (held' ≡ true → (held || taken) ≡ true) → (held || taken) ≡ (held' || (((held || taken) && not held') || (taken && not named)))
+safe_bits held taken held' named back = grind (arith, back)
+
+same_bits : (a b : Bool) → (a ≡ true → b ≡ true) → (b ≡ true → a ≡ true) → a ≡ b
+same_bits a b f g = grind (arith, f, g)
+
+members : (ms : List Message) → AllByRecursion (λ (m : Message). has_id (ids_of ms) m.uid ≡ true) ms
+members [] = tt
+members (m ∷ ms) = (or_left _ _ (bytes_self m.uid), all_map (λ (x : Message). has_id (ids_of ms) x.uid ≡ true) (λ (x : Message). has_id (ids_of (m ∷ ms)) x.uid ≡ true) (λ x there. or_right _ _ there) ms (members ms))
+
+-- what holds of these holds of each of their ids
+of_id : (P : List ℕ → Type 0) (ms : List Message) (id : List ℕ) → AllByRecursion (λ (m : Message). P m.uid) ms → has_id (ids_of ms) id ≡ true → P id
+of_id P [] id all never = absurd (both_ways false refl never)
+of_id P (m ∷ ms) id all there = ⊎_elim (λ same. subst P (sym (bytes_same id m.uid same)) all.0) (of_id P ms id all.1) (or_cases _ _ there)
+
+has_append : (a b : List Message) (id : List ℕ) → has_id (ids_of (a ++ b)) id ≡ (has_id (ids_of a) id || has_id (ids_of b) id)
+has_append [] b id = refl
+has_append (m ∷ a) b id = grind (arith, has_append a b id)
+
+abbrev AreLegal : List Message → Type 0
+AreLegal ms = AllByRecursion (λ (m : Message). is_legal_id m.uid ≡ true) ms
+
+-- ---- where it may begin
+
+pub durable_fronts_begin : DurableFrontsBegin
+durable_fronts_begin mail state all legal front durable = record {
+  is = front;
+  first = front.done;
+  last = [];
+  done = sym (append-nil front.done);
+  at_most_one = omega arith;
+  named = all_both (λ (m : Message). is_legal_id m.uid ≡ true) (λ (m : Message). has_id (ids_of front.done) m.uid ≡ true) (λ (m : Message). lasts mail state m.uid ≡ true)
+      (λ m l there. on m.uid l (sym (front.is_done m.uid l) ∙ there)) front.done
+      (all_front (λ (m : Message). is_legal_id m.uid ≡ true) front.done front.rest (rw front.prefix at legal)) (members front.done);
+}
+  where
+    on : (id : List ℕ) → is_legal_id id ≡ true → is_safe mail state id ≡ true → lasts mail state id ≡ true
+    on id legal safe = ⊎_elim (λ held. or_left _ _ (durable_named mail.account state.account.maildir.files id legal durable held)) (or_right _ _) (or_cases _ _ safe)
+
+-- ---- what others and readers leave
+
+module _ (mail : Mail) (state : State) (after : AccountMail) (all : List Message) (legal : AreLegal all) (front : IsDurableFront mail state all)
+    (back : (id : List ℕ) → is_legal_id id ≡ true → is_held mail.account after.maildir id ≡ true → is_safe mail state id ≡ true)
+    (on : (id : List ℕ) → is_legal_id id ≡ true → lasts mail state id ≡ true → lasts mail (state_with mail state after) id ≡ true) where
+  legal_done : AreLegal front.is.done
+  legal_done = all_front (λ (m : Message). is_legal_id m.uid ≡ true) front.is.done front.is.rest (rw front.is.prefix at legal)
+
+  pub legal_first : AreLegal front.first
+  legal_first = all_front (λ (m : Message). is_legal_id m.uid ≡ true) front.first front.last (rw front.done at legal_done)
+
+  abbrev pub others_keep_front : IsDurableFront mail (state_with mail state after) all
+  others_keep_front = record {
+    is = record {
+      done = front.is.done;
+      rest = front.is.rest;
+      prefix = front.is.prefix;
+      is_done = λ id l. front.is.is_done id l ∙ safe_bits (is_held mail.account state.account.maildir id) (state.taken id) (is_held mail.account after.maildir id) (has_named mail.account after.maildir id) (back id l);
+    };
+    first = front.first;
+    last = front.last;
+    done = front.done;
+    at_most_one = front.at_most_one;
+    named = all_both (λ (m : Message). is_legal_id m.uid ≡ true) (λ (m : Message). lasts mail state m.uid ≡ true) (λ (m : Message). lasts mail (state_with mail state after) m.uid ≡ true)
+        (λ m l last. on m.uid l last) front.first legal_first front.named;
+  }
+
+abbrev pub left_keeps_front : (mail : Mail) (state : State) (left : Maildir) (kept : Kept mail state) (taken : WereTaken state.account.maildir left) (all : List Message) → AreLegal all
+    → IsDurableFront mail state all → IsDurableFront mail (state_with mail state (record state.account { maildir = left })) all
+left_keeps_front mail state left kept taken all legal front = others_keep_front mail state (record state.account { maildir = left }) all legal front
+    (λ id l held. or_left _ _ (held_back mail state left kept taken id held)) (lasts_left mail state left kept taken)
+
+pub others_keep_order : {F : Type 0} (file : FileGhosts F) (from f : F) (mail : Mail) (state : State) (after : AccountMail) → KeepsDurable file mail.account state.account from f after
+    → ((id : List ℕ) → is_legal_id id ≡ true → is_held mail.account after.maildir id ≡ true → is_safe mail state id ≡ true)
+    → (all : List Message) → AreLegal all → IsDurableFront mail state all → IsDurableFront mail (state_with mail state after) all
+others_keep_order file from f mail state after keeps back all legal front = others_keep_front mail state after all legal front back (λ id l. lasts_on mail state after id (keeps.named id l))
+
+-- ---- what a call leaves
+
+same_cons : {A : Type 0} (x y : A) (xs ys : List A) → x ∷ xs ≡ y ∷ ys → (x ≡ y) × (xs ≡ ys)
+same_cons x y xs ys e = (cc, cc)
+
+never_cons : {A : Type 0} (x : A) (xs : List A) → [] ≡ x ∷ xs → ⊥
+never_cons x xs e = cc
+
+split_map : {A B : Type 0} (g : A → B) (xs : List A) (front back : List B) → map g xs ≡ front ++ back → (ys : List A) × (zs : List A) × (xs ≡ ys ++ zs) × (map g ys ≡ front) × (map g zs ≡ back)
+split_map g xs [] back e = ([], xs, refl, refl, e)
+split_map g [] (y ∷ front) back e = absurd (never_cons y (front ++ back) e)
+split_map g (x ∷ xs) (y ∷ front) back e =
+    let (head, tail) = same_cons (g x) y (map g xs) (front ++ back) e in
+    let (ys, zs, is, first, last) = split_map g xs front back tail in
+    (x ∷ ys, zs, ap (λ l. x ∷ l) is, ap (λ l. g x ∷ l) first ∙ ap (λ z. z ∷ front) head, last)
+
+without_append : (a b : List File) → without_flags (a ++ b) ≡ without_flags a ++ without_flags b
+without_append [] b = refl
+without_append (g ∷ a) b = ap (λ (l : List File). file g.name g.content ∷ l) (without_append a b)
+
+shorter : (p : Message → Bool) (ms : List Message) → length (filter p ms) ≤ length ms
+shorter p [] = omega arith
+shorter p (m ∷ ms) = grind (arith, shorter p ms)
+
+module _ (mail : Mail) (own : (m : Message) → names_id mail.account m.uid (mail_file mail.account m.uid m.text).name ≡ true) where
+  abbrev its_file : Message → File
+  its_file m = mail_file mail.account m.uid m.text
+
+  same_length : (ms : List Message) (fs : List File) → map its_file ms ≡ without_flags fs → length ms ≡ length fs
+  same_length [] [] e = refl
+  same_length [] (g ∷ fs) e = absurd (never_cons (file g.name g.content) (without_flags fs) e)
+  same_length (m ∷ ms) [] e = absurd (never_cons (its_file m) (map its_file ms) (sym e))
+  same_length (m ∷ ms) (g ∷ fs) e =
+      let rest = same_length ms fs (same_cons (its_file m) (file g.name g.content) (map its_file ms) (without_flags fs) e).1 in omega (arith, rest)
+
+  both_true : {a b : Bool} → a ≡ true → b ≡ true → (a && b) ≡ true
+  both_true is also = rw (is, also) refl
+
+  has_come : (came : List File) (ms : List Message) → map its_file ms ≡ without_flags came → AllByRecursion IsDurable came → AllByRecursion (λ (m : Message). any_named (names_id mail.account m.uid) came ≡ true) ms
+  has_come came [] e all = tt
+  has_come [] (m ∷ ms) e all = absurd (never_cons (its_file m) (map its_file ms) (sym e))
+  has_come (g ∷ came) (m ∷ ms) e all =
+      let (head, tail) = same_cons (its_file m) (file g.name g.content) (map its_file ms) (without_flags came) e in
+      let name : names_id mail.account m.uid g.name ≡ true = subst (λ (h : File). names_id mail.account m.uid h.name ≡ true) head (own m) in (
+        or_left _ _ (both_true name all.0.0),
+        all_map (λ (x : Message). any_named (names_id mail.account x.uid) came ≡ true) (λ (x : Message). any_named (names_id mail.account x.uid) (g ∷ came) ≡ true) (λ x there. or_right _ _ there) ms (has_come came ms tail all.1),
+      )
+
+  module _ {F : Type 0} (store : FileGhosts F) (from f : F) (state : State) (occasion : Occasion AccountMail) (promises : Promises mail state occasion) (leaves : LeavesDurably store mail.account from f state.account occasion.after)
+      (all : List Message) (legal : AreLegal all) (front : IsDurableFront mail state all) (next : ShowsNext occasion front.is.done front.is.rest) where
+    abbrev after : State
+    after = after_session mail state occasion
+
+    abbrev new : Message → Bool
+    new m = not (has_id (ids_of front.is.done) m.uid)
+
+    later : (later : IsFront mail after all) × (later.done ≡ front.is.done ++ filter (λ (m : Message). not (has_id (ids_of front.is.done) m.uid)) promises.came)
+    later = promises.in_order all legal front.is next
+
+    on : (id : List ℕ) → lasts mail state id ≡ true → lasts mail after id ≡ true
+    on = lasts_call store from f mail state occasion leaves
+
+    came_are : map its_file promises.came ≡ without_flags leaves.came ++ without_flags leaves.last
+    came_are = append_cancel_left (without_flags state.account.maildir.files) (map its_file promises.came) (without_flags leaves.came ++ without_flags leaves.last)
+        (sym promises.added ∙ ap without_flags leaves.files ∙ without_append state.account.maildir.files (leaves.came ++ leaves.last)
+        ∙ ap (λ (l : List File). without_flags state.account.maildir.files ++ l) (without_append leaves.came leaves.last))
+
+    none_came : leaves.came ++ leaves.last ≡ [] → promises.came ≡ []
+    none_came none = by promises.came (came_are ∙ sym (without_append leaves.came leaves.last) ∙ ap without_flags none)
+      where
+        by : (ms : List Message) → map its_file ms ≡ [] → ms ≡ []
+        by [] e = refl
+        by (m ∷ ms) e = absurd (never_cons (its_file m) (map its_file ms) (sym e))
+
+    by_none : leaves.came ++ leaves.last ≡ [] → IsDurableFront mail after all
+    by_none none = record {
+      is = later.0;
+      first = front.first;
+      last = front.last;
+      done = later.1 ∙ ap (λ (ms : List Message). front.is.done ++ filter new ms) (none_came none) ∙ append-nil front.is.done ∙ front.done;
+      at_most_one = front.at_most_one;
+      named = all_map (λ (m : Message). lasts mail state m.uid ≡ true) (λ (m : Message). lasts mail after m.uid ≡ true) (λ m. on m.uid) front.first front.named;
+    }
+
+    by_named : AllNamed state.account.maildir.files → IsDurableFront mail after all
+    by_named named =
+        let (first, last, are, came, ended) = split_map its_file promises.came (without_flags leaves.came) (without_flags leaves.last) came_are in
+        record {
+          is = later.0;
+          first = front.is.done ++ filter new first;
+          last = filter new last;
+          done = later.1 ∙ ap (λ (ms : List Message). front.is.done ++ filter new ms) are ∙ ap (λ (l : List Message). front.is.done ++ l) (filter-append new first last)
+              ∙ sym (append_assoc front.is.done (filter new first) (filter new last));
+          at_most_one = let short = shorter new last in let same = same_length last leaves.last ended in let most = leaves.at_most_one in omega (arith, short, same, most);
+          named = all_append (λ (m : Message). lasts mail after m.uid ≡ true) front.is.done (filter new first)
+              (all_both (λ (m : Message). is_legal_id m.uid ≡ true) (λ (m : Message). has_id (ids_of front.is.done) m.uid ≡ true) (λ (m : Message). lasts mail after m.uid ≡ true)
+              (λ m l there. on m.uid (safe_lasts m.uid (sym (front.is.is_done m.uid l) ∙ there))) front.is.done
+              (all_front (λ (m : Message). is_legal_id m.uid ≡ true) front.is.done front.is.rest (rw front.is.prefix at legal)) (members front.is.done))
+              (all_filter (λ (m : Message). lasts mail after m.uid ≡ true) new first (all_map (λ (m : Message). any_named (names_id mail.account m.uid) leaves.came ≡ true) (λ (m : Message). lasts mail after m.uid ≡ true)
+              (λ m there. or_left _ _ (came_there store from f mail state occasion leaves m.uid there)) first (has_come leaves.came first came leaves.durable)));
+        }
+      where
+        safe_lasts : (id : List ℕ) → is_safe mail state id ≡ true → lasts mail state id ≡ true
+        safe_lasts id safe = ⊎_elim (λ held. or_left _ _ (all_named mail.account state.account.maildir.files id named held)) (or_right _ _) (or_cases _ _ safe)
+
+    pub calls_keep_order : IsDurableFront mail after all
+    calls_keep_order = ⊎_elim by_none by_named leaves.named
+
+-- ---- what a loss of power leaves
+
+module _ (mail : Mail) (state : State) (after : AccountMail) (all : List Message) (legal : AreLegal all) (front : IsDurableFront mail state all) (loses : LosesPower state.account.maildir after.maildir) where
+  abbrev next_state : State
+  next_state = record state { account = after }
+
+  abbrev safe_next : List ℕ → Bool
+  safe_next id = is_held mail.account after.maildir id || state.taken id
+
+  still_safe : (id : List ℕ) → lasts mail state id ≡ true → safe_next id ≡ true
+  still_safe id last = ⊎_elim (λ named. or_left _ _ (any_left (names_id mail.account id) state.account.maildir.files after.maildir.files loses.files named)) (or_right _ _) (or_cases _ _ last)
+
+  safe_before : (id : List ℕ) → is_legal_id id ≡ true → safe_next id ≡ true → is_safe mail state id ≡ true
+  safe_before id l safe = ⊎_elim (λ held. or_left _ _ (any_before (names_id mail.account id) state.account.maildir.files after.maildir.files loses.files held)) (or_right _ _) (or_cases _ _ safe)
+
+  now_lasts : (id : List ℕ) → is_legal_id id ≡ true → safe_next id ≡ true → lasts mail next_state id ≡ true
+  now_lasts id l safe = ⊎_elim (λ held. or_left _ _ (durable_named mail.account after.maildir.files id l (all_left_durable mail.account state.account.maildir after.maildir loses) held)) (or_right _ _) (or_cases _ _ safe)
+
+  made : (done rest : List Message) → all ≡ done ++ rest → ((id : List ℕ) → is_legal_id id ≡ true → has_id (ids_of done) id ≡ safe_next id) → IsDurableFront mail next_state all
+  made done rest prefix is_done = record {
+    is = record { done = done; rest = rest; prefix = prefix; is_done = is_done };
+    first = done;
+    last = [];
+    done = sym (append-nil done);
+    at_most_one = omega arith;
+    named = all_both (λ (m : Message). is_legal_id m.uid ≡ true) (λ (m : Message). has_id (ids_of done) m.uid ≡ true) (λ (m : Message). lasts mail next_state m.uid ≡ true)
+        (λ m l there. now_lasts m.uid l (sym (is_done m.uid l) ∙ there)) done (all_front (λ (m : Message). is_legal_id m.uid ≡ true) done rest (rw prefix at legal)) (members done);
+  }
+
+  in_first : (id : List ℕ) → has_id (ids_of front.first) id ≡ true → safe_next id ≡ true
+  in_first id there = still_safe id (of_id (λ x. lasts mail state x ≡ true) front.first id front.named there)
+
+  in_done : (id : List ℕ) → is_legal_id id ≡ true → safe_next id ≡ true → (has_id (ids_of front.first) id || has_id (ids_of front.last) id) ≡ true
+  in_done id l safe = sym (has_append front.first front.last id) ∙ ap (λ ms. has_id (ids_of ms) id) (sym front.done) ∙ front.is.is_done id l ∙ safe_before id l safe
+
+  prefix_is : all ≡ front.first ++ (front.last ++ front.is.rest)
+  prefix_is = front.is.prefix ∙ ap (λ l. l ++ front.is.rest) front.done ∙ append_assoc front.first front.last front.is.rest
+
+  pub losses_keep_order : IsDurableFront mail next_state all
+  losses_keep_order = by front.last refl
+    where
+      without : (last : List Message) → front.last ≡ last → ((id : List ℕ) → has_id (ids_of last) id ≡ true → safe_next id ≡ false) → IsDurableFront mail next_state all
+      without last is lost = made front.first (front.last ++ front.is.rest) prefix_is (λ id l. same_bits (has_id (ids_of front.first) id) (safe_next id) (in_first id)
+          (λ safe. ⊎_elim (λ first. first) (λ there. absurd (both_ways (safe_next id) (lost id (rw is at there)) safe)) (or_cases _ _ (in_done id l safe))))
+
+      by : (last : List Message) → front.last ≡ last → IsDurableFront mail next_state all
+      by [] is = without [] is (λ id never. absurd (both_ways false refl never))
+      by (m ∷ []) is = elim (cases_Bool (safe_next m.uid)) [
+        | inl safe ↦ made front.is.done front.is.rest front.is.prefix (λ id l. same_bits (has_id (ids_of front.is.done) id) (safe_next id)
+            (λ there. ⊎_elim (in_first id) (λ at_last. subst (λ x. safe_next x ≡ true) (sym (its_id id m (rw is at at_last))) safe) (or_cases _ _ (sym (has_append front.first front.last id) ∙ ap (λ ms. has_id (ids_of ms) id) (sym front.done) ∙ there)))
+            (λ safe. front.is.is_done id l ∙ safe_before id l safe))
+        | inr lost ↦ without (m ∷ []) is (λ id there. subst (λ x. safe_next x ≡ false) (sym (its_id id m there)) lost)
+      ]
+        where
+          its_id : (id : List ℕ) (m : Message) → has_id (ids_of (m ∷ [])) id ≡ true → id ≡ m.uid
+          its_id id m there = ⊎_elim (bytes_same id m.uid) (λ never. absurd (both_ways false refl never)) (or_cases _ _ there)
+      by (m ∷ n ∷ ms) is = absurd (omega (arith, rw is at front.at_most_one))

@@ -1,0 +1,102 @@
+-- What of an account with a Maildir is durable, so that a loss of power between two calls, whatever it takes, leaves a
+-- state from which the next call goes on; and what calls and others keep of that.
+use Rattle.std.specs.Prelude.{◌≡◌, ◌⊎◌, ◌||◌, ◌≤◌, ℕ, Bool, true, List, [], ◌++◌, Option, None, length}
+use Rattle.std.specs.List.{AllByRecursion}
+use Rattle.mail_terms.specs.UniqueId.{is_legal_id}
+use Rattle.pop3_wire.specs.World.{Message}
+use Rattle.mail_store.specs.FileName.{is_held, names_id}
+use Rattle.mail_store.specs.Maildir.{AllFlushed, AllNamed, File, IsDurable}
+use Rattle.mail_store.specs.declared.file.flat_file.FlatFile.{Ghosts as FileGhosts}
+use Rattle.fetch_rules.specs.Record.{Intent, Row, is_delivered}
+use Rattle.fetch_rules.specs.RecordMeaning.{FileStandsFor}
+use Rattle.run_law.specs.Accounts.{AccountMail, has_named}
+use Rattle.run_law.specs.Events.{Mail, State}
+use Rattle.run_law.specs.Promises.{IsFront, Kept}
+
+-- a file of the message is there whose name is durable, or the message was taken away
+abbrev pub lasts : Mail → State → List ℕ → Bool
+lasts mail state id = has_named mail.account state.account.maildir id || state.taken id
+
+-- the bytes of a file are durable, if it is one of the account; or its name too
+abbrev pub IsFlushedFor : List ℕ → File → Type 0
+IsFlushedFor account f = (id : List ℕ) → is_legal_id id ≡ true → names_id account id f.name ≡ true
+    → f.is_flushed ≡ true
+
+abbrev pub IsDurableFor : List ℕ → File → Type 0
+IsDurableFor account f = (id : List ℕ) → is_legal_id id ≡ true → names_id account id f.name ≡ true → IsDurable f
+
+-- what the record shows as delivered, or may show after a loss of power, and what is gone from the server, has a file
+-- whose name is durable, or was taken away; and the bytes of the account's files are durable
+pub record IsCrashSafe (may_leave : Option (List ℕ) → Type 0) (mail : Mail) (state : State) : Type 0 where
+  pub flushed : AllByRecursion (IsFlushedFor mail.account) state.account.maildir.files
+  pub recorded : (id : List ℕ) → is_delivered state.account.rows id ≡ true → lasts mail state id ≡ true
+  pub left : (bytes : Option (List ℕ)) (rows : List Row) (intent : Option Intent) → may_leave bytes
+      → FileStandsFor bytes rows intent
+      → (id : List ℕ) → is_delivered rows id ≡ true → (is_legal_id id ≡ true) × (lasts mail state id ≡ true)
+  pub gone : AllByRecursion (λ id. lasts mail state id ≡ true) state.gone
+
+-- no flush of the record's file was refused before a call; and if there is no such file after it, a loss of power leaves
+-- none
+abbrev pub IsSure : {F : Type 0} → FileGhosts F → F → F → Type 0
+IsSure file from f = file.is_sure from
+    × ((file.stored f).content ≡ None → (left : Option (List ℕ)) → file.may_leave f left → left ≡ None)
+
+-- others leave durable what was: the names of messages that they leave, and the bytes of the account's files; and no
+-- more may be left of the record's file than it holds and than could be left before
+pub record KeepsDurable {F : Type 0} (file : FileGhosts F) (account : List ℕ) (before : AccountMail) (from f : F)
+    (after : AccountMail) : Type 0 where
+  pub named : (id : List ℕ) → is_legal_id id ≡ true → has_named account before.maildir id ≡ true
+      → is_held account after.maildir id ≡ true → has_named account after.maildir id ≡ true
+  pub flushed : AllByRecursion (IsFlushedFor account) after.maildir.files
+  pub record_is : (left : Option (List ℕ)) → file.may_leave f left
+      → (left ≡ (file.stored f).content) ⊎ file.may_leave from left
+
+-- a law: a kept state is safe if the files of the account are durable and nothing else may be left of the record's file
+-- than what it holds
+abbrev pub DurableAccountsAreSafe : {F : Type 0} → FileGhosts F → Type 0
+DurableAccountsAreSafe {F} file = (f : F) (mail : Mail) (state : State) (intent : Option Intent) → Kept mail state
+    → FileStandsFor (file.stored f).content state.account.rows intent
+    → AllByRecursion (IsDurableFor mail.account) state.account.maildir.files
+    → ((left : Option (List ℕ)) → file.may_leave f left → left ≡ (file.stored f).content)
+    → IsCrashSafe (file.may_leave f) mail state
+
+-- the messages that are held or were taken away are exactly the first of these, and all of them but perhaps the last
+-- have a file whose name is durable, or were taken away
+pub record IsDurableFront (mail : Mail) (state : State) (all : List Message) : Type 0 where
+  pub is : IsFront mail state all
+  pub first : List Message
+  pub last : List Message
+  pub done : is.done ≡ first ++ last
+  pub at_most_one : length last ≤ 1
+  pub named : AllByRecursion (λ (m : Message). lasts mail state m.uid ≡ true) first
+
+-- so it is afterwards, of each list of messages of which it was before
+abbrev pub KeepsFronts : Mail → State → State → Type 0
+KeepsFronts mail before after = (all : List Message)
+    → AllByRecursion (λ (m : Message). is_legal_id m.uid ≡ true) all → IsDurableFront mail before all
+    → IsDurableFront mail after all
+
+-- a law: so it is, if these are in order and the files of the account are durable
+abbrev pub DurableFrontsBegin : Type 0
+DurableFrontsBegin = (mail : Mail) (state : State) (all : List Message)
+    → AllByRecursion (λ (m : Message). is_legal_id m.uid ≡ true) all → IsFront mail state all
+    → AllByRecursion (IsDurableFor mail.account) state.account.maildir.files → IsDurableFront mail state all
+
+-- what a call leaves: files came that are durable, but perhaps the name of the last, and none, or each name was durable
+-- before; and what the record shows as delivered, or may show after a loss of power, it showed or could show before, or
+-- it has a file whose name is durable
+pub record LeavesDurably {F : Type 0} (file : FileGhosts F) (account : List ℕ) (from f : F)
+    (before after : AccountMail) : Type 0 where
+  pub came : List File
+  pub last : List File
+  pub files : after.maildir.files ≡ before.maildir.files ++ (came ++ last)
+  pub durable : AllByRecursion IsDurable came
+  pub flushed : AllFlushed last
+  pub at_most_one : length last ≤ 1
+  pub named : (came ++ last ≡ []) ⊎ AllNamed before.maildir.files
+  pub shown : (id : List ℕ) → is_delivered after.rows id ≡ true
+      → (is_delivered before.rows id ≡ true) ⊎ (has_named account after.maildir id ≡ true)
+  pub left : IsSure file from f → (bytes : Option (List ℕ)) (rows : List Row) (intent : Option Intent)
+      → file.may_leave f bytes → FileStandsFor bytes rows intent → (id : List ℕ) → is_delivered rows id ≡ true
+      → (is_delivered before.rows id ≡ true)
+      ⊎ ((has_named account after.maildir id ≡ true) ⊎ file.may_leave from bytes)

@@ -1,0 +1,127 @@
+-- Calls of `fetch_local` are calls of `session` whose servers are honest, so what is promised of those holds of them.
+use Rattle.std.proofs.Common.{◌≡◌, ℕ, List, [], ◌∷◌, ◌++◌, None, refl}
+use Rattle.std.specs.List.{AllByRecursion}
+use Rattle.mail_store.specs.declared.maildir.disk.MaildirDisk.{Ghosts as DiskGhosts}
+use Rattle.mail_store.specs.declared.file.flat_file.FlatFile.{Ghosts as FileGhosts}
+use Rattle.pop3_wire.specs.World.{Message, IsMessage}
+use Rattle.pop3_wire.specs.declared.wire.Wire.{Ghosts as WireGhosts}
+use Rattle.pop3_server.specs.declared.maildrop.Maildrop.{Ghosts as DropGhosts}
+use Rattle.pop3_server.specs.LoopLink.{Loop}
+use Rattle.fetch_session.specs.declared.account.Store.{Store}
+use Rattle.fetch_session.specs.declared.account.Store.TheVariants.{Maildir as InMaildir, Mboxrd as InMbox}
+use Rattle.fetch_session.specs.Target.{is_sound, mail_in}
+use Rattle.run_law.specs.Events.{IsOf, after_session, state_with}
+use Rattle.run_law.specs.Mboxes.{MboxMail}
+use Rattle.run_law.specs.MboxEvents.{base_from}
+use Rattle.run_law.specs.MboxPromises.{MboxStarts}
+use Rattle.fetch_runs.specs.Calls.{Called, CallsKeepPromises, Devices, EmptyAccountsAreKept, IsCall, Others, PowerLost, with_left}
+use Rattle.fetch_runs.specs.MboxCalls.{MboxCallsKeepPromises}
+use Rattle.local_fetch.specs.Local.{loop_to}
+use Rattle.local_fetch.specs.Fetches.{Fetch, FetchesFromNothing, FetchesKeepPromises, IsFetch, MboxFetchesFromNothing}
+use Rattle.local_fetch.specs.Fetches.{MboxFetchesKeepPromises, Removes, as_call, no_entries, nothing_yet, shown_by}
+use Rattle.local_fetch.proofs.LocalLemmas.{served_by}
+
+-- the server has messages
+messages : (text_of : List ℕ → List ℕ) (all : List Message) → AllByRecursion (IsOf text_of) all → AllByRecursion IsMessage all
+messages text_of [] each = tt
+messages text_of (m ∷ all) (one, each) = (record { legal = one.legal; whole = one.whole }, messages text_of all each)
+
+module _ {M D F : Type 0} (link : WireGhosts (Loop M)) (disk : DiskGhosts D) (file : FileGhosts F) (drop : DropGhosts M)
+    (history : (w : Loop M) → link.history w ≡ w.link) where
+  is_call : {S : Type 0} (In : S → Store D F) (text_of : List ℕ → List ℕ) (devices : Devices S F) (fetch : Fetch M S F)
+      → IsFetch link disk file drop In text_of devices fetch → (vanished : List (List ℕ)) × Removes drop fetch vanished
+      × IsCall link disk file In (λ store. is_sound disk file (In store)) text_of devices (as_call drop fetch vanished)
+  is_call In text_of devices fetch is =
+      let s = is.fetched.served is.store_sound is.file_sound is.drop_sound (messages text_of (shown_by drop fetch.server) is.maildrop.each) in (
+        s.vanished,
+        s.left,
+        record {
+          made = is.fetched.made;
+          link_sound = is.fetched.link_sound;
+          store_sound = is.store_sound;
+          file_sound = is.file_sound;
+          maildrop = is.maildrop;
+          served = λ sent got sent_is got_is. served_by fetch.wire.link refl s.served sent got
+              (rw (history fetch.wire, history (loop_to fetch.server)) at sent_is)
+              (rw (history fetch.wire, history (loop_to fetch.server)) at got_is);
+        },
+      )
+
+  pub fetches_keep : CallsKeepPromises link disk file → FetchesKeepPromises link disk file drop
+  fetches_keep law mail state devices [] shows kept = (shows, kept)
+  fetches_keep law mail state devices (Called fetch ∷ later) shows kept = (
+    shows,
+    kept,
+    λ account_is is.
+        let (vanished, left, call) = is_call InMaildir mail.text devices fetch is in
+        let (shown, held, then) = law mail state devices (Called (as_call drop fetch vanished) ∷ []) shows kept in
+        let (promised, (shows', kept')) = then account_is call in
+        let after = after_session mail (with_left mail state promised.left) promised.occasion in
+        (vanished, left, promised, fetches_keep law mail after fetch.after later shows' kept'),
+  )
+  fetches_keep law mail state devices (Others left account ∷ later) shows kept = (
+    shows,
+    kept,
+    λ then between.
+        let (now, held, next) = law mail state devices (Others left account ∷ []) shows kept in
+        let (safe, fronts, (shows', kept')) = next then between in
+        (safe, fronts, fetches_keep law mail (state_with mail state account) left later shows' kept'),
+  )
+  fetches_keep law mail state devices (PowerLost left account ∷ later) shows kept = (
+    shows,
+    kept,
+    λ safe lost.
+        let (now, held, next) = law mail state devices (PowerLost left account ∷ []) shows kept in
+        let (safe', fronts, (shows', kept')) = next safe lost in
+        (safe', fronts, fetches_keep law mail (record state { account = account }) left later shows' kept'),
+  )
+
+  pub mbox_fetches_keep : MboxCallsKeepPromises link disk file → MboxFetchesKeepPromises link disk file drop
+  mbox_fetches_keep law base done account devices [] shows holds = (shows, holds)
+  mbox_fetches_keep law base done account devices (Called fetch ∷ later) shows holds = (
+    shows,
+    holds,
+    λ only_new is.
+        let (vanished, left, call) = is_call InMbox base.text devices fetch is in
+        let (now, held, then) = law base done account devices (Called (as_call drop fetch vanished) ∷ []) shows holds in
+        let (occasion, is_occasion, appends, (shows', holds')) = then only_new call in
+        let on = mbox_fetches_keep law base (done ++ appends.more) occasion.after fetch.after later shows' holds' in
+        (vanished, left, held, occasion, is_occasion, appends, on),
+  )
+  mbox_fetches_keep law base done account devices (Others left now ∷ later) shows holds = (
+    shows,
+    holds,
+    λ then.
+        let (was, held, next) = law base done account devices (Others left now ∷ []) shows holds in
+        let (stays, begins) = next then in (
+          λ same. let (shows', holds') = stays same in mbox_fetches_keep law base done account left later shows' holds',
+          λ closed. let (shows', holds') = begins closed in mbox_fetches_keep law (base_from base now) [] now left later shows' holds',
+        ),
+  )
+  mbox_fetches_keep law base done account devices (PowerLost left now ∷ later) shows holds = (
+    shows,
+    holds,
+    λ then.
+        let (was, held, next) = law base done account devices (PowerLost left now ∷ []) shows holds in
+        let (stays, begins) = next then in (
+          λ same. let (shows', holds') = stays same in mbox_fetches_keep law base done account left later shows' holds',
+          λ closed. let (shows', holds') = begins closed in mbox_fetches_keep law (base_from base now) [] now left later shows' holds',
+        ),
+  )
+
+-- ---- from nothing on
+
+pub from_nothing : {M D F : Type 0} (link : WireGhosts (Loop M)) (disk : DiskGhosts D) (file : FileGhosts F) (drop : DropGhosts M)
+    → EmptyAccountsAreKept → FetchesKeepPromises link disk file drop → FetchesFromNothing link disk file drop
+from_nothing link disk file drop empty law mail devices list no_file no_record =
+    let state = nothing_yet (disk.maildir devices.store) in
+    law mail state devices list (record { intent = None; record_is = rw no_record (refl, refl); maildir = refl })
+    (empty mail state refl refl (λ id legal. rw no_file refl))
+
+pub mbox_from_nothing : {M D F : Type 0} (link : WireGhosts (Loop M)) (disk : DiskGhosts D) (file : FileGhosts F) (drop : DropGhosts M)
+    → MboxStarts → MboxFetchesKeepPromises link disk file drop → MboxFetchesFromNothing link disk file drop
+mbox_from_nothing link disk file drop starts law text_of devices list no_record =
+    let bytes = mail_in (file.stored devices.store).content in
+    let account : MboxMail = record { rows = []; intent = None; file = bytes } in
+    law (no_entries text_of bytes) [] account devices list (record { record_is = rw no_record (refl, refl); bytes = refl })
+    (starts (no_entries text_of bytes) account refl)

@@ -1,0 +1,79 @@
+-- From nothing on, a call keeps what it removes from the server, and an uncut one without limits all that was there.
+use Rattle.std.proofs.Common.{◌≡◌, inl, inr, ℕ, true, false, List, [], ◌∷◌, refl, sym, subst, ◌∙◌, true≢false, arith}
+use Rattle.std.specs.List.{AllByRecursion, list_any}
+use Rattle.std.specs.Prelude.{bytes_eq}
+use Rattle.std.proofs.lemmas.Bool.{cases_Bool}
+use Rattle.mail_store.specs.declared.maildir.disk.MaildirDisk.{Ghosts as DiskGhosts}
+use Rattle.mail_store.specs.declared.file.flat_file.FlatFile.{Ghosts as FileGhosts}
+use Rattle.mail_store.specs.FileName.{is_held, stem, stem_of}
+use Rattle.mail_store.specs.Maildir.{File, IsWithout, Maildir}
+use Rattle.pop3_wire.specs.World.{Message}
+use Rattle.pop3_wire.specs.declared.wire.Wire.{Ghosts as WireGhosts}
+use Rattle.pop3_server.specs.declared.maildrop.Maildrop.{Ghosts as DropGhosts}
+use Rattle.pop3_server.specs.LoopLink.{Loop}
+use Rattle.run_law.specs.Accounts.{AccountMail, copies}
+use Rattle.run_law.specs.Events.{IsOf, IsSafe, Mail, Occasion, after_session}
+use Rattle.fetch_runs.specs.Calls.{Called, EmptyAccountsAreKept, with_left}
+use Rattle.local_fetch.specs.Fetches.{FetchesKeepPromises, FirstFetchesKeepMail, nothing_yet}
+use Rattle.local_fetch.proofs.FetchLemmas.{from_nothing}
+
+-- of no files none is left
+none_left : (gone left : List File) → IsWithout [] gone left → left ≡ []
+none_left [] [] reached = refl
+none_left [] (f ∷ left) never = absurd never
+none_left (g ∷ gone) left ([], back, never, rest) = absurd never
+none_left (g ∷ gone) left (f ∷ front, back, never, rest) = absurd never
+
+-- a message that is held has a copy
+no_copies : (front : List ℕ) (fs : List File) → copies fs front ≡ [] → list_any (λ (f : File). bytes_eq front (stem f.name)) fs ≡ false
+no_copies front [] none = refl
+no_copies front (f ∷ fs) none = elim (cases_Bool (bytes_eq front (stem f.name))) [
+  | inl is ↦ absurd (let never = rw is at none in cc)
+  | inr isnt ↦ rw isnt (no_copies front fs (rw isnt at none))
+]
+
+-- none was taken away, so what is safe is held
+held : (mail : Mail) (maildir left : Maildir) (occasion : Occasion AccountMail) (id : List ℕ) → maildir.files ≡ [] → left.files ≡ []
+    → IsSafe mail (after_session mail (with_left mail (nothing_yet maildir) left) occasion) id → is_held mail.account occasion.after.maildir id ≡ true
+held mail maildir left occasion id none none' safe = elim (cases_Bool (is_held mail.account occasion.after.maildir id)) [
+  | inl is ↦ is
+  | inr isnt ↦ absurd (let never = rw (isnt, none', none) at safe.1 in cc)
+]
+
+-- what holds of each message by two facts, and of each id by one
+each : {P Q R : Message → Type 0} → ((m : Message) → P m → Q m → R m) → (ms : List Message) → AllByRecursion P ms → AllByRecursion Q ms
+    → AllByRecursion R ms
+each by [] ps qs = tt
+each by (m ∷ ms) (p, ps) (q, qs) = (by m p q, each by ms ps qs)
+
+all_by : {P Q : List ℕ → Type 0} → ((id : List ℕ) → P id → Q id) → (ids : List (List ℕ)) → AllByRecursion P ids → AllByRecursion Q ids
+all_by by [] ps = tt
+all_by by (id ∷ ids) (p, ps) = (by id p, all_by by ids ps)
+
+pub keep_mail : {M D F : Type 0} (link : WireGhosts (Loop M)) (disk : DiskGhosts D) (file : FileGhosts F) (drop : DropGhosts M)
+    → EmptyAccountsAreKept → FetchesKeepPromises link disk file drop → FirstFetchesKeepMail link disk file drop
+keep_mail link disk file drop empty law mail devices fetch no_file no_record account_is is =
+    let (shows, kept, then) = from_nothing link disk file drop empty law mail devices (Called fetch ∷ []) no_file no_record in
+    let (vanished, removed, promised, (shows', kept')) = then account_is is in
+    let o = promised.occasion in
+    let left_none = none_left promised.taken.gone promised.left.files (rw no_file at promised.taken.files) in
+    let safe_held : (id : List ℕ) → IsSafe mail (after_session mail (with_left mail (nothing_yet (disk.maildir devices.store)) promised.left) o) id
+    → is_held mail.account o.after.maildir id ≡ true =
+    λ id safe. held mail (disk.maildir devices.store) promised.left o id no_file left_none safe in
+    let of_each = subst (AllByRecursion (IsOf mail.text)) (sym promised.is.maildrop) is.maildrop.each in (
+      vanished,
+      removed,
+      rw (← shows'.maildir, ← promised.is.vanished) (all_by safe_held o.vanished kept'.gone),
+      λ ended no_size no_count.
+          subst (AllByRecursion (λ (m : Message). copies (disk.maildir fetch.after.store).files (stem_of mail.account m.uid) ≡ m.text ∷ [])) promised.is.maildrop
+          (each (λ m of p. elim p [
+            | inl safe ↦
+                let is_there = safe_held m.uid safe in
+                elim (kept'.holds m.uid of.legal) [
+                  | inl none ↦ absurd (true≢false (sym is_there ∙ no_copies (stem_of mail.account m.uid) o.after.maildir.files none))
+                  | inr one ↦ rw (← shows'.maildir, of.text) one
+                ]
+            | inr (inl large) ↦ absurd (true≢false (rw (promised.is.settings, no_size) at large))
+            | inr (inr past) ↦ absurd (let never = rw (promised.is.settings, no_count) at past.limit in omega arith)
+          ]) o.maildrop of_each (promised.promises.left_out (promised.is.ended.1 ended))),
+    )

@@ -1,0 +1,185 @@
+-- Calls of `fetch_local`, and what others do between them: what is promised of any list of these. Here the server's
+-- honesty is no premise: it follows from the contract of `fetch_local`.
+use Rattle.std.specs.Prelude.{◌≡◌, ℕ, true, false, List, [], ◌∷◌, ◌++◌, None}
+use Rattle.std.specs.List.{AllByRecursion}
+use Rattle.mail_store.specs.declared.maildir.disk.MaildirDisk.{Ghosts as DiskGhosts}
+use Rattle.mail_store.specs.declared.file.flat_file.FlatFile.{Ghosts as FileGhosts}
+use Rattle.mail_store.specs.FileName.{is_held, stem_of}
+use Rattle.mail_store.specs.Maildir.{Maildir}
+use Rattle.pop3_wire.specs.World.{Message}
+use Rattle.pop3_wire.specs.declared.wire.Wire.{Ghosts as WireGhosts}
+use Rattle.pop3_server.specs.declared.maildrop.Maildrop.{Ghosts as DropGhosts}
+use Rattle.pop3_server.specs.Maildrop.{there}
+use Rattle.pop3_server.specs.ServerMachine.{Machine}
+use Rattle.pop3_server.specs.LoopLink.{Loop}
+use Rattle.rc_file.specs.declared.settings.Settings.{Settings}
+use Rattle.fetch_session.specs.declared.account.Store.{Store}
+use Rattle.fetch_session.specs.declared.account.Store.TheVariants.{Maildir as InMaildir, Mboxrd as InMbox}
+use Rattle.fetch_session.specs.declared.report.Outcome.TheVariants.{Ended}
+use Rattle.fetch_session.specs.declared.report.Report.{Report}
+use Rattle.fetch_session.specs.Account.{digits_of}
+use Rattle.fetch_session.specs.Target.{is_sound, mail_in}
+use Rattle.run_law.specs.Accounts.{AccountMail, copies}
+use Rattle.run_law.specs.Events.{Mail, IsMaildrop, IsBetween, Occasion, State, after_session, state_with}
+use Rattle.run_law.specs.Promises.{Kept}
+use Rattle.run_law.specs.Mboxes.{MboxMail}
+use Rattle.run_law.specs.MboxEvents.{Base, HoldsEntries, base_from}
+use Rattle.run_law.specs.MboxPromises.{Appends}
+use Rattle.fetch_runs.specs.Calls.{Call, Called, Devices, Happening, IsLeftByLoss, IsOccasion, IsPromised, Others}
+use Rattle.fetch_runs.specs.Calls.{HoldsNoMore, PowerLost, Shows, account_over, with_left}
+use Rattle.fetch_runs.specs.Losses.{IsCrashSafe, KeepsDurable, KeepsFronts}
+use Rattle.fetch_runs.specs.MboxCalls.{ShowsMbox}
+use Rattle.local_fetch.specs.Local.{AreWithout, WasFetched, loop_to}
+
+-- one call of `fetch_local`, with its server before it, and with the link to it as it was returned
+pub record Fetch (M S F : Type 0) : Type 0 where
+  pub settings : Settings
+  pub now : ℕ
+  pub server : Machine M
+  pub report : Report
+  pub wire : Loop M
+  pub after : Devices S F
+
+-- the messages of a server's maildrop
+abbrev pub shown_by : {M : Type 0} → DropGhosts M → Machine M → List Message
+shown_by drop server = there (drop.mail server.drop).slots
+
+-- the call, as one of `session`
+abbrev pub as_call : {M S F : Type 0} → DropGhosts M → Fetch M S F → List (List ℕ) → Call (Loop M) S F
+as_call drop fetch vanished = record {
+  settings = fetch.settings;
+  now = fetch.now;
+  report = fetch.report;
+  wire = loop_to fetch.server;
+  wire' = fetch.wire;
+  after = fetch.after;
+  maildrop = shown_by drop fetch.server;
+  vanished = vanished;
+}
+
+-- a call was made with these devices. The world: its server has mail whose ids are distinct and name one text. Memory:
+-- the devices and the maildrop did what their traits say, which those in memory do if fewer of their calls lacked
+-- memory than can be counted
+pub record IsFetch {M D F S : Type 0} (link : WireGhosts (Loop M)) (disk : DiskGhosts D) (file : FileGhosts F)
+    (drop : DropGhosts M) (In : S → Store D F) (text_of : List ℕ → List ℕ) (devices : Devices S F) (fetch : Fetch M S F)
+    : Type 0 where
+  pub fetched : WasFetched link disk file drop fetch.now (account_over In fetch.settings devices) fetch.server
+      fetch.report (account_over In fetch.settings fetch.after) fetch.wire
+  pub maildrop : IsMaildrop text_of (shown_by drop fetch.server)
+  pub store_sound : is_sound disk file (In fetch.after.store)
+  pub file_sound : file.sound fetch.after.file
+  pub drop_sound : drop.sound fetch.wire.machine.drop
+
+-- the server has its messages afterwards, but for those with these ids
+abbrev pub Removes : {M S F : Type 0} → DropGhosts M → Fetch M S F → List (List ℕ) → Type 0
+Removes drop fetch vanished = AreWithout (shown_by drop fetch.server) vanished (shown_by drop fetch.wire.machine)
+
+-- ---- with a Maildir
+
+-- the devices show a kept state; if the next of these happens, a call keeps its promises, and they do so after it. If
+-- a loss of power can do no harm, what it takes doesn't count as taken away
+abbrev pub KeepPromises : {M D F : Type 0} → WireGhosts (Loop M) → DiskGhosts D → FileGhosts F → DropGhosts M → Mail
+    → State → Devices D F → List (Happening (Fetch M D F) (Devices D F) AccountMail) → Type 0
+KeepPromises link disk file drop mail state devices [] = Shows disk file devices state.account × Kept mail state
+KeepPromises link disk file drop mail state devices (Called fetch ∷ later) = Shows disk file devices state.account
+    × Kept mail state × (digits_of fetch.settings ≡ mail.account
+    → IsFetch link disk file drop InMaildir mail.text devices fetch
+    → (vanished : List (List ℕ)) × Removes drop fetch vanished
+    × (is : IsPromised link disk file mail state devices (as_call drop fetch vanished))
+    × KeepPromises link disk file drop mail (after_session mail (with_left mail state is.left) is.occasion) fetch.after
+    later)
+KeepPromises link disk file drop mail state devices (Others left account ∷ later) =
+    Shows disk file devices state.account
+    × Kept mail state × (Shows disk file left account → IsBetween mail state.account account
+    → (KeepsDurable file mail.account state.account devices.file left.file account
+    → IsCrashSafe (file.may_leave devices.file) mail state
+    → IsCrashSafe (file.may_leave left.file) mail (state_with mail state account))
+    × (KeepsDurable file mail.account state.account devices.file left.file account → HoldsNoMore mail state account
+    → KeepsFronts mail state (state_with mail state account))
+    × KeepPromises link disk file drop mail (state_with mail state account) left later)
+KeepPromises link disk file drop mail state devices (PowerLost left account ∷ later) =
+    Shows disk file devices state.account
+    × Kept mail state × (IsCrashSafe (file.may_leave devices.file) mail state
+    → IsLeftByLoss disk file devices left account
+    → IsCrashSafe (file.may_leave left.file) mail (record state { account = account })
+    × KeepsFronts mail state (record state { account = account })
+    × KeepPromises link disk file drop mail (record state { account = account }) left later)
+
+-- a law: so it is of any list, from a kept state on
+abbrev pub FetchesKeepPromises : {M D F : Type 0} → WireGhosts (Loop M) → DiskGhosts D → FileGhosts F → DropGhosts M
+    → Type 0
+FetchesKeepPromises {M} {D} {F} link disk file drop = (mail : Mail) (state : State) (devices : Devices D F)
+    (list : List (Happening (Fetch M D F) (Devices D F) AccountMail)) → Shows disk file devices state.account
+    → Kept mail state → KeepPromises link disk file drop mail state devices list
+
+-- nothing was fetched yet: there is no row, and nothing is gone or was taken away
+abbrev pub nothing_yet : Maildir → State
+nothing_yet maildir = record { account = record { rows = []; maildir = maildir }; gone = []; taken = λ id. false }
+
+-- the law: so it is from a Maildir without files and no record on
+abbrev pub FetchesFromNothing : {M D F : Type 0} → WireGhosts (Loop M) → DiskGhosts D → FileGhosts F → DropGhosts M
+    → Type 0
+FetchesFromNothing {M} {D} {F} link disk file drop = (mail : Mail) (devices : Devices D F)
+    (list : List (Happening (Fetch M D F) (Devices D F) AccountMail)) → (disk.maildir devices.store).files ≡ []
+    → (file.stored devices.file).content ≡ None
+    → KeepPromises link disk file drop mail (nothing_yet (disk.maildir devices.store)) devices list
+
+-- a law: from a Maildir without files and no record on, each message that a call removed from its server is held; and
+-- if the call is uncut and has no limits, each message that the server had is in one file, with its text
+abbrev pub FirstFetchesKeepMail : {M D F : Type 0} → WireGhosts (Loop M) → DiskGhosts D → FileGhosts F → DropGhosts M
+    → Type 0
+FirstFetchesKeepMail {M} {D} {F} link disk file drop = (mail : Mail) (devices : Devices D F)
+    (fetch : Fetch M D F) → (disk.maildir devices.store).files ≡ [] → (file.stored devices.file).content ≡ None
+    → digits_of fetch.settings ≡ mail.account → IsFetch link disk file drop InMaildir mail.text devices fetch
+    → (vanished : List (List ℕ)) × Removes drop fetch vanished
+    × AllByRecursion (λ id. is_held mail.account (disk.maildir fetch.after.store) id ≡ true) vanished
+    × (fetch.report.outcome ≡ Ended → fetch.settings.max_size ≡ 0 → fetch.settings.max_count ≡ 0
+    → AllByRecursion (λ (m : Message). copies (disk.maildir fetch.after.store).files (stem_of mail.account m.uid)
+    ≡ m.text ∷ []) (shown_by drop fetch.server))
+
+-- ---- with an mboxrd file
+
+-- the devices show an account whose file holds the entries of these messages; if the next of these happens, a call
+-- that reads only what is new appends entries and keeps its promises, and they do so after it. What others or a loss of
+-- power leave is the account as it was; or has no open intent, and counts as from before the first session
+abbrev pub KeepMboxPromises : {M D F : Type 0} → WireGhosts (Loop M) → DiskGhosts D → FileGhosts F → DropGhosts M
+    → Base → List Message → MboxMail → Devices F F → List (Happening (Fetch M F F) (Devices F F) MboxMail) → Type 0
+KeepMboxPromises link disk file drop base done account devices [] =
+    ShowsMbox file devices account × HoldsEntries base done account
+KeepMboxPromises link disk file drop base done account devices (Called fetch ∷ later) =
+    ShowsMbox file devices account × HoldsEntries base done account × (fetch.settings.read_all ≡ false
+    → IsFetch link disk file drop InMbox base.text devices fetch
+    → (vanished : List (List ℕ)) × Removes drop fetch vanished
+    × (holds : HoldsEntries base done account) × (occasion : Occasion MboxMail)
+    × IsOccasion link (as_call drop fetch vanished) (ShowsMbox file fetch.after) occasion
+    × (appends : Appends base holds occasion)
+    × KeepMboxPromises link disk file drop base (done ++ appends.more) occasion.after fetch.after later)
+KeepMboxPromises link disk file drop base done account devices (Others left now ∷ later) =
+    ShowsMbox file devices account × HoldsEntries base done account × (ShowsMbox file left now
+    → (now ≡ account → KeepMboxPromises link disk file drop base done account left later)
+    × (now.intent ≡ None → KeepMboxPromises link disk file drop (base_from base now) [] now left later))
+KeepMboxPromises link disk file drop base done account devices (PowerLost left now ∷ later) =
+    ShowsMbox file devices account × HoldsEntries base done account × (ShowsMbox file left now
+    → (now ≡ account → KeepMboxPromises link disk file drop base done account left later)
+    × (now.intent ≡ None → KeepMboxPromises link disk file drop (base_from base now) [] now left later))
+
+-- a law: so it is of any list
+abbrev pub MboxFetchesKeepPromises : {M D F : Type 0} → WireGhosts (Loop M) → DiskGhosts D → FileGhosts F
+    → DropGhosts M → Type 0
+MboxFetchesKeepPromises {M} {D} {F} link disk file drop = (base : Base) (done : List Message) (account : MboxMail)
+    (devices : Devices F F) (list : List (Happening (Fetch M F F) (Devices F F) MboxMail))
+    → ShowsMbox file devices account → HoldsEntries base done account
+    → KeepMboxPromises link disk file drop base done account devices list
+
+-- nothing was fetched yet: the file is as it was before, and there is no row
+abbrev pub no_entries : (List ℕ → List ℕ) → List ℕ → Base
+no_entries text_of bytes = record { start = bytes; had = λ id. false; text = text_of }
+
+-- the law: so it is from any mboxrd file and no record on
+abbrev pub MboxFetchesFromNothing : {M D F : Type 0} → WireGhosts (Loop M) → DiskGhosts D → FileGhosts F
+    → DropGhosts M → Type 0
+MboxFetchesFromNothing {M} {D} {F} link disk file drop = (text_of : List ℕ → List ℕ) (devices : Devices F F)
+    (list : List (Happening (Fetch M F F) (Devices F F) MboxMail)) → (file.stored devices.file).content ≡ None
+    → let bytes = mail_in (file.stored devices.store).content in
+    KeepMboxPromises link disk file drop (no_entries text_of bytes) []
+    (record { rows = []; intent = None; file = bytes }) devices list
