@@ -1,9 +1,13 @@
 -- The session that a run holds.
-use Rattle.std.specs.Prelude.{◌≡◌, ◌⊎◌, ℕ, Bool, true, false}
+use Rattle.std.specs.Prelude.{◌≡◌, ◌⊎◌, ◌&&◌, not, ℕ, Bool, true, false, List, Err}
+use Rattle.std.specs.List.{list_any}
 use Rattle.pop3_wire.specs.declared.wire.Wire.{Ghosts as WireGhosts}
 use Rattle.mail_store.specs.declared.maildir.disk.MaildirDisk.{Ghosts as DiskGhosts}
 use Rattle.mail_store.specs.declared.file.flat_file.FlatFile.{Ghosts as FileGhosts}
+use Rattle.mail_store.specs.Maildir.{Maildir as InMaildir}
 use Rattle.fetch_session.specs.declared.fault.Fault.{Fault}
+use Rattle.fetch_session.specs.declared.fault.Fault.TheVariants.{NoMemory}
+use Rattle.fetch_session.specs.declared.message_preview.MessagePreview.{MessagePreview}
 use Rattle.fetch_session.specs.declared.preview.Preview.{Preview}
 use Rattle.fetch_session.specs.declared.report.Outcome.TheVariants.{Ended, Cut}
 use Rattle.rc_file.specs.declared.settings.Settings.{Settings}
@@ -13,7 +17,9 @@ use Rattle.fetch_session.specs.Lasting.{RunsSession}
 use Rattle.fetch_session.specs.Pretend.{Pretends, told_in, told_nothing}
 use Rattle.fetch_session.specs.Refusal.{IsWithinLimits}
 use Rattle.fetch_session.specs.Session.{keeping}
+use Rattle.fetch_session.specs.Store.{Starts}
 use Rattle.fetch_session.specs.Target.{AfterTakingIn, Entries, Files, Kind, is_sound, stores_of, target_of}
+use Rattle.fetch_session.specs.Telling.{is_fetch}
 use Rattle.rc_file.specs.declared.settings.Dest.{Dest}
 use Rattle.rc_file.specs.declared.settings.Dest.TheVariants.{Maildir, Mboxrd}
 use Rattle.getmail_program.specs.declared.told.Told.{Told}
@@ -29,28 +35,48 @@ abbrev pub holding_of : {D F : Type 0} → Settings → Store D F → F → Hold
 holding_of settings store file = record { settings = settings; store = store; file = file }
 
 -- a session that changes nothing was run: the preview says what a run would do
-abbrev pub PreviewsAccount : {W D F : Type 0} → WireGhosts W → DiskGhosts D → FileGhosts F → ℕ → Holding D F → W → Preview → Holding D F
+abbrev pub PreviewsAccount : {W D F : Type 0} → WireGhosts W → DiskGhosts D → FileGhosts F → ℕ → Holding D F → W
+    → Preview → Holding D F
     → W → Type 0
 PreviewsAccount link disk file now old wire preview new wire' =
     link.sound wire' → is_sound disk file new.store → file.sound new.file
-    → AfterTakingIn (stores_of disk file old.store) (λ left. Pretends old.settings (target_of old.store (digits_of old.settings)) now
+    → AfterTakingIn (stores_of disk file old.store)
+    (λ left. Pretends old.settings (target_of old.store (digits_of old.settings)) now
     (link.history wire) (keeping left (file.stored old.file)) preview (link.history wire')
     (keeping (stores_of disk file new.store) (file.stored new.file)))
 
--- a run would be cut, and nothing is said of its messages
-pub record IsCutShort (total : ℕ) (said : Preview) : Type 0 where
-  pub fault : Fault
-  pub outcome : said.outcome ≡ Cut fault
-  pub nothing : told_in said ≡ told_nothing total
+-- a run would put a message into a Maildir
+abbrev pub would_store : MessagePreview → Bool
+would_store told = not told.held && is_fetch told.fate
 
--- what is said ahead of a run: what its preview says; or, if the preview found no fault, one that would cut the run
-abbrev pub SaysAhead : Preview → Preview → Type 0
-SaysAhead preview said = (said ≡ preview) ⊎ ((preview.outcome ≡ Ended) × IsCutShort preview.total said)
+-- a run that begins the file of a message in a Maildir can have this fault; or memory runs out before
+abbrev pub RefusesFile : Fault → Type 0
+RefusesFile fault = (fault ≡ NoMemory)
+    ⊎ ((maildir left : InMaildir) × (name : List ℕ) × Starts maildir name (Err fault) left)
+
+-- it is the fault of a run that would put one of these messages into its Maildir
+abbrev pub Doubts : Dest → List MessagePreview → Fault → Type 0
+Doubts dest told fault = (kind_in dest ≡ Files) × (list_any would_store told ≡ true) × RefusesFile fault
+
+-- a run would be cut, and nothing is said of its messages
+pub record IsCutShort (dest : Dest) (preview said : Preview) : Type 0 where
+  pub fault : Fault
+  pub doubts : Doubts dest preview.message_previews.items fault
+  pub outcome : said.outcome ≡ Cut fault
+  pub nothing : told_in said ≡ told_nothing preview.total
+
+-- what is said ahead of a run: what its preview says; or, if the preview found no fault, one that a run would have that
+-- puts messages into a Maildir
+abbrev pub SaysAhead : Dest → Preview → Preview → Type 0
+SaysAhead dest preview said = (said ≡ preview) ⊎ ((preview.outcome ≡ Ended) × IsCutShort dest preview said)
 
 -- what is told is the report of the session that was run, or what is said ahead of one
-abbrev pub HoldsSession : {W D F : Type 0} → WireGhosts W → DiskGhosts D → FileGhosts F → Bool → ℕ → Holding D F → W → Told → Holding D F
+abbrev pub HoldsSession : {W D F : Type 0} → WireGhosts W → DiskGhosts D → FileGhosts F → Bool → ℕ → Holding D F → W
+    → Told → Holding D F
     → W → Type 0
 HoldsSession link disk file pretends now old wire (Done report) new wire' =
-    (pretends ≡ false) × IsWithinLimits link wire report wire' × RunsSession link disk file now old wire report new wire'
+    (pretends ≡ false) × IsWithinLimits link wire report wire'
+    × RunsSession link disk file now old wire report new wire'
 HoldsSession link disk file pretends now old wire (Ahead said) new wire' =
-    (pretends ≡ true) × ((preview : Preview) × PreviewsAccount link disk file now old wire preview new wire' × SaysAhead preview said)
+    (pretends ≡ true) × ((preview : Preview) × PreviewsAccount link disk file now old wire preview new wire'
+    × SaysAhead old.settings.dest preview said)

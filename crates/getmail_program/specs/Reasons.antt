@@ -1,12 +1,15 @@
 -- Why a session was cut: the place of its fault, and what is known of the cause.
-use Rattle.std.specs.Prelude.{◌||◌, ◌&&◌, ◌==◌, ℕ, Bool, true, List, [], ◌++◌, bytes_eq, codes, length, nat_eq, if◌then◌else◌}
+use Rattle.std.specs.Prelude.{◌||◌, ◌&&◌, ◌==◌, ℕ, Bool, true, List, [], ◌++◌, bytes_eq, codes, length, nat_eq}
+use Rattle.std.specs.Prelude.{if◌then◌else◌}
 use Rattle.std.specs.Fmt.{decimal}
 use Rattle.std.specs.List.{starts_with}
 use Rattle.std.specs.String.{string_bytes}
 use Rattle.rc_file.specs.declared.settings.Settings.{Settings}
 use Rattle.fetch_session.specs.declared.fault.Fault.{Fault}
-use Rattle.fetch_session.specs.declared.fault.Fault.TheVariants.{ConnectionEnded, ReadFailed, WriteFailed, ReplyTooLong, BadReply, Refused}
-use Rattle.fetch_session.specs.declared.fault.Fault.TheVariants.{BadListing, ListingsDisagree, TooMany, TextTooLong, StoreRefused}
+use Rattle.fetch_session.specs.declared.fault.Fault.TheVariants.{ConnectionEnded, ReadFailed, WriteFailed, ReplyTooLong}
+use Rattle.fetch_session.specs.declared.fault.Fault.TheVariants.{BadReply, Refused}
+use Rattle.fetch_session.specs.declared.fault.Fault.TheVariants.{BadListing, ListingsDisagree, TooMany, TextTooLong}
+use Rattle.fetch_session.specs.declared.fault.Fault.TheVariants.{StoreRefused}
 use Rattle.fetch_session.specs.declared.fault.Fault.TheVariants.{SeenRefused, NoMemory, BadSeen}
 use Rattle.fetch_session.specs.declared.fault.Why.TheVariants as why
 use Rattle.fetch_session.specs.declared.report.Outcome.{Outcome}
@@ -21,7 +24,8 @@ or_else first second = if length first == 0 then second else first
 -- the part of a conversation that was under way
 abbrev pub place_in : Said → List ℕ
 place_in said =
-    if length said.command.items == 0 then codes "before the greeting" else codes "in the reply to " ++ said.command.items
+    if length said.command.items == 0 then codes "before the greeting"
+    else codes "in the reply to " ++ said.command.items
 
 -- how many rows answered UIDL and LIST
 abbrev pub rows_text : Said → List ℕ
@@ -42,9 +46,12 @@ reason_text TooMany found = codes "100000 can be fetched; the answer to "
     ++ (found.said.command.items ++ (codes " is " ++ found.said.answer.items))
 reason_text TextTooLong found = codes "268435456 octets hold no whole message, " ++ place_in found.said
 reason_text (StoreRefused why.NotMbox) found =
-    string_bytes found.destination ++ codes ": it isn't empty, and has no `From ` at its front or no empty line at its end"
-reason_text (StoreRefused other) found = or_else found.refused.items (string_bytes found.destination ++ codes ": the system gave no reason")
-reason_text SeenRefused found = or_else found.refused.items (string_bytes found.record ++ codes ": the system gave no reason")
+    string_bytes found.destination ++ codes
+    ": it isn't empty, and has no `From ` at its front or no empty line at its end"
+reason_text (StoreRefused other) found = or_else found.refused.items
+    (string_bytes found.destination ++ codes ": the system gave no reason")
+reason_text SeenRefused found = or_else found.refused.items
+    (string_bytes found.record ++ codes ": the system gave no reason")
 reason_text NoMemory found = codes "it ran out " ++ place_in found.said
 reason_text (BadSeen line) found = string_bytes found.record ++ codes ": a record has no such line"
 
@@ -63,10 +70,13 @@ is_near server = starts_with nat_eq server (codes "/") || (starts_with nat_eq se
 abbrev pub is_by_a_tunnel : Settings → Findings → Bool
 is_by_a_tunnel settings found = length found.said.command.items == 0 && is_near (string_bytes settings.server)
 
--- what else may help: a tunnel says by itself why it ends a connection at once, and a message without an end can be passed over
+-- what else may help: a tunnel says by itself why it ends a connection at once, and a message without an end can be
+-- passed over
 abbrev pub hint_text : Settings → Fault → Findings → List ℕ
-hint_text settings ConnectionEnded found = if is_by_a_tunnel settings found then codes "the tunnel's own log says why" else []
-hint_text settings ReadFailed found = if is_by_a_tunnel settings found then codes "the tunnel's own log says why" else []
+hint_text settings ConnectionEnded found = if is_by_a_tunnel settings found
+    then codes "the tunnel's own log says why" else []
+hint_text settings ReadFailed found = if is_by_a_tunnel settings found
+    then codes "the tunnel's own log says why" else []
 hint_text settings TextTooLong found = codes "max_message_size passes such a message over"
 hint_text settings fault found = []
 
@@ -76,7 +86,8 @@ line_with settings words = if length words == 0 then [] else reason_line setting
 
 -- the lines after that of a fault: its reason always, and then a hint, if there is one
 abbrev pub reasons_of : Settings → Fault → Findings → List ℕ
-reasons_of settings fault found = reason_line settings (reason_text fault found) ++ line_with settings (hint_text settings fault found)
+reasons_of settings fault found = reason_line settings (reason_text fault found) ++ line_with settings
+    (hint_text settings fault found)
 
 -- what is said of an outcome if reasons are asked for
 abbrev pub reasons_said : Settings → Bool → Outcome → Findings → List ℕ

@@ -26,7 +26,8 @@ text_of verbose told = explained_line verbose told.total told.plan told.line
 -- it has the same output, keeps what it wrote in the same place, and tells as much
 abbrev pub HasSameLinks : {O : Type 0} → Teller O → Teller O → Type 0
 HasSameLinks old new =
-    (new.out.ghost_name ≡ old.out.ghost_name) × (new.notes.ghost_name ≡ old.notes.ghost_name) × (new.verbose ≡ old.verbose)
+    (new.out.ghost_name ≡ old.out.ghost_name) × (new.notes.ghost_name ≡ old.notes.ghost_name)
+    × (new.verbose ≡ old.verbose)
 
 -- these octets were written to the output, and are kept
 pub record Wrote {O : Type 0} (contents : O → Option (List ℕ)) (more : List ℕ) (old new : Teller O) : Type 0 where
@@ -43,7 +44,8 @@ pub record WroteMore {O : Type 0} (contents : O → Option (List ℕ)) (old new 
   pub wrote : Wrote contents (flat_map (text_of old.verbose) lines) old new
 
 -- of a report that was written before its session's end: its first line, and lines that tell no deletion
-pub record TellsEarly {O : Type 0} (contents : O → Option (List ℕ)) (settings : Settings) (out : Output O) (text : List ℕ)
+pub record TellsEarly {O : Type 0} (contents : O → Option (List ℕ)) (settings : Settings) (out : Output O)
+    (text : List ℕ)
     (out' : Output O) : Type 0 where
   pub first : List ℕ
   pub is_first : (first ≡ []) ⊎ (first ≡ heading settings)
@@ -57,7 +59,8 @@ wrote_none contents a = record {
   puts = record { whole = λ clean. (clean, Appends-nil (contents a.out.now.writer)); stays = λ _. refl };
 }
 
-pub wrote_then : {O : Type 0} (contents : O → Option (List ℕ)) (first second : List ℕ) (a b c : Teller O) → Wrote contents first a b
+pub wrote_then : {O : Type 0} (contents : O → Option (List ℕ)) (first second : List ℕ) (a b c : Teller O)
+    → Wrote contents first a b
     → Wrote contents second b c → Wrote contents (first ++ second) a c
 wrote_then contents first second a b c p q = record {
   kept = q.kept ∙ ap (λ (bytes : List ℕ). bytes ++ second) p.kept ∙ append_assoc a.notes.now.written.items first second;
@@ -66,7 +69,8 @@ wrote_then contents first second a b c p q = record {
         let rest = q.puts.whole clean in
         let begun = p.puts.whole rest.0 in (
           begun.0,
-          Appends-trans (contents a.out.now.writer) (contents b.out.now.writer) (contents c.out.now.writer) first second begun.1 rest.1,
+          Appends-trans (contents a.out.now.writer) (contents b.out.now.writer)
+              (contents c.out.now.writer) first second begun.1 rest.1,
         );
     stays = λ refused. q.puts.stays (λ clean. refused (p.puts.whole clean).0) ∙ p.puts.stays refused;
   };
@@ -75,7 +79,8 @@ wrote_then contents first second a b c p q = record {
 pub wrote_nothing : {O : Type 0} (contents : O → Option (List ℕ)) (a : Teller O) → WroteMore contents a a
 wrote_nothing contents a = record { lines = []; wrote = wrote_none contents a }
 
-pub wrote_both : {O : Type 0} (contents : O → Option (List ℕ)) (a b c : Teller O) → b.verbose ≡ a.verbose → WroteMore contents a b
+pub wrote_both : {O : Type 0} (contents : O → Option (List ℕ)) (a b c : Teller O) → b.verbose ≡ a.verbose
+    → WroteMore contents a b
     → WroteMore contents b c → WroteMore contents a c
 wrote_both contents a b c same p q = record {
   lines = p.lines ++ q.lines;

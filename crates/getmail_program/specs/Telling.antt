@@ -1,5 +1,6 @@
 -- What is told at a session's end.
-use Rattle.std.specs.Prelude.{◌≡◌, ℕ, Bool, true, false, ◌==◌, List, [], ◌++◌, Option, None, Some, codes, length, if◌then◌else◌}
+use Rattle.std.specs.Prelude.{◌≡◌, ℕ, Bool, true, false, ◌==◌, List, [], ◌++◌, Option, None, Some, codes, length}
+use Rattle.std.specs.Prelude.{if◌then◌else◌}
 use Rattle.std.specs.Fmt.{decimal}
 use Rattle.rc_file.specs.declared.settings.Settings.{Settings}
 use Rattle.fetch_session.specs.declared.fault.Fault.{Fault}
@@ -33,7 +34,8 @@ text_of settings plan (Done report) = told_report plan report settings
 text_of settings plan (Ahead preview) = preview_text preview settings
 
 -- what a session said was written to `out`, and nothing else; there are reasons only if they are asked for
-pub record Reported {O : Type 0} (contents : O → Option (List ℕ)) (explains : Bool) (settings : Settings) (told : Told) (out out' : Output O)
+pub record Reported {O : Type 0} (contents : O → Option (List ℕ)) (explains : Bool) (settings : Settings) (told : Told)
+    (out out' : Output O)
     : Type 0 where
   pub plan : List MessagePreview
   pub asked : explains ≡ false → plan ≡ []
@@ -67,7 +69,8 @@ with_comma first second =
 -- how many messages were left out for each reason
 abbrev pub left_out_text : LeftOut → List ℕ
 left_out_text left =
-    with_comma (with_comma (count_text left.too_large (codes " too large")) (count_text left.past_limit (codes " past the limit")))
+    with_comma (with_comma (count_text left.too_large (codes " too large"))
+    (count_text left.past_limit (codes " past the limit")))
     (count_text left.repeated (codes " with a repeated unique-id"))
 
 -- the line on messages that were left out although they aren't known, if there are any
@@ -94,7 +97,8 @@ unwritten_line outcome (Some Refused) = codes "getmail: cannot write standard ou
 -- ---- what is written at a session's end
 
 -- the line of the fault that cut a session, if one did, and its reasons, from what was noted, were written
-pub record TellsCut {E : Type 0} (contents : E → Option (List ℕ)) (settings : Settings) (outcome : Outcome) (old new : Errors E)
+pub record TellsCut {E : Type 0} (contents : E → Option (List ℕ)) (settings : Settings) (outcome : Outcome)
+    (old new : Errors E)
     : Type 0 where
   pub found : Findings
   pub puts : Puts contents old.err (outcome_line outcome ++ reasons_said settings old.says_why outcome found) new.err
@@ -106,19 +110,22 @@ status_when Ended None = 0
 status_when Ended (Some why) = 1
 status_when (Cut fault) why = 1
 
--- to `err` were written the line of the fault that cut a session with its reasons, the line of a text that wasn't written, and the line
--- on messages that were left out
+-- to `err` were written the line of the fault that cut a session with its reasons, the line of a text that wasn't
+-- written, and the line on messages that were left out
 pub record TellsErrors {E : Type 0} (contents : E → Option (List ℕ)) (settings : Settings) (told : Told)
     (refusal : Option Refusal) (old : Errors E) (fetched : Fetched) (new : Errors E) : Type 0 where
   pub idle : fetched.is_idle ≡ is_idle told
   pub status : fetched.status ≡ status_when (outcome_of told) refusal
   pub found : Findings
-  pub said : Puts contents old.err (((outcome_line (outcome_of told) ++ reasons_said settings old.says_why (outcome_of told) found)
+  pub said : Puts contents old.err
+      (((outcome_line (outcome_of told) ++ reasons_said settings old.says_why (outcome_of told) found)
       ++ unwritten_line (outcome_of told) refusal) ++ left_out_said settings old.says_why told) new.err
 
 -- what a session said was written to `out`, and nothing else; and the rest to `err`
-pub record TellsAll {O E : Type 0} (out_contents : O → Option (List ℕ)) (err_contents : E → Option (List ℕ)) (explains : Bool)
-    (settings : Settings) (told : Told) (out : Output O) (old : Errors E) (fetched : Fetched) (out' : Output O) (new : Errors E)
+pub record TellsAll {O E : Type 0} (out_contents : O → Option (List ℕ)) (err_contents : E → Option (List ℕ))
+    (explains : Bool)
+    (settings : Settings) (told : Told) (out : Output O) (old : Errors E) (fetched : Fetched) (out' : Output O)
+    (new : Errors E)
     : Type 0 where
   pub reported : Reported out_contents explains settings told out out'
   pub errors : TellsErrors err_contents settings told out'.refusal old fetched new

@@ -1,7 +1,8 @@
 //! What is written to standard error at a session's end.
 ghost use Rattle.std.specs.Prelude.{◌≡◌, ◌≤◌};
 ghost use Rattle.getmail_setup.specs.Output.{Puts};
-ghost use Rattle.getmail_program.specs.Telling.{TellsCut, TellsErrors, lacks_memory, outcome_line, status_when, unwritten_line};
+ghost use Rattle.getmail_program.specs.Telling.{TellsCut, TellsErrors, lacks_memory, outcome_line, status_when};
+ghost use Rattle.getmail_program.specs.Telling.{unwritten_line};
 
 use crate::fault_line::put_fault;
 use crate::findings::findings_on;

@@ -165,7 +165,7 @@ pub fn memory_at<R: Files + AllocGlobal>(system: &System<'_, R>, path: &str) -> 
 }
 
 /// Appends the line of a fault.
-fn put_fault(alloc: Global, lines: &mut String, key: &str, times: Times) -> Result<(), AllocError> {
+fn put_row(alloc: Global, lines: &mut String, key: &str, times: Times) -> Result<(), AllocError> {
     let Times { since, told, runs } = times;
     lines.push_str(format!(in alloc; "fault {key} {since} {told} {runs}\n")?.as_str())
 }
@@ -179,7 +179,7 @@ fn text_of(alloc: Global, memory: &Memory) -> Result<String, AllocError> {
     } = memory.left;
     let mut lines = format!(in alloc; "{HEADER}\nleft {too_large} {past_limit} {repeated}\n")?;
     for fault in &memory.faults {
-        put_fault(alloc, &mut lines, fault.0.as_str(), fault.1)?;
+        put_row(alloc, &mut lines, fault.0.as_str(), fault.1)?;
     }
     for notice in &memory.notices {
         lines.push_str("said ")?;

@@ -11,7 +11,7 @@ use std::alloc::{AllocError, Global};
 use trace::Said;
 
 /// Octets that follow each other.
-fn joined(alloc: Global, first: &[u8], second: &[u8]) -> Result<Vec<u8>, AllocError>
+fn concat(alloc: Global, first: &[u8], second: &[u8]) -> Result<Vec<u8>, AllocError>
     ensures { IfOk result (λ text. text.items ≡ first.now ++ second.now) }
 {
     let mut text = Vec::from_slice(alloc, first)?;
@@ -20,7 +20,7 @@ fn joined(alloc: Global, first: &[u8], second: &[u8]) -> Result<Vec<u8>, AllocEr
 }
 
 /// Four texts that follow each other.
-fn joined_four(
+fn concat_four(
     alloc: Global,
     first: &[u8],
     second: &[u8],
@@ -29,9 +29,9 @@ fn joined_four(
 ) -> Result<Vec<u8>, AllocError>
     ensures { IfOk result (λ text. text.items ≡ first.now ++ (second.now ++ (third.now ++ fourth.now))) }
 {
-    let end = joined(alloc, third, fourth)?;
-    let end = joined(alloc, second, &end)?;
-    joined(alloc, first, &end)
+    let end = concat(alloc, third, fourth)?;
+    let end = concat(alloc, second, &end)?;
+    concat(alloc, first, &end)
 }
 
 /// The part of a conversation that was under way.
@@ -41,7 +41,7 @@ fn place_in(alloc: Global, said: &Said) -> Result<Vec<u8>, AllocError>
     if said.command.is_empty() {
         return Vec::from_slice(alloc, b"before the greeting");
     }
-    joined(alloc, b"in the reply to ", &said.command)
+    concat(alloc, b"in the reply to ", &said.command)
 }
 
 /// Words, and the part of the conversation that was under way.
@@ -49,7 +49,7 @@ fn at_place(alloc: Global, words: &[u8], said: &Said) -> Result<Vec<u8>, AllocEr
     ensures { IfOk result (λ text. text.items ≡ words.now ++ place_in said.now) }
 {
     let place = place_in(alloc, said)?;
-    joined(alloc, words, &place)
+    concat(alloc, words, &place)
 }
 
 /// The first text, unless it is empty.
@@ -72,9 +72,10 @@ fn rows_text(alloc: Global, said: &Said) -> Result<String, AllocError>
 
 /// What was refused at a path, which is told if nothing else was noted.
 fn refused_at(alloc: Global, found: &Findings, path: &str) -> Result<Vec<u8>, AllocError>
-    ensures { IfOk result (λ text. text.items ≡ or_else found.now.refused.items (path.now ++ codes ": the system gave no reason")) }
+    ensures { IfOk result (λ text. text.items
+        ≡ or_else found.now.refused.items (path.now ++ codes ": the system gave no reason")) }
 {
-    let text = joined(alloc, path.as_bytes(), b": the system gave no reason")?;
+    let text = concat(alloc, path.as_bytes(), b": the system gave no reason")?;
     or_else(alloc, &found.refused, text)
 }
 
@@ -95,10 +96,10 @@ fn reason_text(alloc: Global, fault: &Fault, found: &Findings) -> Result<Vec<u8>
             or_else(alloc, &found.refused, at_place(alloc, b"it failed ", said)?)
         }
         Fault::ReplyTooLong => at_place(alloc, b"2048 octets hold no whole line, ", said),
-        Fault::BadReply => joined(alloc, b"the server said: ", &said.answer),
-        Fault::Refused(_) => joined(alloc, b"the server said: ", &said.denial),
+        Fault::BadReply => concat(alloc, b"the server said: ", &said.answer),
+        Fault::Refused(_) => concat(alloc, b"the server said: ", &said.denial),
         Fault::BadListing => {
-            joined_four(
+            concat_four(
                 alloc,
                 b"the reply to ",
                 command,
@@ -107,20 +108,20 @@ fn reason_text(alloc: Global, fault: &Fault, found: &Findings) -> Result<Vec<u8>
             )
         }
         Fault::ListingsDisagree => {
-            let counts = joined(alloc, &said.count, rows_text(alloc, said)?.as_bytes())?;
-            joined(alloc, b"the answer to STAT is ", &counts)
+            let counts = concat(alloc, &said.count, rows_text(alloc, said)?.as_bytes())?;
+            concat(alloc, b"the answer to STAT is ", &counts)
         }
         Fault::TooMany => {
             let words = b"100000 can be fetched; the answer to ";
-            joined_four(alloc, words, command, b" is ", &said.answer)
+            concat_four(alloc, words, command, b" is ", &said.answer)
         }
         Fault::TextTooLong => at_place(alloc, b"268435456 octets hold no whole message, ", said),
-        Fault::StoreRefused(Why::NotMbox) => joined(alloc, found.destination.as_bytes(), NO_MBOX),
+        Fault::StoreRefused(Why::NotMbox) => concat(alloc, found.destination.as_bytes(), NO_MBOX),
         Fault::StoreRefused(_) => refused_at(alloc, found, found.destination.as_str()),
         Fault::SeenRefused => refused_at(alloc, found, found.record.as_str()),
         Fault::NoMemory => at_place(alloc, b"it ran out ", said),
         Fault::BadSeen(_) => {
-            joined(
+            concat(
                 alloc,
                 found.record.as_bytes(),
                 b": a record has no such line",
@@ -203,7 +204,7 @@ fn reasons_of(
     let reason = reason_text(alloc, fault, found)?;
     let line = line_of(alloc, settings, &reason)?;
     let hint = line_with(alloc, settings, hint_text(settings, fault, found))?;
-    joined(alloc, &line, &hint)
+    concat(alloc, &line, &hint)
 }
 
 /// What is said of an outcome, if reasons are asked for.

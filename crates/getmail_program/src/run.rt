@@ -41,9 +41,11 @@ pub fn fetch_over<
     ensures kind { kind_of account.new.store ≡ kind_of account.old.store }
     ensures within { result.status ≤ 1 }
     ensures fetched { (told : Told)
-        × HoldsSession W.Wire D.MaildirDisk F.FlatFile manner.entry.pretends manner.entry.now account.old wire.old.wire told
+        × HoldsSession W.Wire D.MaildirDisk F.FlatFile manner.entry.pretends manner.entry.now account.old
+        wire.old.wire told
         account.new wire.new.wire
-        × TellsAll O.contents E.contents manner.entry.explains account.old.settings told out.old errors.old result out.new
+        × TellsAll O.contents E.contents manner.entry.explains account.old.settings told out.old errors.old
+        result out.new
         errors.new }
 {
     let reasons = errors.reasons;
@@ -106,7 +108,8 @@ pub fn fetch_with<
         × HoldsSession W.Wire D.MaildirDisk F.FlatFile manner.entry.pretends manner.entry.now
         (holding_of parts.settings parts.store parts.seen_file) wire.old.wire told
         (holding_of result.settings result.store result.seen_file) wire.new.wire
-        × TellsAll O.contents E.contents manner.entry.explains parts.settings told out.old errors.old result.fetched out.new
+        × TellsAll O.contents E.contents manner.entry.explains parts.settings told out.old errors.old
+        result.fetched out.new
         errors.new }
 {
     let Parts {

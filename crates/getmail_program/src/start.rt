@@ -21,6 +21,7 @@ use std::net::{Net, TcpStream};
 use std::process::Process;
 use std::random::RandomSource;
 use std::rt::{Clock, Files};
+use trace::System;
 
 /// The random values of a run: keys for hashing, since a server chooses the unique-ids and mustn't be
 /// able to choose ids that collide, and the mark of the files that the run writes.
@@ -129,7 +130,9 @@ where
         Ok(home) => home,
         Err(failure) => return fail(rt.alloc(), failure, None, &mut errors),
     };
-    match set_up(rt, home.as_deref(), words, &mut errors) {
+    let reasons = errors.reasons;
+    let files = System::new(rt, &reasons.before);
+    match set_up(rt, &files, home.as_deref(), words, &mut errors) {
         Ok(setup) => fetch(rt, process, setup, out, errors),
         Err(failure) => fail(rt.alloc(), failure, None, &mut errors),
     }

@@ -54,7 +54,8 @@ impl<'a, O: Write> Teller<'a, O> {
         verbose: u8,
         explains: bool,
     ) -> Teller<'a, O>
-        ensures links { (result.out.ghost_name ≡ out.entry.ghost_name) × (result.notes.ghost_name ≡ notes.entry.ghost_name) }
+        ensures links { (result.out.ghost_name ≡ out.entry.ghost_name)
+            × (result.notes.ghost_name ≡ notes.entry.ghost_name) }
         ensures start { (result.out.now ≡ out.old) × (result.notes.now.written.items ≡ notes.old.written.items) }
         ensures verbose { result.verbose ≡ verbose }
     {
@@ -72,7 +73,8 @@ impl<'a, O: Write> Teller<'a, O> {
     /// Writes a text, unless there is no memory for it or nothing more is to be written.
     pub fn put(&mut self, text: Result<String, AllocError>)
         ensures links { HasSameLinks self.old self.new }
-        ensures wrote { (words : List ℕ) → IfOk text (λ made. string_bytes made ≡ words) → WroteText O.contents words self.old self.new }
+        ensures wrote { (words : List ℕ) → IfOk text (λ made. string_bytes made ≡ words)
+            → WroteText O.contents words self.old self.new }
     {
         if !self.is_open {
             return;

@@ -110,7 +110,8 @@ fn hold_over<W: Wire, S: Write, D: MaildirDisk, F: FlatFile, H: BuildHasher, O: 
     ensures settings { account.new.settings ≡ account.old.settings }
     ensures kind { kind_of account.new.store ≡ kind_of account.old.store }
     ensures limits { IsWithinLimits W.Wire wire.old.wire result wire.new.wire }
-    ensures runs { RunsSession W.Wire D.MaildirDisk F.FlatFile now account.old wire.old.wire result account.new wire.new.wire }
+    ensures runs { RunsSession W.Wire D.MaildirDisk F.FlatFile now account.old wire.old.wire result account.new
+        wire.new.wire }
     ensures links { HasSameLinks teller.old teller.new }
     ensures wrote { WroteMore O.contents teller.old teller.new }
 {
@@ -226,7 +227,8 @@ pub fn hold<
 ) -> Told
     ensures settings { account.new.settings ≡ account.old.settings }
     ensures kind { kind_of account.new.store ≡ kind_of account.old.store }
-    ensures held { HoldsSession W.Wire D.MaildirDisk F.FlatFile manner.entry.pretends manner.entry.now account.old wire.old.wire result
+    ensures held { HoldsSession W.Wire D.MaildirDisk F.FlatFile manner.entry.pretends manner.entry.now account.old
+        wire.old.wire result
         account.new wire.new.wire }
     ensures reported { Reported O.contents manner.entry.explains account.old.settings result out.old out.new }
 {

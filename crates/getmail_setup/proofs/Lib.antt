@@ -1,1 +1,2 @@
+mod SetupLemmas
 mod WordsLemmas

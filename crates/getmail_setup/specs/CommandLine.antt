@@ -14,14 +14,16 @@ with_places app = with_rule (with_rule app (value_rule (codes "rcfile") 114)) (v
 abbrev pub with_loudness : App → App
 with_loudness app =
     with_rule (with_rule (with_rule (with_rule (with_rule app
-    (flag_rule (codes "verbose") 118)) (flag_rule (codes "quiet") 113)) (long_flag_rule (codes "why"))) (long_flag_rule (codes "trace")))
+    (flag_rule (codes "verbose") 118)) (flag_rule (codes "quiet") 113)) (long_flag_rule (codes "why")))
+    (long_flag_rule (codes "trace")))
     (long_flag_rule (codes "unattended"))
 
 -- -a, -n, -d, -l
 abbrev pub with_choices : App → App
 with_choices app =
     with_rule (with_rule (with_rule (with_rule app
-    (flag_rule (codes "all") 97)) (flag_rule (codes "new") 110)) (flag_rule (codes "delete") 100)) (flag_rule (codes "dont-delete") 108)
+    (flag_rule (codes "all") 97)) (flag_rule (codes "new") 110)) (flag_rule (codes "delete") 100))
+    (flag_rule (codes "dont-delete") 108)
 
 abbrev pub getmail : App
 getmail =

@@ -2,6 +2,7 @@ pub mod CommandLine
 pub mod Failures
 pub mod Lock
 pub mod Memory
+pub mod NoSetup
 pub mod Output
 pub mod Places
 pub mod Progress

@@ -1,5 +1,6 @@
 -- What an unattended run tells, by what earlier ones told.
-use Rattle.std.specs.Prelude.{◌+◌, ◌-◌, ◌^◌, ◌&&◌, ◌||◌, ℕ, Bool, true, false, Option, None, Some, min, nat_le, nat_lt, if◌then◌else◌}
+use Rattle.std.specs.Prelude.{◌+◌, ◌-◌, ◌^◌, ◌&&◌, ◌||◌, ℕ, Bool, true, false, Option, None, Some, max, min, nat_le}
+use Rattle.std.specs.Prelude.{nat_lt, if◌then◌else◌}
 use Rattle.getmail_setup.specs.declared.memory.Counts.{Counts}
 use Rattle.getmail_setup.specs.declared.memory.Telling.{Telling}
 use Rattle.getmail_setup.specs.declared.memory.Telling.TheVariants.{First, Again, Nothing}
@@ -32,15 +33,11 @@ abbrev pub has_more : Counts → Counts → Bool
 has_more old new =
     nat_lt old.too_large new.too_large || (nat_lt old.past_limit new.past_limit || nat_lt old.repeated new.repeated)
 
--- the greater of two counts
-abbrev pub most : ℕ → ℕ → ℕ
-most first second = if nat_lt first second then second else first
-
 -- the counts of a run that ended take the place of those before it; one that was cut only adds to them
 abbrev pub counts_after : Counts → Counts → Bool → Counts
 counts_after old new true = new
 counts_after old new false = record {
-  too_large = most old.too_large new.too_large;
-  past_limit = most old.past_limit new.past_limit;
-  repeated = most old.repeated new.repeated;
+  too_large = max old.too_large new.too_large;
+  past_limit = max old.past_limit new.past_limit;
+  repeated = max old.repeated new.repeated;
 }

@@ -5,7 +5,8 @@ use Rattle.std.specs.Io.KnownBytes.{Appends}
 use Rattle.getmail_setup.specs.declared.output.Output.{Output}
 
 -- unless something was refused by now, these octets were written, and nothing else; after a refusal nothing is written
-pub record Puts {W : Type 0} (contents : W → Option (List ℕ)) (old : Output W) (octets : List ℕ) (new : Output W) : Type 0 where
+pub record Puts {W : Type 0} (contents : W → Option (List ℕ)) (old : Output W) (octets : List ℕ)
+    (new : Output W) : Type 0 where
   pub whole : new.refusal ≡ None → (old.refusal ≡ None) × Appends (contents old.writer) (contents new.writer) octets
   pub stays : old.refusal ≢ None → contents new.writer ≡ contents old.writer
 

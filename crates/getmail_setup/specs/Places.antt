@@ -1,5 +1,6 @@
 -- Paths of the program's files.
-use Rattle.std.specs.Prelude.{◌≡◌, ℕ, Bool, false, Ok, ◌||◌, nat_eq, List, [], ◌++◌, drop, Option, Some, None, option_map, codes, if◌then◌else◌}
+use Rattle.std.specs.Prelude.{◌≡◌, ℕ, Bool, false, Ok, ◌||◌, nat_eq, List, [], ◌++◌, drop, Option, Some, None}
+use Rattle.std.specs.Prelude.{option_map, codes, if◌then◌else◌}
 use Rattle.std.specs.Fmt.{decimal}
 use Rattle.std.specs.List.{starts_with, ends_with}
 use Rattle.std.specs.String.{string_bytes}
@@ -11,6 +12,7 @@ use Rattle.rc_file.specs.declared.settings.Settings.{Settings}
 use Rattle.rc_file.specs.declared.settings.Dest.{Dest}
 use Rattle.rc_file.specs.declared.settings.Dest.TheVariants.{Maildir, Mboxrd}
 use Rattle.mail_store.specs.FileName.{account_text}
+use Rattle.getmail_setup.specs.declared.setup.TheConstants.{RC_ROOM}
 use Rattle.getmail_setup.specs.declared.setup.Paths.{Paths}
 use Rattle.getmail_setup.specs.declared.setup.Setup.{Setup}
 use Rattle.getmail_setup.specs.declared.words.Words.{Words}
@@ -62,16 +64,15 @@ abbrev pub account_path : List ℕ → List ℕ → Settings → List ℕ
 account_path folder front settings = joined folder (front ++ digits_of settings)
 
 -- the settings are those that an rc file of these octets means, changed by the flags, which aren't opposite
-pub record AreAsked (flags : Flags) (settings : Settings) : Type 0 where
-  pub bytes : List ℕ
+pub record AreAsked (flags : Flags) (bytes : List ℕ) (settings : Settings) : Type 0 where
   pub content : Content
   pub warnings : List Warned
   pub meant : rc_meaning bytes ≡ Ok (content, warnings)
   pub agree : is_contradiction flags ≡ false
   pub changed : content_of settings ≡ overridden content flags
 
--- with this home the destination is the one of the settings, the record and the lock are in the folder that the words name, and
--- what is cut off from an mboxrd file is kept beside the record
+-- with this home the destination is the one of the settings, the record and the lock are in the folder that the words
+-- name, and what is cut off from an mboxrd file is kept beside the record
 pub record AreFor (home : Option (List ℕ)) (words : Words) (settings : Settings) (paths : Paths) : Type 0 where
   pub destination_is : whole_path home (path_in settings.dest) ≡ Some (string_bytes paths.destination)
   pub folder : List ℕ
@@ -88,9 +89,27 @@ pub record IsToldPath (home : Option (List ℕ)) (words : Words) (path : List �
   pub rc_is : rc_path home folder (option_map string_bytes words.rcfile) ≡ Some rc
   pub is : path ≡ joined folder (codes "told-" ++ account_text rc 0 [])
 
--- a run's settings and paths are those that an rc file, the words and the home mean
-pub record IsSetUp (home : Option (List ℕ)) (words : Words) (setup : Setup) : Type 0 where
+-- a path is that of the rc file that the words name
+pub record IsRcPath (home : Option (List ℕ)) (words : Words) (path : List ℕ) : Type 0 where
+  pub folder : List ℕ
+  pub folder_is : folder_path home (option_map string_bytes words.dir) ≡ Some folder
+  pub is : rc_path home folder (option_map string_bytes words.rcfile) ≡ Some path
+
+-- what reads of files gave: for each path, and most octets, these octets
+abbrev pub Reads : Type 1
+Reads = List ℕ → ℕ → List ℕ → Type 0
+
+-- these settings are what the rc file means that the words name, by the octets that a read of it gave
+pub record AreRead (gave : Reads) (home : Option (List ℕ)) (words : Words) (settings : Settings) : Type 0 where
+  pub path : List ℕ
+  pub path_is : IsRcPath home words path
+  pub bytes : List ℕ
+  pub given : gave path RC_ROOM bytes
+  pub asked : AreAsked words.flags bytes settings
+
+-- a run's settings and paths are those that the rc file, the words and the home mean
+pub record IsSetUp (gave : Reads) (home : Option (List ℕ)) (words : Words) (setup : Setup) : Type 0 where
   pub valid : IsValid setup.settings
-  pub asked : AreAsked words.flags setup.settings
+  pub read : AreRead gave home words setup.settings
   pub placed : AreFor home words setup.settings setup.paths
   pub pretends : setup.pretends ≡ words.pretend

@@ -1,5 +1,5 @@
 //! Why a run ends before its session: the line on standard error, and the exit status.
-ghost use Rattle.std.specs.Prelude.{◌≡◌, ◌≢◌, ◌≤◌, true, false};
+ghost use Rattle.std.specs.Prelude.{◌≡◌, ◌≢◌, ◌⊎◌, ◌≤◌, true, false};
 ghost use Rattle.std.specs.IoError.{error_kind};
 ghost use Rattle.clap.specs.Values.{kind_of};
 ghost use Rattle.command_line.specs.Rules.{is_asked_for};
@@ -71,6 +71,7 @@ impl<'a> From<RcFault> for Failure<'a> {
 pub fn failure_of<'a>(error: io::Error, failure: Failure<'a>) -> Failure<'a>
     ensures memory { error_kind error ≡ ErrorKind.OutOfMemory → result ≡ Failure.NoMemory }
     ensures other { error_kind error ≢ ErrorKind.OutOfMemory → result ≡ failure.entry }
+    ensures either { (result ≡ Failure.NoMemory) ⊎ (result ≡ failure.entry) }
 {
     if error.kind() == ErrorKind::OutOfMemory {
         Failure::NoMemory

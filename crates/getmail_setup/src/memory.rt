@@ -1,6 +1,6 @@
 //! What an unattended run tells, by what earlier ones told.
 ghost use Rattle.std.specs.Prelude.{◌≡◌};
-ghost use Rattle.getmail_setup.specs.Memory.{after, counts_after, has_more, has_passed, is_long_held, most, told_of};
+ghost use Rattle.getmail_setup.specs.Memory.{after, counts_after, has_more, has_passed, is_long_held, told_of};
 
 /// How many seconds a fault that goes on isn't told again.
 const DAY: u64 = 86_400;
@@ -97,13 +97,6 @@ pub fn has_more(old: Counts, new: Counts) -> bool
     new.too_large > old.too_large || new.past_limit > old.past_limit || new.repeated > old.repeated
 }
 
-/// The greater of two counts.
-fn most(first: u32, second: u32) -> u32
-    ensures { result ≡ most first second }
-{
-    if first < second { second } else { first }
-}
-
 /// How many messages count as told. A run that was cut may not have come to all of them.
 pub fn counts_after(old: Counts, new: Counts, has_ended: bool) -> Counts
     ensures { result ≡ counts_after old new has_ended }
@@ -112,8 +105,8 @@ pub fn counts_after(old: Counts, new: Counts, has_ended: bool) -> Counts
         return new;
     }
     Counts {
-        too_large: most(old.too_large, new.too_large),
-        past_limit: most(old.past_limit, new.past_limit),
-        repeated: most(old.repeated, new.repeated),
+        too_large: old.too_large.max(new.too_large),
+        past_limit: old.past_limit.max(new.past_limit),
+        repeated: old.repeated.max(new.repeated),
     }
 }

@@ -113,7 +113,8 @@ impl<W: Write> Output<W> {
     /// Writes the rest of a text after what was written of it. A text that begins otherwise is refused, and
     /// after a refusal nothing is written.
     pub fn put_rest(&mut self, written: &[u8], text: &[u8])
-        ensures { (start : Output W) → Puts W.contents start written.now self.old → Puts W.contents start text.now self.new }
+        ensures { (start : Output W) → Puts W.contents start written.now self.old
+            → Puts W.contents start text.now self.new }
     {
         if self.refusal.is_some() {
             return;

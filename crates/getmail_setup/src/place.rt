@@ -1,6 +1,7 @@
 //! The paths of the rc file, the record and the destination.
-ghost use Rattle.std.specs.Prelude.{◌≡◌, Err, None, Some, IfOk, option_map};
+ghost use Rattle.std.specs.Prelude.{◌≡◌, Some, IfErr, IfOk, option_map};
 ghost use Rattle.std.specs.String.{string_bytes};
+ghost use Rattle.getmail_setup.specs.NoSetup.{HasNoPath};
 ghost use Rattle.getmail_setup.specs.Places.{folder_path, joined, rc_path, stands_alone, whole_path};
 
 use crate::failure::Failure;
@@ -44,8 +45,9 @@ pub fn home<'a, R: Env + AllocGlobal>(rt: &R) -> Result<Option<String>, Failure<
 
 /// A path, with the home in place of a leading `~`.
 pub fn whole_path<'a>(alloc: Global, home: Option<&str>, path: &str) -> Result<String, Failure<'a>>
-    ensures whole { IfOk result (λ whole. whole_path (option_map (λ text. text.now) home.entry) path.now ≡ Some (string_bytes whole)) }
-    ensures homeless { result ≡ Err Failure.NoHome → whole_path (option_map (λ text. text.now) home.entry) path.now ≡ None }
+    ensures whole { IfOk result
+        (λ whole. whole_path (option_map (λ text. text.now) home.entry) path.now ≡ Some (string_bytes whole)) }
+    ensures none { IfErr result (HasNoPath (whole_path (option_map (λ text. text.now) home.entry) path.now)) }
 {
     if !path.as_bytes().starts_with(b"~/") {
         return Ok(String::from_str(alloc, path)?);
@@ -62,8 +64,11 @@ pub fn folder<'a>(
     home: Option<&str>,
     given: Option<&str>,
 ) -> Result<String, Failure<'a>>
-    ensures { IfOk result (λ folder. folder_path (option_map (λ text. text.now) home.entry) (option_map (λ text. text.now) given.entry)
+    ensures known { IfOk result (λ folder. folder_path (option_map (λ text. text.now) home.entry)
+        (option_map (λ text. text.now) given.entry)
         ≡ Some (string_bytes folder)) }
+    ensures none { IfErr result (HasNoPath (folder_path (option_map (λ text. text.now) home.entry)
+        (option_map (λ text. text.now) given.entry))) }
 {
     match given {
         Some(path) => whole_path(alloc, home, path),
@@ -78,8 +83,11 @@ pub fn rc_file<'a>(
     folder: &str,
     given: Option<&str>,
 ) -> Result<String, Failure<'a>>
-    ensures { IfOk result (λ path. rc_path (option_map (λ text. text.now) home.entry) folder.now (option_map (λ text. text.now) given.entry)
+    ensures known { IfOk result (λ path. rc_path (option_map (λ text. text.now) home.entry) folder.now
+        (option_map (λ text. text.now) given.entry)
         ≡ Some (string_bytes path)) }
+    ensures none { IfErr result (HasNoPath (rc_path (option_map (λ text. text.now) home.entry) folder.now
+        (option_map (λ text. text.now) given.entry))) }
 {
     match given {
         None => Ok(joined(alloc, folder, RC_FILE)?),

@@ -1,8 +1,10 @@
 //! The settings of a run: those of the rc file, changed by the flags, and its paths.
-ghost use Rattle.std.specs.Prelude.{◌≡◌, ◌++◌, Some, IfOk, codes, option_map};
+ghost use Rattle.std.specs.Prelude.{◌≡◌, ◌⊎◌, ◌++◌, ℕ, List, Some, IfErr, IfOk, codes, option_map};
 ghost use Rattle.std.specs.String.{string_bytes};
 ghost use Rattle.rc_file.specs.Settings.{IsValid};
-ghost use Rattle.getmail_setup.specs.Places.{AreAsked, AreFor, IsSetUp, IsToldPath, account_path, digits_of, path_in, whole_path};
+ghost use Rattle.getmail_setup.specs.NoSetup.{GivesNone, HasNoPath, HasNoSetup, MeansNone};
+ghost use Rattle.getmail_setup.specs.Places.{AreAsked, AreFor, IsSetUp, IsToldPath, account_path, digits_of, path_in};
+ghost use Rattle.getmail_setup.specs.Places.{folder_path, whole_path};
 
 use crate::connection::is_socket;
 use crate::errors::Errors;
@@ -12,16 +14,17 @@ use crate::place::{folder, joined, rc_file, whole_path};
 use crate::rc_reason::{RcFile, keep_reason};
 use crate::words::Words;
 use fetch_rules::{Dest, Flags, Settings, Warning, override_with, read_rc, warning_text};
+use file_reading::ReadFile;
 use mail_store::{AccountId, account_id};
 use std::alloc::{AllocError, Global};
 use std::fs;
-use std::io::{self, Read, Write};
+use std::io::Write;
 use std::os::unix::fs::PermissionsExt;
 use std::rt::Files;
-use trace::{System, line_text};
+use trace::line_text;
 
 /// One octet more than an rc file may have, so that a longer one is noticed.
-const RC_ROOM: u64 = 65_537;
+pub const RC_ROOM: u64 = 65_537;
 
 /// The warning of a file that others may read, before its path.
 const OTHERS: &str = "warning: others than its owner may read or write ";
@@ -53,13 +56,6 @@ pub struct Setup {
     pub pretends: bool,
 }
 
-/// The octets of the rc file; if it is too long, enough of them to notice it.
-fn read_file<R: Files + AllocGlobal>(system: &System<'_, R>, path: &str) -> io::Result<Vec<u8>> {
-    let mut bytes = Vec::new(system.alloc());
-    system.open(path)?.take(RC_ROOM).read_to_end(&mut bytes)?;
-    Ok(bytes)
-}
-
 /// Writes a warning.
 fn put_warning<E: Write>(text: &[u8], errors: &mut Errors<'_, E>) {
     errors.err.put(b"getmail: ");
@@ -73,7 +69,9 @@ fn tell_warnings<'a, E: Write>(
     alloc: Global,
     warnings: &[Warning],
     errors: &mut Errors<'_, E>,
-) -> Result<(), Failure<'a>> {
+) -> Result<(), Failure<'a>>
+    ensures { IfErr result (λ failure. failure ≡ Failure.NoMemory) }
+{
     for warning in warnings {
         let text = warning_text(alloc, warning)?;
         put_warning(text.as_bytes(), errors);
@@ -122,7 +120,8 @@ fn meaning_of<'a, E: Write>(
     errors: &mut Errors<'_, E>,
 ) -> Result<Settings, Failure<'a>>
     ensures valid { IfOk result IsValid }
-    ensures asked { IfOk result (AreAsked flags) }
+    ensures asked { IfOk result (AreAsked flags bytes.now) }
+    ensures err { IfErr result (MeansNone flags bytes.now) }
 {
     let (settings, warnings) = read_rc(alloc, bytes)?;
     tell_warnings(alloc, warnings.as_slice(), errors)?;
@@ -131,16 +130,19 @@ fn meaning_of<'a, E: Write>(
 
 /// Reads the rc file, writes its warnings, and returns its settings, changed by the flags. The reason of a
 /// fault is kept, and a file that others may read is warned of, if reasons are to be written.
-fn settings_of<'a, R: Files + AllocGlobal, E: Write>(
+fn settings_of<'a, R: Files + AllocGlobal, S: ReadFile, E: Write>(
     rt: &R,
+    files: &S,
     path: &str,
     words: &Words,
     errors: &mut Errors<'_, E>,
 ) -> Result<Settings, Failure<'a>>
     ensures valid { IfOk result IsValid }
-    ensures asked { IfOk result (AreAsked words.now.flags) }
+    ensures asked { IfOk result (λ settings. (bytes : List ℕ) × S.gave files.now path.now RC_ROOM bytes
+        × AreAsked words.now.flags bytes settings) }
+    ensures err { IfErr result (GivesNone (S.gave files.now) (S.refused files.now) words.now.flags path.now) }
 {
-    let bytes = match read_file(&System::new(rt, &errors.reasons.before), path) {
+    let bytes = match files.read(path, RC_ROOM) {
         Ok(bytes) => bytes,
         Err(error) => return Err(failure_of(error, Failure::CannotRead)),
     };
@@ -201,8 +203,10 @@ fn destination_path<'a>(
     home: Option<&str>,
     dest: &Dest,
 ) -> Result<String, Failure<'a>>
-    ensures { IfOk result (λ path. whole_path (option_map (λ text. text.now) home.entry) (path_in dest.now)
+    ensures ok { IfOk result (λ path. whole_path (option_map (λ text. text.now) home.entry) (path_in dest.now)
         ≡ Some (string_bytes path)) }
+    ensures err { IfErr result
+        (HasNoPath (whole_path (option_map (λ text. text.now) home.entry) (path_in dest.now))) }
 {
     match dest {
         Dest::Maildir(path) => whole_path(alloc, home, path.as_str()),
@@ -217,7 +221,10 @@ fn places<'a>(
     words: &Words,
     settings: &Settings,
 ) -> Result<Paths, Failure<'a>>
-    ensures { IfOk result (AreFor (option_map (λ text. text.now) home.entry) words.now settings.now) }
+    ensures ok { IfOk result (AreFor (option_map (λ text. text.now) home.entry) words.now settings.now) }
+    ensures err { IfErr result (λ failure.
+        HasNoPath (folder_path (option_map (λ text. text.now) home.entry) (option_map string_bytes words.now.dir)) failure
+        ⊎ HasNoPath (whole_path (option_map (λ text. text.now) home.entry) (path_in settings.now.dest)) failure) }
 {
     let destination = destination_path(alloc, home, &settings.dest)?;
     let folder = folder(alloc, home, words.dir.as_deref())?;
@@ -239,7 +246,8 @@ pub fn told_path<'a>(
     home: Option<&str>,
     words: &Words,
 ) -> Result<String, Failure<'a>>
-    ensures { IfOk result (λ path. IsToldPath (option_map (λ text. text.now) home.entry) words.now (string_bytes path)) }
+    ensures { IfOk result (λ path. IsToldPath (option_map (λ text. text.now) home.entry) words.now
+        (string_bytes path)) }
 {
     let folder = folder(alloc, home, words.dir.as_deref())?;
     let path = rc_file(alloc, home, folder.as_str(), words.rcfile.as_deref())?;
@@ -252,18 +260,21 @@ pub fn told_path<'a>(
 /// The settings and the paths of a run, or the first of these failures: HOME is needed and not known,
 /// the rc file can't be read or is wrong, the flags are opposite. The reason is kept if reasons are to be
 /// written.
-pub fn set_up<'a, R: Files + AllocGlobal, E: Write>(
+pub fn set_up<'a, R: Files + AllocGlobal, S: ReadFile, E: Write>(
     rt: &R,
+    files: &S,
     home: Option<&str>,
     words: &Words,
     errors: &mut Errors<'_, E>,
 ) -> Result<Setup, Failure<'a>>
-    ensures { IfOk result (IsSetUp (option_map (λ text. text.now) home.entry) words.now) }
+    ensures ok { IfOk result (IsSetUp (S.gave files.now) (option_map (λ text. text.now) home.entry) words.now) }
+    ensures err { IfErr result (HasNoSetup (S.gave files.now) (S.refused files.now)
+        (option_map (λ text. text.now) home.entry) words.now) }
 {
     let alloc = rt.alloc();
     let folder = folder(alloc, home, words.dir.as_deref())?;
     let path = rc_file(alloc, home, folder.as_str(), words.rcfile.as_deref())?;
-    let settings = settings_of(rt, path.as_str(), words, errors)?;
+    let settings = settings_of(rt, files, path.as_str(), words, errors)?;
     let paths = places(alloc, home, words, &settings)?;
     Ok(Setup {
         settings,

@@ -46,7 +46,7 @@ const QUIET: &str = "Write no report";
 const WHY: &str = "Say why a run failed, also if standard error is no terminal";
 
 const UNATTENDED: &str =
-    "For cron and timers: write no report, say why, and nothing that was told before";
+    "For cron and timers: write no report; say why a run failed, but nothing twice";
 
 const TRACE: &str = "Show the conversation and refused calls of the system on standard error";
 

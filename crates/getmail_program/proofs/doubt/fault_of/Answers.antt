@@ -1,0 +1,10 @@
+use Rattle.std.proofs.Common.{[], refl, inl, inr}
+use Rattle.mail_store.specs.Maildir.{counted}
+use Rattle.fetch_session.specs.Target.{no_maildir}
+use Rattle.getmail_program.proofs.doubt.fault_of.Goals as goal
+
+pub returns-in-NotFound : goal.returns-in-NotFound
+returns-in-NotFound c = inr (no_maildir, no_maildir, [], inl (refl, refl, refl))
+
+pub returns-in_default : goal.returns-in_default
+returns-in_default c = inr (no_maildir, counted no_maildir, [], inr (refl, refl))

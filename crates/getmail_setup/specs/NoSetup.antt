@@ -1,0 +1,57 @@
+-- Why a run has no settings or no paths.
+use Rattle.std.specs.Prelude.{◌≡◌, ◌⊎◌, true, ℕ, List, Option, None, Some, option_map}
+use Rattle.std.specs.String.{string_bytes}
+use Rattle.rc_file.specs.Answer.{IsFaultMeant, fault_in}
+use Rattle.rc_file.specs.RcMeaning.{rc_meaning}
+use Rattle.rc_file.specs.Flags.{is_contradiction}
+use Rattle.rc_file.specs.declared.fault.RcFault.{RcFault}
+use Rattle.rc_file.specs.declared.fault.RcFault.TheVariants.{Contradiction}
+use Rattle.rc_file.specs.declared.flags.Flags.{Flags}
+use Rattle.rc_file.specs.declared.settings.Settings.{Settings}
+use Rattle.getmail_setup.specs.Places.{AreRead, IsRcPath, Reads, folder_path, path_in, rc_path, whole_path}
+use Rattle.getmail_setup.specs.declared.failure.Failure.{Failure}
+use Rattle.getmail_setup.specs.declared.failure.Failure.TheVariants.{CannotRead, NoHome, NoMemory, Rc}
+use Rattle.getmail_setup.specs.declared.setup.TheConstants.{RC_ROOM}
+use Rattle.getmail_setup.specs.declared.words.Words.{Words}
+
+-- memory ran out, or a path isn't known, for want of HOME
+abbrev pub HasNoPath : Option (List ℕ) → Failure → Type 0
+HasNoPath path NoHome = path ≡ None
+HasNoPath path NoMemory = Unit {0}
+HasNoPath path failure = ⊥
+
+-- the rc file is wrong, or it is right and the flags are opposite
+abbrev pub IsWrong : Flags → List ℕ → RcFault → Type 0
+IsWrong flags bytes fault = IsFaultMeant (fault_in (rc_meaning bytes)) fault
+    ⊎ ((fault_in (rc_meaning bytes) ≡ None) × ((fault ≡ Contradiction) × (is_contradiction flags ≡ true)))
+
+-- memory ran out, or octets of an rc file mean no settings
+abbrev pub MeansNone : Flags → List ℕ → Failure → Type 0
+MeansNone flags bytes (Rc fault) = IsWrong flags bytes fault
+MeansNone flags bytes NoMemory = Unit {0}
+MeansNone flags bytes failure = ⊥
+
+-- memory ran out, or a read of an rc file was refused or gave octets that mean no settings
+abbrev pub GivesNone : Reads → (List ℕ → Type 0) → Flags → List ℕ → Failure → Type 0
+GivesNone gave refused flags path (Rc fault) = (bytes : List ℕ) × gave path RC_ROOM bytes × IsWrong flags bytes fault
+GivesNone gave refused flags path CannotRead = refused path
+GivesNone gave refused flags path NoMemory = Unit {0}
+GivesNone gave refused flags path failure = ⊥
+
+-- the folder of the rc file isn't known, nor its path in that folder
+abbrev pub HasNoRcPath : Option (List ℕ) → Words → Type 0
+HasNoRcPath home words = (folder_path home (option_map string_bytes words.dir) ≡ None)
+    ⊎ ((folder : List ℕ) × (folder_path home (option_map string_bytes words.dir) ≡ Some folder)
+    × (rc_path home folder (option_map string_bytes words.rcfile) ≡ None))
+
+-- the destination that the rc file names isn't known
+abbrev pub HasNoDestination : Reads → Option (List ℕ) → Words → Type 0
+HasNoDestination gave home words = (settings : Settings) × AreRead gave home words settings
+    × (whole_path home (path_in settings.dest) ≡ None)
+
+-- why there is neither
+abbrev pub HasNoSetup : Reads → (List ℕ → Type 0) → Option (List ℕ) → Words → Failure → Type 0
+HasNoSetup gave refused home words NoHome = HasNoRcPath home words ⊎ HasNoDestination gave home words
+HasNoSetup gave refused home words NoMemory = Unit {0}
+HasNoSetup gave refused home words failure = (path : List ℕ) × IsRcPath home words path
+    × GivesNone gave refused words.flags path failure
