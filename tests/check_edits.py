@@ -3,6 +3,7 @@
 
 - Each wrong body, `crates/NAME/must-fail/*.edit`, can be applied: its file is there, and each text that it replaces
   occurs there exactly once, after the replacements before it. Its name has only small letters, digits and hyphens.
+- Its first two lines say which promise it breaks and which clause refuses it, and docs/PROVED.md has the table of these.
 - There are at most sixty of them, since each takes the gate half a minute.
 - No `#[test]` is outside the crate `tests`: a crate with tests of its own is proved twice.
 """
@@ -11,7 +12,12 @@ import re
 import sys
 from pathlib import Path
 
-CRATES = Path(__file__).resolve().parent.parent / "crates"
+TOP = Path(__file__).resolve().parent.parent
+sys.path[:0] = [str(TOP / "tools")]
+
+import wrong_bodies  # noqa: E402 (the path has to be there first)
+
+CRATES = TOP / "crates"
 TEST_CRATE = "tests"
 MOST_EDITS = 60
 
@@ -20,6 +26,8 @@ def faults_of_edit(edit):
     """Why the edit can't be applied, a line for each reason."""
     if not re.fullmatch(r"[a-z0-9]+(-[a-z0-9]+)*\.edit", edit.name):
         yield "its name is not of small letters, digits and hyphens"
+    if not wrong_bodies.HEAD.match(edit.read_text()):
+        yield "its first two lines don't say which promise it breaks, and which clause refuses it"
     crate, texts, path, old = edit.parent.parent, {}, None, None
     for line in edit.read_text().splitlines():
         if line.startswith("file: "):
@@ -56,6 +64,11 @@ def edit_faults():
             yield f"{edit.relative_to(CRATES)}: {fault}"
 
 
+def table_faults():
+    if wrong_bodies.table() not in (TOP / "docs" / "PROVED.md").read_text():
+        yield "docs/PROVED.md lacks the table of wrong bodies that `python3 tools/wrong_bodies.py` prints"
+
+
 def test_faults():
     for file in sorted(CRATES.glob("*/src/**/*.rt")):
         crate = file.relative_to(CRATES).parts[0]
@@ -64,7 +77,7 @@ def test_faults():
 
 
 def main():
-    faults = [*edit_faults(), *test_faults()]
+    faults = [*edit_faults(), *table_faults(), *test_faults()]
     print(*faults, sep="\n", end="\n" if faults else "")
     return 1 if faults else 0
 

@@ -166,11 +166,9 @@ def test_what_is_not_opened(sources):
 
 
 def test_contracts(sources):
-    """A law is printed with its signature and clauses, or with the one that is asked for, and without its body."""
+    """A law is printed with its signature and clauses, and without its body."""
     _, lines = statement.contract_of(sources, "high:law")
     assert lines == ["pub fn law<D: Device>()", "    ensures first { Law }", "    ensures kept { Kept }"]
-    _, lines = statement.contract_of(sources, "high:law:kept")
-    assert lines == ["pub fn law<D: Device>()", "    ensures kept { Kept }"]
 
 
 def test_axioms(sources):

@@ -10,7 +10,6 @@ from harness import programs
 THREE = [(b"a", b"one\n"), (b"b", b"two\n"), (b"c", b"three\n")]
 LOGIN = ["USER u", "PASS p", "STAT", "UIDL", "LIST"]
 
-SILENT = programs.Run(0, b"", b"")
 REFUSED = programs.Run(1, b"", b"getmail: destination refused\n")
 RECORD_REFUSED = programs.Run(1, b"", b"getmail: seen file refused\n")
 

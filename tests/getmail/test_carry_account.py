@@ -17,7 +17,6 @@ from harness.kernel import LOOPBACK
 
 SCRIPT = programs.ROOT / "examples" / "carry-account.py"
 THREE = [(b"a", b"one\n"), (b"b/c", b"two\n"), (b"d", b"three\n")]
-GOOD = programs.Run(0, b"", b"")
 
 
 def module():
@@ -47,9 +46,6 @@ class Interrupted:
             return real(*words, **more)
         return do
 
-    def patches(self):
-        return [mock.patch.object(os, name, self.call(getattr(os, name))) for name in ("rename", "fsync")]
-
 
 class CarryAccount(unittest.TestCase):
     KIND = Account
@@ -60,7 +56,7 @@ class CarryAccount(unittest.TestCase):
 
     def session(self, server, account, *words):
         thread = server.begin_session()
-        self.assertEqual(account.run("-q", *words), GOOD)
+        self.assertEqual(account.run("-q", *words), programs.SILENT)
         thread.join(programs.SECONDS)
         return server.commands
 
@@ -103,17 +99,15 @@ class CarryAccount(unittest.TestCase):
         for number in range(40):
             with self.subTest(number), self.KIND(self.server.port) as account:
                 self.session(self.server, account)
-                stopping = Interrupted(number)
-                with mock.patch.object(sys, "argv", ["carry", *self.words(account)]), mock.patch.object(sys, "stdout"):
-                    for patch in stopping.patches():
-                        self.enterContext(patch)
+                interrupted = Interrupted(number)
+                with mock.patch.object(sys, "argv", ["carry", *self.words(account)]), mock.patch.object(sys, "stdout"), \
+                        mock.patch.object(os, "rename", interrupted.call(os.rename)), \
+                        mock.patch.object(os, "fsync", interrupted.call(os.fsync)):
                     try:
                         carry.main()
                         is_over = True
                     except Stop:
                         is_over = False
-                    mock.patch.stopall()
-                    stopping.left = -1
                 for _ in range(2):
                     self.assertEqual(self.carried(account).returncode, 0)
                 self.check_goes_on(account, len(THREE))

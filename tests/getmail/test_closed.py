@@ -68,7 +68,7 @@ class Closed(unittest.TestCase):
     def check_completed(self):
         """One more run with nothing closed stores the rest, and deletes all."""
         run, _ = self.run_closed((), "-q", "-d")
-        self.assertEqual(run, programs.Run(0, b"", b""))
+        self.assertEqual(run, programs.SILENT)
         self.assertEqual(self.stored(), TEXTS)
         self.assertEqual(self.server.messages, [])
 

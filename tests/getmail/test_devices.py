@@ -6,9 +6,9 @@ Each run ends with its line and leaves nothing half done, and the next one, with
 import os
 
 from getmail.account import Account
-from getmail.one_account import RECORD_REFUSED, REFUSED, SILENT, THREE, OneAccount
+from getmail.one_account import RECORD_REFUSED, REFUSED, THREE, OneAccount
 from getmail.server import MeddlingServer, Server
-from harness import preload
+from harness import preload, programs
 
 EACH_FETCHED_AND_DELETED = ["RETR 1", "DELE 1", "RETR 2", "DELE 2", "RETR 3", "DELE 3"]
 
@@ -32,7 +32,7 @@ class Devices(OneAccount):
 
     def check_completed(self, messages=THREE):
         """One more run with nothing refused: each message is held once, and none is left on the server."""
-        self.assertEqual(self.session("-d")[0], SILENT)
+        self.assertEqual(self.session("-d")[0], programs.SILENT)
         self.assertEqual(self.account.held(), sorted(messages))
         self.assertEqual(self.server.messages, [])
         self.assertEqual(os.listdir(self.account.maildir / "tmp"), [])
@@ -140,7 +140,7 @@ class OtherHands(Devices):
                 with open(os.path.join(os.fsencode(self.account.maildir / part), name), "wb") as file:
                     file.write(b"other\n")
         run, commands = self.session("-d")
-        self.assertEqual((run, commands), (SILENT, EACH_FETCHED_AND_DELETED + ["QUIT"]))
+        self.assertEqual((run, commands), (programs.SILENT, EACH_FETCHED_AND_DELETED + ["QUIT"]))
         for part, count in (("new", 10), ("cur", 7)):
             self.assertEqual(len(os.listdir(os.fsencode(self.account.maildir / part))), count)
 
@@ -155,9 +155,9 @@ class ManyNames(Devices):
                 part, mark = (("new", ""), ("cur", ":2,S"))[number % 5 > 0]
                 (self.account.maildir / part / (self.account.name(uid, text) + mark)).touch()
             run, commands = self.session()
-            self.assertEqual((run, commands), (SILENT, ["QUIT"]))
+            self.assertEqual((run, commands), (programs.SILENT, ["QUIT"]))
             self.account.record.unlink()
             (self.account.maildir / "cur" / (self.account.name(b"12346", b"") + ":2,S")).unlink()
             run, commands = self.session()
-            self.assertEqual((run, commands), (SILENT, ["RETR 12347", "QUIT"]))
+            self.assertEqual((run, commands), (programs.SILENT, ["RETR 12347", "QUIT"]))
 

@@ -159,6 +159,19 @@ class Sessions(Fetching):
         self.check_held(THREE)
 
 
+    def test_a_refused_deletion_blocks_what_follows(self):
+        """Each run ends at that message, and nothing after it is fetched, until it isn't to be deleted."""
+        self.server.refuses = ("DELE 2",)
+        for fetched in (["RETR 1", "DELE 1", "RETR 2", "DELE 2", "QUIT"], ["DELE 1", "QUIT"]):
+            run = self.session("-q", "-d")
+            self.assertEqual((run.status, run.err), (1, b"getmail: server refused %s\n" % fetched[-2].encode()))
+            self.assertEqual(self.server.commands, LOGIN + fetched)
+            self.check_held(THREE[:2])
+            self.server.refuses = ("DELE 1",)
+        self.session("-q", "-l")
+        self.check_held(THREE)
+
+
 class BrokenOff(Fetching):
     def length(self, *words):
         """The octets of all replies of an uncut session."""

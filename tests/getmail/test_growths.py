@@ -112,7 +112,12 @@ class FetchedTexts(unittest.TestCase):
     def test_a_long_text_grows_as_often_as_a_short_one(self):
         short = self.ends(b"nine byte\n")
         self.assertGreater(short[1, b"getmail: out of memory\n"], 0, "no refusal reached the session")
-        self.assertEqual(short, self.ends((b"z" * 99 + b"\n") * 1000))
+        long = self.ends((b"z" * 99 + b"\n") * 1000)
+        self.assertEqual(short.keys(), long.keys())
+        # The digits of a file's name (time and process) may be one more, and with them the growths. A text that grew by
+        # doubling would have ten more.
+        for end in short:
+            self.assertLessEqual(abs(short[end] - long[end]), 2, end)
 
 
 class CompletedSessions(unittest.TestCase):
@@ -132,7 +137,7 @@ class CompletedSessions(unittest.TestCase):
                 if run.status != 2:
                     thread.join(programs.SECONDS)
                     thread = server.begin_session()
-                self.assertEqual(account.run("-q", "-d"), programs.Run(0, b"", b""))
+                self.assertEqual(account.run("-q", "-d"), programs.SILENT)
                 thread.join(programs.SECONDS)
                 self.assertEqual(account.held(), self.MESSAGES)
                 self.assertEqual(server.messages, [])

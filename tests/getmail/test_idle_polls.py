@@ -9,6 +9,7 @@ from getmail.shared_server import SharedServer
 from harness import preload
 from harness.mboxrd import entries
 from harness.power import rows_of
+from probe import grammar, record_files
 
 LETTERS = [(b"uid-%d" % number, b"Subject: %d\n\ntext\n" % number) for number in range(3)]
 MARK = ".P1R0123456789abcdef"
@@ -45,6 +46,19 @@ class IdlePolls:
         note = self.account.home / "note"
         self.check_run(LD_PRELOAD=str(self.library), CHANGES_NOTE=str(note), CHANGES_LISTED="1")
         self.assertEqual({words[0] for words, _ in rows_of(note.read_bytes())}, {"send"})
+
+    def test_an_outgrown_record_is_no_reason_to_list(self):
+        """It is written anew, and no folder is listed."""
+        note, given = self.account.home / "note", record_files.large_file(65_537, 32_762)
+        rows = grammar.record_of(self.account.record.read_bytes()).rows
+        self.account.record.write_bytes(given + b"+ 3\n" + b"".join(b"%s 5 1\n" % uid for uid, _ in LETTERS))
+        self.check_run(LD_PRELOAD=str(self.library), CHANGES_NOTE=str(note), CHANGES_LISTED="1")
+        left = self.account.record.read_bytes()
+        self.assertEqual(grammar.record_of(left).rows.keys(), grammar.record_of(given).rows.keys() | rows.keys())
+        self.assertNotIn(b"+ ", left)
+        changes = rows_of(note.read_bytes())
+        self.assertNotIn("list", {words[0] for words, _ in changes})
+        self.assertEqual(self.stored(), self.STORED)
 
     def test_files_of_killed_runs_wait_for_a_session_that_fetches(self):
         """Both those in `tmp` and those beside the record."""

@@ -7,7 +7,6 @@ from getmail.server import Server
 from harness import programs
 
 TWO = [(b"a", b"one\n"), (b"b", b"two\n")]
-GOOD = programs.Run(0, b"", b"")
 
 
 class InPlaceOfGetmail6(unittest.TestCase):
@@ -29,7 +28,7 @@ class InPlaceOfGetmail6(unittest.TestCase):
 
     def check_fetches(self, *words):
         thread = self.server.begin_session()
-        self.assertEqual(self.account.run("-q", *words), GOOD)
+        self.assertEqual(self.account.run("-q", *words), programs.SILENT)
         thread.join(programs.SECONDS)
         self.assertEqual(self.account.held(), TWO)
 

@@ -16,7 +16,6 @@ from harness.mboxrd import entries
 
 SOME = [(b"%d" % number, b"line %d\n" % number * 40 ** (1 + number % 3)) for number in range(5)]
 TEXTS = [text for _, text in SOME]
-DONE = programs.Run(0, b"", b"")
 AT_WORK = programs.Run(1, b"", b"getmail: another getmail is at work for this account\n")
 
 
@@ -66,7 +65,7 @@ class Beside(Locks):
 
     def finish_first(self):
         self.over.set()
-        self.assertEqual(finish(self.first), DONE)
+        self.assertEqual(finish(self.first), programs.SILENT)
         self.assertEqual(self.account.held(), SOME)
 
     def test_it_ends_without_a_connection_and_changes_nothing(self):
@@ -77,7 +76,7 @@ class Beside(Locks):
         self.assertEqual([finish(run) for run in runs], [AT_WORK] * 3)
         self.assertEqual((self.files(), self.server.began), (before, 1))
         self.finish_first()
-        self.assertEqual(self.account.run("-q"), DONE)
+        self.assertEqual(self.account.run("-q"), programs.SILENT)
 
     def test_its_reason(self):
         told = self.told(f"{self.account.lock}: another process has locked it")
@@ -103,14 +102,14 @@ class Beside(Locks):
         self.over.set()
         for part in ("tmp", "new", "cur"):
             (self.account.home / "Other" / part).mkdir(parents=True)
-        self.assertEqual(self.account.run("-q", "-r", "other"), DONE)
+        self.assertEqual(self.account.run("-q", "-r", "other"), programs.SILENT)
         self.finish_first()
 
     def test_a_killed_run_has_no_lock(self):
         self.first.send_signal(signal.SIGKILL)
         self.first.wait(programs.SECONDS)
         self.over.set()
-        self.assertEqual(self.account.run("-q"), DONE)
+        self.assertEqual(self.account.run("-q"), programs.SILENT)
         self.assertEqual(self.account.held(), SOME)
 
     def test_no_child_would_have_the_lock(self):
@@ -125,10 +124,10 @@ class Files(Locks):
     """The lock's file."""
 
     def test_it_is_empty_of_its_owner_and_stays(self):
-        self.assertEqual(self.account.run("-q", "-d"), DONE)
+        self.assertEqual(self.account.run("-q", "-d"), programs.SILENT)
         made = self.account.lock.stat()
         self.assertEqual((made.st_size, stat.S_IMODE(made.st_mode)), (0, 0o600))
-        self.assertEqual(self.account.run("-q", "-d"), DONE)
+        self.assertEqual(self.account.run("-q", "-d"), programs.SILENT)
         self.assertEqual(self.account.lock.stat().st_ino, made.st_ino)
         self.assertEqual(sorted(os.listdir(self.account.folder)), ["getmailrc", self.account.lock.name, self.account.record.name])
 
@@ -147,7 +146,7 @@ class Files(Locks):
     def check_goes_on(self, reason, *words, changes=None):
         """Two runs without a lock: one that has nothing to say, and one with reasons."""
         changes = changes or {}
-        self.assertEqual(self.account.run("-q", *words, **changes), DONE)
+        self.assertEqual(self.account.run("-q", *words, **changes), programs.SILENT)
         self.assertEqual(self.account.held(), SOME)
         told = self.told(f"no lock: {self.account.lock}: {reason}")
         self.assertEqual(self.account.run("-q", "--why", *words, **changes), programs.Run(0, b"", told))
@@ -172,7 +171,7 @@ class Files(Locks):
 
     def test_what_is_in_it_stays(self):
         self.account.lock.write_bytes(b"octets")
-        self.assertEqual(self.account.run("-q", "--why"), DONE)
+        self.assertEqual(self.account.run("-q", "--why"), programs.SILENT)
         self.assertEqual(self.account.lock.read_bytes(), b"octets")
 
     def test_a_system_that_refuses_it(self):
@@ -210,7 +209,7 @@ class Rounds(Locks):
             runs.append(account.start("-q"))
         ends = [finish(run) for run in runs]
         self.server.wait_for_end()
-        return [end for end in ends if end not in (DONE, AT_WORK)]
+        return [end for end in ends if end not in (programs.SILENT, AT_WORK)]
 
     def test_an_mboxrd_file(self):
         source, doubled, odd = random.Random(67), 0, []

@@ -25,7 +25,6 @@ REFUSED = b"getmail: destination refused\n"
 MISSING = b"getmail: destination missing\n"
 NO_MBOX = b"getmail: destination is no mbox\n"
 RECORD_REFUSED = b"getmail: seen file refused\n"
-GOOD = programs.Run(0, b"", b"")
 
 # A user who may write only what is given to him; for the superuser no mode forbids anything.
 NOBODY = 65534
@@ -45,7 +44,7 @@ class Mboxrd(unittest.TestCase):
         thread.join(programs.SECONDS)
         return run
 
-    def check_session(self, commands, *words, run=GOOD):
+    def check_session(self, commands, *words, run=programs.SILENT):
         """A session that sends these commands after its listings, and ends as `run`."""
         self.assertEqual((self.session("-q", *words), self.server.commands), (run, LOGIN + commands))
 
@@ -71,7 +70,7 @@ class Sessions(Mboxrd):
         """Each text's intent, with the file's size and the length of the entry, comes before the text's own group."""
         with preload.library("clock") as clock:
             (clock.parent / "clock").write_text("1700000000")
-            self.assertEqual(self.session("-q", LD_PRELOAD=str(clock), CLOCK=str(clock.parent / "clock")), GOOD)
+            self.assertEqual(self.session("-q", LD_PRELOAD=str(clock), CLOCK=str(clock.parent / "clock")), programs.SILENT)
         self.assertEqual(self.account.record.read_bytes(),
                          b"getmail-seen 2\na 1700000000 0\nb 1700000000 0\nc 1700000000 0\n"
                          b"! a 0 49\n+ 1\na 1700000000 1\n! b 49 49\n+ 1\nb 1700000000 1\n"
@@ -141,7 +140,7 @@ class Sessions(Mboxrd):
             second.rcfile.write_text(second.rcfile.read_text().replace("~/mbox", str(self.account.mbox)))
             self.session("-q")
             thread = other.begin_session()
-            self.assertEqual(second.run("-q"), GOOD)
+            self.assertEqual(second.run("-q"), programs.SILENT)
             thread.join(programs.SECONDS)
         self.server.messages.append((b"d", b"four\n"))
         self.check_session(["RETR 4", "QUIT"])

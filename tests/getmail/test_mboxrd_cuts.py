@@ -22,7 +22,6 @@ THREE = [(b"a", b"one\n"), (b"b", b"two\nFrom x\n"), (b"c", b"three\n")]
 # The second entry crosses borders of the file's blocks.
 LONG = [(b"a", b"one\n"), (b"b", b"From me\n" + b"a line of the text\n" * 600), (b"c", b"three\n")]
 LOGIN = ["USER u", "PASS p", "STAT", "UIDL", "LIST"]
-GOOD = programs.Run(0, b"", b"")
 FAULTS = [b"getmail: %b\n" % line for line in (
     b"connection ended by the server", b"reading from the server failed", b"writing to the server failed",
     b"destination missing", b"destination refused", b"seen file refused", b"out of memory")]
@@ -79,7 +78,7 @@ class BrokenOff(Cut):
             with self.subTest(octets=octets), Server(THREE) as server, MboxAccount(server.port, begun=begun) as account:
                 self.assertEqual(self.session(server, account, *words, octets=octets), programs.Run(1, b"", FAULTS[0]))
                 count = self.check_left(account, THREE, server)
-                self.assertEqual(self.session(server, account, *words), GOOD)
+                self.assertEqual(self.session(server, account, *words), programs.SILENT)
                 fetched = [command for command in server.commands if command.startswith("RETR")]
                 self.assertEqual(len(fetched), 3 - count)
                 self.check_whole(account, THREE)
@@ -112,7 +111,7 @@ class Shared(Cut):
 
     def check_completed(self, account, messages, *words):
         """One more session says nothing, not even of what a torn entry left, and completes the file."""
-        self.assertEqual(self.session(account, *words), GOOD)
+        self.assertEqual(self.session(account, *words), programs.SILENT)
         self.check_whole(account, messages)
         if words:
             self.assertEqual(self.server.messages, [])
@@ -145,7 +144,7 @@ class RefusedSteps(Shared):
         """The steps of a session in which none is refused."""
         with MboxAccount(self.server.port) as account:
             run, lines = self.refused_session(account, None, words=words)
-            self.assertEqual(run, GOOD)
+            self.assertEqual(run, programs.SILENT)
         self.server.messages = list(THREE)
         return lines
 
@@ -161,7 +160,7 @@ class RefusedSteps(Shared):
                 run, lines = self.refused_session(account, number, effect, later, words)
                 refused = [line for line in lines if line.startswith("refused ")]
                 if not refused:
-                    self.assertEqual(run, GOOD)
+                    self.assertEqual(run, programs.SILENT)
                     self.assertGreater(number, 60)
                     return
                 if run.status == 1:
@@ -170,7 +169,7 @@ class RefusedSteps(Shared):
                 elif run.status == 2:
                     self.assertEqual(run.err, b"getmail: cannot read rc file\n", refused[0])
                 else:
-                    self.assertEqual(run, GOOD, refused[0])
+                    self.assertEqual(run, programs.SILENT, refused[0])
                 self.check_left(account, messages, self.server)
                 self.check_completed(account, messages, *words)
         self.fail(f"more than {MOST_STEPS} steps")
@@ -226,7 +225,7 @@ class RefusedSteps(Shared):
             self.assertEqual(len(account.content()), 49 + 24)
             self.assertEqual(account.known(), ([b"a"], (b"b", b"49", b"49")))
             self.server.forget()
-            self.assertEqual(self.session(account), GOOD)
+            self.assertEqual(self.session(account), programs.SILENT)
             self.assertEqual(self.server.commands[1], LOGIN + ["RETR 2", "RETR 3", "QUIT"])
             self.assertEqual(account.content(), entries([b"one\n", b"two\n", b"three\n"]))
             self.assertEqual(len(account.content()), 149)
@@ -246,7 +245,7 @@ class RefusedSteps(Shared):
                 if intent is None:
                     self.assertRegex(account.record.read_bytes(), rb"\A" + rows + rb"\Z")
                 self.server.forget()
-                self.assertEqual(self.session(account), GOOD)
+                self.assertEqual(self.session(account), programs.SILENT)
                 self.assertEqual(self.server.commands[1], LOGIN + fetched + ["RETR 3", "QUIT"])
                 self.assertEqual(len(account.content()), 149)
 
@@ -273,7 +272,7 @@ class RefusedSteps(Shared):
                 self.assertEqual(len(account.content()), 98)
                 self.assertEqual(account.known(), known)
                 self.server.forget()
-                self.assertEqual(self.session(account), GOOD)
+                self.assertEqual(self.session(account), programs.SILENT)
                 self.assertEqual(self.server.commands[1], LOGIN + ["RETR 3", "QUIT"])
                 self.assertEqual(len(account.content()), 149)
 

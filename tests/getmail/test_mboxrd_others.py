@@ -24,7 +24,6 @@ TEXTS = [text for _, text in THREE]
 LETTERS = [(b"l%d" % number, b"From: fred@example.org\nTo: u@example.org\nSubject: %d\nDate: Sat, 3 Jan 1998 01:05:34 +0000\n"
             b"Message-ID: <%d@example.org>\n\n" % (number, number) + body) for number, body in enumerate((
                 b"plain\n", b"From the first\n>From the second\n>>From the third\n", b"\n\nFrom x\n\n", b"the last\n"))]
-GOOD = programs.Run(0, b"", b"")
 REFUSED = programs.Run(1, b"", b"getmail: destination refused\n")
 
 
@@ -77,14 +76,14 @@ class Intents(unittest.TestCase):
             mbox.write_bytes(content)
             account.record.write_bytes(b"getmail-seen 2\na 5 1\nb 5 0\nc 5 0\n! b %d %d\n" % (start, self.LENGTH))
             thread = server.begin_session()
-            self.assertEqual(account.run("-q"), GOOD)
+            self.assertEqual(account.run("-q"), programs.SILENT)
             thread.join(programs.SECONDS)
             self.assertEqual([word for word in server.commands if word.startswith("RETR")],
                              [f"RETR {number}" for number in fetched])
             self.assertEqual(mbox.read_bytes(), left)
             self.assertEqual(account.known(), ([b"a", b"b", b"c"], None))
             thread = server.begin_session()
-            self.assertEqual(account.run("-q"), GOOD)
+            self.assertEqual(account.run("-q"), programs.SILENT)
             thread.join(programs.SECONDS)
             self.assertEqual(mbox.read_bytes(), left)
 
@@ -140,7 +139,7 @@ class Intents(unittest.TestCase):
             account.kept.write_bytes(entry(TEXTS[1])[:100])
             account.record.write_bytes(b"getmail-seen 2\na 5 1\nb 5 0\nc 5 0\n")
             thread = server.begin_session()
-            self.assertEqual(account.run("-q"), GOOD)
+            self.assertEqual(account.run("-q"), programs.SILENT)
             thread.join(programs.SECONDS)
             self.assertEqual(account.content(), entries(TEXTS))
             self.assertFalse(account.kept.exists())
@@ -158,7 +157,7 @@ class Intents(unittest.TestCase):
                 with self.subTest(rest=len(rest), had=len(had)), \
                         Server([THREE[0], (b"b", text), THREE[2]]) as server, MboxAccount(server.port) as account:
                     account.kept.write_bytes(had)
-                    self.assertEqual(self.settle(server, account, rest, text), GOOD if left is None else told(account))
+                    self.assertEqual(self.settle(server, account, rest, text), programs.SILENT if left is None else told(account))
                     self.assertEqual(account.content(), entries([TEXTS[0], text, TEXTS[2]]))
                     self.assertEqual(account.kept.read_bytes() if account.kept.exists() else None, left)
 
@@ -178,16 +177,16 @@ class Intents(unittest.TestCase):
             give, server.give = server.give, cut
             self.assertEqual(run(), programs.Run(1, b"", b"getmail: connection ended by the server\n"))
             server.give = give
-            self.assertEqual(run(), GOOD)
+            self.assertEqual(run(), programs.SILENT)
             account.kept.write_bytes(OTHER)
             for number in range(1, 3):
-                self.assertEqual(run(), GOOD)
+                self.assertEqual(run(), programs.SILENT)
                 server.messages.append(THREE[number])
                 self.assertEqual(run("--pretend").err, b"")
                 self.assertEqual(run(), told(account))
             self.assertEqual(account.kept.read_bytes(), OTHER)
             account.kept.unlink()
-            self.assertEqual(run("-d"), GOOD)
+            self.assertEqual(run("-d"), programs.SILENT)
             self.assertEqual(account.content(), entries(TEXTS))
 
     def test_a_rest_that_cannot_be_kept(self):
@@ -198,7 +197,7 @@ class Intents(unittest.TestCase):
             self.assertEqual(self.settle(server, account, rest), REFUSED)
             self.assertEqual(account.content(), entry(TEXTS[0]) + rest)
             account.kept.rmdir()
-            self.assertEqual(self.settle(server, account, rest), GOOD)
+            self.assertEqual(self.settle(server, account, rest), programs.SILENT)
             self.assertEqual(account.content(), entries(TEXTS))
             self.assertFalse(account.kept.exists())
 
@@ -249,7 +248,7 @@ class Intents(unittest.TestCase):
                             account.mbox.write_bytes(whole)
                             account.record.write_bytes(b"getmail-seen 2\na 5 1\nb 5 0\n! b %d %d\n" % (len(first), length))
                             thread = server.begin_session()
-                            self.assertEqual(account.run("-q", "-d"), GOOD)
+                            self.assertEqual(account.run("-q", "-d"), programs.SILENT)
                             thread.join(programs.SECONDS)
                             self.assertEqual(account.content(), first + entry(text))
                             self.assertEqual(server.messages, [])
@@ -277,7 +276,7 @@ class Meanwhile(unittest.TestCase):
             self.assertEqual(account.content(), left)
             server.meanwhile = lambda command: None
             thread = server.begin_session()
-            self.assertEqual(account.run("-q", "-d"), GOOD)
+            self.assertEqual(account.run("-q", "-d"), programs.SILENT)
             thread.join(programs.SECONDS)
             self.assertEqual([command for command in server.commands if command.startswith("RETR")],
                              [f"RETR {number}" for number in fetched])
@@ -334,7 +333,7 @@ class Meanwhile(unittest.TestCase):
         with MeddlingServer(THREE, lambda command: command == "QUIT" and account.mbox.write_bytes(OTHER)) as server, \
                 MboxAccount(server.port) as account:
             thread = server.begin_session()
-            self.assertEqual(account.run("-q"), GOOD)
+            self.assertEqual(account.run("-q"), programs.SILENT)
             thread.join(programs.SECONDS)
             self.assertEqual(server.commands[-2:], ["RETR 3", "QUIT"])
 
@@ -380,7 +379,7 @@ class Saved(unittest.TestCase):
         with Server([(b"y", self.TEXT)]) as server, MboxAccount(server.port) as account:
             account.rcfile.write_text(account.rcfile.read_text().replace("~/mbox", str(home / file)))
             thread = server.begin_session()
-            self.assertEqual(account.run("-q"), GOOD)
+            self.assertEqual(account.run("-q"), programs.SILENT)
             thread.join(programs.SECONDS)
 
     def check_saved(self, break_off, kept):
@@ -399,7 +398,7 @@ class Saved(unittest.TestCase):
                     save(account.home, "mbox")
                     self.assertEqual(account.content(), saved)
                     thread = server.begin_session()
-                    self.assertEqual(account.run("-q", "-d"), told(account) if kept(more) else GOOD)
+                    self.assertEqual(account.run("-q", "-d"), told(account) if kept(more) else programs.SILENT)
                     thread.join(programs.SECONDS)
                     self.assertEqual(account.content(), (b"" if kept(more) else saved) + entry(text))
                     self.assertEqual(account.kept.read_bytes() if account.kept.exists() else None, saved if kept(more) else None)
@@ -436,7 +435,7 @@ class Readers(unittest.TestCase):
 
     def session(self):
         thread = self.server.begin_session()
-        self.assertEqual(self.account.run("-q"), GOOD)
+        self.assertEqual(self.account.run("-q"), programs.SILENT)
         thread.join(programs.SECONDS)
 
     def check_read(self, read):

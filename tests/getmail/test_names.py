@@ -13,7 +13,7 @@ from pathlib import Path
 
 from getmail.account import Account
 from getmail.server import Server, size_of
-from harness import dovecot, kernel, programs
+from harness import dovecot, kernel, preload, programs
 
 MESSAGES = [(b"a", b"one\n"), (b"b", b""), (b"c", b"Subject: three\n\n.three\nFrom x\n"), (b"d/5", b"x" * 70_000 + b"\n"),
             (b"~" * 70, b"\n" * 300)]
@@ -39,7 +39,7 @@ class Names(unittest.TestCase):
         thread = self.server.begin_session()
         run = self.account.run("-q", *words)
         thread.join(programs.SECONDS)
-        self.assertEqual(run, programs.Run(0, b"", b""))
+        self.assertEqual(run, programs.SILENT)
         self.assertEqual(self.server.commands[:5], LOGIN)
         return self.server.commands[5:]
 
@@ -114,6 +114,32 @@ class Sizes(Names):
         asked = subprocess.run(["doveadm", *words[2:], "-f", "flow", "fetch", "-u", "u", "size.physical", "ALL"],
                                stdout=subprocess.PIPE, timeout=programs.SECONDS)
         return sorted(int(row.removeprefix(b"size.physical=")) for row in asked.stdout.split())
+
+
+class ShortNames(Names):
+    """A file system whose names have at most 143 octets: unique-ids of 24 fit, whatever the number of the process."""
+
+    def session(self, *words):
+        with preload.library("short_names") as library:
+            thread = self.server.begin_session()
+            run = self.account.run("-q", *words, LD_PRELOAD=str(library), LONGEST_NAME="143")
+            thread.join(programs.SECONDS)
+        return run.status, run.err.decode().splitlines()
+
+    def test_the_longest_unique_id(self):
+        self.server.messages = [(b"x" * 24, b"one\n"), (b"y" * 30, b"two\n"), (b"z", b"three\n")]
+        status, told = self.session("--why", "-d")
+        self.assertEqual((status, told[0]), (1, "getmail: destination refused"))
+        self.assertIn("File name too long", told[1])
+        self.assertEqual(self.server.commands[5:], ["RETR 1", "DELE 1", "RETR 2", "RSET", "QUIT"])
+        self.assertEqual([uid for uid, _ in self.account.held()], [b"x" * 24])
+        self.assertEqual(len(self.server.messages), 3)
+
+    def test_a_file_system_with_longer_names_later(self):
+        self.server.messages = [(b"y" * 30, b"two\n"), (b"z", b"three\n")]
+        self.assertEqual(self.session()[0], 1)
+        self.assertEqual(self.fetch(), ["RETR 1", "RETR 2", "QUIT"])
+        self.assertEqual(os.listdir(self.account.maildir / "tmp"), [])
 
 
 class OldNames(Names):
@@ -193,7 +219,7 @@ class Folder(unittest.TestCase):
             thread = server.begin_session()
             run = account.run("-q")
             thread.join(programs.SECONDS)
-            self.assertEqual(run, programs.Run(0, b"", b""))
+            self.assertEqual(run, programs.SILENT)
             self.assertEqual(server.commands[5:], [f"RETR {number}" for number in range(1, 6)] + ["QUIT"])
 
 

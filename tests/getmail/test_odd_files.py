@@ -113,7 +113,7 @@ class OddFiles(unittest.TestCase):
                     self.give_away()
                     self.check_told(path, words)
                     os.rmdir(path) if kind == "a folder" else os.unlink(path)
-                    self.assertEqual(self.run_getmail("-q", "-d"), programs.Run(0, b"", b""))
+                    self.assertEqual(self.run_getmail("-q", "-d"), programs.SILENT)
                     self.assertEqual((self.account.held(), self.server.messages), (LETTERS, []))
 
     def test_a_link_to_a_file_counts(self):
@@ -122,7 +122,7 @@ class OddFiles(unittest.TestCase):
         elsewhere.write_bytes(LETTERS[0][1])
         (self.account.maildir / "cur" / (self.account.name(*LETTERS[0]) + ":2,S")).symlink_to(elsewhere)
         self.give_away()
-        self.assertEqual(self.run_getmail("-q", "-d"), programs.Run(0, b"", b""))
+        self.assertEqual(self.run_getmail("-q", "-d"), programs.SILENT)
         self.assertEqual((self.account.held(), self.server.messages), (LETTERS, []))
 
 

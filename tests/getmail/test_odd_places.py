@@ -5,7 +5,8 @@ import time
 import unittest
 
 from getmail.mbox_account import MboxAccount
-from getmail.one_account import RECORD_REFUSED, REFUSED, SILENT, THREE, OneAccount
+from getmail.one_account import RECORD_REFUSED, REFUSED, THREE, OneAccount
+from harness import programs
 from harness.mboxrd import entries
 
 HOURS = 3_600
@@ -30,13 +31,13 @@ class OddMaildirs(OneAccount):
             with self.subTest(part):
                 tmp.symlink_to(part)
                 self.server.messages = list(THREE)
-                self.assertEqual(self.session("-d")[0], SILENT)
+                self.assertEqual(self.session("-d")[0], programs.SILENT)
                 if part == "cur":
                     self.account.read_all_new()
                 before = self.files()
                 self.assertEqual(len(before), len(THREE))
                 self.make_older(40)
-                self.assertEqual(self.session("-d")[0], SILENT)
+                self.assertEqual(self.session("-d")[0], programs.SILENT)
                 self.assertEqual(self.files(), before)
                 tmp.unlink()
 
@@ -45,7 +46,7 @@ class OddMaildirs(OneAccount):
             path = self.account.maildir / "tmp" / f"{self.account.digest}.{name}"
             path.write_bytes(b"half a text")
             os.utime(path, (time.time() - hours * HOURS,) * 2)
-            self.assertEqual(self.session()[0], SILENT)
+            self.assertEqual(self.session()[0], programs.SILENT)
             self.assertEqual(path.exists(), stays)
 
 
@@ -71,13 +72,13 @@ class OddFiles(OneAccount):
 
     def test_a_record(self):
         self.check_each_kind(self.account.record, RECORD_REFUSED)
-        self.assertEqual(self.session("-d")[0], SILENT)
+        self.assertEqual(self.session("-d")[0], programs.SILENT)
         self.assertEqual(self.account.held(), THREE)
 
     def test_a_record_of_an_mboxrd_file(self):
         self.become_mbox()
         self.check_each_kind(self.account.record, RECORD_REFUSED)
-        self.assertEqual(self.session("-d")[0], SILENT)
+        self.assertEqual(self.session("-d")[0], programs.SILENT)
         self.assertEqual(self.account.content(), entries(TEXTS))
 
     def test_an_mboxrd_file(self):
@@ -90,7 +91,7 @@ class OddFiles(OneAccount):
         real = self.account.home / "real"
         self.account.mbox.rename(real)
         self.account.mbox.symlink_to(real)
-        self.assertEqual(self.session("-d")[0], SILENT)
+        self.assertEqual(self.session("-d")[0], programs.SILENT)
         self.assertTrue(self.account.mbox.is_symlink())
         self.assertEqual(self.account.content(), entries(TEXTS))
 

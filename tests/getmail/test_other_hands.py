@@ -4,7 +4,7 @@ can't be had."""
 
 import os
 
-from getmail.one_account import RECORD_REFUSED, REFUSED, SILENT, THREE, OneAccount
+from getmail.one_account import RECORD_REFUSED, REFUSED, THREE, OneAccount
 from harness import preload, programs
 
 UNREADABLE = programs.Run(2, b"", b"getmail: cannot read rc file\n")
@@ -36,7 +36,7 @@ class OtherHands(OneAccount):
         path = self.hold_in_cur(*THREE[0])
         renamed = path.with_name(path.name + "S")
         run, commands = self.session(FROM=path, TO=renamed)
-        self.assertEqual((run, commands), (SILENT, ["RETR 2", "RETR 3", "QUIT"]))
+        self.assertEqual((run, commands), (programs.SILENT, ["RETR 2", "RETR 3", "QUIT"]))
         self.assertTrue(renamed.exists())
         self.assertEqual(self.account.held(), THREE)
 
@@ -45,7 +45,7 @@ class OtherHands(OneAccount):
         (self.account.maildir / "cur" / "folder").mkdir()
         path = self.hold_in_cur(*THREE[0])
         self.assertEqual(self.session("-d", FROM=path),
-                         (SILENT, ["RETR 1", "DELE 1", "RETR 2", "DELE 2", "RETR 3", "DELE 3", "QUIT"]))
+                         (programs.SILENT, ["RETR 1", "DELE 1", "RETR 2", "DELE 2", "RETR 3", "DELE 3", "QUIT"]))
         self.assertEqual(self.account.held(), THREE)
 
     def test_a_folder_that_cannot_be_read_to_its_end(self):
@@ -53,7 +53,7 @@ class OtherHands(OneAccount):
         self.hold_in_cur(*THREE[0])
         self.assertEqual(self.session("-d", BROKEN="listing"), (REFUSED, ["RSET", "QUIT"]))
         self.assertEqual(self.account.held(), THREE[:1])
-        self.assertEqual(self.session("-d")[0], SILENT)
+        self.assertEqual(self.session("-d")[0], programs.SILENT)
         self.assertEqual(self.account.held(), THREE)
 
     def test_a_folder_that_changes_and_has_its_times_put_back(self):
@@ -73,7 +73,7 @@ class OtherHands(OneAccount):
                     self.assertEqual(self.account.record.read_bytes(), old)
                     self.assertEqual(sorted(os.listdir(self.account.folder)), ["getmailrc", self.account.lock.name, self.account.record.name])
         self.assertEqual(self.server.messages, THREE)
-        self.assertEqual(self.session("-d")[0], SILENT)
+        self.assertEqual(self.session("-d")[0], programs.SILENT)
         self.assertEqual(self.account.held(), THREE)
         self.assertTrue(self.account.record.read_bytes().startswith(b"getmail-seen 2\n" + rows))
 
@@ -82,4 +82,4 @@ class OtherHands(OneAccount):
         for number in (1, 2):
             run = self.account.run("-q", LD_PRELOAD=str(self.library), OTHER_RANDOM=str(number))
             self.assertEqual(run, UNREADABLE)
-        self.assertEqual(self.session(RANDOM=3), (SILENT, ["RETR 1", "RETR 2", "RETR 3", "QUIT"]))
+        self.assertEqual(self.session(RANDOM=3), (programs.SILENT, ["RETR 1", "RETR 2", "RETR 3", "QUIT"]))

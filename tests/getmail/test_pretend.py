@@ -1,11 +1,14 @@
 """`--pretend`: what a run would do, message by message, and that it sends only the listings and changes nothing."""
 
+import collections
+import os
+import random
 import time
 import unittest
 from datetime import datetime, timezone
 
 from getmail.account import Account
-from getmail.mbox_account import MboxAccount
+from getmail.mbox_account import OTHER, MboxAccount
 from getmail.one_account import LOGIN, THREE
 from getmail.server import Server, size_of
 from harness import growths, programs
@@ -152,6 +155,13 @@ class IntoMaildir(Pretends, unittest.TestCase):
         self.account.record.write_bytes(record_of((b"a", 5, 1), (b"b", 5, 1), (b"c", 5, 1)))
         self.check(["delivered before"] * 3, (0, 0))
 
+    def test_a_run_that_would_make_no_file(self):
+        """All messages are held, so it fetches them again and stores none."""
+        self.session("-q")
+        (self.account.maildir / "tmp").rmdir()
+        self.check(["would be fetched"] * 3, (3, 0), "-a")
+        self.assertEqual(self.session("-q", "-a"), programs.Run(0, b"", b""))
+
     def test_a_quit_that_is_refused(self):
         self.server.refuses = ("QUIT",)
         told = self.check_run(1, b"getmail: server refused QUIT\n", ["QUIT"])
@@ -217,36 +227,70 @@ class IntoMboxrd(Pretends, unittest.TestCase):
         self.account.mbox.unlink()
         self.check_run(1, b"getmail: destination missing\n", ["RSET", "QUIT"])
 
-    def test_an_entry_that_is_open(self):
-        """A run would settle it; here it stays, whole or not, and the line says so. If the file is missing or no mbox, the
-        run would settle nothing, and nothing is said of it."""
+    def interrupt(self, content, start, length):
+        """The account after a run that was cut as it appended the entry of the second message."""
         rows = record_of((b"a", 5, 1), (b"b", 5, 0), (b"c", 5, 0))
-        self.account.record.write_bytes(rows + b"! b 0 40\n")
-        for content in (b"", b"Fro", b"From MAILER-DAEMON", b"x\n", None):
-            fault = b"getmail: destination is no mbox\n" if content == b"x\n" else b""
-            if content is None:
-                self.account.mbox.unlink()
-                fault = b"getmail: destination missing\n"
-            else:
-                self.account.mbox.write_bytes(content)
-            told = self.check_run(1 if fault else 0, fault, ["QUIT"])
-            self.assertEqual(told, ["0 of 3 messages would be fetched, 0 deleted"] if fault else [
-                "the last entry of the mbox file is looked at first: if it is whole, its message is not fetched",
-                "msg 1/3 (5 octets) delivered before", "msg 2/3 (5 octets) would be fetched",
-                "msg 3/3 (7 octets) would be fetched", "2 of 3 messages would be fetched, 0 deleted"])
+        self.account.record.write_bytes(rows + b"! b %d %d\n" % (start, length))
+        self.account.kept.unlink(missing_ok=True)
+        if content is None:
+            self.account.mbox.unlink(missing_ok=True)
+        else:
+            self.account.mbox.write_bytes(content)
+
+    def check_interrupted(self, content, start, length):
+        """What is said of an interrupted file is what the next run does; its fault."""
+        self.interrupt(content, start, length)
+        left = self.left()
+        said = self.session("--pretend")
+        self.assertEqual(self.server.commands[:len(LOGIN)], LOGIN)
+        self.assertEqual(self.left(), left)
+        run = self.session("-q")
+        kept = b"getmail: what was cut off from the mbox file is kept in %s\n" % os.fsencode(self.account.kept)
+        fault = run.err.removesuffix(kept)
+        self.assertEqual((said.status, said.err), (run.status, fault), content)
+        fetched = [int(command.split()[1]) for command in self.server.commands if command.startswith("RETR")]
+        would = [int(line.split()[1].split("/")[0]) for line in said.out.decode().splitlines() if "would be fetched" in line
+                 and line.startswith("msg")]
+        self.assertEqual(would, fetched, content)
+        return fault
+
+    def test_an_entry_that_is_open(self):
+        """If it is whole, its message isn't fetched again; if not, it is. The file stays as it is."""
+        whole = entries([b"two\n"])
+        for content, fate, fault in ((whole, "delivered before", b""), (b"", "would be fetched", b""),
+                                     (b"Fro", "would be fetched", b""), (whole[:-1], "would be fetched", b""),
+                                     (b"x\n", None, b"getmail: destination is no mbox\n"),
+                                     (None, None, b"getmail: destination missing\n")):
+            with self.subTest(content):
+                self.interrupt(content, 0, len(whole))
+                told = self.check_run(1 if fault else 0, fault, ["RSET", "QUIT"] if fault else ["QUIT"])
+                self.assertEqual(told, ["0 of 3 messages would be fetched, 0 deleted"] if fault else [
+                    "msg 1/3 (5 octets) delivered before", f"msg 2/3 (5 octets) {fate}",
+                    "msg 3/3 (7 octets) would be fetched",
+                    f"{2 if fate == 'would be fetched' else 1} of 3 messages would be fetched, 0 deleted"])
 
     def test_what_a_run_settles_first(self):
-        """It is judged as a run judges it that settles the file: zeros that a loss of power left are cut off, and what others
-        wrote stays, which may leave no mbox."""
-        rows = record_of((b"a", 5, 1), (b"b", 5, 0), (b"c", 5, 0))
-        whole = entries([b"one\n"])
+        """Zeros that a loss of power left are cut off, and what others wrote stays, which may leave no mbox. An entry whose
+        text hasn't the listed size isn't the message's."""
+        whole, other = entries([b"one\n"]), entries([b"six octets\n"])
         for content, start, fault in ((b"\0" * 40, 0, b""), (whole + b"\0" * 30, len(whole), b""), (whole + b"From MA", len(whole), b""),
+                                      (whole + other, len(whole), b""),
                                       (b"From x\n\nabc\n", 8, b"getmail: destination is no mbox\n"),
                                       (whole + b"abc", len(whole), b"getmail: destination is no mbox\n"),
                                       (b"abc\n\n" + whole, 5, b"getmail: destination is no mbox\n")):
             with self.subTest(content):
-                self.account.record.write_bytes(rows + b"! b %d %d\n" % (start, len(whole)))
-                self.account.mbox.write_bytes(content)
-                self.check_run(1 if fault else 0, fault, ["QUIT"])
-                run = self.session("-q")
-                self.assertEqual((run.status, run.err), (1 if fault else 0, fault))
+                self.assertEqual(self.check_interrupted(content, start, len(other)), fault)
+
+    def test_interrupted_files_of_any_kind(self):
+        """Files made of fronts of entries, other mail, zeros and line ends, with the intent at some place in them."""
+        chance = random.Random(119)
+        two, faults = entries([b"two\n"]), collections.Counter()
+        parts = [b"", b"\n", b"\n\n", b"x", b"\0" * 12, b"From ", b"From x\n\n", OTHER, two, two[:-1], two[:30],
+                 entries([b"six octets\n"]), entries([b"one\n"])]
+        for _ in range(600):
+            front = b"".join(chance.choices(parts, k=chance.randint(0, 2)))
+            behind = chance.choice(parts) + chance.choice(parts) * chance.randint(0, 1)
+            start = len(front) + chance.choice((0, 0, 0, 0, -1, 1, 5))
+            faults[self.check_interrupted(front + behind, max(start, 0), chance.choice((len(two), len(two), 200)))] += 1
+        self.assertGreater(faults[b""], 100)
+        self.assertGreater(faults[b"getmail: destination is no mbox\n"], 100)

@@ -75,7 +75,7 @@ class Reading(unittest.TestCase):
             self.assertEqual(run, programs.Run(1, b"", REFUSED))
             self.assertEqual(self.count_held(), COUNT, "files after a run that was refused")
             run = self.run_once()
-        self.assertEqual(run, programs.Run(0, b"", b""))
+        self.assertEqual(run, programs.SILENT)
         self.assertEqual(self.count_held(), COUNT, "files of as many messages")
 
     def put_back(self, part):
@@ -159,7 +159,7 @@ class TakenAway(Reading):
             plain(session, say, octets)
 
         self.server.give = give
-        self.assertEqual(self.run_once(), programs.Run(0, b"", b""))
+        self.assertEqual(self.run_once(), programs.SILENT)
         self.assertEqual(self.count_held(), COUNT - 1)
         self.server.give = plain
         self.account.record.unlink()

@@ -37,7 +37,7 @@ class Records(unittest.TestCase):
         thread = self.server.begin_session()
         run = self.account.run("-q")
         thread.join(programs.SECONDS)
-        self.assertEqual(run, programs.Run(0, b"", b""))
+        self.assertEqual(run, programs.SILENT)
         self.assertEqual(self.server.commands, LOGIN + [f"RETR {number}" for number in fetched] + ["QUIT"])
 
     def empty_maildir(self):

@@ -70,7 +70,7 @@ class Refusals(unittest.TestCase):
 
     def check_completed(self):
         run, _ = self.session("-q", "-d")
-        self.assertEqual(run, programs.Run(0, b"", b""))
+        self.assertEqual(run, programs.SILENT)
         self.assertEqual(self.account.held(), THREE)
         self.assertEqual(self.server.messages, [])
         self.assertEqual(self.in_tmp(), [])
@@ -161,7 +161,7 @@ class EachCall(unittest.TestCase):
                     held = account.held()
                     self.assertEqual(held, THREE[:len(held)])
                     self.assertEqual(os.listdir(account.maildir / "tmp"), [])
-                    self.assertEqual(self.session(server, account), programs.Run(0, b"", b""))
+                    self.assertEqual(self.session(server, account), programs.SILENT)
                     self.assertEqual(account.held(), THREE)
                     self.assertEqual(server.messages, [])
                 if not refused:

@@ -20,7 +20,6 @@ ALL_DELETED = ["DELE 1", "DELE 2", "DELE 3"]
 FETCHED_AND_DELETED = ["RETR 1", "DELE 1", "RETR 2", "DELE 2", "RETR 3", "DELE 3"]
 DAY = 86_400
 
-SILENT = programs.Run(0, b"", b"")
 NO_HOME = programs.Run(2, b"", b"getmail: HOME is not set\n")
 UNREADABLE = programs.Run(2, b"", b"getmail: cannot read rc file\n")
 
@@ -57,7 +56,7 @@ class Sessions(unittest.TestCase):
 
     def check_commands(self, words, commands, **changes):
         """A silent run with these words sends these commands and QUIT."""
-        self.assertEqual(self.session("-q", *words, **changes), (SILENT, commands + ["QUIT"]))
+        self.assertEqual(self.session("-q", *words, **changes), (programs.SILENT, commands + ["QUIT"]))
 
 
 class Flags(Sessions):
@@ -145,6 +144,17 @@ class Days(Sessions):
                 self.assertEqual(self.server.messages, [])
                 self.assertEqual(self.account.held(), THREE)
 
+    def test_a_clock_that_leaps_forward(self):
+        """What is delivered is old enough at once; what was never listed before is not. Set right again, the clock deletes
+        nothing before its time."""
+        begun, leap = 1_800_000_000, 3650 * DAY
+        self.set(delete_after=3)
+        self.check_commands([], ALL_FETCHED, **self.at(begun))
+        self.server.messages.append((b"new", b"new\n"))
+        self.check_commands([], ["DELE 1", "DELE 2", "DELE 3", "RETR 4"], **self.at(begun + leap))
+        self.check_commands([], [], **self.at(begun + 4 * DAY))
+        self.check_commands([], ["DELE 1"], **self.at(begun + leap + 3 * DAY))
+
     def test_a_clock_before_1970_counts_as_its_first_second(self):
         self.check_commands([], ALL_FETCHED, **self.at(-5))
         self.assertEqual(self.first_seen(), {0})
@@ -198,7 +208,7 @@ class RcFile(Sessions):
     def test_an_rc_file_that_comes_in_pieces(self):
         text = self.account.rcfile.read_bytes() + b"delete = true\n"
         half = text.index(b"[destination]") + 5
-        self.assertEqual(self.feed([text[:half], text[half:-3], text[-3:]]), (SILENT, FETCHED_AND_DELETED + ["QUIT"]))
+        self.assertEqual(self.feed([text[:half], text[half:-3], text[-3:]]), (programs.SILENT, FETCHED_AND_DELETED + ["QUIT"]))
 
     def test_an_rc_file_of_the_greatest_length(self):
         text = self.account.rcfile.read_bytes()
@@ -248,7 +258,7 @@ class Home(Sessions):
             with self.subTest(path), Server(THREE) as self.server, Account(self.server.port) as self.account:
                 self.name_maildir(self.account.maildir if path != "Maildir" else path)
                 thread = self.server.begin_session()
-                self.assertEqual(self.without_home("-q", "-g", str(self.account.folder)), SILENT)
+                self.assertEqual(self.without_home("-q", "-g", str(self.account.folder)), programs.SILENT)
                 thread.join(programs.SECONDS)
                 self.assertEqual(self.account.held(), THREE)
 
@@ -257,7 +267,7 @@ class Home(Sessions):
         self.assertEqual(self.account.run("-q", HOME=""), UNREADABLE)
         self.name_maildir("~" + str(self.account.maildir))
         self.assertEqual(self.session("-q", "-g", "~" + str(self.account.folder), HOME=""),
-                         (SILENT, ALL_FETCHED + ["QUIT"]))
+                         (programs.SILENT, ALL_FETCHED + ["QUIT"]))
         self.assertEqual(self.account.held(), THREE)
         self.assertTrue(self.account.record.exists())
 

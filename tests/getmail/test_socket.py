@@ -9,7 +9,6 @@ from getmail.server import SocketServer
 from harness import programs
 
 TWO = [(b"a", b"one\n"), (b"b", b"two\n")]
-GOOD = programs.Run(0, b"", b"")
 
 
 class Sockets(unittest.TestCase):
@@ -26,7 +25,7 @@ class Sockets(unittest.TestCase):
         with SocketServer(TWO, self.path) as server:
             for words in (("-q",), ("-q", "-d")):
                 thread = server.begin_session()
-                self.assertEqual(self.account.run(*words), GOOD)
+                self.assertEqual(self.account.run(*words), programs.SILENT)
                 thread.join(programs.SECONDS)
             self.assertEqual(server.messages, [])
         self.assertEqual(self.account.held(), TWO)
@@ -66,7 +65,7 @@ class Sockets(unittest.TestCase):
     def test_a_port_for_tls_is_not_used(self):
         with Account(995, server=self.path) as account, SocketServer(TWO, self.path) as server:
             thread = server.begin_session()
-            self.assertEqual(account.run("-q", "--why"), GOOD)
+            self.assertEqual(account.run("-q", "--why"), programs.SILENT)
             thread.join(programs.SECONDS)
 
     def test_each_cut(self):

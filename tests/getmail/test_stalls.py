@@ -123,7 +123,7 @@ class Stalls(unittest.TestCase):
             thread = server.begin_session()
             run = account.run("-q", **self.hurry.environment())
             thread.join(programs.SECONDS)
-            self.assertEqual(run, programs.Run(0, b"", b""))
+            self.assertEqual(run, programs.SILENT)
             self.assertEqual(account.held(), messages)
 
 
@@ -182,7 +182,7 @@ class Deaf(unittest.TestCase):
             self.assertEqual(account.held(), self.messages[:held])
             self.assertEqual(list((account.maildir / "tmp").iterdir()), [])
             thread = server.begin_session()
-            self.assertEqual(account.run("-q"), programs.Run(0, b"", b""))
+            self.assertEqual(account.run("-q"), programs.SILENT)
             thread.join(programs.SECONDS)
             self.assertEqual(account.held(), self.messages)
             self.assertEqual(server.messages, [])

@@ -47,7 +47,7 @@ class TwoRuns(unittest.TestCase):
         if run.err.startswith(NOT_UNDERSTOOD):
             self.account.record.unlink()
             run = self.account.run("-q", "-d")
-        self.assertEqual(run, programs.Run(0, b"", b""))
+        self.assertEqual(run, programs.SILENT)
         self.server.wait_for_end()
         self.assertEqual(self.account.held(), sorted(messages))
         self.assertEqual(self.server.messages, [])
@@ -112,7 +112,7 @@ class AtOnce(TwoRuns):
     def check_cut(self, cut):
         whole, broken = self.fetch_at_once(cut)
         self.check_nothing_lost_or_torn(LONG)
-        self.assertEqual(whole, programs.Run(0, b"", b""))
+        self.assertEqual(whole, programs.SILENT)
         self.assertEqual(broken, programs.Run(1, b"", b"getmail: connection ended by the server\n"))
         self.assertEqual(self.account.held(), LONG)
         self.check_completed(LONG)

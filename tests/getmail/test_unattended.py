@@ -14,7 +14,6 @@ from harness import preload, programs
 from harness.kernel import LOOPBACK
 
 TWO = [(b"a", b"one\n"), (b"b", b"two\n")]
-SILENT = programs.Run(0, b"", b"")
 START = 1_700_000_000
 DATE = "Tue, 14 Nov 2023 22:13:20 GMT"
 HOUR, DAY = 3_600, 86_400
@@ -257,7 +256,7 @@ class Beside(unittest.TestCase):
 
     def test_another_run_is_nothing_new(self):
         """Until it has been at work for an hour."""
-        self.assertEqual(self.account.run("--unattended"), SILENT)
+        self.assertEqual(self.account.run("--unattended"), programs.SILENT)
         then = time.time() - HOUR - 1
         os.utime(self.account.lock, (then, then))
         run = self.account.run("--unattended")

@@ -82,7 +82,7 @@ class OfMaildirs(Sessions):
         self.assertEqual(self.session("--pretend").status, 0)
 
     def test_a_good_run_says_nothing_more(self):
-        self.assertEqual(self.session("--why"), programs.Run(0, b"", b""))
+        self.assertEqual(self.session("--why"), programs.SILENT)
 
     def test_what_is_left_out_is_told(self):
         """How many messages that aren't known, and why, only if reasons are asked for."""
@@ -91,14 +91,14 @@ class OfMaildirs(Sessions):
         self.server.messages = [(b"a", b"a message\n"), (b"b", b"b\n"), (b"c", b"c\n"), (b"d", b"another\n")]
         told = f"getmail: u@{LOOPBACK}:{self.server.port}: left out: 2 too large"
         self.assertEqual(self.session("--why").err.decode(), told + ", 1 past the limit\n")
-        self.assertEqual(self.session(), programs.Run(0, b"", b""))
+        self.assertEqual(self.session(), programs.SILENT)
         self.assertEqual(self.session("--why"), programs.Run(0, b"", (told + "\n").encode()))
 
     def test_a_repeated_id_is_told(self):
         self.server.messages = [(b"a", b"one\n"), (b"a", b"two\n"), (b"b", b"three\n")]
         told = f"getmail: u@{LOOPBACK}:{self.server.port}: left out: 1 with a repeated unique-id\n"
         self.assertEqual(self.session("--why"), programs.Run(0, b"", told.encode()))
-        self.assertEqual(self.session("--why"), programs.Run(0, b"", b""))
+        self.assertEqual(self.session("--why"), programs.SILENT)
 
     def test_a_terminal_needs_no_option(self):
         self.server.refuses = ("RETR 1",)

@@ -88,7 +88,7 @@ Options:
   -q, --quiet...          Write no report
       --why...            Say why a run failed, also if standard error is no terminal
       --trace...          Show the conversation and refused calls of the system on standard error
-      --unattended...     For cron and timers: write no report, say why, and nothing that was told before
+      --unattended...     For cron and timers: write no report; say why a run failed, but nothing twice
   -a, --all...            Fetch all messages, also those that were delivered before
   -n, --new...            Fetch only messages that were not delivered before
   -d, --delete...         Delete from the server what was delivered, held or not

@@ -33,6 +33,9 @@ class Run:
     err: bytes
 
 
+SILENT = Run(0, b"", b"")
+
+
 def place(name, path):
     """Makes the tests take the program `name` from the file `path`."""
     _placed[name] = Path(path).resolve()

@@ -5,7 +5,7 @@ import socket
 import unittest
 from pathlib import Path
 
-from harness import kernel, preload, programs
+from harness import preload, programs
 from popd.service import Maildir, Service
 
 REFUSED = b"-ERR some messages not removed\r\n"

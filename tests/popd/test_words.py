@@ -146,7 +146,7 @@ class Words(unittest.TestCase):
 
     def test_no_connection_at_all(self):
         run = self.run_popd("--listen", f"{LOOPBACK}:0", "--connections", "0", *self.served)
-        self.assertEqual(run, programs.Run(0, b"", b""))
+        self.assertEqual(run, programs.SILENT)
 
     def test_words_without_effect(self):
         for words in (["--rehearse"], ["--rehearse", "--rehearse"], ["--rehearse", "--listen", "nonsense"],
