@@ -99,7 +99,7 @@ def keep(crate, room, sources):
 
 def main():
     signal.signal(signal.SIGTERM, lambda *_: sys.exit(1))
-    if sys.argv[1] == "--unchanged":
+    if sys.argv[1:2] == ["--unchanged"]:
         return refuse_changed(sys.argv[2:])
     programs = sys.argv[1:]
     crates = crates_of(programs)

@@ -67,7 +67,7 @@ FIRST = """\
 #!/bin/sh
 set -e
 if [ "$1" = configure ] && [ -z "$2" ]; then
-    echo "{name}: what starts getmail6's program getmail, as cron does, now starts this one:" \\
+    echo "{name}: if cron or a script has started getmail6's program getmail, it starts this one now:" \\
         "read /usr/share/doc/getmail/FROM-GETMAIL6.md before its next run" >&2
 fi
 """

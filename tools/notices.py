@@ -27,10 +27,12 @@ def texts():
     lines = crates_of(PROGRAMS)
     named = {library for line in lines.values() for library in line.partition(":")[2].split()} - set(lines)
     notices = {}
-    for crate in sorted(named | BELOW):
-        for path in (kit / crate / name for name in LICENCES):
-            if path.is_file():
-                notices.setdefault(path.read_text().strip(), []).append(crate)
+    for crate in sorted((named | BELOW) - {"std"}):
+        paths = [path for path in (kit / crate / name for name in LICENCES) if path.is_file()]
+        if not paths:
+            raise SystemExit(f"no notice of {crate}")
+        for path in paths:
+            notices.setdefault(path.read_text().strip(), []).append(crate)
     return notices
 
 

@@ -160,7 +160,7 @@ class Sources:
     def type_lines(self, thing):
         """The lines of a definition up to its type, without what it is made of."""
         lines = self.lines(thing)
-        body = re.compile(rf"{re.escape(thing.name)} .*=|{re.escape(thing.name)} =")
+        body = re.compile(rf"{re.escape(thing.name)} .*=")
         return lines[:next(at for at, line in enumerate(lines) if body.match(line))]
 
     def value(self, thing):

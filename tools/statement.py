@@ -12,8 +12,7 @@ from sources import TOP, Sources, Thing
 
 # What is promised: crate and function.
 LAWS = ["fetch_runs:calls_keep_promises", "fetch_runs:mbox_calls_keep_promises", "fetch_rules:files_stand_for_one_record"]
-# The calls that the laws are about, and what leads from their contracts to the laws. A third word is the only clause that
-# is printed.
+# The calls that the laws are about.
 CALLS = ["fetch_runs:promised_session"]
 # The devices of a call, and those that the real ones are made over.
 TRAITS = ["pop3_wire:Wire", "mail_store:MaildirDisk", "mail_store:FlatFile",
@@ -48,16 +47,8 @@ def ordered(sources, roots, known, unopened=()):
 
 
 def contract_of(sources, name):
-    """A function that is listed above, and its lines: of the clauses only the one that is asked for."""
-    crate, function, *clause = name.split(":")
-    thing, lines = sources.function(crate, function)
-    if clause:
-        begins = [at for at, line in enumerate(lines) if line.startswith(("    ensures", "    requires"))] + [len(lines)]
-        kept = [lines[at:end] for at, end in zip(begins, begins[1:]) if lines[at].startswith(f"    ensures {clause[0]} ")]
-        if not kept:
-            raise SystemExit(f"no clause {name}")
-        lines = lines[:begins[0]] + kept[0]
-    return thing, lines
+    """A function that is listed above, and its lines."""
+    return sources.function(*name.split(":"))
 
 
 def heading(number, text):
