@@ -1,5 +1,6 @@
 -- Each call of `session` is a session over accounts, and lists of calls and other events keep what is promised.
 use Rattle.std.proofs.Common.{◌≡◌, ◌⊎◌, inl, inr, ℕ, true, List, [], ◌∷◌, ◌++◌, refl, sym, ap, subst, ◌∙◌, arith, length, ◌≤◌}
+use Rattle.mail_store.specs.Durable.{MayLeave}
 use Rattle.std.proofs.lemmas.Bool.{both_ways}
 use Rattle.std.proofs.Math.Logic.{⊎_elim}
 use Rattle.pop3_wire.specs.declared.wire.Wire.{Ghosts as WireGhosts}
@@ -131,7 +132,7 @@ calls_keep_promises digits law others one served stems bases {W} {D} {F} link di
               taken_is = taken_is;
               promises = done.0;
               safe = λ sure safe. calls_keep_safe served file devices.file call.after.file mail (with_left mail state left) occasion here session
-                  leaves sure (left_keeps_safe (file.may_leave devices.file) mail state left kept taken safe);
+                  leaves sure (left_keeps_safe (MayLeave (file.disk devices.file)) mail state left kept taken safe);
               in_order = λ all legal front next. calls_keep_order mail (own mail.account account) file devices.file call.after.file
                   (with_left mail state left) occasion done.0 leaves all legal (left_keeps_front mail state left kept taken all legal front) next;
             },
@@ -152,7 +153,7 @@ calls_keep_promises digits law others one served stems bases {W} {D} {F} link di
       kept,
       λ safe lost.
           let loses : LosesPower state.account.maildir account.maildir = rw (shows.maildir, lost.shows.maildir) lost.maildir in
-          let now = losses_leave_kept (file.may_leave devices.file) mail state account (file.stored left.file).content lost.shows.intent kept safe
+          let now = losses_leave_kept (MayLeave (file.disk devices.file)) mail state account (file.stored left.file).content lost.shows.intent kept safe
           loses lost.record_is lost.shows.record_is in (
             durable_is_safe one file left.file mail (record state { account = account }) lost.shows.intent now lost.shows.record_is
                 (all_left_durable mail.account state.account.maildir account.maildir loses) lost.durable,

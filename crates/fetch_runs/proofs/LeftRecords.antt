@@ -1,6 +1,7 @@
 -- What a session leaves of a record's file, and what a loss of power may leave of that, shows as delivered only what it showed or
 -- could show before, and messages of which a file is there whose name is durable.
 use Rattle.std.proofs.Common.{◌≡◌, ◌⊎◌, inl, inr, ℕ, suc, List, [], ◌∷◌, ◌++◌, true, false, length, Option, subst, arith, bytes_eq, sym, ⊎_elim, Bool, ap, ◌∙◌, Contains, ◌+◌, None, Some, ◌||◌, length-append, Result, Ok, Err, refl, All, ◌-◌, ◌%◌, ◌==◌, take, ◌&&◌}
+use Rattle.mail_store.specs.Durable.{MayLeave}
 use mathlib.Core.Logic.{⊎_map}
 use Rattle.std.specs.List.{AllByRecursion, list_all, list_any}
 use Rattle.std.proofs.lemmas.Bool.{both_ways, cases_Bool, and_parts, or_cases}
@@ -178,10 +179,10 @@ module _ (laws : LeftLaws) {D F : Type 0} (files : FileGhosts F) (device device'
   shown id d = ⊎_map (λ x. x) (has_is id) (durable.shown was rows id stood keeps d)
 
   abbrev Said : Option (List ℕ) → List ℕ → Type 0
-  Said could id = (is_delivered was id ≡ true) ⊎ ((has_named account maildir id ≡ true) ⊎ files.may_leave from could)
+  Said could id = (is_delivered was id ≡ true) ⊎ ((has_named account maildir id ≡ true) ⊎ MayLeave (files.disk from) could)
 
   abbrev pub Answered : Type 0
-  Answered = (could : Option (List ℕ)) (then : List Row) → files.may_leave f could → KeepsRows could then → (id : List ℕ) → is_delivered then id ≡ true → Said could id
+  Answered = (could : Option (List ℕ)) (then : List Row) → MayLeave (files.disk f) could → KeepsRows could then → (id : List ℕ) → is_delivered then id ≡ true → Said could id
 
   by_rows : (could : Option (List ℕ)) (id : List ℕ) → is_delivered rows id ≡ true → Said could id
   by_rows could id d = ⊎_map (λ x. x) inl (shown id d)

@@ -1,5 +1,6 @@
 -- A loss of power between two calls leaves a kept state, if what is recorded or gone is durable; and calls and others keep that.
 use Rattle.std.proofs.Common.{◌≡◌, ◌⊎◌, inl, inr, ℕ, List, [], ◌∷◌, ◌++◌, true, false, length, Option, refl, sym, ◌∙◌, arith, bytes_eq, ⊎_elim, Bool, ap, subst, map, append_assoc, ◌≤◌, ◌<◌, not, ◌+◌, ◌||◌, ◌&&◌}
+use Rattle.mail_store.specs.Durable.{MayLeave}
 use Rattle.std.specs.List.{AllByRecursion, filter, list_any}
 use Rattle.std.proofs.lemmas.Bool.{both_ways, cases_Bool, or_left, or_right, or_cases}
 use Rattle.std.proofs.lemmas.List.{append-nil, append_cancel_left, nil_from_length}
@@ -156,7 +157,7 @@ lasts_on mail state after id stays = lasts_bits (has_named mail.account state.ac
 
 pub others_keep_safe : OneRecord → {F : Type 0} (file : FileGhosts F) (from f : F) (mail : Mail) (state : State) (after : AccountMail) (intent : Option Intent) → Kept mail state
     → FileStandsFor (file.stored f).content after.rows intent → IsBetween mail state.account after → KeepsDurable file mail.account state.account from f after
-    → IsCrashSafe (file.may_leave from) mail state → IsCrashSafe (file.may_leave f) mail (state_with mail state after)
+    → IsCrashSafe (MayLeave (file.disk from)) mail state → IsCrashSafe (MayLeave (file.disk f)) mail (state_with mail state after)
 others_keep_safe one file from f mail state after intent kept stands between keeps safe = record {
   flushed = keeps.flushed;
   recorded = shown;
@@ -231,7 +232,7 @@ module _ {F : Type 0} (file : FileGhosts F) (from f : F) (mail : Mail) (state : 
 
 pub calls_keep_safe : SessionsAreServed → {F : Type 0} (file : FileGhosts F) (from f : F) (mail : Mail) (state : State) (occasion : Occasion AccountMail) → Kept mail state
     → IsSession mail state.account occasion → LeavesDurably file mail.account from f state.account occasion.after → IsSure file from f
-    → IsCrashSafe (file.may_leave from) mail state → IsCrashSafe (file.may_leave f) mail (after_session mail state occasion)
+    → IsCrashSafe (MayLeave (file.disk from)) mail state → IsCrashSafe (MayLeave (file.disk f)) mail (after_session mail state occasion)
 calls_keep_safe served file from f mail state occasion kept is leaves sure safe = record {
   flushed = flushed_after;
   recorded = shown;

@@ -1,6 +1,7 @@
 -- Calls of `session` for an account with a Maildir, and what others do between them, over the account's devices: what
 -- is promised of any list of these. Nobody has to know what a session does.
 use Rattle.std.specs.Prelude.{◌≡◌, ◌↔◌, ℕ, true, List, [], ◌∷◌, ◌++◌, Option}
+use Rattle.mail_store.specs.Durable.{MayLeave}
 use Rattle.pop3_wire.specs.World.{Message}
 use Rattle.pop3_wire.specs.declared.wire.Wire.{Ghosts as WireGhosts}
 use Rattle.mail_store.specs.declared.maildir.disk.MaildirDisk.{Ghosts as DiskGhosts}
@@ -116,8 +117,8 @@ pub record IsPromised {W D F : Type 0} (link : WireGhosts W) (disk : DiskGhosts 
   pub is : IsOccasion link call (Shows disk file call.after) occasion
   pub taken_is : occasion.after.maildir.taken ≡ left.taken
   pub promises : Promises mail (with_left mail state left) occasion
-  pub safe : IsSure file devices.file call.after.file → IsCrashSafe (file.may_leave devices.file) mail state
-      → IsCrashSafe (file.may_leave call.after.file) mail (after_session mail (with_left mail state left) occasion)
+  pub safe : IsSure file devices.file call.after.file → IsCrashSafe (MayLeave (file.disk devices.file)) mail state
+      → IsCrashSafe (MayLeave (file.disk call.after.file)) mail (after_session mail (with_left mail state left) occasion)
   pub in_order : (all : List Message) → AllByRecursion (λ (m : Message). is_legal_id m.uid ≡ true) all
       → (front : IsDurableFront mail state all) → ShowsNext occasion front.is.done front.is.rest
       → IsDurableFront mail (after_session mail (with_left mail state left) occasion) all
@@ -132,8 +133,8 @@ HoldsNoMore mail state after = (id : List ℕ) → is_legal_id id ≡ true
 pub record IsLeftByLoss {D F : Type 0} (disk : DiskGhosts D) (file : FileGhosts F) (from left : Devices D F)
     (account : AccountMail) : Type 0 where
   pub maildir : LosesPower (disk.maildir from.store) (disk.maildir left.store)
-  pub record_is : file.may_leave from.file (file.stored left.file).content
-  pub durable : (bytes : Option (List ℕ)) → file.may_leave left.file bytes → bytes ≡ (file.stored left.file).content
+  pub record_is : MayLeave (file.disk from.file) (file.stored left.file).content
+  pub durable : (bytes : Option (List ℕ)) → MayLeave (file.disk left.file) bytes → bytes ≡ (file.stored left.file).content
   pub shows : Shows disk file left account
 
 -- ---- any list of calls
@@ -158,15 +159,15 @@ ArePromised link disk file mail state devices (Called call ∷ later) = Shows di
 ArePromised link disk file mail state devices (Others left account ∷ later) = Shows disk file devices state.account
     × Kept mail state × (Shows disk file left account → IsBetween mail state.account account
     → (KeepsDurable file mail.account state.account devices.file left.file account
-    → IsCrashSafe (file.may_leave devices.file) mail state
-    → IsCrashSafe (file.may_leave left.file) mail (state_with mail state account))
+    → IsCrashSafe (MayLeave (file.disk devices.file)) mail state
+    → IsCrashSafe (MayLeave (file.disk left.file)) mail (state_with mail state account))
     × (KeepsDurable file mail.account state.account devices.file left.file account → HoldsNoMore mail state account
     → KeepsFronts mail state (state_with mail state account))
     × ArePromised link disk file mail (state_with mail state account) left later)
 ArePromised link disk file mail state devices (PowerLost left account ∷ later) = Shows disk file devices state.account
-    × Kept mail state × (IsCrashSafe (file.may_leave devices.file) mail state
+    × Kept mail state × (IsCrashSafe (MayLeave (file.disk devices.file)) mail state
     → IsLeftByLoss disk file devices left account
-    → IsCrashSafe (file.may_leave left.file) mail (record state { account = account })
+    → IsCrashSafe (MayLeave (file.disk left.file)) mail (record state { account = account })
     × KeepsFronts mail state (record state { account = account })
     × ArePromised link disk file mail (record state { account = account }) left later)
 

@@ -1,6 +1,7 @@
 -- What of an account with a Maildir is durable, so that a loss of power between two calls, whatever it takes, leaves a
 -- state from which the next call goes on; and what calls and others keep of that.
 use Rattle.std.specs.Prelude.{◌≡◌, ◌⊎◌, ◌||◌, ◌≤◌, ℕ, Bool, true, List, [], ◌++◌, Option, None, length}
+use Rattle.mail_store.specs.Durable.{MayLeave}
 use Rattle.std.specs.List.{AllByRecursion}
 use Rattle.mail_terms.specs.UniqueId.{is_legal_id}
 use Rattle.pop3_wire.specs.World.{Message}
@@ -39,7 +40,7 @@ pub record IsCrashSafe (may_leave : Option (List ℕ) → Type 0) (mail : Mail) 
 -- none
 abbrev pub IsSure : {F : Type 0} → FileGhosts F → F → F → Type 0
 IsSure file from f = file.is_sure from
-    × ((file.stored f).content ≡ None → (left : Option (List ℕ)) → file.may_leave f left → left ≡ None)
+    × ((file.stored f).content ≡ None → (left : Option (List ℕ)) → MayLeave (file.disk f) left → left ≡ None)
 
 -- others leave durable what was: the names of messages that they leave, and the bytes of the account's files; and no
 -- more may be left of the record's file than it holds and than could be left before
@@ -48,8 +49,8 @@ pub record KeepsDurable {F : Type 0} (file : FileGhosts F) (account : List ℕ) 
   pub named : (id : List ℕ) → is_legal_id id ≡ true → has_named account before.maildir id ≡ true
       → is_held account after.maildir id ≡ true → has_named account after.maildir id ≡ true
   pub flushed : AllByRecursion (IsFlushedFor account) after.maildir.files
-  pub record_is : (left : Option (List ℕ)) → file.may_leave f left
-      → (left ≡ (file.stored f).content) ⊎ file.may_leave from left
+  pub record_is : (left : Option (List ℕ)) → MayLeave (file.disk f) left
+      → (left ≡ (file.stored f).content) ⊎ MayLeave (file.disk from) left
 
 -- a law: a kept state is safe if the files of the account are durable and nothing else may be left of the record's file
 -- than what it holds
@@ -57,8 +58,8 @@ abbrev pub DurableAccountsAreSafe : {F : Type 0} → FileGhosts F → Type 0
 DurableAccountsAreSafe {F} file = (f : F) (mail : Mail) (state : State) (intent : Option Intent) → Kept mail state
     → FileStandsFor (file.stored f).content state.account.rows intent
     → AllByRecursion (IsDurableFor mail.account) state.account.maildir.files
-    → ((left : Option (List ℕ)) → file.may_leave f left → left ≡ (file.stored f).content)
-    → IsCrashSafe (file.may_leave f) mail state
+    → ((left : Option (List ℕ)) → MayLeave (file.disk f) left → left ≡ (file.stored f).content)
+    → IsCrashSafe (MayLeave (file.disk f)) mail state
 
 -- the messages that are held or were taken away are exactly the first of these, and all of them but perhaps the last
 -- have a file whose name is durable, or were taken away
@@ -97,6 +98,6 @@ pub record LeavesDurably {F : Type 0} (file : FileGhosts F) (account : List ℕ)
   pub shown : (id : List ℕ) → is_delivered after.rows id ≡ true
       → (is_delivered before.rows id ≡ true) ⊎ (has_named account after.maildir id ≡ true)
   pub left : IsSure file from f → (bytes : Option (List ℕ)) (rows : List Row) (intent : Option Intent)
-      → file.may_leave f bytes → FileStandsFor bytes rows intent → (id : List ℕ) → is_delivered rows id ≡ true
+      → MayLeave (file.disk f) bytes → FileStandsFor bytes rows intent → (id : List ℕ) → is_delivered rows id ≡ true
       → (is_delivered before.rows id ≡ true)
-      ⊎ ((has_named account after.maildir id ≡ true) ⊎ file.may_leave from bytes)
+      ⊎ ((has_named account after.maildir id ≡ true) ⊎ MayLeave (file.disk from) bytes)

@@ -7,6 +7,7 @@ use Rattle.std.proofs.lemmas.Slice.Eq.{bytes_eq-Decides}
 use Rattle.mail_terms.specs.UniqueId.{IsLegalId}
 use Rattle.mail_terms.specs.Listing.{Item, has_item, is_flagged, numbered}
 use Rattle.fetch_rules.specs.declared.steps.Step.{Step}
+use Rattle.mail_store.specs.Durable.{MayLeave}
 use Rattle.mail_store.specs.Maildir.{AreReached, File, Maildir, WereTaken, with_file}
 use Rattle.mail_store.specs.FileName.{mail_file, sized_file, stem_of, is_held, IsAccountText}
 use Rattle.fetch_session.specs.Task.{Task, ids_ahead, AreFresh, fetching, deleting, tasks_in, tasks_planned}
@@ -179,13 +180,13 @@ module _ {D F : Type 0} (disk : DiskGhosts D) (files : FileGhosts F) where
   -- the store wasn't asked, and the record's file has the same bytes
   pub unasked : {A B safe : Type 0} {settings : Settings} {items : List Item} {now : ℕ} {fault : Fault} {after : List Row} (was : Store D F) (from f : F) (target : Target) → A → B
       → CausesUnready target items fault (stores_of disk files was) (files.stored from) (stores_of disk files was) (files.stored f) → (files.stored f).content ≡ (files.stored from).content
-      → LeavesNoMore (files.may_leave from) (files.may_leave f)
+      → LeavesNoMore (MayLeave (files.disk from)) (MayLeave (files.disk f))
       → A × B × AfterTakingIn (stores_of disk files was) (λ left. ReadiesAndLasts disk files safe from settings target items now left (Err fault) after was f)
   unasked was from f target a b why same no_more =
       (a, b, untaken _ (record { readies = record { cause = why; content = inl same }; lasts = λ sure. no_more }))
 
   -- the same if the record's file was read and flushed before
-  module _ (from mid f : F) (no_more : LeavesNoMore (files.may_leave from) (files.may_leave mid)) (same : files.stored mid ≡ files.stored from) where
+  module _ (from mid f : F) (no_more : LeavesNoMore (MayLeave (files.disk from)) (MayLeave (files.disk mid))) (same : files.stored mid ≡ files.stored from) where
     ready_from : (settings : Settings) (target : Target) (items : List Item) (now : ℕ) (old new : Stores) (file file' : Stored) (after : List Row) (store : Store D F) (r : Result Ready Fault)
         → (is : Readies settings target items now old file r after new file') → ReadyLasts files mid settings target items now old file r after new file' is store f
         → ReadyLasts files from settings target items now old file r after new file' is store f
@@ -513,7 +514,7 @@ module _ {D F : Type 0} (disk : DiskGhosts D) (files : FileGhosts F) (account : 
         cause = by store finds;
         content = inl (ap (λ (d : F). (files.stored d).content) same);
       };
-      lasts = λ sure left may. subst (λ (d : F). files.may_leave d left) same may;
+      lasts = λ sure left may. subst (λ (d : F). MayLeave (files.disk d) left) same may;
     }
       where
         by : (store : Store D F) → Rests (kind_of store) (stores_of disk files store) items (Err fault) (stores_of disk files store')

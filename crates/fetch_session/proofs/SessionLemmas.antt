@@ -8,6 +8,7 @@ use Rattle.pop3_wire.specs.Place.{Place, at}
 use Rattle.fetch_rules.specs.Record.{Row, RecordState, Intent, none_open, marked_all, Loaded, merged}
 use Rattle.fetch_rules.specs.RecordGrowth.{Grows, Updates}
 use Rattle.mail_store.specs.FlatFile.{Stored, holding}
+use Rattle.mail_store.specs.Durable.{MayLeave}
 use Rattle.mail_store.specs.declared.maildir.disk.MaildirDisk.{Ghosts as DiskGhosts}
 use Rattle.mail_store.specs.declared.file.flat_file.FlatFile.{Ghosts as FileGhosts}
 use Rattle.mail_store.specs.Maildir.{Maildir, File, IsWithout, WereTaken}
@@ -60,7 +61,7 @@ use Rattle.fetch_session.specs.MessagePreview.{message_previews}
 pub no_more_keeps : {a b : Option (List ℕ) → Type 0} (content : Option (List ℕ)) → LeavesNoMore a b → KeepsWhole content a b
 no_more_keeps content no_more bytes is front left may = front left (no_more left may)
 
-pub safe_store : {F : Type 0} (files : FileGhosts F) (f : F) → IsSafe files f → files.is_sure f × LastsWhole (files.stored f).content (Unit {0}) (files.may_leave f)
+pub safe_store : {F : Type 0} (files : FileGhosts F) (f : F) → IsSafe files f → files.is_sure f × LastsWhole (files.stored f).content (Unit {0}) (MayLeave (files.disk f))
 safe_store files f safe = (safe.0, λ bytes is. (tt, (safe.1 bytes is).1))
 
 -- ---- what it may leave of the record's file
@@ -78,8 +79,8 @@ module _ {F : Type 0} (file : FileGhosts F) (f : F) where
   }
 
   -- bytes were appended, or a part of them
-  pub part_left : (old : Stored) (was : RecordState) (added : List ℕ) → bytes_in old.content ≢ [] → Steady old.content was → LeavesPart old.content added (file.may_leave f)
-      → (left : Option (List ℕ)) → file.may_leave f left → IsLeft was added left
+  pub part_left : (old : Stored) (was : RecordState) (added : List ℕ) → bytes_in old.content ≢ [] → Steady old.content was → LeavesPart old.content added (MayLeave (file.disk f))
+      → (left : Option (List ℕ)) → MayLeave (file.disk f) left → IsLeft was added left
   part_left old was added some stood part left may =
       let behind = part (bytes_in old.content) (is_there old.content some) left may in
       record { bytes = bytes_in old.content; behind = behind.0; is = behind.1; stands = stood; part = behind.2; begun = inr some }
@@ -167,7 +168,7 @@ shown_longer rows was left (bytes, behind, inr is, stands) (inr (some, more, was
   stands,
 )
 
-pub longer_rows : {F : Type 0} (file : FileGhosts F) (f f' : F) → LeavesLonger (file.may_leave f) (file.may_leave f') → (rows : List Row) → RowsStillLast file rows f f'
+pub longer_rows : {F : Type 0} (file : FileGhosts F) (f f' : F) → LeavesLonger (MayLeave (file.disk f)) (MayLeave (file.disk f')) → (rows : List Row) → RowsStillLast file rows f f'
 longer_rows file f f' longer rows last left may =
     let was = longer left may in shown_longer rows was.0 left (last was.0 was.1) was.2
 
@@ -185,7 +186,7 @@ whole_left rows others bytes left stands all = record {
 
 -- the file was replaced, or may have been, by bytes that stand for the rows
 module _ {F : Type 0} (file : FileGhosts F) (f f' : F) (rows : List Row) (bytes : List ℕ) (stands : Steady (Some bytes) (none_open rows))
-    (either : LeavesEither (file.may_leave f) bytes (file.may_leave f')) where
+    (either : LeavesEither (MayLeave (file.disk f)) bytes (MayLeave (file.disk f'))) where
   pub either_rows : RowsStillLast file rows f f'
   either_rows last left may = elim (either left may) [
     | inl before ↦ last left before
@@ -202,7 +203,7 @@ module _ {F : Type 0} (file : FileGhosts F) (f f' : F) (rows : List Row) (bytes 
 
 module _ {F : Type 0} (files : FileGhosts F) (rows others : List Row) (from f : F) where
   -- it was written whole
-  pub written_merged : (bytes : List ℕ) → Steady (Some bytes) (none_open others) → LeavesEither (files.may_leave from) bytes (files.may_leave f) → LeavesMerged files rows others from f
+  pub written_merged : (bytes : List ℕ) → Steady (Some bytes) (none_open others) → LeavesEither (MayLeave (files.disk from)) bytes (MayLeave (files.disk f)) → LeavesMerged files rows others from f
   written_merged bytes stands either left may = ⊎_elim inl (λ all. inr (inr (whole_left others others bytes left stands all)))
       (either left may)
 

@@ -5,6 +5,7 @@ use Rattle.std.specs.List.{flat_map}
 use Rattle.std.proofs.Common.{inl, inr}
 use Rattle.mail_store.specs.declared.maildir.disk.MaildirDisk.{Ghosts as DiskGhosts}
 use Rattle.mail_store.specs.declared.file.flat_file.FlatFile.{Ghosts as FileGhosts}
+use Rattle.mail_store.specs.Durable.{IsDurable as IsFileDurable, MayLeave}
 use Rattle.mail_store.specs.FlatFile.{Stored}
 use Rattle.mail_store.specs.Maildir.{File, IsDurable, Maildir}
 use Rattle.mail_store.specs.Mboxrd.{entry_of}
@@ -41,7 +42,7 @@ use Rattle.fetch_session.specs.Task.{Task, Done, ids_in, ids_of, texts_of}
 -- a loss of power may leave this of the mboxrd file
 abbrev pub may_leave_in : {D F : Type 0} → FileGhosts F → Store D F → Option (List ℕ) → Type 0
 may_leave_in file (InMaildir device) left = Unit {0}
-may_leave_in file (InMbox device) left = file.may_leave device left
+may_leave_in file (InMbox device) left = MayLeave (file.disk device) left
 
 -- no flush of the mboxrd file was refused
 abbrev pub is_sure : {D F : Type 0} → FileGhosts F → Store D F → Type 0
@@ -50,14 +51,15 @@ is_sure file (InMbox device) = file.is_sure device
 
 -- a file is on the disk, a loss of power leaves exactly its bytes, and no flush of it was refused
 abbrev pub IsSafe : {F : Type 0} → FileGhosts F → F → Type 0
-IsSafe file f = file.is_sure f × LastsWhole (file.stored f).content (file.is_on_disk f) (file.may_leave f)
+IsSafe file f = file.is_sure f
+    × LastsWhole (file.stored f).content (IsFileDurable (file.disk f)) (MayLeave (file.disk f))
 
 -- the same for an mboxrd file, which is flushed again before an entry is appended: so it needn't be known to be on the
 -- disk
 abbrev pub IsSafeStore : {D F : Type 0} → FileGhosts F → Store D F → Type 0
 IsSafeStore file (InMaildir device) = Unit {0}
 IsSafeStore file (InMbox device) = file.is_sure device
-    × LastsWhole (file.stored device).content (Unit {0}) (file.may_leave device)
+    × LastsWhole (file.stored device).content (Unit {0}) (MayLeave (file.disk device))
 
 abbrev pub IsSafeWork : {D F H Z : Type 0} → FileGhosts F → Work D F H Z → Type 0
 IsSafeWork file work = IsSafe file work.ledger.file × IsSafeStore file work.store
@@ -84,7 +86,7 @@ ShowsRows rows left = (bytes behind : List ℕ) × ((bytes ≡ []) ⊎ (left ≡
 
 -- whatever a loss of power leaves of it does
 abbrev pub RowsLast : {F : Type 0} → FileGhosts F → F → List Row → Type 0
-RowsLast file f rows = (left : Option (List ℕ)) → file.may_leave f left → ShowsRows rows left
+RowsLast file f rows = (left : Option (List ℕ)) → MayLeave (file.disk f) left → ShowsRows rows left
 
 -- these rows still outlive it, if they did before
 abbrev pub RowsStillLast : {F : Type 0} → FileGhosts F → List Row → F → F → Type 0
@@ -98,7 +100,7 @@ KeepsWork file old new =
 -- this holds of whatever a loss of power leaves of a file that is there
 abbrev pub Leaves : {F : Type 0} → FileGhosts F → F → (Option (List ℕ) → Type 0) → Type 0
 Leaves file f Is = (bytes : List ℕ) → (file.stored f).content ≡ Some bytes → (left : Option (List ℕ))
-    → file.may_leave f left → Is left
+    → MayLeave (file.disk f) left → Is left
 
 -- bytes that stand for this record, and behind them what a loss of power may leave of what was appended; nothing is
 -- appended to an empty file
@@ -160,27 +162,27 @@ AreSure files was from = is_sure files was × files.is_sure from
 
 -- nothing was written to the record's file: a loss of power leaves no more of it than before
 pub record IsUntouched {F : Type 0} (files : FileGhosts F) (from f : F) : Type 0 where
-  pub no_more : LeavesNoMore (files.may_leave from) (files.may_leave f)
+  pub no_more : LeavesNoMore (MayLeave (files.disk from)) (MayLeave (files.disk f))
   pub same : files.stored f ≡ files.stored from
 
 -- what may be left of the record's file could be left before, or it is these rows, perhaps with a part of what makes
 -- those others of them, or it is the others
 abbrev pub LeavesMerged : {F : Type 0} → FileGhosts F → List Row → List Row → F → F → Type 0
-LeavesMerged files rows others from f = (left : Option (List ℕ)) → files.may_leave f left
-    → files.may_leave from left ⊎ (AreLeft rows others left ⊎ AreLeft others others left)
+LeavesMerged files rows others from f = (left : Option (List ℕ)) → MayLeave (files.disk f) left
+    → MayLeave (files.disk from) left ⊎ (AreLeft rows others left ⊎ AreLeft others others left)
 
 -- what may be left of the record's file could be left before, or a part of what was appended stands behind what the
 -- file had
 abbrev pub LeavesLeft : {F : Type 0} → FileGhosts F → RecordState → List ℕ → F → F → Type 0
-LeavesLeft files was added from f = (left : Option (List ℕ)) → files.may_leave f left
-    → files.may_leave from left ⊎ IsLeft was added left
+LeavesLeft files was added from f = (left : Option (List ℕ)) → MayLeave (files.disk f) left
+    → MayLeave (files.disk from) left ⊎ IsLeft was added left
 
 -- what a session leaves of the record's file that was cut while it prepared the record: no more than before, or what a
 -- merge leaves
 abbrev pub UnreadyLasts : {F : Type 0} → FileGhosts F → F
     → {target : Target} {items : List Item} {now : ℕ} {store : Stores} {file : Stored}
     {store' : Stores} {file' : Stored} → IsMergedAtMost target items now store file store' file' → F → Type 0
-UnreadyLasts files from (inl same) f = LeavesNoMore (files.may_leave from) (files.may_leave f)
+UnreadyLasts files from (inl same) f = LeavesNoMore (MayLeave (files.disk from)) (MayLeave (files.disk f))
 UnreadyLasts files from {target} {items} {now} {store} (inr merged) f =
     LeavesMerged files merged.was.rows (merged_in target store merged.was items now) from f
 

@@ -12,6 +12,7 @@ ghost use Rattle.pop3_wire.specs.Bodies.{items_of};
 ghost use Rattle.pop3_wire.specs.Place.{Place};
 ghost use Rattle.pop3_wire.specs.declared.unstuffer.Spot.TheVariants.{Done};
 ghost use Rattle.fetch_session.specs.Mbox.{AppendsText, HoldsText, IsStoreFault};
+ghost use Rattle.mail_store.specs.Durable.{MayLeave};
 ghost use Rattle.mail_store.specs.Power.{KeepsWhole};
 ghost use Rattle.fetch_session.specs.Lasting.{IsSafe, RowsStillLast};
 ghost use Rattle.fetch_session.specs.Parts.{KeepsLedger, KeepsLink, KeepsRecord, IsWritten};
@@ -79,7 +80,7 @@ fn append_text<F: FlatFile, H: BuildHasher>(
         × AppendsText (F.stored mbox.old) (F.stored ledger.old.file) ledger.old.seen uid.now text.items result
         (F.stored mbox.new) (F.stored ledger.new.file) ledger.new.seen }
     ensures keeps { F.sound mbox.new → F.sound ledger.new.file
-        → KeepsWhole (F.stored mbox.old).content (F.may_leave mbox.old) (F.may_leave mbox.new)
+        → KeepsWhole (F.stored mbox.old).content (MayLeave (F.disk mbox.old)) (MayLeave (F.disk mbox.new))
         × RowsStillLast F.FlatFile ledger.old.seen.rows ledger.old.file ledger.new.file }
     ensures lasts { F.sound mbox.new → F.sound ledger.new.file → F.is_sure mbox.old → IsSafe F.FlatFile ledger.old.file
         → OnOk result (IsSafe F.FlatFile mbox.new × IsSafe F.FlatFile ledger.new.file) }
@@ -122,7 +123,7 @@ pub(crate) fn take_into_mbox<W: Wire, F: FlatFile, H: BuildHasher>(
         (F.stored ledger.new.file) ledger.new.seen.rows
         ledger.new.lines.items)) }
     ensures keeps { F.sound mbox.new → F.sound ledger.new.file
-        → KeepsWhole (F.stored mbox.old).content (F.may_leave mbox.old) (F.may_leave mbox.new)
+        → KeepsWhole (F.stored mbox.old).content (MayLeave (F.disk mbox.old)) (MayLeave (F.disk mbox.new))
         × RowsStillLast F.FlatFile ledger.old.seen.rows ledger.old.file ledger.new.file }
     ensures lasts { F.sound mbox.new → F.sound ledger.new.file → F.is_sure mbox.old → IsSafe F.FlatFile ledger.old.file
         → OnOk result (IsSafe F.FlatFile mbox.new × IsSafe F.FlatFile ledger.new.file) }

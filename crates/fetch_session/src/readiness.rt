@@ -7,6 +7,7 @@ ghost use Rattle.fetch_rules.specs.Record.{IsRecord, Loaded, has_row, is_deliver
 ghost use Rattle.fetch_rules.specs.RecordFile.{file_of};
 ghost use Rattle.fetch_rules.specs.Plan.{IsQuiet, planned};
 ghost use Rattle.fetch_session.specs.Mbox.{AsksMbox, SettlesIntent};
+ghost use Rattle.mail_store.specs.Durable.{MayLeave};
 ghost use Rattle.mail_store.specs.Maildir.{AfterTaking, AllNamed};
 ghost use Rattle.mail_store.specs.Power.{LeavesNoMore};
 ghost use Rattle.fetch_session.specs.Lasting.{AreSure, IsSafe, IsSafeStore, LeavesMerged, ReadiesAndLasts, is_sure};
@@ -69,7 +70,7 @@ fn line_of(fault: SeenFault) -> Fault
 fn load<F: FlatFile>(alloc: Global, file: &mut F) -> Result<Vec<u8>, Fault>
     ensures gets { F.sound file.new → F.sound file.old
         × Gets (F.stored file.old) result (F.stored file.new) }
-    ensures keeps { F.sound file.new → LeavesNoMore (F.may_leave file.old) (F.may_leave file.new) }
+    ensures keeps { F.sound file.new → LeavesNoMore (MayLeave (F.disk file.old)) (MayLeave (F.disk file.new)) }
     ensures sure { F.sound file.new → F.is_sure file.old → F.is_sure file.new }
 {
     match file.peek() {
@@ -87,7 +88,7 @@ pub(crate) fn read<F: FlatFile, H: BuildHasher>(
 ) -> Result<bool, Fault>
     ensures reads { F.sound file.new → F.sound file.old
         × Reads (F.stored file.old) seen.new result (F.stored file.new) }
-    ensures keeps { F.sound file.new → LeavesNoMore (F.may_leave file.old) (F.may_leave file.new) }
+    ensures keeps { F.sound file.new → LeavesNoMore (MayLeave (F.disk file.old)) (MayLeave (F.disk file.new)) }
     ensures sure { F.sound file.new → F.is_sure file.old → F.is_sure file.new }
     ensures is_record { OnOk result (IsRecord seen.new.rows) }
 {
@@ -101,7 +102,7 @@ pub(crate) fn read<F: FlatFile, H: BuildHasher>(
 /// Flushes the record's file, if it is there, so that no loss of power takes back what was read.
 fn secure<F: FlatFile>(file: &mut F) -> Result<(), Fault>
     ensures same { F.sound file.new → F.sound file.old × IsSecured (F.stored file.old) result (F.stored file.new) }
-    ensures keeps { F.sound file.new → LeavesNoMore (F.may_leave file.old) (F.may_leave file.new) }
+    ensures keeps { F.sound file.new → LeavesNoMore (MayLeave (F.disk file.old)) (MayLeave (F.disk file.new)) }
     ensures lasts { F.sound file.new → F.is_sure file.old → OnOk result (IsSafe F.FlatFile file.new) }
 {
     match file.edges() {

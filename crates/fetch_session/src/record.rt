@@ -9,6 +9,7 @@ ghost use Rattle.fetch_rules.specs.RecordGrowth.{Grows};
 ghost use Rattle.fetch_session.specs.Record.{Writes, Saves, Steady, TakesBack, bytes_in, record_state_in, intent_at};
 ghost use Rattle.fetch_session.specs.Record.{with_open};
 ghost use Rattle.fetch_session.specs.Lasting.{AreLeft, IsLeft, IsSafe, RowsStillLast, Leaves, LeavesLeft};
+ghost use Rattle.mail_store.specs.Durable.{MayLeave};
 ghost use Rattle.mail_store.specs.Power.{LeavesEither};
 
 use crate::fault::Fault;
@@ -23,7 +24,7 @@ pub(crate) fn save<F: FlatFile, H: BuildHasher>(file: &mut F, seen: &Seen<H>) ->
     ensures saves { F.sound file.new → F.sound file.old
         × Writes (F.stored file.old) (record_state_in seen.now) result (F.stored file.new) }
     ensures leaves { F.sound file.new
-        → LeavesEither (F.may_leave file.old) (file_of seen.now.rows None) (F.may_leave file.new) }
+        → LeavesEither (MayLeave (F.disk file.old)) (file_of seen.now.rows None) (MayLeave (F.disk file.new)) }
     ensures lasts { F.sound file.new → OnOk result (IsSafe F.FlatFile file.new) }
 {
     bytes_stand();

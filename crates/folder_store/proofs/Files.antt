@@ -6,12 +6,14 @@ use Rattle.std.proofs.lemmas.Bool.{cases_Bool, cond-true, cond-false, cond_both,
 use Rattle.mail_terms.specs.FailureCount.{is_refused}
 use Rattle.mail_store.specs.declared.fault.StoreFault.{StoreFault}
 use Rattle.mail_store.specs.FlatFile.{Appends, Cuts, Replaces}
-use Rattle.folder_store.specs.FileFolder.{Directory, Entry, Blob, Older, entry, find, placed, making, changed, appended, cut, doubted, flushed, secured, empty_blob, content_in, content_at, Makes, Writes, Alters, FlushesFile, FlushesNames}
+use Rattle.folder_store.specs.FileFolder.{Directory, Entry, Older, entry, find, placed, making, changed, appended, cut, doubted, flushed, empty_blob, content_at, names_flushed, Makes, Writes, Alters, FlushesFile, FlushesNames}
 use Rattle.folder_store.specs.HostFile.{stored_in, Holds, Keeps, Becomes, BecomesInPart, MayBeFlushed, IsAppended, IsSoFar, IsPartAppended, AppendsFlushed, IsFrontAppended, CutsFlushed, PutsFlushed, ReplacesFlushed, FlushesAt, AppendsLast, CutsLast, ReplacesLast}
 use Rattle.std.proofs.lemmas.List.{take-append-drop, take-append-le, take-take, length-take, get_or-take, get_or_append_left, get_or-append-add}
 use Rattle.std.proofs.Math.Seq.{take-append-add, take-append_seam, take-length}
 use Rattle.mail_store.specs.Power.{IsLonger, LeavesNoMore, LastsWhole}
-use Rattle.folder_store.specs.PowerLoss.{left_under, IsTorn, IsByteLeft, IsLeft, IsLeftOf, WasOnce, MayBe, IsFlushed, IsSure, IsOnDisk, IsKnown, DiskIsLeft, DiskIsKnown, PowerLeaves}
+use Rattle.mail_store.specs.Durable.{Blob, IsByteLeft, IsFlushed, IsLeft, IsLeftOf, IsLeftOfOne, IsSure, IsTorn, MayLeave, content_in, secured}
+use Rattle.mail_store.proofs.DurableLemmas.{durable_is_left, left_flushed, left_of, no_rest}
+use Rattle.folder_store.specs.PowerLoss.{left_under, WasOnce, MayBe, disk_at, older_at, IsOnDisk, IsKnown, DiskIsLeft, DiskIsKnown, PowerLeaves}
 use Rattle.std.specs.List.{list_all}
 use Rattle.std.proofs.lemmas.Grind.{same_number_lists}
 use Rattle.mail_store.specs.Settling.{block_size, MayBeLeft}
@@ -180,18 +182,6 @@ in_parts xs front back n f b = rw (f, b) (sym (take-append-drop n xs))
 
 -- ---- a file
 
-pub no_rest : (xs rest : List ℕ) → length (xs ++ rest) ≤ length xs → xs ++ rest ≡ xs
-no_rest xs [] le = append-nil xs
-no_rest xs (x ∷ rest) le = absurd (omega (arith, le, length-append xs (x ∷ rest)))
-
--- of a file that is on the disk its bytes are left
-pub left_of : (bytes left : List ℕ) → IsLeft (secured bytes) left → left ≡ bytes
-left_of bytes left (inl e) = e
-left_of bytes left (inr (inl e)) = e
-left_of bytes left (inr (inr t)) =
-    let e : left ≡ bytes ++ t.behind = t.kept ∙ ap (λ (xs : List ℕ). xs ++ t.behind) (take-length bytes) in
-    e ∙ no_rest bytes t.behind (subst (λ (xs : List ℕ). length xs ≤ length bytes) e (⊎_elim (λ le. le) (λ same. omega (arith, same)) t.most))
-
 -- a file of which no flush was refused is on the disk once it is flushed, and another as it was
 flushed_sure : (b : Blob) → b.is_doubted ≡ false → flushed b ≡ secured b.content
 flushed_sure b sure = rw sure refl
@@ -320,19 +310,47 @@ may_front b c len is left h = cut_fronts b len left (no_more (cut b len) c is le
 
 -- ---- the file of a name
 
+-- what a name led to, by itself and among other names
+here_once : (name : List ℕ) (older : List Older) (left : Option (List ℕ)) → IsLeftOfOne (older_at name older) left → WasOnce older name left
+here_once name [] left was = was
+here_once name (o ∷ older) left was = elim (cases_Bool (bytes_eq o.name name)) [
+  | inl same ↦ ⊎_elim (λ now. inl ((bytes_eq-Decides o.name name).0 same, now)) (λ more. inr (here_once name older left more)) (rw same at was)
+  | inr apart ↦ inr (here_once name older left (rw apart at was))
+]
+
+once_here : (name : List ℕ) (older : List Older) (left : Option (List ℕ)) → WasOnce older name left → IsLeftOfOne (older_at name older) left
+once_here name [] left was = was
+once_here name (o ∷ older) left (inl (same, now)) = rw ((bytes_eq-Decides o.name name).1 same) (inl now)
+once_here name (o ∷ older) left (inr was) = elim (cases_Bool (bytes_eq o.name name)) [
+  | inl same ↦ rw same (inr (once_here name older left was))
+  | inr apart ↦ rw apart (once_here name older left was)
+]
+
+pub may_now : (d : Directory) (name : List ℕ) (left : Option (List ℕ)) → IsLeftOf (find name d.entries) left → MayBe d name left
+unfolding MayLeave
+may_now d name left now = inl now
+
+pub may_once : (d : Directory) (name : List ℕ) (left : Option (List ℕ)) → WasOnce d.older name left → MayBe d name left
+unfolding MayLeave
+may_once d name left was = inr (once_here name d.older left was)
+
 -- what may be left of it
 pub may_held : (d : Directory) (name : List ℕ) (o : Option Blob) (older : List Older) → Holds d name o older → (left : Option (List ℕ)) → MayBe d name left
     → IsLeftOf o left ⊎ WasOnce older name left
+unfolding MayLeave
 may_held d name o older h left (inl now) = inl (subst (λ (x : Option Blob). IsLeftOf x left) h.leads_to now)
-may_held d name o older h left (inr was) = inr (subst (λ (xs : List Older). WasOnce xs name left) h.named was)
+may_held d name o older h left (inr was) = inr (subst (λ (xs : List Older). WasOnce xs name left) h.named (here_once name d.older left was))
+
+pub may_same : (d : Directory) (name : List ℕ) (left : Option (List ℕ)) → MayBe d name left → IsLeftOf (find name d.entries) left ⊎ WasOnce d.older name left
+may_same d name left may = may_held d name (find name d.entries) d.older (record { leads_to = refl; named = refl }) left may
 
 pub leaves_become : (R : Option (List ℕ) → Option (List ℕ) → Type 0) {S : Blob → Blob → Type 0} (old new : Directory) (name : List ℕ) → ((left : Option (List ℕ)) → R left left)
     → ((b c : Blob) → S b c → Leaves R b c) → Keeps old name new ⊎ Becomes S old name new
     → (left : Option (List ℕ)) → MayBe new name left → (was : Option (List ℕ)) × MayBe old name was × R was left
 leaves_become R old new name same leaves (inl h) left may =
-    (left, may_held new name (find name old.entries) old.older h left may, same left)
+    (left, ⊎_elim (may_now old name left) (may_once old name left) (may_held new name (find name old.entries) old.older h left may), same left)
 leaves_become R old new name same leaves (inr (b, c, at, is, h)) left may =
-    ⊎_elim (λ now. let w = leaves b c is left now in (w.0, inl (subst (λ (o : Option Blob). IsLeftOf o w.0) (sym at) w.1), w.2)) (λ was. (left, inr was, same left))
+    ⊎_elim (λ now. let w = leaves b c is left now in (w.0, may_now old name w.0 (subst (λ (o : Option Blob). IsLeftOf o w.0) (sym at) w.1), w.2)) (λ was. (left, may_once old name left was, same left))
     (may_held new name (Some c) old.older h left may)
 
 -- what was only flushed looks as it did
@@ -342,7 +360,7 @@ Stands old name new = FlushesAt old name new × LeavesNoMore (MayBe old name) (M
 may_no_more : (old new : Directory) (name : List ℕ) (b c : Blob) → MayBeFlushed b c → find name old.entries ≡ Some b → new ≡ changed old name c → Stands old name new
 may_no_more old new name b c is at e =
     let h = holds_changed old new name c e in
-    (rw (h.leads_to, at, may_content b c is) refl, λ left may. ⊎_elim (λ now. inl (rw at (no_more b c is left now))) inr (may_held new name (Some c) old.older h left may))
+    (rw (h.leads_to, at, may_content b c is) refl, λ left may. ⊎_elim (λ now. may_now old name left (rw at (no_more b c is left now))) (may_once old name left) (may_held new name (Some c) old.older h left may))
 
 pub flush_keeps : (old new : Directory) (name : List ℕ) (r : Result (Unit {0}) StoreFault) → FlushesFile old name r new → Stands old name new
 flush_keeps old new name (Ok done) (b, c, at, is, e) = may_no_more old new name b c (inr (inl is)) at e
@@ -350,22 +368,16 @@ flush_keeps old new name (Err fault) (inl e) = rw e (refl, λ left may. may)
 flush_keeps old new name (Err fault) (inr (b, c, at, is, e)) = may_no_more old new name b c (inr is) at e
 
 pub flush_names_keeps : (old new : Directory) (name : List ℕ) (r : Result (Unit {0}) StoreFault) → FlushesNames old r new → Stands old name new
-flush_names_keeps old new name (Ok done) e = rw e (refl, λ left. ⊎_elim inl (λ was. absurd was))
+flush_names_keeps old new name (Ok done) e = rw e (refl, λ left may. ⊎_elim (may_now old name left) (λ was. absurd was) (may_same (names_flushed old) name left may))
 flush_names_keeps old new name (Err fault) (inl e) = rw e (refl, λ left may. may)
-flush_names_keeps old new name (Err fault) (inr e) = rw e (refl, λ left. ⊎_elim inl (λ was. absurd was))
+flush_names_keeps old new name (Err fault) (inr e) = rw e (refl, λ left may. ⊎_elim (may_now old name left) (λ was. absurd was) (may_same (names_flushed old) name left may))
 
 -- ---- what is left of a file
-
-left_flushed : (o : Option Blob) (left : Option (List ℕ)) → IsFlushed o → IsLeftOf o left → left ≡ option_map content_in o
-left_flushed None None is h = refl
-left_flushed None (Some left) is h = absurd h
-left_flushed (Some b) None is h = absurd h
-left_flushed (Some b) (Some left) is h = ap Some (left_of b.content left (rw is at h))
 
 -- what is left of the file of a name, if the names are on the disk
 left_held : (old new : Directory) (name : List ℕ) (left : Option (List ℕ)) (o : Option Blob) → IsOnDisk old name
     → Holds new name o old.older → MayBe new name left → IsLeftOf o left
-left_held old new name left o is h may = ⊎_elim (λ now. now) (λ was. absurd (rw is.named at was)) (may_held new name o old.older h left may)
+left_held old new name left o is h may = ⊎_elim (λ now. now) (λ was. absurd (rw is.named at (once_here name old.older left was))) (may_held new name o old.older h left may)
 
 -- the file that was on the disk was flushed
 was_secured : (old : Directory) (name : List ℕ) (b : Blob) → find name old.entries ≡ Some b → IsOnDisk old name → b ≡ secured b.content
@@ -391,7 +403,7 @@ now_on_disk : (f : Blob → Blob) → ((was : List ℕ) → IsFlushed (Some (f (
     → (r : Result (Unit {0}) StoreFault) → BecomesInPart (λ b c. c ≡ f b) Part old name r new
     → OnOk r (IsOnDisk old name → IsOnDisk new name)
 now_on_disk f each Part old new name (Ok done) (b, c, at, is, h) = λ on. record {
-  named = h.named ∙ on.named;
+  named = ap (older_at name) h.named ∙ on.named;
   flushed = subst (λ (o : Option Blob). IsFlushed o) (sym (h.leads_to ∙ ap Some (is ∙ ap f (was_secured old name b at on)))) (each b.content);
 }
 now_on_disk f each Part old new name (Err fault) t = tt
@@ -538,12 +550,12 @@ of_new new name bytes older h left was may =
 pub replaces_for_good : ReplacesLast
 replaces_for_good old new name bytes (Ok done) h = record {
   leaves = λ left. of_new new name bytes [] h left (λ was. absurd was);
-  outlives = record { named = h.named; flushed = rw h.leads_to refl };
+  outlives = record { named = ap (older_at name) h.named; flushed = rw h.leads_to refl };
 }
 replaces_for_good old new name bytes (Err e) (inl h) =
-    record { leaves = λ left may. inl (may_held new name (find name old.entries) old.older h left may); outlives = tt }
+    record { leaves = λ left may. inl (⊎_elim (may_now old name left) (may_once old name left) (may_held new name (find name old.entries) old.older h left may)); outlives = tt }
 replaces_for_good old new name bytes (Err e) (inr (inl h)) =
-    record { leaves = λ left. of_new new name bytes _ h left (⊎_elim (λ last. inl last.1) inr); outlives = tt }
+    record { leaves = λ left. of_new new name bytes _ h left (⊎_elim (λ last. may_now old name left last.1) (may_once old name left)); outlives = tt }
 replaces_for_good old new name bytes (Err e) (inr (inr h)) =
     record { leaves = λ left. of_new new name bytes [] h left (λ was. absurd was); outlives = tt }
 
@@ -573,7 +585,7 @@ disk_is_known is_flushed d name is = record { sure = flushed_is_sure (find name 
 -- ---- the laws
 
 pub disk_is_left : DiskIsLeft
-disk_is_left d name h = λ left may. left_kept d d name left h (record { leads_to = refl; named = refl }) may
+disk_is_left d name h = λ left may. durable_is_left (disk_at d name) left h may
 
 -- what is on the disk is known to be there, and a loss of power leaves exactly that
 pub told_lasts : (is_flushed : Bool) (d : Directory) (name : List ℕ) → IsOnDisk d name
@@ -634,7 +646,7 @@ power_leaves old name left = (
       can_make = refl;
       each = λ n. rw (find_left name n left old.entries, left_content (left_at name left old.entries n))
           (cond_both (bytes_eq n name) left (content_at old n) (λ (o : Option (List ℕ)). MayBe old n o)
-          (λ same. rw ((bytes_eq-Decides n name).0 same) may) (λ _. inl (may_arrive (find n old.entries))));
+          (λ same. rw ((bytes_eq-Decides n name).0 same) may) (λ _. may_now old n (content_at old n) (may_arrive (find n old.entries))));
       on_disk = λ n. record {
         named = refl;
         flushed = rw (find_left name n left old.entries) (left_is_flushed (left_at name left old.entries n));

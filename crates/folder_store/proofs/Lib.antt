@@ -1,3 +1,3 @@
-mod Files
+pub mod Files
 mod MailMoves
 mod MailCalls

@@ -6,15 +6,8 @@ use Rattle.std.specs.Prelude.{bytes_eq, if◌then◌else◌}
 use Rattle.mail_store.specs.declared.fault.StoreFault.{StoreFault}
 use Rattle.mail_store.specs.declared.fault.StoreFault.TheVariants.{Missing}
 use Rattle.mail_store.specs.declared.file.flat_file.Edges.{Edges}
+use Rattle.mail_store.specs.Durable.{Blob, content_in, secured}
 use Rattle.mail_store.specs.FlatFile.{edges_of, piece_at}
-
--- a file: its bytes, those that it had when it was last flushed, how many of these weren't cut off since,
--- and whether a flush of it was refused, after which nothing more of it is known to reach the disk
-pub record Blob : Type 0 where
-  pub content : List ℕ
-  pub flushed : List ℕ
-  pub uncut : ℕ
-  pub is_doubted : Bool
 
 -- a name and the file that it leads to
 pub record Entry : Type 0 where
@@ -37,9 +30,6 @@ pub record Directory : Type 0 where
 
 abbrev pub entry : List ℕ → Blob → Entry
 entry name blob = record { name = name; blob = blob }
-
-abbrev pub content_in : Blob → List ℕ
-content_in b = b.content
 
 -- the names of some files
 abbrev pub names_in : List Entry → List (List ℕ)
@@ -83,10 +73,6 @@ flushed b = record b {
 -- a file after a flush that was refused
 abbrev pub doubted : Blob → Blob
 doubted b = record b { is_doubted = true }
-
--- a file whose bytes are on the disk
-abbrev pub secured : List ℕ → Blob
-secured bytes = record { content = bytes; flushed = bytes; uncut = length bytes; is_doubted = false }
 
 -- the file made is another, or none
 abbrev pub making : Directory → Option Blob → Directory

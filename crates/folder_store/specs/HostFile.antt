@@ -2,8 +2,9 @@
 use Rattle.std.specs.Prelude.{◌≡◌, ℕ, List, [], ◌∷◌, ◌++◌, Option, Some, Result, Ok, Err, ◌⊎◌}
 use Rattle.mail_store.specs.declared.fault.StoreFault.{StoreFault}
 use Rattle.mail_store.specs.FlatFile.{Stored}
-use Rattle.folder_store.specs.FileFolder.{Directory, Blob, Older, ChangesMade, find, appended}
-use Rattle.folder_store.specs.FileFolder.{cut, doubted, flushed, names_flushed, put_in, secured}
+use Rattle.mail_store.specs.Durable.{Blob, secured}
+use Rattle.folder_store.specs.FileFolder.{Directory, Older, ChangesMade, find, appended}
+use Rattle.folder_store.specs.FileFolder.{cut, doubted, flushed, names_flushed, put_in}
 use Rattle.folder_store.specs.FileFolder.{content_at, unknown_directory}
 use Rattle.folder_store.specs.PowerLoss.{AppendsForGood, CutsForGood, ReplacesForGood}
 

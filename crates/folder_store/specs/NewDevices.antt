@@ -2,6 +2,7 @@
 use Rattle.std.specs.Prelude.{◌≡◌, ℕ, Bool, false, List, None, Option}
 use Rattle.mail_store.specs.declared.file.flat_file.FlatFile.{Ghosts as FileGhosts}
 use Rattle.mail_store.specs.declared.maildir.disk.MaildirDisk.{Ghosts as DiskGhosts}
+use Rattle.mail_store.specs.Durable.{MayLeave}
 use Rattle.mail_store.specs.Loss.{LosesPower}
 use Rattle.mail_store.specs.Maildir.{AllDurable}
 use Rattle.mail_store.specs.Power.{LeavesNoMore}
@@ -41,7 +42,7 @@ abbrev pub NewFilesLeaveNoMore : {D : Type 0} → FileGhosts D → (D → Direct
 NewFilesLeaveNoMore {D} files folder name is_flushed = (was device : D) → folder device ≡ folder was
     → name device ≡ name was
     → ((files.stored device).content ≡ (files.stored was).content)
-    × LeavesNoMore (files.may_leave was) (files.may_leave device)
+    × LeavesNoMore (MayLeave (files.disk was)) (MayLeave (files.disk device))
     × (is_flushed device ≡ false → files.is_sure was → files.is_sure device)
 
 -- a law: over a folder that a loss of power left, a device is sure, and another loss of power leaves exactly what calls
@@ -49,4 +50,4 @@ NewFilesLeaveNoMore {D} files folder name is_flushed = (was device : D) → fold
 abbrev pub LeftFilesStand : {D : Type 0} → FileGhosts D → (D → Directory) → Type 0
 LeftFilesStand {D} files folder = (old : Directory) (device : D) → Loses old (folder device)
     → files.is_sure device
-    × ((left : Option (List ℕ)) → files.may_leave device left → left ≡ (files.stored device).content)
+    × ((left : Option (List ℕ)) → MayLeave (files.disk device) left → left ≡ (files.stored device).content)

@@ -1,70 +1,37 @@
 -- What a loss of power may leave of a folder, and what each call of a device leaves to it.
-use Rattle.std.specs.Prelude.{◌≡◌, ◌↔◌, ℕ, ◌≤◌, ◌<◌, ◌/◌, List, [], ◌∷◌, ◌++◌, length, take, slice_index, Bool}
-use Rattle.std.specs.Prelude.{true, false, Option, Some, None, Result, ◌⊎◌, OnOk}
+use Rattle.std.specs.Prelude.{◌≡◌, ◌↔◌, ℕ, List, [], ◌∷◌, take, Bool, bytes_eq, if◌then◌else◌}
+use Rattle.std.specs.Prelude.{true, Option, Some, None, Result, ◌⊎◌, OnOk}
 use Rattle.mail_store.specs.declared.fault.StoreFault.{StoreFault}
+use Rattle.mail_store.specs.Durable.{Blob, Disk, IsDurable, IsLeftOf, IsSure, MayLeave, secured}
 use Rattle.mail_store.specs.Power.{LeavesEither, LeavesFronts, LeavesLonger, LeavesPart}
-use Rattle.mail_store.specs.Settling.{block_size}
-use Rattle.folder_store.specs.FileFolder.{Directory, Blob, Entry, Older, entry, find, content_at, secured}
-
--- the byte at a place and all after it in its block of the file are zeros
-abbrev pub IsZeroFrom : List ℕ → ℕ → Type 0
-IsZeroFrom left i = (j : ℕ) → i ≤ j → j < length left → j / block_size ≡ i / block_size → slice_index left j ≡ 0
-
--- the byte at a place of what is left of a file: the one in memory, the one on the disk, or zero, and then all
--- after it in its block are zeros too
-abbrev pub IsByteLeft : List ℕ → List ℕ → List ℕ → ℕ → Type 0
-IsByteLeft content flushed left i =
-    ((i < length content) × (slice_index left i ≡ slice_index content i))
-    ⊎ (((i < length flushed) × (slice_index left i ≡ slice_index flushed i))
-    ⊎ ((i < length content) × IsZeroFrom left i))
-
--- what is left of a file that reached the disk in part: the bytes that were flushed and not cut off since, and
--- others after them. It has at most as many bytes as in memory, or exactly as many as on the disk.
-pub record IsTorn (content flushed : List ℕ) (uncut : ℕ) (left : List ℕ) : Type 0 where
-  pub behind : List ℕ
-  pub kept : left ≡ take uncut content ++ behind
-  pub most : (length left ≤ length content) ⊎ (length left ≡ length flushed)
-  pub each : (i : ℕ) → uncut ≤ i → i < length left → IsByteLeft content flushed left i
+use Rattle.folder_store.specs.FileFolder.{Directory, Entry, Older, entry, find, content_at}
 
 -- the file of a name that is left with these bytes, all of them on the disk, or none
 abbrev pub left_under : List ℕ → Option (List ℕ) → List Entry
 left_under name None = []
 left_under name (Some bytes) = entry name (secured bytes) ∷ []
 
--- a loss of power may leave these bytes of a file: those on the disk, those in memory, or a part of each
-abbrev pub IsLeft : Blob → List ℕ → Type 0
-IsLeft b left = (left ≡ b.flushed) ⊎ ((left ≡ b.content) ⊎ IsTorn b.content b.flushed b.uncut left)
-
--- the same for a name: the file that it leads to, or none
-abbrev pub IsLeftOf : Option Blob → Option (List ℕ) → Type 0
-IsLeftOf (Some b) (Some left) = IsLeft b left
-IsLeftOf (Some b) None = ⊥
-IsLeftOf None (Some left) = ⊥
-IsLeftOf None None = Unit {0}
-
 -- the name led to this, since the names were last flushed
 abbrev pub WasOnce : List Older → List ℕ → Option (List ℕ) → Type 0
 WasOnce [] name left = ⊥
 WasOnce (o ∷ older) name left = ((o.name ≡ name) × IsLeftOf o.was left) ⊎ WasOnce older name left
 
+-- what a name led to, of what names led to before
+abbrev pub older_at : List ℕ → List Older → List (Option Blob)
+older_at name [] = []
+older_at name (o ∷ older) = if bytes_eq o.name name then o.was ∷ older_at name older else older_at name older
+
+-- what is durable under a name
+abbrev pub disk_at : Directory → List ℕ → Disk
+disk_at d name = record { now = find name d.entries; older = older_at name d.older }
+
 -- what a loss of power may leave under a name: the bytes of a file, or no file
 abbrev pub MayBe : Directory → List ℕ → Option (List ℕ) → Type 0
-MayBe d name left = IsLeftOf (find name d.entries) left ⊎ WasOnce d.older name left
-
--- the file, if there is one, is as it was last flushed, and no flush of it was refused
-abbrev pub IsFlushed : Option Blob → Type 0
-IsFlushed None = Unit {0}
-IsFlushed (Some b) = b ≡ secured b.content
-
--- no flush of the file was refused
-abbrev pub IsSure : Option Blob → Type 0
-IsSure None = Unit {0}
-IsSure (Some b) = b.is_doubted ≡ false
+MayBe d name left = MayLeave (disk_at d name) left
 
 -- what calls see under the name is on the disk
-pub record IsOnDisk (d : Directory) (name : List ℕ) : Type 0 where
-  pub named : d.older ≡ []
-  pub flushed : IsFlushed (find name d.entries)
+abbrev pub IsOnDisk : Directory → List ℕ → Type 0
+IsOnDisk d name = IsDurable (disk_at d name)
 
 -- the folder after a loss of power: under each name is something that may be left there, whatever is under the
 -- others, all of it is on the disk, and no file is being made

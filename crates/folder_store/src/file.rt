@@ -1,12 +1,14 @@
 //! A file in a folder of a file system.
 
 ghost use Rattle.std.specs.Prelude.{◌≡◌, ◌<◌, ◌+◌, false, OnErr, OnOk};
+ghost use Rattle.std.proofs.Common.{refl};
 ghost use Rattle.mail_terms.specs.FailureCount.{greatest_count};
 ghost use Rattle.mail_store.specs.Power.{LeavesNoMore};
 ghost use Rattle.folder_store.specs.FileFolder.{find};
 ghost use Rattle.folder_store.specs.HostFile.{FlushesAt, stored_in, unknown_file};
 ghost use Rattle.folder_store.specs.NewDevices.{LeftFilesStand, NewFilesLeaveNoMore};
-ghost use Rattle.folder_store.specs.PowerLoss.{IsKnown, IsOnDisk, IsSure, MayBe};
+ghost use Rattle.mail_store.specs.Durable.{IsSure};
+ghost use Rattle.folder_store.specs.PowerLoss.{IsKnown, IsOnDisk, MayBe, disk_at};
 
 use crate::device::FileFolder;
 use crate::host::HostFolder;
@@ -203,9 +205,7 @@ impl<'a, R: Files + Clock + AllocGlobal + Clone + Drop> HostFile<'a, HostFolder<
 impl<'a, F: FileFolder + Drop> FlatFile for HostFile<'a, F> {
     ghost stored = { λ f. stored_in (F.directory f.folder) f.name.now f.failures };
 
-    ghost may_leave = { λ f left. MayBe (F.directory f.folder) f.name.now left };
-
-    ghost is_on_disk = { λ f. IsOnDisk (F.directory f.folder) f.name.now };
+    ghost disk = { λ f. disk_at (F.directory f.folder) f.name.now };
 
     ghost is_sure = { λ f. IsKnown f.is_flushed (F.directory f.folder) f.name.now };
 
@@ -296,6 +296,8 @@ impl<'a, F: FileFolder + Drop> FlatFile for HostFile<'a, F> {
     fn failures(&self) -> u64 {
         self.failures.count()
     }
+
+    ghost shown = { λ f. refl };
 }
 
 /// A file made anew over the same folder leaves no more than the last one did; over a folder that a loss of

@@ -3,7 +3,8 @@
 ghost use Rattle.std.specs.Prelude.{◌≡◌, None, OnErr, OnOk};
 ghost use Rattle.folder_store.specs.FileFolder.{find};
 ghost use Rattle.folder_store.specs.HostFile.{AppendsFlushed, CutsFlushed, FlushesAt, PutsFlushed, ReplacesFlushed};
-ghost use Rattle.folder_store.specs.PowerLoss.{IsOnDisk, IsSure, MayBe};
+ghost use Rattle.folder_store.specs.PowerLoss.{IsOnDisk, MayBe};
+ghost use Rattle.mail_store.specs.Durable.{IsSure};
 ghost use Rattle.mail_store.specs.Power.{LeavesNoMore};
 
 use crate::device::FileFolder;

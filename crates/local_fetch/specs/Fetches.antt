@@ -1,6 +1,7 @@
 -- Calls of `fetch_local`, and what others do between them: what is promised of any list of these. Here the server's
 -- honesty is no premise: it follows from the contract of `fetch_local`.
 use Rattle.std.specs.Prelude.{◌≡◌, ℕ, true, false, List, [], ◌∷◌, ◌++◌, None}
+use Rattle.mail_store.specs.Durable.{MayLeave}
 use Rattle.std.specs.List.{AllByRecursion}
 use Rattle.mail_store.specs.declared.maildir.disk.MaildirDisk.{Ghosts as DiskGhosts}
 use Rattle.mail_store.specs.declared.file.flat_file.FlatFile.{Ghosts as FileGhosts}
@@ -92,16 +93,16 @@ KeepPromises link disk file drop mail state devices (Others left account ∷ lat
     Shows disk file devices state.account
     × Kept mail state × (Shows disk file left account → IsBetween mail state.account account
     → (KeepsDurable file mail.account state.account devices.file left.file account
-    → IsCrashSafe (file.may_leave devices.file) mail state
-    → IsCrashSafe (file.may_leave left.file) mail (state_with mail state account))
+    → IsCrashSafe (MayLeave (file.disk devices.file)) mail state
+    → IsCrashSafe (MayLeave (file.disk left.file)) mail (state_with mail state account))
     × (KeepsDurable file mail.account state.account devices.file left.file account → HoldsNoMore mail state account
     → KeepsFronts mail state (state_with mail state account))
     × KeepPromises link disk file drop mail (state_with mail state account) left later)
 KeepPromises link disk file drop mail state devices (PowerLost left account ∷ later) =
     Shows disk file devices state.account
-    × Kept mail state × (IsCrashSafe (file.may_leave devices.file) mail state
+    × Kept mail state × (IsCrashSafe (MayLeave (file.disk devices.file)) mail state
     → IsLeftByLoss disk file devices left account
-    → IsCrashSafe (file.may_leave left.file) mail (record state { account = account })
+    → IsCrashSafe (MayLeave (file.disk left.file)) mail (record state { account = account })
     × KeepsFronts mail state (record state { account = account })
     × KeepPromises link disk file drop mail (record state { account = account }) left later)
 

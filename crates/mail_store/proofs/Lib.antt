@@ -2,3 +2,4 @@ mod MaildirLemmas
 mod MboxLemmas
 mod SettlingLemmas
 mod LossLemmas
+pub mod DurableLemmas

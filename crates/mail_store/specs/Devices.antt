@@ -5,6 +5,7 @@ use Rattle.mail_store.specs.declared.fault.StoreFault.{StoreFault}
 use Rattle.mail_store.specs.declared.fault.StoreFault.TheVariants.{Refused}
 use Rattle.mail_store.specs.declared.file.flat_file.FlatFile.{Ghosts as FileGhosts}
 use Rattle.mail_store.specs.declared.maildir.disk.MaildirDisk.{Ghosts as DiskGhosts}
+use Rattle.mail_store.specs.Durable.{IsDurable, MayLeave}
 use Rattle.mail_store.specs.Fault.{is_refusal, IsDeviceFault}
 use Rattle.mail_store.specs.FlatFile.{Stored}
 use Rattle.mail_store.specs.Maildir.{Maildir}
@@ -17,20 +18,21 @@ FileDoes file Does old new = file.sound new → file.sound old × Does (file.sto
 -- a call that only reads
 abbrev pub FileReads : {F T : Type 0} → FileGhosts F → F → Result T StoreFault → F → Type 0
 FileReads file old result new = IfErr result IsDeviceFault
-    × (file.sound new → LeavesNoMore (file.may_leave old) (file.may_leave new))
+    × (file.sound new → LeavesNoMore (MayLeave (file.disk old)) (MayLeave (file.disk new)))
     × Tallies (refuses is_refusal result) (file.stored old).failures (file.stored new).failures
 
 -- a call that reads, and flushes what it reads
 abbrev pub FileFlushes : {F T : Type 0} → FileGhosts F → F → Result T StoreFault → F → Type 0
 FileFlushes file old result new = FileReads file old result new × (file.sound new → file.is_sure old
     → UnlessRefused result (file.is_sure new
-    × LastsWhole (file.stored new).content (file.is_on_disk new) (file.may_leave new)))
+    × LastsWhole (file.stored new).content (IsDurable (file.disk new)) (MayLeave (file.disk new))))
 
 -- a call that writes to a file which is there
 abbrev pub FileWrites : {F T : Type 0} → FileGhosts F → F → Result T StoreFault → F → Type 0
 FileWrites file old result new = IfErr result (λ e. e ≡ Refused)
-    × (file.sound new → file.is_sure old → file.is_on_disk old
-    → OnOk result (file.is_sure new × LastsWhole (file.stored new).content (file.is_on_disk new) (file.may_leave new)))
+    × (file.sound new → file.is_sure old → IsDurable (file.disk old)
+    → OnOk result (file.is_sure new
+    × LastsWhole (file.stored new).content (IsDurable (file.disk new)) (MayLeave (file.disk new))))
     × Tallies (refuses is_refusal result) (file.stored old).failures (file.stored new).failures
 
 -- a call did this to the Maildir

@@ -9,11 +9,13 @@ use Rattle.std.proofs.lemmas.List.Recursion.{found_at as found_first}
 use Rattle.mail_terms.specs.Distinct.{AreDistinct}
 use Rattle.test_devices.specs.declared.memory_folder.MemoryBlob.{MemoryBlob}
 use Rattle.mail_store.specs.declared.fault.StoreFault.{StoreFault}
-use Rattle.folder_store.specs.FileFolder.{Blob, Directory, Entry, names_in, find, placed, AltersInPart, changed, Older, content_in, entry, secured}
+use Rattle.mail_store.specs.Durable.{Blob, IsFlushed, IsLeft, IsLeftOf, content_in, secured}
+use Rattle.folder_store.specs.FileFolder.{Directory, Entry, names_in, find, placed, AltersInPart, changed, Older, entry}
 use Rattle.test_devices.specs.MemoryFolder.{blob_of, entry_of, entries_of, older_of, IsZeroed, MayBeOf, Survive}
 use Rattle.std.proofs.lemmas.List.Elements.{Contains-get_or}
 use Rattle.std.proofs.lemmas.List.Kept.{AllPairs-cons}
-use Rattle.folder_store.specs.PowerLoss.{IsFlushed, IsLeft, IsLeftOf, WasOnce, Loses, left_under}
+use Rattle.folder_store.specs.PowerLoss.{WasOnce, Loses, left_under}
+use Rattle.folder_store.proofs.Files.{may_now, may_once}
 
 differ : (one two : List ℕ) → (one ≡ two → ⊥) → bytes_eq one two ≡ false
 differ one two apart = false_from_ne_true (bytes_eq one two) (λ same. apart ((bytes_eq-Decides one two).0 same))
@@ -259,7 +261,10 @@ memory_loses files left was now made distinct h e =
     let found : (name : List ℕ) → Stays (map older_of was) (entries_of files) (entries_of left) name = λ name.
     survives_find (map older_of was) (entries_of files) (entries_of left) name distinct h in rw e (record {
       can_make = refl;
-      each = λ name. let s = found name in rw (s.1, left_content s.0) s.2;
+      each = λ name.
+          let s = found name in
+          let d = memory_in files was made in
+          rw (s.1, left_content s.0) (⊎_elim (may_now d name s.0) (may_once d name s.0) s.2);
       on_disk = λ name. let s = found name in record { named = refl; flushed = rw s.1 (left_is_flushed s.0) };
       made = refl;
     })

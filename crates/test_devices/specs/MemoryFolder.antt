@@ -2,8 +2,9 @@
 use Rattle.std.specs.Prelude.{◌≡◌, ◌⊎◌, ℕ, List, [], ◌∷◌, Some, map, false, None, option_map, String, string_bytes}
 use Rattle.std.specs.Prelude.{Option, ◌++◌, ◌≤◌, take, length, slice_index}
 use Rattle.test_devices.specs.declared.memory_folder.MemoryBlob.{MemoryBlob}
-use Rattle.folder_store.specs.FileFolder.{Blob, Entry, Older, entry, secured}
-use Rattle.folder_store.specs.PowerLoss.{IsLeftOf, WasOnce}
+use Rattle.mail_store.specs.Durable.{Blob, IsLeftOf, secured}
+use Rattle.folder_store.specs.FileFolder.{Entry, Older, entry}
+use Rattle.folder_store.specs.PowerLoss.{WasOnce}
 
 -- a file
 abbrev pub blob_of : MemoryBlob → Blob

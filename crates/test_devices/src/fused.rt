@@ -253,6 +253,7 @@ impl<D: MaildirDisk> MaildirDisk for Fused<D> {
 impl<D: FlatFile> FlatFile for Fused<D> {
     ghost use Rattle.std.specs.Prelude.{◌≡◌, ◌≤◌, ◌<◌, length, IfErr, IfOk, IsSome, OnOk};
     ghost use Rattle.mail_terms.specs.FailureCount.{Tallies, refuses, greatest_count};
+    ghost use Rattle.mail_store.specs.Durable.{IsDurable, MayLeave};
     ghost use Rattle.mail_store.specs.FlatFile.{Loads, Measures, ReadsAt, Appends, Cuts, Replaces, HasBytes};
     ghost use Rattle.mail_store.specs.Devices.{FileDoes, FileFlushes, FileReads, FileWrites};
     ghost use Rattle.mail_store.specs.Power.{LastsWhole, LeavesEither, LeavesFronts, LeavesLonger, LeavesPart};
@@ -261,9 +262,7 @@ impl<D: FlatFile> FlatFile for Fused<D> {
 
     ghost stored = { λ f. fused_file D.stored f };
 
-    ghost may_leave = { λ f. D.may_leave (device_of f) };
-
-    ghost is_on_disk = { λ f. D.is_on_disk (device_of f) };
+    ghost disk = { λ f. D.disk (device_of f) };
 
     ghost is_sure = { λ f. D.is_sure (device_of f) };
 
@@ -328,10 +327,10 @@ impl<D: FlatFile> FlatFile for Fused<D> {
         ensures appends { FileDoes ⟦<Fused<D> as FlatFile>⟧
             (λ old new. Appends old bytes.now result new) self.old self.new }
         ensures keeps { FusedIsSound D.sound self.new
-            → LeavesLonger (D.may_leave (device_of self.old)) (D.may_leave (device_of self.new))
-            × (LastsWhole (D.stored (device_of self.old)).content (D.is_on_disk (device_of self.old))
-            (D.may_leave (device_of self.old))
-            → LeavesPart (fused_file D.stored self.old).content bytes.now (D.may_leave (device_of self.new))) }
+            → LeavesLonger (MayLeave (D.disk (device_of self.old))) (MayLeave (D.disk (device_of self.new)))
+            × (LastsWhole (D.stored (device_of self.old)).content (IsDurable (D.disk (device_of self.old)))
+            (MayLeave (D.disk (device_of self.old)))
+            → LeavesPart (fused_file D.stored self.old).content bytes.now (MayLeave (D.disk (device_of self.new)))) }
         ensures lasts { FileWrites ⟦<Fused<D> as FlatFile>⟧ self.old result self.new }
         ensures fuse { (refusals self.old < greatest_count
             → Burns (λ d. (D.stored d).failures) self.old result self.new)
@@ -351,8 +350,8 @@ impl<D: FlatFile> FlatFile for Fused<D> {
     fn cut_to(&mut self, len: u64) -> Result<(), StoreFault>
         requires { FusedIsSound D.sound self.old → HasBytes (D.stored (device_of self.old)) len }
         ensures cuts { FileDoes ⟦<Fused<D> as FlatFile>⟧ (λ old new. Cuts old len result new) self.old self.new }
-        ensures keeps { FusedIsSound D.sound self.new → LeavesFronts len (D.may_leave (device_of self.old))
-            (D.may_leave (device_of self.new)) }
+        ensures keeps { FusedIsSound D.sound self.new → LeavesFronts len (MayLeave (D.disk (device_of self.old)))
+            (MayLeave (D.disk (device_of self.new))) }
         ensures lasts { FileWrites ⟦<Fused<D> as FlatFile>⟧ self.old result self.new }
         ensures fuse { Fuses (λ d. (D.stored d).failures) self.old result self.new }
     {
@@ -365,11 +364,11 @@ impl<D: FlatFile> FlatFile for Fused<D> {
         ensures replaces { FileDoes ⟦<Fused<D> as FlatFile>⟧
             (λ old new. Replaces old bytes.now result new) self.old self.new }
         ensures fault { IfErr result (λ e. e ≡ StoreFault.Refused) }
-        ensures leaves { FusedIsSound D.sound self.new → LeavesEither (D.may_leave (device_of self.old)) bytes.now
-            (D.may_leave (device_of self.new)) }
+        ensures leaves { FusedIsSound D.sound self.new → LeavesEither (MayLeave (D.disk (device_of self.old))) bytes.now
+            (MayLeave (D.disk (device_of self.new))) }
         ensures lasts { FusedIsSound D.sound self.new → OnOk result (D.is_sure (device_of self.new)
-            × LastsWhole (fused_file D.stored self.new).content (D.is_on_disk (device_of self.new))
-            (D.may_leave (device_of self.new))) }
+            × LastsWhole (fused_file D.stored self.new).content (IsDurable (D.disk (device_of self.new)))
+            (MayLeave (D.disk (device_of self.new)))) }
         ensures count { Tallies (refuses is_refusal result) (refusals self.old) (refusals self.new) }
         ensures fuse { (refusals self.old < greatest_count
             → Burns (λ d. (D.stored d).failures) self.old result self.new)
@@ -389,4 +388,6 @@ impl<D: FlatFile> FlatFile for Fused<D> {
     fn failures(&self) -> u64 {
         self.failures.count()
     }
+
+    ghost shown = { λ f. D.shown (device_of f) };
 }

@@ -1,6 +1,7 @@
 //! Devices that keep one file.
 
 ghost use Rattle.std.specs.Prelude.{◌≡◌, ℕ, List, Some};
+ghost use Rattle.mail_store.specs.Durable.{CrashesHappen, DurableIsLeft, IsDurable, MayLeave};
 ghost use Rattle.mail_store.specs.Power.{KeepsBytes, LastsWhole, LeavesLonger, LeavesNoMore, Outlives};
 
 use crate::fault::StoreFault;
@@ -18,21 +19,19 @@ pub struct Edges {
 
 /// A device that keeps one file, and that can refuse any call.
 pub trait FlatFile {
-    ghost use Rattle.std.specs.Prelude.{◌≡◌, ◌≤◌, ℕ, List, OnOk, Option, length, IfErr, IfOk, IsSome};
+    ghost use Rattle.std.specs.Prelude.{◌≡◌, ◌≤◌, OnOk, length, IfErr, IfOk, IsSome};
     ghost use Rattle.mail_terms.specs.FailureCount.{Tallies, refuses};
     ghost use Rattle.mail_store.specs.Fault.{is_refusal, IsDeviceFault};
+    ghost use Rattle.mail_store.specs.Durable.{Disk, IsDurable, MayLeave, seen_on};
     ghost use Rattle.mail_store.specs.FlatFile.{Stored, Loads, Measures, ReadsAt, Appends, Cuts, Replaces, HasBytes};
     ghost use Rattle.mail_store.specs.Power.{LastsWhole, LeavesEither, LeavesFronts, LeavesLonger, LeavesNoMore};
     ghost use Rattle.mail_store.specs.Power.{LeavesPart, UnlessRefused};
 
-    // What is known of the file.
+    // What calls see of the file.
     ghost stored: { Self → Stored };
 
-    // A loss of power may leave these bytes of the file, or no file.
-    ghost may_leave: { Self → Option (List ℕ) → Type 0 };
-
-    // All that calls see of the file is on the disk, and so is its name.
-    ghost is_on_disk: { Self → Type 0 };
+    // What of it is durable, and what its name led to before.
+    ghost disk: { Self → Disk };
 
     // No flush of the file was refused since it was last written whole, as far as is known.
     ghost is_sure: { Self → Type 0 };
@@ -46,10 +45,10 @@ pub trait FlatFile {
         ensures loads { sound self.new → sound self.old
             × Loads (stored self.old) result (stored self.new) }
         ensures fault { IfErr result IsDeviceFault }
-        ensures keeps { sound self.new → LeavesNoMore (may_leave self.old) (may_leave self.new) }
+        ensures keeps { sound self.new → LeavesNoMore (MayLeave (disk self.old)) (MayLeave (disk self.new)) }
         ensures lasts { sound self.new → is_sure self.old
             → UnlessRefused result (is_sure self.new
-            × LastsWhole (stored self.new).content (is_on_disk self.new) (may_leave self.new)) }
+            × LastsWhole (stored self.new).content (IsDurable (disk self.new)) (MayLeave (disk self.new))) }
         ensures count { Tallies (refuses is_refusal result) (stored self.old).failures (stored self.new).failures };
 
     /// The bytes of the file, as `load` gives them, but nothing is flushed: a loss of power may take
@@ -58,7 +57,7 @@ pub trait FlatFile {
         ensures loads { sound self.new → sound self.old
             × Loads (stored self.old) result (stored self.new) }
         ensures fault { IfErr result IsDeviceFault }
-        ensures keeps { sound self.new → LeavesNoMore (may_leave self.old) (may_leave self.new) }
+        ensures keeps { sound self.new → LeavesNoMore (MayLeave (disk self.old)) (MayLeave (disk self.new)) }
         ensures sure { sound self.new → is_sure self.old → is_sure self.new }
         ensures count { Tallies (refuses is_refusal result) (stored self.old).failures (stored self.new).failures };
 
@@ -68,10 +67,10 @@ pub trait FlatFile {
         ensures measures { sound self.new → sound self.old
             × Measures (stored self.old) result (stored self.new) }
         ensures fault { IfErr result IsDeviceFault }
-        ensures keeps { sound self.new → LeavesNoMore (may_leave self.old) (may_leave self.new) }
+        ensures keeps { sound self.new → LeavesNoMore (MayLeave (disk self.old)) (MayLeave (disk self.new)) }
         ensures lasts { sound self.new → is_sure self.old
             → UnlessRefused result (is_sure self.new
-            × LastsWhole (stored self.new).content (is_on_disk self.new) (may_leave self.new)) }
+            × LastsWhole (stored self.new).content (IsDurable (disk self.new)) (MayLeave (disk self.new))) }
         ensures count { Tallies (refuses is_refusal result) (stored self.old).failures (stored self.new).failures };
 
     /// The size and the ends of the file, as `edges` gives them, but nothing is flushed. Missing if
@@ -80,7 +79,7 @@ pub trait FlatFile {
         ensures measures { sound self.new → sound self.old
             × Measures (stored self.old) result (stored self.new) }
         ensures fault { IfErr result IsDeviceFault }
-        ensures keeps { sound self.new → LeavesNoMore (may_leave self.old) (may_leave self.new) }
+        ensures keeps { sound self.new → LeavesNoMore (MayLeave (disk self.old)) (MayLeave (disk self.new)) }
         ensures sure { sound self.new → is_sure self.old → is_sure self.new }
         ensures count { Tallies (refuses is_refusal result) (stored self.old).failures (stored self.new).failures };
 
@@ -92,10 +91,10 @@ pub trait FlatFile {
         ensures reads { sound self.new → sound self.old
             × ReadsAt (stored self.old) start result buf.new (stored self.new) }
         ensures fault { IfErr result IsDeviceFault }
-        ensures keeps { sound self.new → LeavesNoMore (may_leave self.old) (may_leave self.new) }
+        ensures keeps { sound self.new → LeavesNoMore (MayLeave (disk self.old)) (MayLeave (disk self.new)) }
         ensures lasts { sound self.new → is_sure self.old
             → UnlessRefused result (is_sure self.new
-            × LastsWhole (stored self.new).content (is_on_disk self.new) (may_leave self.new)) }
+            × LastsWhole (stored self.new).content (IsDurable (disk self.new)) (MayLeave (disk self.new))) }
         ensures count { Tallies (refuses is_refusal result) (stored self.old).failures (stored self.new).failures };
 
     /// Appends bytes to the file, which must be there, as after a good `load`, `edges` or
@@ -105,12 +104,12 @@ pub trait FlatFile {
         ensures appends { sound self.new → sound self.old
             × Appends (stored self.old) bytes.now result (stored self.new) }
         ensures fault { IfErr result (λ e. e ≡ StoreFault.Refused) }
-        ensures keeps { sound self.new → LeavesLonger (may_leave self.old) (may_leave self.new)
-            × (LastsWhole (stored self.old).content (is_on_disk self.old) (may_leave self.old)
-            → LeavesPart (stored self.old).content bytes.now (may_leave self.new)) }
-        ensures lasts { sound self.new → is_sure self.old → is_on_disk self.old
+        ensures keeps { sound self.new → LeavesLonger (MayLeave (disk self.old)) (MayLeave (disk self.new))
+            × (LastsWhole (stored self.old).content (IsDurable (disk self.old)) (MayLeave (disk self.old))
+            → LeavesPart (stored self.old).content bytes.now (MayLeave (disk self.new))) }
+        ensures lasts { sound self.new → is_sure self.old → IsDurable (disk self.old)
             → OnOk result (is_sure self.new
-            × LastsWhole (stored self.new).content (is_on_disk self.new) (may_leave self.new)) }
+            × LastsWhole (stored self.new).content (IsDurable (disk self.new)) (MayLeave (disk self.new))) }
         ensures count { Tallies (refuses is_refusal result) (stored self.old).failures (stored self.new).failures };
 
     /// Cuts the file to its first `len` bytes; it must have that many (see `edges`). The only fault
@@ -120,10 +119,10 @@ pub trait FlatFile {
         ensures cuts { sound self.new → sound self.old
             × Cuts (stored self.old) len result (stored self.new) }
         ensures fault { IfErr result (λ e. e ≡ StoreFault.Refused) }
-        ensures keeps { sound self.new → LeavesFronts len (may_leave self.old) (may_leave self.new) }
-        ensures lasts { sound self.new → is_sure self.old → is_on_disk self.old
+        ensures keeps { sound self.new → LeavesFronts len (MayLeave (disk self.old)) (MayLeave (disk self.new)) }
+        ensures lasts { sound self.new → is_sure self.old → IsDurable (disk self.old)
             → OnOk result (is_sure self.new
-            × LastsWhole (stored self.new).content (is_on_disk self.new) (may_leave self.new)) }
+            × LastsWhole (stored self.new).content (IsDurable (disk self.new)) (MayLeave (disk self.new))) }
         ensures count { Tallies (refuses is_refusal result) (stored self.old).failures (stored self.new).failures };
 
     /// Replaces the file's content by these bytes, whether or not there is a file. The only fault
@@ -132,27 +131,37 @@ pub trait FlatFile {
         ensures replaces { sound self.new → sound self.old
             × Replaces (stored self.old) bytes.now result (stored self.new) }
         ensures fault { IfErr result (λ e. e ≡ StoreFault.Refused) }
-        ensures leaves { sound self.new → LeavesEither (may_leave self.old) bytes.now (may_leave self.new) }
+        ensures leaves { sound self.new → LeavesEither (MayLeave (disk self.old)) bytes.now (MayLeave (disk self.new)) }
         ensures lasts { sound self.new
             → OnOk result (is_sure self.new
-            × LastsWhole (stored self.new).content (is_on_disk self.new) (may_leave self.new)) }
+            × LastsWhole (stored self.new).content (IsDurable (disk self.new)) (MayLeave (disk self.new))) }
         ensures count { Tallies (refuses is_refusal result) (stored self.old).failures (stored self.new).failures };
 
     /// How many calls were refused.
     fn failures(&self) -> u64
         ensures { result ≡ (stored self.now).failures };
+
+    ghost shown: { (file : Self) → seen_on (disk file) ≡ (stored file).content };
 }
+
+/// A crash leaves what calls see of a file that is durable, and can leave whatever it may.
+#[tactic(auto, using(crate::proofs::DurableLemmas::durable_is_left, crate::proofs::DurableLemmas::crashes_happen))]
+pub fn durable_files_are_left()
+    ensures durable { DurableIsLeft }
+    ensures each { CrashesHappen }
+{}
 
 /// What a loss of power would have left before some calls it would still leave after them, as long
 /// as each leaves no more, or only what is longer.
 pub fn calls_keep_bytes<F: FlatFile>()
-    ensures longer { (u v : F) → LeavesNoMore (F.may_leave u) (F.may_leave v)
-        → LeavesLonger (F.may_leave u) (F.may_leave v) }
-    ensures joined { (u v w : F) → LeavesLonger (F.may_leave u) (F.may_leave v)
-        → LeavesLonger (F.may_leave v) (F.may_leave w)
-        → LeavesLonger (F.may_leave u) (F.may_leave w) }
-    ensures bytes { (u v : F) → LeavesLonger (F.may_leave u) (F.may_leave v)
-        → KeepsBytes (F.may_leave u) (F.may_leave v) }
-    ensures whole { (u : F) (bytes : List ℕ) → LastsWhole (F.stored u).content (F.is_on_disk u) (F.may_leave u)
-        → (F.stored u).content ≡ Some bytes → Outlives (F.may_leave u) bytes }
+    ensures longer { (u v : F) → LeavesNoMore (MayLeave (F.disk u)) (MayLeave (F.disk v))
+        → LeavesLonger (MayLeave (F.disk u)) (MayLeave (F.disk v)) }
+    ensures joined { (u v w : F) → LeavesLonger (MayLeave (F.disk u)) (MayLeave (F.disk v))
+        → LeavesLonger (MayLeave (F.disk v)) (MayLeave (F.disk w))
+        → LeavesLonger (MayLeave (F.disk u)) (MayLeave (F.disk w)) }
+    ensures bytes { (u v : F) → LeavesLonger (MayLeave (F.disk u)) (MayLeave (F.disk v))
+        → KeepsBytes (MayLeave (F.disk u)) (MayLeave (F.disk v)) }
+    ensures whole { (u : F) (bytes : List ℕ)
+        → LastsWhole (F.stored u).content (IsDurable (F.disk u)) (MayLeave (F.disk u))
+        → (F.stored u).content ≡ Some bytes → Outlives (MayLeave (F.disk u)) bytes }
 {}

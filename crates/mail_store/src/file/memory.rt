@@ -62,23 +62,24 @@ impl MemoryFile {
 }
 
 impl FlatFile for MemoryFile {
-    ghost use Rattle.std.specs.Prelude.{◌≡◌, ◌≢◌, ◌≤◌, ◌<◌, length, IfOk, IsOk};
+    ghost use Rattle.std.specs.Prelude.{◌≡◌, ◌≢◌, ◌≤◌, ◌<◌, length, IfOk, IsOk, None, Some};
+    ghost use Rattle.std.proofs.Common.{refl};
     ghost use Rattle.mail_terms.specs.FailureCount.{greatest_count};
     ghost use Rattle.mail_store.specs.Devices.{FileDoes, FileFlushes, FileReads, FileWrites};
+    ghost use Rattle.mail_store.specs.Durable.{MayLeave, all_durable, seen_on};
     ghost use Rattle.mail_store.specs.FlatFile.{Measures, ReadsAt, Cuts, HasBytes};
     ghost use Rattle.mail_store.specs.Power.{LeavesFronts};
 
     ghost stored = { λ f. f };
 
-    // As long as the program runs, no loss of power reaches what is in memory.
-    ghost may_leave = { λ f left. left ≡ f.content };
-
-    ghost is_on_disk = { λ f. Unit {0} };
+    // As long as the program runs, no crash reaches what is in memory.
+    ghost disk = { λ f. all_durable f.content };
 
     ghost is_sure = { λ f. Unit {0} };
 
     ghost sound = { λ f. f.failures < greatest_count };
 
+    #[tactic(auto, using(crate::proofs::DurableLemmas::lasts_all))]
     fn load(&mut self) -> Result<Vec<u8>, StoreFault> {
         admit(&self.failures)?;
         let Some(bytes) = &self.content else {
@@ -95,6 +96,7 @@ impl FlatFile for MemoryFile {
     }
 
     // It takes no memory, so below the greatest count it isn't refused.
+    #[tactic(auto, using(crate::proofs::DurableLemmas::lasts_all))]
     fn edges(&mut self) -> Result<Edges, StoreFault>
         ensures measures { FileDoes ⟦<MemoryFile as FlatFile>⟧ (λ old new. Measures old result new) self.old self.new }
         ensures keeps { FileFlushes ⟦<MemoryFile as FlatFile>⟧ self.old result self.new }
@@ -116,6 +118,7 @@ impl FlatFile for MemoryFile {
     }
 
     // It takes no memory, so below the greatest count it isn't refused.
+    #[tactic(auto, using(crate::proofs::DurableLemmas::lasts_all))]
     fn read_at(&mut self, start: u64, buf: &mut [u8]) -> Result<usize, StoreFault>
         ensures within { IfOk result (λ count. count ≤ length buf.new) }
         ensures reads { FileDoes ⟦<MemoryFile as FlatFile>⟧
@@ -130,6 +133,7 @@ impl FlatFile for MemoryFile {
         }
     }
 
+    #[tactic(auto, using(crate::proofs::DurableLemmas::lasts_all, crate::proofs::DurableLemmas::left_all, crate::proofs::DurableLemmas::seen_left))]
     fn append(&mut self, bytes: &[u8]) -> Result<(), StoreFault> {
         admit(&self.failures)?;
         let Some(content) = &mut self.content else {
@@ -142,12 +146,12 @@ impl FlatFile for MemoryFile {
     }
 
     // It takes no memory, so below the greatest count it isn't refused.
+    #[tactic(auto, using(crate::proofs::DurableLemmas::lasts_all, crate::proofs::DurableLemmas::left_all, crate::proofs::DurableLemmas::seen_left))]
     fn cut_to(&mut self, len: u64) -> Result<(), StoreFault>
         requires { self.old.failures < greatest_count → HasBytes self.old len }
         ensures cuts { FileDoes ⟦<MemoryFile as FlatFile>⟧ (λ old new. Cuts old len result new) self.old self.new }
         ensures keeps { self.new.failures < greatest_count
-            → LeavesFronts len (⟦<MemoryFile as FlatFile>⟧.may_leave self.old)
-            (⟦<MemoryFile as FlatFile>⟧.may_leave self.new) }
+            → LeavesFronts len (MayLeave (all_durable self.old.content)) (MayLeave (all_durable self.new.content)) }
         ensures lasts { FileWrites ⟦<MemoryFile as FlatFile>⟧ self.old result self.new }
         ensures answers { self.old.failures < greatest_count → IsOk result }
     {
@@ -159,6 +163,7 @@ impl FlatFile for MemoryFile {
         Ok(())
     }
 
+    #[tactic(auto, using(crate::proofs::DurableLemmas::lasts_all, crate::proofs::DurableLemmas::left_all))]
     fn replace(&mut self, bytes: &[u8]) -> Result<(), StoreFault> {
         admit(&self.failures)?;
         match Vec::from_slice(self.alloc, bytes) {
@@ -173,4 +178,6 @@ impl FlatFile for MemoryFile {
     fn failures(&self) -> u64 {
         self.failures.count()
     }
+
+    ghost shown = { λ f. elim f.content as (λ c. seen_on (all_durable c) ≡ c) [ None ↦ refl | Some bytes ↦ refl ] };
 }

@@ -3,6 +3,7 @@
 ghost use Rattle.std.specs.Prelude.{◌≡◌, ◌≢◌, ◌↔◌, ◌≤◌, ◌+◌, ◌-◌, ◌++◌, List, ℕ, drop, length, take, IfErr, IfOk};
 ghost use Rattle.std.specs.Prelude.{IsTrue, OnOk};
 ghost use Rattle.mail_terms.specs.FailureCount.{Tallies, refuses};
+ghost use Rattle.mail_store.specs.Durable.{IsDurable, MayLeave};
 ghost use Rattle.mail_store.specs.Fault.{is_refusal};
 ghost use Rattle.mail_store.specs.FlatFile.{HasBytes, edges_of};
 ghost use Rattle.mail_terms.specs.Text.{IsWhole};
@@ -29,10 +30,10 @@ fn look_at<F: FlatFile>(file: &mut F) -> Result<Edges, StoreFault>
     ensures looks { F.sound file.new → F.sound file.old
         × Looks (F.stored file.old) result (F.stored file.new) }
     ensures fault { IfErr result (λ e. e ≢ StoreFault.NoMemory) }
-    ensures keeps { F.sound file.new → LeavesNoMore (F.may_leave file.old) (F.may_leave file.new) }
+    ensures keeps { F.sound file.new → LeavesNoMore (MayLeave (F.disk file.old)) (MayLeave (F.disk file.new)) }
     ensures lasts { F.sound file.new → F.is_sure file.old
         → OnOk result (F.is_sure file.new
-        × LastsWhole (F.stored file.new).content (F.is_on_disk file.new) (F.may_leave file.new)) }
+        × LastsWhole (F.stored file.new).content (IsDurable (F.disk file.new)) (MayLeave (F.disk file.new))) }
     ensures count { Tallies (refuses is_refusal result) (F.stored file.old).failures (F.stored file.new).failures }
 {
     let edges = file.edges()?;
@@ -49,10 +50,10 @@ pub fn check_mbox<F: FlatFile>(file: &mut F) -> Result<(), StoreFault>
     ensures checks { F.sound file.new → F.sound file.old
         × Checks (F.stored file.old) result (F.stored file.new) }
     ensures fault { IfErr result (λ e. e ≢ StoreFault.NoMemory) }
-    ensures keeps { F.sound file.new → LeavesNoMore (F.may_leave file.old) (F.may_leave file.new) }
+    ensures keeps { F.sound file.new → LeavesNoMore (MayLeave (F.disk file.old)) (MayLeave (F.disk file.new)) }
     ensures lasts { F.sound file.new → F.is_sure file.old
         → OnOk result (F.is_sure file.new
-        × LastsWhole (F.stored file.new).content (F.is_on_disk file.new) (F.may_leave file.new)) }
+        × LastsWhole (F.stored file.new).content (IsDurable (F.disk file.new)) (MayLeave (F.disk file.new))) }
     ensures count { Tallies (refuses is_refusal result) (F.stored file.old).failures (F.stored file.new).failures }
 {
     look_at(file)?;
@@ -65,7 +66,7 @@ pub fn peek_ends<F: FlatFile>(file: &mut F) -> Result<Edges, StoreFault>
     ensures looks { F.sound file.new → F.sound file.old
         × Looks (F.stored file.old) result (F.stored file.new) }
     ensures fault { IfErr result (λ e. e ≢ StoreFault.NoMemory) }
-    ensures keeps { F.sound file.new → LeavesNoMore (F.may_leave file.old) (F.may_leave file.new) }
+    ensures keeps { F.sound file.new → LeavesNoMore (MayLeave (F.disk file.old)) (MayLeave (F.disk file.new)) }
     ensures sure { F.sound file.new → F.is_sure file.old → F.is_sure file.new }
     ensures count { Tallies (refuses is_refusal result) (F.stored file.old).failures (F.stored file.new).failures }
 {
@@ -81,7 +82,7 @@ pub fn peek_mbox<F: FlatFile>(file: &mut F) -> Result<(), StoreFault>
     ensures checks { F.sound file.new → F.sound file.old
         × Checks (F.stored file.old) result (F.stored file.new) }
     ensures fault { IfErr result (λ e. e ≢ StoreFault.NoMemory) }
-    ensures keeps { F.sound file.new → LeavesNoMore (F.may_leave file.old) (F.may_leave file.new) }
+    ensures keeps { F.sound file.new → LeavesNoMore (MayLeave (F.disk file.old)) (MayLeave (F.disk file.new)) }
     ensures sure { F.sound file.new → F.is_sure file.old → F.is_sure file.new }
     ensures count { Tallies (refuses is_refusal result) (F.stored file.old).failures (F.stored file.new).failures }
 {
@@ -184,10 +185,10 @@ pub fn append_entry<F: FlatFile>(file: &mut F, text: Vec<u8>) -> Result<(), Entr
     ensures appends { F.sound file.new → F.sound file.old
         × AppendsEntry (F.stored file.old) text.items result (F.stored file.new) }
     ensures keeps { F.sound file.new
-        → KeepsWhole (F.stored file.old).content (F.may_leave file.old) (F.may_leave file.new) }
+        → KeepsWhole (F.stored file.old).content (MayLeave (F.disk file.old)) (MayLeave (F.disk file.new)) }
     ensures lasts { F.sound file.new → F.is_sure file.old
         → OnOk result (F.is_sure file.new
-        × LastsWhole (F.stored file.new).content (F.is_on_disk file.new) (F.may_leave file.new)) }
+        × LastsWhole (F.stored file.new).content (IsDurable (F.disk file.new)) (MayLeave (F.disk file.new))) }
     ensures count { TalliesEntry result (F.stored file.old).failures (F.stored file.new).failures }
 {
     let edges = look_at(file)?;

@@ -3,6 +3,7 @@
 ghost use Rattle.std.specs.Prelude.{◌≡◌, ◌≢◌, ◌==◌, ◌&&◌, ◌+◌, ◌%◌, ◌≤◌, ◌<◌, ◌^◌, ◌∷◌, ℕ, List, true, length};
 ghost use Rattle.std.specs.Prelude.{IfErr, OnOk, drop};
 ghost use Rattle.mail_terms.specs.FailureCount.{Tallies, refuses};
+ghost use Rattle.mail_store.specs.Durable.{IsDurable, MayLeave};
 ghost use Rattle.mail_store.specs.Fault.{is_refusal};
 ghost use Rattle.mail_store.specs.Mboxrd.{text_in};
 ghost use Rattle.mail_store.specs.Power.{LastsWhole, LeavesFronts, LeavesNoMore};
@@ -157,10 +158,10 @@ fn look_behind<F: FlatFile>(
     ensures looks { F.sound file.new → F.sound file.old
         × LooksBehind (F.stored file.old) start len listed result (F.stored file.new) }
     ensures fault { IfErr result (λ e. e ≢ StoreFault.NotMbox) }
-    ensures keeps { F.sound file.new → LeavesNoMore (F.may_leave file.old) (F.may_leave file.new) }
+    ensures keeps { F.sound file.new → LeavesNoMore (MayLeave (F.disk file.old)) (MayLeave (F.disk file.new)) }
     ensures lasts { F.sound file.new → F.is_sure file.old
         → OnOk result (F.is_sure file.new
-        × LastsWhole (F.stored file.new).content (F.is_on_disk file.new) (F.may_leave file.new)) }
+        × LastsWhole (F.stored file.new).content (IsDurable (F.disk file.new)) (MayLeave (F.disk file.new))) }
     ensures count { Tallies (refuses is_refusal result) (F.stored file.old).failures (F.stored file.new).failures }
 {
     let edges = file.edges()?;
@@ -198,10 +199,10 @@ pub fn settle_file<F: FlatFile>(
     ensures settles { F.sound file.new → F.sound file.old
         × SettlesFile (F.stored file.old) start len listed result (F.stored file.new) }
     ensures fault { IfErr result (λ e. e ≢ StoreFault.NotMbox) }
-    ensures keeps { F.sound file.new → LeavesFronts start (F.may_leave file.old) (F.may_leave file.new) }
+    ensures keeps { F.sound file.new → LeavesFronts start (MayLeave (F.disk file.old)) (MayLeave (F.disk file.new)) }
     ensures lasts { F.sound file.new → F.is_sure file.old
         → OnOk result (F.is_sure file.new
-        × LastsWhole (F.stored file.new).content (F.is_on_disk file.new) (F.may_leave file.new)) }
+        × LastsWhole (F.stored file.new).content (IsDurable (F.disk file.new)) (MayLeave (F.disk file.new))) }
     ensures count { Tallies (refuses is_refusal result) (F.stored file.old).failures (F.stored file.new).failures }
 {
     match look_behind(alloc, file, start, len, listed)? {

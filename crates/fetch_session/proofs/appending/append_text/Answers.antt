@@ -1,5 +1,6 @@
 use Rattle.std.proofs.Common.{inr, ◌≡◌, List, ℕ, Some, Err, length, refl, ap, ◌∙◌}
 use Rattle.std.proofs.lemmas.Result.{err_from_is_err_and}
+use Rattle.mail_store.specs.Durable.{MayLeave}
 use Rattle.mail_store.specs.FlatFile.{Stored}
 use Rattle.mail_store.specs.Mboxrd.{entry_of}
 use Rattle.mail_store.specs.Power.{KeepsWhole}
@@ -141,7 +142,7 @@ returns-in_err-intend-clause-keeps g c = λ m f. (no_more_keeps (g.F.FlatFile.st
 
 -- the mboxrd file has all its bytes still
 whole : (g : _) (c : After-append_entry g) → (m : g.F.FlatFile.sound c.append_entry.new.file) → g.F.FlatFile.sound c.edges.new.self
-    → KeepsWhole (g.F.FlatFile.stored c.args.mbox.now).content (g.F.FlatFile.may_leave c.args.mbox.now) (g.F.FlatFile.may_leave c.append_entry.new.file)
+    → KeepsWhole (g.F.FlatFile.stored c.args.mbox.now).content (MayLeave (g.F.FlatFile.disk c.args.mbox.now)) (MayLeave (g.F.FlatFile.disk c.append_entry.new.file))
 whole g c m before bytes is front =
     c.append_entry.ensures.keeps m bytes (ap (λ (s : Stored). s.content) (c.in_ok-edges.ensures.measures before).1.1 ∙ is)
     (no_more_keeps (g.F.FlatFile.stored c.args.mbox.now).content (c.edges.ensures.keeps before) bytes is front)

@@ -17,7 +17,11 @@ returns g c = record {
       (t.0, (flush_names_keeps _ _ c.args.name.now c.flush_names.result names.1).0 ∙ (flush_keeps _ _ c.args.name.now c.flush.result t.1).0);
   keeps = λ s left may.
       let names = c.flush_names.ensures s in
-      (flush_keeps _ _ _ c.flush.result (c.flush.ensures names.0).1).1 left ((flush_names_keeps _ _ _ c.flush_names.result names.1).1 left may);
+      let name = c.args.name.now in
+      let mid = g.F.FileFolder.directory c.flush.new.self in
+      let new = g.F.FileFolder.directory c.flush_names.new.self in
+      (flush_keeps (g.F.FileFolder.directory c.args.folder.now) mid name c.flush.result (c.flush.ensures names.0).1).1 left
+      ((flush_names_keeps mid new name c.flush_names.result names.1).1 left may);
   on_disk = λ s sure.
       let names = c.flush_names.ensures s in
       both_on_disk _ _ _ _ c.flush_names.result sure (c.in_ok-flush.ensures names.0).1 names.1;

@@ -18,14 +18,20 @@ returns-in-Ok-clause-appends g c = λ s.
 
 pub returns-in-Ok-clause-keeps : goal.returns-in-Ok-clause-keeps
 returns-in-Ok-clause-keeps g c = λ s.
-    let told = appends_for_good _ _ c.args.self.now.name.now _ (Ok tt) (c.in-Ok.ensures s.0).1 in
+    let old = g.F.FileFolder.directory c.args.self.now.folder in
+    let new = g.F.FileFolder.directory c.append_noting.new.folder in
+    let told = appends_for_good old new c.args.self.now.name.now _ (Ok tt) (c.in-Ok.ensures s.0).1 in
     (told.longer, λ lasts was has. told.leaves (lasts was has).0 was has)
 
 pub returns-in-Ok-clause-lasts : goal.returns-in-Ok-clause-lasts
 returns-in-Ok-clause-lasts g c = λ s known on.
-    told_lasts _ _ _ ((appends_for_good _ _ c.args.self.now.name.now c.args.bytes.now (Ok tt) (c.in-Ok.ensures s.0).1).outlives on)
+    let old = g.F.FileFolder.directory c.args.self.now.folder in
+    let new = g.F.FileFolder.directory c.append_noting.new.folder in
+    told_lasts _ _ _ ((appends_for_good old new c.args.self.now.name.now c.args.bytes.now (Ok tt) (c.in-Ok.ensures s.0).1).outlives on)
 
 pub returns-in-Err-clause-keeps : goal.returns-in-Err-clause-keeps
 returns-in-Err-clause-keeps g c = rw c.doubt.ensures.doubted (λ s.
-    let told = appends_for_good _ _ c.args.self.now.name.now _ (Err c.in-Err.field-0) (c.in-Err.ensures s.0).1 in
+    let old = g.F.FileFolder.directory c.args.self.now.folder in
+    let new = g.F.FileFolder.directory c.append_noting.new.folder in
+    let told = appends_for_good old new c.args.self.now.name.now _ (Err c.in-Err.field-0) (c.in-Err.ensures s.0).1 in
     (told.longer, λ lasts was has. told.leaves (lasts was has).0 was has))

@@ -11,7 +11,9 @@ returns-in-Err-clause-cuts g c = rw c.doubt.ensures.doubted (λ s.
 
 pub returns-in-Ok-clause-lasts : goal.returns-in-Ok-clause-lasts
 returns-in-Ok-clause-lasts g c = λ s known on.
-    told_lasts _ _ _ ((cuts_for_good _ _ c.args.self.now.name.now c.args.len (Ok tt) (c.in-Ok.ensures s.0).1).outlives on)
+    let old = g.F.FileFolder.directory c.args.self.now.folder in
+    let new = g.F.FileFolder.directory c.cut_keeping.new.folder in
+    told_lasts _ _ _ ((cuts_for_good old new c.args.self.now.name.now c.args.len (Ok tt) (c.in-Ok.ensures s.0).1).outlives on)
 
 pub returns-in-Ok-clause-keeps : goal.returns-in-Ok-clause-keeps
 returns-in-Ok-clause-keeps g c = λ s.

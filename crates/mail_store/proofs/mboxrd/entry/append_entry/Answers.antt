@@ -1,6 +1,7 @@
 use Rattle.std.proofs.Common.{◌≡◌, ◌++◌, [], inl, inr, length, sym, refl, ap, ◌∙◌, arith, length-append, append-nil, take_at}
 use Rattle.std.proofs.lemmas.Option.{same_Some}
 use Rattle.mail_store.specs.declared.file.flat_file.Edges.{Edges}
+use Rattle.mail_store.specs.Durable.{MayLeave}
 use Rattle.mail_store.specs.FlatFile.{Stored}
 use Rattle.mail_store.specs.Mboxrd.{entry_of}
 use Rattle.mail_store.specs.Power.{KeepsWhole}
@@ -49,14 +50,14 @@ returns-clause-appends g c = λ sound.
 
 -- after the cut, whether it was refused or not
 kept : (g : Over) (c : After-cut_to g) → g.F.FlatFile.sound c.cut_to.new.self
-    → KeepsWhole (g.F.FlatFile.stored c.args.file.now).content (g.F.FlatFile.may_leave c.args.file.now) (g.F.FlatFile.may_leave c.cut_to.new.self)
+    → KeepsWhole (g.F.FlatFile.stored c.args.file.now).content (MayLeave (g.F.FlatFile.disk c.args.file.now)) (MayLeave (g.F.FlatFile.disk c.cut_to.new.self))
 kept g c = λ sound bytes is outlives.
     let cuts = c.cut_to.ensures.cuts sound in
     let appends = c.in-Err.ensures.appends cuts.0 in
     let looks = c.in_ok-edges.ensures.looks appends.0 in
     let size : c.in_ok-edges.edges.size ≡ length bytes =
     ap (λ (e : Edges). e.size) looks.1.0.2 ∙ ap length (same_Some looks.1.0.0 bytes (sym looks.1.0.1.0 ∙ is)) in
-    cut_keeps (g.F.FlatFile.may_leave c.look_at.new.file) (g.F.FlatFile.may_leave c.append.new.self) (g.F.FlatFile.may_leave c.cut_to.new.self) bytes
+    cut_keeps (MayLeave (g.F.FlatFile.disk c.look_at.new.file)) (MayLeave (g.F.FlatFile.disk c.append.new.self)) (MayLeave (g.F.FlatFile.disk c.cut_to.new.self)) bytes
     (λ left may. outlives left (c.in_ok-edges.ensures.keeps appends.0 left may))
     (c.in-Err.ensures.keeps cuts.0).0
     (rw size at (c.cut_to.ensures.keeps sound))
