@@ -25,7 +25,7 @@ __attribute__((constructor)) static void read_environment(void)
     refused_growth = number ? atol(number) : -1;
 }
 
-/* Counts one growth, and tells whether it is the one to refuse. */
+/* Counts one growth, and answers whether it is the one to refuse. */
 static int is_refused(void)
 {
     if (++growths_seen != refused_growth)

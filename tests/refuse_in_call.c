@@ -45,7 +45,7 @@ ssize_t write(int descriptor, const void *bytes, size_t size)
     return next(descriptor, bytes, size);
 }
 
-/* Counts one growth of the call, and tells whether it is the one to refuse. */
+/* Counts one growth of the call, and answers whether it is the one to refuse. */
 static int is_refused(void)
 {
     if (place != WITHIN || ++growths_seen != refused_growth)

@@ -44,7 +44,7 @@ static int answers_zero(void)
     return effect && !strcmp(effect, "zero");
 }
 
-/* Counts a step, and tells what becomes of it. */
+/* Counts a step, and answers what is done with it. */
 static enum effect taken(const char *word, const char *what)
 {
     NEXT(write);

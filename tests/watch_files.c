@@ -28,7 +28,7 @@ static void write_down(const char *word, const char *outcome, const char *first,
         abort();
 }
 
-/* Counts a call of fsync or rename, and tells whether it is the one to refuse. */
+/* Counts a call of fsync or rename, and answers whether it is the one to refuse. */
 static int is_refused(void)
 {
     if (++calls_seen != refused_call)

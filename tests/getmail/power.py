@@ -83,7 +83,7 @@ SCENES += [replace(scene, name=f"{scene.name}, in blocks of {block}", block=bloc
 
 @dataclass(frozen=True)
 class Libraries:
-    """What is preloaded: the watch into the session that is cut, and into each run a clock that stands still, an hour
+    """What is preloaded: the watch into the session that is cut, and into each run a clock that doesn't move, an hour
     from now. So equal sessions leave equal states, and no run waits until the folders, just made, are at rest."""
 
     watch: Path
@@ -101,7 +101,7 @@ class Libraries:
 
 @contextlib.contextmanager
 def libraries():
-    """The libraries, and the time that the clock tells."""
+    """The libraries, and the time of the clock."""
     with preload.library("note_changes") as watch, preload.library("clock") as clock:
         (clock.parent / "clock").write_text(str(int(time.time()) + 3600))
         yield Libraries(watch, clock)

@@ -84,7 +84,7 @@ class Closed(unittest.TestCase):
         self.check_status(run, closed, words)
 
     def check_refused_message(self, closed, words):
-        """The record was appended to just before the fault is told."""
+        """The record was appended to just before the fault is reported."""
         self.server.refuses = ("RETR 3",)
         run, commands = self.run_closed(closed, *words)
         self.assertEqual((commands, self.stored()), (["RETR 1", "RETR 2", "RETR 3", "QUIT"], TEXTS[:2]))

@@ -36,7 +36,7 @@ class IdlePolls:
         self.assertEqual((run.status, run.out, run.err), (status, b"", err))
 
     def check_told(self, path, err=MISSING):
-        """A session tells that the path leads nowhere."""
+        """A session reports that the path leads nowhere."""
         path.rename(self.account.home / "aside")
         self.check_run(1, err)
         (self.account.home / "aside").rename(path)

@@ -433,7 +433,7 @@ class Demo(Copied):
     """`make demo` with the programs built, and before that, and `make`; the last two with a stand-in for `rt`."""
 
     def check_told(self, told, *parts):
-        """Each part is told, one after the other."""
+        """Each part is printed, one after the other."""
         for part in parts:
             self.assertIn(part, told)
             told = told[told.index(part) + len(part):]

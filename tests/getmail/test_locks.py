@@ -1,4 +1,4 @@
-"""The lock of an account: while one run is at work, another one ends at once. Where no lock is to be had, nothing changes."""
+"""The lock of an account: while one run is at work, another one ends at once. If no lock can be had, nothing changes."""
 
 import os
 import random

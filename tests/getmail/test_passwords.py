@@ -60,7 +60,7 @@ class Passwords(unittest.TestCase):
         return run
 
     def check_reason(self, word, answer, shown):
-        """What `--why` tells of a command that is answered so."""
+        """What `--why` writes about a command that is answered so."""
         run = self.session(word, answer, "--why")
         told = b"getmail: server refused %s\ngetmail: u@%s:%d: the server said: %s\n" % (
             word, LOOPBACK.encode(), self.server.port, shown)

@@ -1,4 +1,4 @@
-"""`--unattended`: for cron and timers. It tells what is new, once, and what goes on once a day."""
+"""`--unattended`: for cron and timers. It writes what is new, once, and what goes on once a day."""
 
 import os
 import resource
@@ -58,7 +58,7 @@ class Unattended(unittest.TestCase):
         self.assertEqual(self.told(), [])
 
     def test_an_outage(self):
-        """Its fault is told at first, once a day with since when and how often, and when it is over."""
+        """Its fault is written at first, once a day with since when and how often, and when it is over."""
         self.refuse("UIDL")
         fault = ["getmail: server refused UIDL", self.line("the server said: -ERR refused")]
         self.assertEqual(self.session(seconds=0), (1, fault))
@@ -78,7 +78,7 @@ class Unattended(unittest.TestCase):
         self.assertEqual(self.session(), (1, []))
 
     def test_faults_that_take_turns(self):
-        """Each is told once."""
+        """Each is written once."""
         for told in (True, False, False):
             for command in ("UIDL", "LIST"):
                 self.refuse(command)
@@ -90,7 +90,7 @@ class Unattended(unittest.TestCase):
         self.assertEqual(len(self.session(seconds=-HOUR)[1]), 3)
 
     def test_what_is_left_out(self):
-        """It is told when it is more."""
+        """It is written when it is more."""
         options = b"max_message_size = 5\nmax_messages_per_session = 1\n"
         self.account.rcfile.write_bytes(self.account.rcfile.read_bytes() + options)
         large = [(b"l%d" % number, b"a long message\n") for number in range(3)]
@@ -130,7 +130,7 @@ class Unattended(unittest.TestCase):
         self.assertEqual(self.run_getmail(), programs.Run(1, b"", b""))
 
     def session_with_room(self, octets):
-        """A session in which no file may be longer: the status, and how many lines it tells."""
+        """A session in which no file may be longer: the status, and how many lines it writes."""
         _, hard = resource.getrlimit(resource.RLIMIT_FSIZE)
         resource.setrlimit(resource.RLIMIT_FSIZE, (octets, hard))
         thread = self.server.begin_session()
@@ -149,7 +149,7 @@ class Unattended(unittest.TestCase):
             self.assertEqual(self.session_with_room(500), (1, lines))
 
     def test_a_disk_without_any_room(self):
-        """What can't be kept is told each time, and what was kept stays."""
+        """What can't be kept is written each time, and what was kept stays."""
         self.refuse("UIDL")
         self.session()
         path, = self.told()
@@ -171,7 +171,7 @@ class Unattended(unittest.TestCase):
         self.assertLess(path.stat().st_size, 500)
 
     def test_odd_contents(self):
-        """All is told again."""
+        """All is written again."""
         self.refuse("UIDL")
         self.session()
         path, = self.told()
@@ -220,7 +220,7 @@ class Unattended(unittest.TestCase):
         self.assertEqual(self.told(), [])
 
     def test_the_usual_runs_are_as_ever(self):
-        """They read nothing of what was told, and change nothing of it."""
+        """They neither read nor change what the others remember."""
         self.refuse("UIDL")
         self.session()
         path, = self.told()

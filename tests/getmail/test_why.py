@@ -75,7 +75,7 @@ class OfMaildirs(Sessions):
         self.check_told("seen file refused", f"{self.account.record}: Is a directory")
 
     def test_a_preview_of_a_run_that_could_store_nothing(self):
-        """It is told as the run tells it, but only if there is something to fetch."""
+        """It is written as the run writes it, but only if there is something to fetch."""
         shutil.rmtree(self.account.maildir / "tmp")
         self.check_told("destination missing", f"{self.account.maildir}/tmp: {NO_MEMBER}", "--pretend")
         self.server.messages = []
