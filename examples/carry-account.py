@@ -2,9 +2,9 @@
 """Carries an account of getmail over to another server, port or user name, so that nothing is fetched again.
 
 Without it another server (a socket in place of 127.0.0.1, a provider's new name) is another account to getmail. The record
-comes first and is written whole, then each file of new and cur gets its new name, and last the old record is put aside as
+comes first and is written whole, then each file of new and cur gets its new name, and last the old record is renamed to
 `seen-DIGEST.carried`. So it may be interrupted at any moment, and run again: it goes on. While a getmail of either account
-is at work it changes nothing.
+runs, it changes nothing.
 """
 
 import argparse

@@ -1,7 +1,7 @@
 """Makes a record of getmail out of another program's list of unique-ids, so that nothing is fetched again.
 
-The scripts from-getmail6.py, from-mpop.py and from-fetchmail.py read such lists. If one line of a list is anything else
-than it should be, nothing is written.
+The scripts from-getmail6.py, from-mpop.py and from-fetchmail.py read such lists. If one line of a list isn't as
+it should be, nothing is written.
 """
 
 import argparse

@@ -43,7 +43,7 @@ Description: POP3 fetcher and server with machine-checked proofs
  getmail fetches mail from a POP3 server into a Maildir or an mboxrd file. A
  run may be cut at any moment: no message is lost and none is stored twice.
  popd is a small POP3 server over one user's Maildir. A prover has checked the
- contracts of both; their CHANGELOG.md says what these promise.
+ contracts of both; getmail(1) and popd(8) say what is promised.
  .
  The program getmail reads the rc files of getmail6 and takes its place; both
  cannot be installed at once.
