@@ -6,7 +6,8 @@ top or in any crate; `make WORD` is a target that the Makefile names after .PHON
 a definition, a test or a man page uses. Names in capitals stand for something else (`FILE`), and those in OTHERS aren't
 names of this repository.
 
-And the man page lists the line of each fault of getmail, and the README names the kit that the sources are proved with.
+And docs/DEFINITIONS.md gives each word the file that defines it, the man page lists the line of each fault of getmail, and the
+README names the kit that the sources are proved with.
 """
 
 import re
@@ -84,6 +85,20 @@ def faults_in(document, paths, words, targets):
                     yield f"{document}:{number}: nothing is called '{name}'"
 
 
+def undefined_words():
+    """Each word of docs/DEFINITIONS.md that no file in its row defines, one for each."""
+    for number, line in enumerate((TOP / "docs/DEFINITIONS.md").read_text().splitlines(), 1):
+        if not line.startswith("| `"):
+            continue
+        words, *_, files = (re.findall(r"`([^`]+)`", cell) for cell in line.strip("| ").split("|"))
+        folder = (TOP / "crates" / files[0]).parent
+        paths = [TOP / "crates" / name if "/" in name else folder / name for name in files]
+        defined = "".join(path.read_text() for path in paths if path.exists())
+        for word in words:
+            if not re.search(rf"\b(record|pub|data|ghost|fn) {word}\b", defined):
+                yield f"docs/DEFINITIONS.md:{number}: '{word}' is not defined there"
+
+
 def told_without_help():
     """Each line of a fault that the man page doesn't list, one for each."""
     listed = re.findall(r"^\.It (.*)", (TOP / "man/getmail.1").read_text(), re.MULTILINE)
@@ -106,7 +121,7 @@ def main():
     words = words_of(paths)
     targets = set(" ".join(re.findall(r"^\.PHONY: (.*)", (TOP / "Makefile").read_text(), re.MULTILINE)).split())
     faults = [fault for document in DOCUMENTS for fault in faults_in(document, paths, words, targets)]
-    faults += [*told_without_help(), *other_kits()]
+    faults += [*undefined_words(), *told_without_help(), *other_kits()]
     for fault in faults:
         print(fault)
     if not faults:
