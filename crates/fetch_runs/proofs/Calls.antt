@@ -1,4 +1,4 @@
--- Each call of `session` is a session over accounts, and lists of calls and other events keep what is promised.
+-- Each call of `session` is a session over accounts, and lists of calls and what else happens keep what is promised.
 use Rattle.std.proofs.Common.{◌≡◌, ◌⊎◌, inl, inr, ℕ, true, List, [], ◌∷◌, ◌++◌, refl, sym, ap, subst, ◌∙◌, arith, length, ◌≤◌}
 use Rattle.mail_store.specs.Durable.{MayLeave}
 use Rattle.std.proofs.lemmas.Bool.{both_ways}
@@ -17,8 +17,8 @@ use Rattle.fetch_session.specs.Account.{digits_of}
 use Rattle.fetch_session.specs.Laws.{MboxSessions, SessionsKeepFiles}
 use Rattle.fetch_session.specs.Session.{account_files, mbox_account_files}
 use Rattle.run_law.specs.Accounts.{AccountMail, files}
-use Rattle.run_law.specs.Events.{Mail, State, state_with, Fetched, IsBetween}
-use Rattle.run_law.specs.Promises.{EventsKeepPromises, Kept, OthersLeaveKept}
+use Rattle.run_law.specs.Events.{Mail, State, state_with, IsBetween}
+use Rattle.run_law.specs.Promises.{Kept, OthersLeaveKept, SessionsKeepPromises}
 use Rattle.run_law.specs.MboxEvents.{base_from}
 use Rattle.run_law.specs.MboxPromises.{MboxSessionsAppend, MboxStarts}
 use Rattle.run_law.specs.Sessions.{Session as Stepped, SessionsAreServed}
@@ -27,7 +27,7 @@ use Rattle.fetch_runs.specs.Steps.{SessionIsAStep, MboxSessionIsAStep, holds}
 use Rattle.fetch_runs.specs.Calls.{Called, CallsAreSessions, CallsKeepPromises, EmptyAccountsAreKept, Others, PowerLost, with_left}
 use Rattle.fetch_runs.specs.Losses.{LeavesDurably}
 use Rattle.fetch_runs.specs.MboxCalls.{MboxCallsAreSessions, MboxCallsKeepPromises}
-use Rattle.fetch_runs.proofs.HeadlineLemmas.{left_or_none}
+use Rattle.fetch_runs.proofs.Copies.{left_or_none}
 use Rattle.fetch_runs.proofs.LeftRecords.{LeftLaws, leaves_durably}
 use Rattle.fetch_runs.proofs.Losses.{all_left_durable, calls_keep_order, calls_keep_safe, durable_is_safe, left_keeps_front, left_keeps_safe, losses_keep_order, losses_leave_kept, others_keep_order, others_keep_safe}
 
@@ -105,7 +105,7 @@ left_between mail state left kept taken = record {
     at_most_one (inl none) = rw none (omega arith)
     at_most_one (inr one) = rw one (omega arith)
 
-pub calls_keep_promises : AreDigits → EventsKeepPromises → OthersLeaveKept → OneRecord → SessionsAreServed → NamesHaveStems → NamesAreBases → {W D F : Type 0} (link : WireGhosts W)
+pub calls_keep_promises : AreDigits → SessionsKeepPromises → OthersLeaveKept → OneRecord → SessionsAreServed → NamesHaveStems → NamesAreBases → {W D F : Type 0} (link : WireGhosts W)
     (disk : DiskGhosts D) (file : FileGhosts F) → CallsAreSessions link disk file → CallsKeepPromises link disk file
 calls_keep_promises digits law others one served stems bases {W} {D} {F} link disk file sessions = keep
   where
@@ -123,7 +123,7 @@ calls_keep_promises digits law others one served stems bases {W} {D} {F} link di
           others mail state (record state.account { maildir = left }) kept (left_between mail state left kept taken) in
           let account = subst IsAccountText account_is
           (digits (string_bytes call.settings.server) call.settings.port (string_bytes call.settings.username)) in
-          let done = law mail (with_left mail state left) (Fetched occasion) account here session in (
+          let done = law mail (with_left mail state left) occasion account here session in (
             record {
               left = left;
               taken = taken;

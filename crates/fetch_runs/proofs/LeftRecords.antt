@@ -44,7 +44,7 @@ use Rattle.pop3_wire.specs.Link.{Link}
 use Rattle.pop3_wire.specs.Place.{Place, at}
 use Rattle.rc_file.specs.declared.settings.Settings.{Settings}
 use Rattle.run_law.specs.Accounts.{has_named}
-use Rattle.fetch_runs.specs.Losses.{IsSure, LeavesDurably}
+use Rattle.fetch_runs.specs.Losses.{RecordIsSure, LeavesDurably}
 use Rattle.fetch_runs.specs.Steps.{holds}
 use Rattle.fetch_runs.proofs.Lists.{bytes_same, same_rows}
 use Rattle.fetch_runs.proofs.StateLaw.{unready_files}
@@ -193,7 +193,7 @@ module _ (laws : LeftLaws) {D F : Type 0} (files : FileGhosts F) (device device'
   untouched : IsUntouched files from f → Answered
   untouched un could then may k id d = inr (inr (un.no_more could may))
 
-  module _ (sure : IsSure files from f) where
+  module _ (sure : RecordIsSure files from f) where
     shown_by : (had others : List Row) → Leaves files f (AreLeft had others) → ((id : List ℕ) → is_delivered had id ≡ true → is_delivered rows id ≡ true)
         → ((could : Option (List ℕ)) (id : List ℕ) → is_delivered others id ≡ true → Said could id) → Answered
     shown_by had others leaves within more could then may k id d = by (files.stored f).content refl

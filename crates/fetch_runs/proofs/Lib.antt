@@ -1,6 +1,7 @@
 mod Bridge
 mod Calls
-mod HeadlineLemmas
+mod Copies
+mod Headlines
 mod LeftRecords
 mod LegalRows
 mod Lists

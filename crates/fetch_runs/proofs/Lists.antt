@@ -1,14 +1,11 @@
 -- Filters and maps of lists, ids among others, what holds of each element, and the one record for which a file stands.
-use Rattle.std.proofs.Common.{◌≡◌, ◌⊎◌, ℕ, zero, suc, List, [], ◌∷◌, ◌++◌, Bool, true, false, map, Some, refl, arith, length, inl, inr, sym, subst, Option}
+use Rattle.std.proofs.Common.{◌≡◌, ℕ, zero, suc, List, [], ◌∷◌, ◌++◌, Bool, true, false, map, Some, refl, arith, length, inl, inr, sym, subst, Option}
 use Rattle.std.specs.Prelude.{slice_get, bytes_eq}
 use Rattle.std.specs.List.{filter, list_any, AllByRecursion}
 use Rattle.std.proofs.lemmas.Option.{same_Some}
 use Rattle.std.proofs.lemmas.Bool.{both_ways, or_cases}
 use Rattle.std.proofs.lemmas.Slice.Eq.{bytes_eq-Decides}
-use Rattle.std.proofs.Math.Logic.{⊎_elim}
 use Rattle.mail_terms.specs.UniqueId.{has_id}
-use Rattle.pop3_wire.specs.World.{Message}
-use Rattle.run_law.specs.Mails.{ids_of, texts_of}
 use Rattle.fetch_rules.specs.Record.{Row, RecordState}
 use Rattle.fetch_rules.specs.RecordGrowth.{OneRecord}
 use Rattle.fetch_session.specs.Record.{Keeps, KeepsRows}
@@ -24,10 +21,6 @@ pub at_length : {A : Type 0} (xs : List A) (y : A) (ys : List A) → slice_get (
 at_length [] y ys = refl
 at_length (x ∷ xs) y ys = at_length xs y ys
 
-pub filter-swap : {X : Type 0} (p q : X → Bool) (xs : List X) → filter p (filter q xs) ≡ filter q (filter p xs)
-filter-swap p q [] = refl
-filter-swap p q (x ∷ xs) = grind (arith, filter-swap p q xs)
-
 -- whether a list has elements
 abbrev pub is_some : {X : Type 0} → List X → Bool
 is_some [] = false
@@ -40,12 +33,6 @@ any_filter p f (x ∷ xs) = grind (arith, any_filter p f xs)
 pub all_map : {X : Type 0} (P Q : X → Type 0) → ((x : X) → P x → Q x) → (xs : List X) → AllByRecursion P xs → AllByRecursion Q xs
 all_map P Q f [] h = tt
 all_map P Q f (x ∷ xs) h = (f x h.0, all_map P Q f xs h.1)
-
--- one of them is the other, or all are the first
-pub either : {X : Type 0} (P : X → Type 0) (Q : Type 0) (xs : List X) → AllByRecursion (λ (x : X). P x ⊎ Q) xs → Q ⊎ AllByRecursion P xs
-either P Q [] all = inr tt
-either P Q (x ∷ xs) (inr other, all) = inl other
-either P Q (x ∷ xs) (inl is, all) = ⊎_elim inl (λ rest. inr (is, rest)) (either P Q xs all)
 
 pub all_mapped : {X Y : Type 0} (P : Y → Type 0) (f : X → Y) → ((x : X) → P (f x)) → (xs : List X) → AllByRecursion P (map f xs)
 all_mapped P f each [] = tt
@@ -76,10 +63,6 @@ bytes_same a b test = (bytes_eq-Decides a b).0 test
 
 pub bytes_self : (a : List ℕ) → bytes_eq a a ≡ true
 bytes_self a = (bytes_eq-Decides a a).1 refl
-
-pub has_texts : (ms : List Message) (id : List ℕ) → has_id (ids_of ms) id ≡ is_some (texts_of ms id)
-has_texts [] id = refl
-has_texts (m ∷ ms) id = grind (arith, has_texts ms id)
 
 -- what holds of each id holds of any among them
 pub all_ids_at : (P : List ℕ → Type 0) (ids : List (List ℕ)) (id : List ℕ) → AllByRecursion P ids → has_id ids id ≡ true → P id

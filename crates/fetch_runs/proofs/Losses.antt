@@ -21,8 +21,8 @@ use Rattle.run_law.specs.Mails.{ids_of}
 use Rattle.run_law.specs.Promises.{IsFront, Kept, Promises, ShowsNext}
 use Rattle.run_law.specs.Sessions.{SessionsAreServed}
 use Rattle.run_law.specs.Steps.{IsHonest, Leaves, Stores, wanted_at}
-use Rattle.fetch_runs.specs.Losses.{DurableAccountsAreSafe, DurableFrontsBegin, IsCrashSafe, IsDurableFront, IsDurableFor, IsFlushedFor, IsSure, KeepsDurable, LeavesDurably, lasts}
-use Rattle.fetch_runs.proofs.HeadlineLemmas.{fewer_copies, held_some, part_copies, reached_copies, some_held}
+use Rattle.fetch_runs.specs.Losses.{DurableAccountsAreSafe, DurableFrontsBegin, IsCrashSafe, IsDurableFront, IsDurableFor, IsFlushedFor, RecordIsSure, KeepsDurable, LeavesDurably, lasts}
+use Rattle.fetch_runs.proofs.Copies.{fewer_copies, held_some, part_copies, reached_copies, some_held}
 use Rattle.fetch_runs.proofs.LeftRecords.{all_named}
 use Rattle.fetch_runs.proofs.Lists.{all_append, all_both, all_filter, all_front, all_ids_at, all_map, bytes_same, bytes_self, same_rows}
 use Rattle.fetch_runs.proofs.LegalRows.{kept_legal}
@@ -231,7 +231,7 @@ module _ {F : Type 0} (file : FileGhosts F) (from f : F) (mail : Mail) (state : 
   lasts_call id = lasts_on mail state occasion.after id (λ named held. stays id named)
 
 pub calls_keep_safe : SessionsAreServed → {F : Type 0} (file : FileGhosts F) (from f : F) (mail : Mail) (state : State) (occasion : Occasion AccountMail) → Kept mail state
-    → IsSession mail state.account occasion → LeavesDurably file mail.account from f state.account occasion.after → IsSure file from f
+    → IsSession mail state.account occasion → LeavesDurably file mail.account from f state.account occasion.after → RecordIsSure file from f
     → IsCrashSafe (MayLeave (file.disk from)) mail state → IsCrashSafe (MayLeave (file.disk f)) mail (after_session mail state occasion)
 calls_keep_safe served file from f mail state occasion kept is leaves sure safe = record {
   flushed = flushed_after;
@@ -322,7 +322,7 @@ of_id : (P : List ℕ → Type 0) (ms : List Message) (id : List ℕ) → AllByR
 of_id P [] id all never = absurd (both_ways false refl never)
 of_id P (m ∷ ms) id all there = ⊎_elim (λ same. subst P (sym (bytes_same id m.uid same)) all.0) (of_id P ms id all.1) (or_cases _ _ there)
 
-has_append : (a b : List Message) (id : List ℕ) → has_id (ids_of (a ++ b)) id ≡ (has_id (ids_of a) id || has_id (ids_of b) id)
+pub has_append : (a b : List Message) (id : List ℕ) → has_id (ids_of (a ++ b)) id ≡ (has_id (ids_of a) id || has_id (ids_of b) id)
 has_append [] b id = refl
 has_append (m ∷ a) b id = grind (arith, has_append a b id)
 
@@ -348,6 +348,21 @@ durable_fronts_begin mail state all legal front durable = record {
 
 -- ---- what others and readers leave
 
+abbrev pub front_stays : (mail : Mail) (state : State) (after : AccountMail) (all : List Message) → IsFront mail state all
+    → ((id : List ℕ) → is_legal_id id ≡ true → is_held mail.account after.maildir id ≡ true → is_safe mail state id ≡ true) → IsFront mail (state_with mail state after) all
+front_stays mail state after all front back = record {
+  done = front.done;
+  rest = front.rest;
+  prefix = front.prefix;
+  is_done = λ id l. front.is_done id l ∙ safe_bits (is_held mail.account state.account.maildir id) (state.taken id) (is_held mail.account after.maildir id) (has_named mail.account after.maildir id) (back id l);
+}
+
+-- readers put nothing else there
+abbrev pub left_front : (mail : Mail) (state : State) (left : Maildir) → Kept mail state → WereTaken state.account.maildir left → (all : List Message) → IsFront mail state all
+    → IsFront mail (state_with mail state (record state.account { maildir = left })) all
+left_front mail state left kept taken all front =
+    front_stays mail state (record state.account { maildir = left }) all front (λ id l held. or_left _ _ (held_back mail state left kept taken id held))
+
 module _ (mail : Mail) (state : State) (after : AccountMail) (all : List Message) (legal : AreLegal all) (front : IsDurableFront mail state all)
     (back : (id : List ℕ) → is_legal_id id ≡ true → is_held mail.account after.maildir id ≡ true → is_safe mail state id ≡ true)
     (on : (id : List ℕ) → is_legal_id id ≡ true → lasts mail state id ≡ true → lasts mail (state_with mail state after) id ≡ true) where
@@ -359,12 +374,7 @@ module _ (mail : Mail) (state : State) (after : AccountMail) (all : List Message
 
   abbrev pub others_keep_front : IsDurableFront mail (state_with mail state after) all
   others_keep_front = record {
-    is = record {
-      done = front.is.done;
-      rest = front.is.rest;
-      prefix = front.is.prefix;
-      is_done = λ id l. front.is.is_done id l ∙ safe_bits (is_held mail.account state.account.maildir id) (state.taken id) (is_held mail.account after.maildir id) (has_named mail.account after.maildir id) (back id l);
-    };
+    is = front_stays mail state after all front.is back;
     first = front.first;
     last = front.last;
     done = front.done;
@@ -432,7 +442,7 @@ module _ (mail : Mail) (own : (m : Message) → names_id mail.account m.uid (mai
       )
 
   module _ {F : Type 0} (store : FileGhosts F) (from f : F) (state : State) (occasion : Occasion AccountMail) (promises : Promises mail state occasion) (leaves : LeavesDurably store mail.account from f state.account occasion.after)
-      (all : List Message) (legal : AreLegal all) (front : IsDurableFront mail state all) (next : ShowsNext occasion front.is.done front.is.rest) where
+      (all : List Message) (legal : AreLegal all) (front : IsDurableFront mail state all) (next : ShowsNext occasion.settings occasion.maildrop front.is.done front.is.rest) where
     abbrev after : State
     after = after_session mail state occasion
 

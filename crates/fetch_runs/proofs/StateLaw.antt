@@ -279,7 +279,7 @@ module _ (laws : Laws) (settings : Settings) (account : List ℕ) (now : ℕ) (m
     pub came : (n : ℕ) → n ≡ count l.full → Adds settings account (holds rows maildir) (effect_of now (is_ended result) c) n (holds l.rows' maildir')
     came n is = rw (l.files, l.tally.found, is, files_part laws (p c.items) l.full l.tally.whole) refl
 
-    -- what the law over runs takes
+    -- what the law over accounts takes
     abbrev pub figures : Counted settings account (holds rows maildir) (effect_of now (is_ended result) c) (holds l.rows' maildir')
     figures = record {
       k = count c.taken;
@@ -474,7 +474,7 @@ pub record Rests (now : ℕ) (result : Result (Unit {0}) Cut) (c : Course) (held
   pub keeps : Keeps content' held
   pub leaves : MboxLeaves (mbox_holds held mbox) (effect_of now (is_ended result) c) (mbox_holds held mbox')
 
--- ---- settling, as the session and as the law over runs has it
+-- ---- settling, as the session and as the law over accounts has it
 
 same_settled : (intent : Option Intent) (items : List Item) (bytes : List ℕ)
     → (is_stored intent items bytes ≡ Law.is_stored intent items bytes) × (closed_file intent items bytes ≡ Law.closed_file intent items bytes)
@@ -488,7 +488,7 @@ module _ (laws : Laws) (settings : Settings) (now : ℕ) (held : RecordState) (m
   MboxLeading result c mbox' content' = MboxLeads settings now held mbox result c mbox' content'
 
   module _ {result : Result (Unit {0}) Cut} {c : Course} {mbox' : Stored} {content' : Option (List ℕ)} (l : MboxLeading result c mbox' content') where
-    -- what the law over runs takes
+    -- what the law over accounts takes
     abbrev pub mbox_figures : MboxCounted settings (mbox_holds held mbox) (effect_of now (is_ended result) c) (mbox_holds (record_state (rows_after (q c.items) l.noted) l.intent') mbox')
     mbox_figures = record {
       k = count c.taken;

@@ -167,7 +167,7 @@ text_found found = found.1
 abbrev pub number_of : ℕ × Item → ℕ
 number_of message = message.0
 
--- the parts of a session that the law over runs uses
+-- the parts of a session that the law over accounts uses
 abbrev pub effect_of : ℕ → Bool → Course → Effect
 effect_of now ended course = record {
   now = now;
@@ -258,7 +258,7 @@ commanded law {done} {begun} {tail} d b t said = rw said.said (by said.sent_behi
         let all = spoken_behind done (commands_in begun ++ some.0) some.1 said.behind d (rw whole (spoken_behind begun some.0 some.1 part b (some.3, some.4))) in
         record { ahead = commands_in begun; unsaid = []; ends = some.0; unended = some.1; of_begun = sym (append-nil _); of_tail = some.2; asked = all.0; begins = inr all.1 }
 
--- ---- The replies of a conversation, as the law over runs reads them.
+-- ---- The replies of a conversation, as the law over accounts reads them.
 
 -- a turn that sends a command
 abbrev pub IsCommand : Turn → Type 0
@@ -575,7 +575,7 @@ module _ (joining : TurnsJoin) (paced : ConversationsArePaced) (items : List Ite
           ahead_cut (next ∷ later) (all_done dones talked plain each (goes_tail (tailed cut mid.place last stays.none (rw stays.place at left)))) (split ∙ simp append-nil) (stays.lines ∙ went) (λ account reply files e. absurd cc)
       ahead_stopped AsEntries small (inr (inr u)) = ahead_unsaved u.number u.uid u.reply u.none u.is u.talked small u.lines
 
--- ---- The opening of a session, as the law over runs reads it.
+-- ---- The opening of a session, as the law over accounts reads it.
 
 -- the six replies to an opening
 pub record Replied (name word : List ℕ) (welcome : List WholeReply) (counted named sized : WholeReply) : Type 0 where
@@ -617,7 +617,7 @@ pub listed : {name word : List ℕ} {old new : Place} {count : ℕ} {uids : List
     → IsListed opened.counted opened.named opened.sized items
 listed opened joins = search (opened, joins)
 
--- ---- What a session with a joined listing sent and read, as the law over runs takes it.
+-- ---- What a session with a joined listing sent and read, as the law over accounts takes it.
 
 pub record Speaks (c : Course) (name word : List ℕ) (turns : List Turn) (sent got : List ℕ) : Type 0 where
   pub more : List Command

@@ -51,12 +51,10 @@ use Rattle.fetch_session.specs.Record.{Saves, Steady}
 use Rattle.fetch_session.specs.Store.{Brings, Gained}
 use Rattle.fetch_session.specs.declared.fault.Fault.TheVariants.{SeenRefused, WriteFailed}
 use Rattle.fetch_session.specs.declared.report.Outcome.TheVariants.{Ended, Cut as WasCut}
-use Rattle.fetch_session.specs.Account.{digits_of}
-use Rattle.fetch_runs.specs.Headline.{maildrop_at}
 use Rattle.fetch_runs.specs.Fronts.{FrontsAreSessions, IsCutThere, IsLeftBetween, IsLeftWithin, Uncut, UncutSessionsDoTasks}
 use Rattle.pop3_client.specs.declared.fault.ClientFault.TheVariants as talk
 
--- ---- What each session sent and read, as the law over runs takes it.
+-- ---- What each session sent and read, as the law over accounts takes it.
 
 -- what the link gained by a course that is a prefix of the planned tasks
 pub record Dealing (settings : Settings) (target : Target) (items : List Item) (now : ℕ) (store : Stores) (file : Stored) (lines lines' : List ReportLine) (c : Course) (start : Place) (result : Result (Unit {0}) Cut) (link : Link) : Type 0 where
@@ -307,7 +305,6 @@ served_front law drop vanished link link' cut name word named worded (hello ∷ 
   marks = granted.0;
   honest = subst₂ (λ s g. Honest drop s g granted.0) (append_cancel_left link.sent _ _ (sym (append_assoc link.sent _ _) ∙ sym cut_sent ∙ sent_is))
       (append_cancel_left link.got _ _ (sym (append_assoc link.got _ _) ∙ sym cut_got ∙ got_is)) front;
-  quits = inl refl;
   marked = tt;
 }
   where
@@ -556,13 +553,5 @@ module _ (joins : TurnsJoin) (granted : HonestIsGranted) (settings : Settings) (
     found keeps (inr here) = (within keeps here, served_at (front ++ next ∷ []) back split_next (refused_at place).link cut_sent cut_got)
 
 pub fronts_are_sessions : SteadyFilesKeep → TurnsJoin → HonestIsGranted → FrontsAreSessions
-fronts_are_sessions keeps joins granted world state occasion is u front back next left split here =
-    let there = found joins granted occasion.settings (digits_of occasion.settings) occasion.now occasion.link state.account occasion.link' occasion.after
-    u is.settings.valid (maildrop_at world.all state.gone occasion) occasion.vanished is.served front back next left split keeps here in (
-      there.0,
-      λ report told. record {
-        session = record { settings = is.settings; session = there.0.session report told; served = there.1 };
-        cut = λ ended. absurd (cc (told.outcome_is, ended));
-        files = there.0.files;
-      },
-    )
+fronts_are_sessions keeps joins granted settings account now link before link' after u valid drop vanished served front back next left split here =
+    found joins granted settings account now link before link' after u valid drop vanished served front back next left split keeps here

@@ -26,7 +26,7 @@ use Rattle.run_law.specs.Events.{Mail, IsMaildrop, State, is_safe, state_with, O
 use Rattle.run_law.specs.Events.{IsBetween}
 use Rattle.run_law.specs.Promises.{Kept, Promises, ShowsNext}
 use Rattle.run_law.specs.Sessions.{Served}
-use Rattle.fetch_runs.specs.Losses.{IsCrashSafe, IsDurableFront, IsSure, KeepsDurable, KeepsFronts, LeavesDurably}
+use Rattle.fetch_runs.specs.Losses.{IsCrashSafe, IsDurableFront, RecordIsSure, KeepsDurable, KeepsFronts, LeavesDurably}
 
 -- ---- one call
 
@@ -117,10 +117,12 @@ pub record IsPromised {W D F : Type 0} (link : WireGhosts W) (disk : DiskGhosts 
   pub is : IsOccasion link call (Shows disk file call.after) occasion
   pub taken_is : occasion.after.maildir.taken ≡ left.taken
   pub promises : Promises mail (with_left mail state left) occasion
-  pub safe : IsSure file devices.file call.after.file → IsCrashSafe (MayLeave (file.disk devices.file)) mail state
-      → IsCrashSafe (MayLeave (file.disk call.after.file)) mail (after_session mail (with_left mail state left) occasion)
+  pub safe : RecordIsSure file devices.file call.after.file → IsCrashSafe (MayLeave (file.disk devices.file)) mail state
+      → IsCrashSafe (MayLeave (file.disk call.after.file)) mail
+      (after_session mail (with_left mail state left) occasion)
   pub in_order : (all : List Message) → AllByRecursion (λ (m : Message). is_legal_id m.uid ≡ true) all
-      → (front : IsDurableFront mail state all) → ShowsNext occasion front.is.done front.is.rest
+      → (front : IsDurableFront mail state all)
+      → ShowsNext occasion.settings occasion.maildrop front.is.done front.is.rest
       → IsDurableFront mail (after_session mail (with_left mail state left) occasion) all
 
 -- of the account's messages no other is held than such as were held or taken away
@@ -134,7 +136,8 @@ pub record IsLeftByLoss {D F : Type 0} (disk : DiskGhosts D) (file : FileGhosts 
     (account : AccountMail) : Type 0 where
   pub maildir : LosesPower (disk.maildir from.store) (disk.maildir left.store)
   pub record_is : MayLeave (file.disk from.file) (file.stored left.file).content
-  pub durable : (bytes : Option (List ℕ)) → MayLeave (file.disk left.file) bytes → bytes ≡ (file.stored left.file).content
+  pub durable : (bytes : Option (List ℕ)) → MayLeave (file.disk left.file) bytes
+      → bytes ≡ (file.stored left.file).content
   pub shows : Shows disk file left account
 
 -- ---- any list of calls

@@ -2,7 +2,9 @@
 use Rattle.std.specs.Prelude.{◌≡◌, ◌⊎◌, ℕ, List, [], ◌∷◌, ◌++◌, length, Ok}
 use Rattle.pop3_wire.specs.Link.{Link}
 use Rattle.pop3_wire.specs.Place.{Place, at}
+use Rattle.pop3_wire.specs.World.{Message}
 use Rattle.mail_terms.specs.Listing.{Item}
+use Rattle.rc_file.specs.Settings.{IsValid}
 use Rattle.rc_file.specs.declared.settings.Settings.{Settings}
 use Rattle.pop3_client.specs.Turns.{Turn}
 use Rattle.fetch_rules.specs.Record.{none_open, marked_all}
@@ -17,9 +19,7 @@ use Rattle.fetch_session.specs.Scene.{Scene, Went}
 use Rattle.fetch_session.specs.Session.{Enters_with, AccountFiles, Session}
 use Rattle.fetch_session.specs.Target.{AsFiles, in_maildir}
 use Rattle.fetch_session.specs.Task.{Done, files_of, ids_of, stores, tasks_of, turns_in}
-use Rattle.fetch_session.specs.Account.{digits_of}
-use Rattle.fetch_runs.specs.Headline.{HasTheSameFiles, IsSession, IsStopped, Occasion}
-use Rattle.run_law.specs.Runs.{State, World}
+use Rattle.run_law.specs.Sessions.{Served}
 
 -- what an uncut session of an account with a Maildir had ready before its first task, and the tasks that it did
 pub record Uncut (settings : Settings) (account : List ℕ) (now : ℕ) (link : Link) (before : AccountFiles) (link' : Link)
@@ -62,6 +62,11 @@ pub record IsLeftWithin (account : List ℕ) (before : AccountFiles) (ready : Sc
   pub files : left.maildir.files ≡ before.maildir.files ++ files_of account (front ++ next ∷ [])
   pub file : Steady left.file.content (none_open (marked_all ready.rows (ids_of front)))
 
+-- the same files of `new` and `cur`, and the same bytes of the record's file; all else may be another process's
+pub record HasTheSameFiles (before after : AccountFiles) : Type 0 where
+  pub files : after.maildir.files ≡ before.maildir.files
+  pub content : after.file.content ≡ before.file.content
+
 -- a session that was cut, and that sent and got only a prefix of what this one did, left these files
 pub record IsCutThere (settings : Settings) (account : List ℕ) (now : ℕ) (link : Link) (before : AccountFiles)
     (link' : Link)
@@ -77,24 +82,16 @@ pub record IsCutThere (settings : Settings) (account : List ℕ) (now : ℕ) (li
       → Reports (WasCut fault) (length items) (skips_planned settings ready.rows items now) lines report
       → Session settings account now link before report cut after
 
--- the session, cut there, with this report
-abbrev pub cut_at : Occasion AccountFiles → Link → AccountFiles → Report → Occasion AccountFiles
-cut_at occasion link after report = record occasion { report = report; link' = link; after = after; vanished = [] }
-
--- a law: at each such point of an uncut session of a run, a session was cut there and left what is there. It is one of
--- the run, too, whatever the report that tells of it
+-- a law: at each such point of an uncut session, a session was cut there and left what is there; and if an honest
+-- server answered the first one, it answered the second one too
 abbrev pub FrontsAreSessions : Type 0
-FrontsAreSessions = (world : World) (state : State AccountFiles) (occasion : Occasion AccountFiles)
-    → IsSession world state occasion
-    → (uncut : Uncut occasion.settings (digits_of occasion.settings) occasion.now occasion.link state.account
-    occasion.link' occasion.after)
+FrontsAreSessions = (settings : Settings) (account : List ℕ) (now : ℕ) (link : Link) (before : AccountFiles)
+    (link' : Link) (after : AccountFiles) (uncut : Uncut settings account now link before link' after)
+    → IsValid settings → (maildrop : List Message) (vanished : List (List ℕ))
+    → ((sent got : List ℕ) → link'.sent ≡ link.sent ++ sent
+    → link'.got ≡ link.got ++ got → Served maildrop sent got vanished)
     → (front back : List Done) (next : Done) (left : AccountFiles) → uncut.dones ≡ front ++ next ∷ back
-    → IsLeftBetween (digits_of occasion.settings) state.account uncut.ready front next left
-    ⊎ IsLeftWithin (digits_of occasion.settings) state.account uncut.ready front next left
-    → (there : IsCutThere occasion.settings (digits_of occasion.settings) occasion.now occasion.link state.account
-    occasion.link'
-    uncut.items uncut.ready left)
-    × ((report : Report) → Reports (WasCut there.fault) (length uncut.items)
-    (skips_planned occasion.settings uncut.ready.rows uncut.items occasion.now) there.lines report
-    → IsStopped (IsSession world state (cut_at occasion there.cut there.after report)) HasTheSameFiles
-    (cut_at occasion there.cut there.after report) left)
+    → IsLeftBetween account before uncut.ready front next left ⊎ IsLeftWithin account before uncut.ready front next left
+    → (there : IsCutThere settings account now link before link' uncut.items uncut.ready left)
+    × ((sent got : List ℕ) → there.cut.sent ≡ link.sent ++ sent → there.cut.got ≡ link.got ++ got
+    → Served maildrop sent got [])

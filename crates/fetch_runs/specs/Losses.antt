@@ -36,10 +36,10 @@ pub record IsCrashSafe (may_leave : Option (List ℕ) → Type 0) (mail : Mail) 
       → (id : List ℕ) → is_delivered rows id ≡ true → (is_legal_id id ≡ true) × (lasts mail state id ≡ true)
   pub gone : AllByRecursion (λ id. lasts mail state id ≡ true) state.gone
 
--- no flush of the record's file was refused before a call; and if there is no such file after it, a loss of power leaves
--- none
-abbrev pub IsSure : {F : Type 0} → FileGhosts F → F → F → Type 0
-IsSure file from f = file.is_sure from
+-- no flush of the record's file was refused before a call; and if there is no such file after it, a loss of power
+-- leaves none
+abbrev pub RecordIsSure : {F : Type 0} → FileGhosts F → F → F → Type 0
+RecordIsSure file from f = file.is_sure from
     × ((file.stored f).content ≡ None → (left : Option (List ℕ)) → MayLeave (file.disk f) left → left ≡ None)
 
 -- others leave durable what was: the names of messages that they leave, and the bytes of the account's files; and no
@@ -97,7 +97,7 @@ pub record LeavesDurably {F : Type 0} (file : FileGhosts F) (account : List ℕ)
   pub named : (came ++ last ≡ []) ⊎ AllNamed before.maildir.files
   pub shown : (id : List ℕ) → is_delivered after.rows id ≡ true
       → (is_delivered before.rows id ≡ true) ⊎ (has_named account after.maildir id ≡ true)
-  pub left : IsSure file from f → (bytes : Option (List ℕ)) (rows : List Row) (intent : Option Intent)
+  pub left : RecordIsSure file from f → (bytes : Option (List ℕ)) (rows : List Row) (intent : Option Intent)
       → MayLeave (file.disk f) bytes → FileStandsFor bytes rows intent → (id : List ℕ) → is_delivered rows id ≡ true
       → (is_delivered before.rows id ≡ true)
       ⊎ ((has_named account after.maildir id ≡ true) ⊎ MayLeave (file.disk from) bytes)

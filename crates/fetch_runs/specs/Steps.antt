@@ -1,5 +1,5 @@
--- A session of the code, as the law over runs takes it, and what holds of one session, whatever its server says or if
--- it is honest.
+-- A session of the code, as the law over accounts takes it, and what holds of one session, whatever its server says or
+-- if it is honest.
 use Rattle.std.specs.Prelude.{◌≡◌, ◌↔◌, ◌⊎◌, ◌+◌, ℕ, true, false, List, [], ◌∷◌, ◌++◌, map, length, Some, Bool}
 use Rattle.pop3_wire.specs.declared.command.Command.{Command}
 use Rattle.pop3_wire.specs.declared.command.Command.TheVariants.{User, Pass, Stat, UidlAll, ListAll}

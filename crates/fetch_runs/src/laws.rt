@@ -3,9 +3,7 @@
 ghost use Rattle.fetch_runs.specs.Calls.{CallsAreSessions, CallsKeepPromises, EmptyAccountsAreKept};
 ghost use Rattle.fetch_runs.specs.Conversations.{MboxSessionsFollowPlans, SessionsAreConversations};
 ghost use Rattle.fetch_runs.specs.Fronts.{FrontsAreSessions, UncutSessionsDoTasks};
-ghost use Rattle.fetch_runs.specs.Headline.{EmptyIsKept, Headline, HeadlineFromEmpty, HeadlineWordForWord};
-ghost use Rattle.fetch_runs.specs.Headline.{LostRecordsAreForgotten, NewProcessesAreBetween, StaysAway};
-ghost use Rattle.fetch_runs.specs.Headline.{StopsAreRuns, TakingsAreEvents};
+ghost use Rattle.fetch_runs.specs.Headline.{Headline, MboxHeadline};
 ghost use Rattle.fetch_runs.specs.Losses.{DurableAccountsAreSafe, DurableFrontsBegin};
 ghost use Rattle.fetch_runs.specs.MboxCalls.{MboxCallsAreSessions, MboxCallsKeepPromises};
 ghost use Rattle.fetch_runs.specs.Steps.{AnyServer, HonestSessions, MboxAnyServer, MboxHonestSessions};
@@ -27,11 +25,11 @@ use mail_store::{
 use pop3_client::{conversations_are_paced, turns_join};
 use pop3_wire::{Wire, fronts_are_asked};
 use run_law::{
-    counted_stores, events_keep_promises, holds_exactly, holds_what_is_left, honest_is_granted,
-    honest_sessions_append_messages, honest_sessions_bring_messages, kept_states,
-    mbox_counted_stores, mbox_sessions_append, mbox_sessions_are_safe, mbox_starts,
-    others_leave_kept, sessions_are_safe, sessions_are_served, starts_kept, stays_away,
-    worlds_shrink,
+    counted_stores, fronts_are_prefixes, honest_is_granted, honest_sessions_append_messages,
+    honest_sessions_bring_messages, mbox_counted_stores, mbox_sessions_append,
+    mbox_sessions_are_safe, mbox_starts, mbox_starts_in_order, order_shows_next, others_leave_kept,
+    sessions_are_safe, sessions_are_served, sessions_keep_promises, withdrawn_leave_fronts,
+    withdrawn_leave_mbox_prefixes,
 };
 
 /// What a link gains in a session is one conversation that follows the plan. What was sent is the
@@ -49,7 +47,7 @@ pub fn sessions_are_conversations()
     fronts_are_asked();
 }
 
-// A session is a step that the law over runs takes, with a Maildir and with an mboxrd file.
+// A session is a step that the law over accounts takes, with a Maildir and with an mboxrd file.
 #[tactic(auto, using(crate::proofs::Bridge::session_is_a_step, crate::proofs::Bridge::mbox_session_is_a_step))]
 fn sessions_are_steps()
     ensures maildir { SessionIsAStep }
@@ -71,7 +69,7 @@ fn sessions_are_steps()
     fronts_are_asked();
 }
 
-/// If the record's file stood for a record, a session is a step that the law over runs takes: its link
+/// If the record's file stood for a record, a session is a step that the law over accounts takes: its link
 /// gained a conversation that follows the plan, and it left the account as that conversation says.
 pub fn session_is_a_step()
     ensures { SessionIsAStep }
@@ -100,110 +98,21 @@ pub fn honest_sessions()
     honest_sessions_bring_messages();
 }
 
-/// Where a server's unique-ids are distinct and persistent and its mail unchanged, after any list of
-/// sessions, each cut at any reply or refused write, the Maildir holds exactly a prefix of the selected
-/// messages in maildrop order, each once, byte for byte with lines ended by LF; an uncut session leaves
-/// out only what its limits exclude; and DELE was sent only for messages held.
-///
-/// Each session has its own settings, except for the server, the port, the user name and
-/// `max_message_size`. At any moment, also during a session and during a call, a mail reader may move
-/// any file between `new` and `cur` and change its marks. Between two sessions a process may start
-/// anew; readers and other programs may do anything to files that aren't the account's; messages may be
-/// gone from the server, and one that wasn't fetched is then no longer part of its mail; a reader may
-/// take a message away, which then counts as held, and put it back; the record may be lost; and power
-/// may be lost, which takes at most the last message that was stored, if the record doesn't show it.
-pub fn headline()
-    ensures { Headline }
-{
-    worlds_shrink();
-    session_is_a_step();
-    kept_states();
-    stays_away();
-    holds_what_is_left();
-    files_stand_for_one_record();
-}
-
-/// The headline for runs in which nothing is taken away or withdrawn, without its exceptions for that.
-#[tactic(auto, using(crate::proofs::HeadlineLemmas::headline_word_for_word))]
-pub fn headline_word_for_word()
-    ensures { HeadlineWordForWord }
-{
-    headline();
-    holds_exactly();
-}
-
-/// Whichever files readers take away from a kept state, also during a session, a list of events leads
-/// from it to the state without them.
-#[tactic(auto, using(crate::proofs::HeadlineLemmas::takings_are_events))]
-pub fn takings_are_events()
-    ensures { TakingsAreEvents }
-{
-    headline();
-    stems_differ();
-}
-
-/// If each session reads only what is new and the record doesn't forget it, a message that is recorded
-/// as delivered and was taken away is never stored again.
-#[tactic(auto, using(crate::proofs::HeadlineLemmas::stays_away))]
-pub fn recorded_stay_away()
-    ensures { StaysAway }
-{
-    headline();
-}
-
-/// A record's file that is missing or empty is one that forgot, whatever it held.
-#[tactic(auto, using(crate::proofs::HeadlineLemmas::lost_records_are_forgotten))]
-pub fn lost_records_are_forgotten()
-    ensures { LostRecordsAreForgotten }
-{}
-
-/// What a new process finds, with the files as they were, is one of the things that may happen
-/// between two sessions: its counts of refusals begin at 0, it has begun no file, and folders may
-/// have been made.
-#[tactic(auto, using(crate::proofs::HeadlineLemmas::new_processes_are_between))]
-pub fn new_processes_are_between()
-    ensures { NewProcessesAreBetween }
-{}
-
-/// A stop of the program, which leaves what a session leaves if all its calls are refused from that
-/// moment on, is part of a run: a session that was cut, and then a new process.
-#[tactic(auto, using(crate::proofs::HeadlineLemmas::stops_are_runs))]
-pub fn stops_are_runs()
-    ensures { StopsAreRuns }
-{}
-
 /// An uncut session of an account with a Maildir did its tasks.
 #[tactic(auto, using(crate::proofs::TalkConversation::uncut_sessions_do_tasks))]
 pub fn uncut_sessions_do_tasks()
     ensures { UncutSessionsDoTasks }
 {}
 
-/// If a program is stopped between two tasks of an uncut session of a run, or after a text was stored
-/// and before the record shows it, the files and the record are what a session of the run leaves that
-/// was cut there. So there are such sessions as `stops_are_runs` speaks of.
+/// If a program is stopped between two tasks of an uncut session, or after a text was stored and before the
+/// record shows it, the files and the record are what a session leaves that was cut there, and whose server
+/// was honest if that of the uncut one was.
 pub fn fronts_are_sessions()
     ensures { FrontsAreSessions }
 {
     steady_files_keep();
     turns_join();
     honest_is_granted();
-}
-
-/// The headline may begin with an account that has an empty record and no file of its own.
-#[tactic(auto, using(crate::proofs::HeadlineLemmas::empty_is_kept))]
-pub fn empty_account_is_kept()
-    ensures { EmptyIsKept }
-{
-    starts_kept();
-}
-
-/// The headline from the first session on, for an account with an empty record and no file of its own.
-#[tactic(auto, using(crate::proofs::HeadlineLemmas::from_empty))]
-pub fn headline_from_empty()
-    ensures { HeadlineFromEmpty }
-{
-    headline();
-    empty_account_is_kept();
 }
 
 /// With an mboxrd file: what a link sends in a session is the first commands of a plan, perhaps the
@@ -293,12 +202,31 @@ pub fn calls_keep_promises<W: Wire, D: MaildirDisk, F: FlatFile>()
 {
     account_texts_are_digits();
     calls_are_sessions::<W, D, F>();
-    events_keep_promises();
+    sessions_keep_promises();
     others_leave_kept();
     files_stand_for_one_record();
     sessions_are_served();
     names_have_stems();
     names_are_bases();
+}
+
+/// The headline: where a server's unique-ids are distinct and persistent and its mail unchanged, after any list
+/// of calls of `session`, each cut at any reply or refused write, the Maildir holds exactly a prefix of the
+/// selected messages in maildrop order, each once, byte for byte with lines ended by LF; an uncut call leaves
+/// out only what its limits exclude; and DELE was sent only for messages held.
+///
+/// Each call has its own settings, except for the server, the port, the user name and `max_message_size`. All
+/// that `calls_keep_promises` says of readers, new processes, records that are lost and losses of power is so
+/// here too, if what readers put back was held or taken away. Messages may be gone from the server, and one
+/// that wasn't fetched is then no longer part of its mail. A loss of power takes at most the last message
+/// that was stored, and such as were taken away before and stored again.
+pub fn headline<W: Wire, D: MaildirDisk, F: FlatFile>()
+    ensures { Headline W.Wire D.MaildirDisk F.FlatFile }
+{
+    calls_keep_promises::<W, D, F>();
+    fronts_are_prefixes();
+    withdrawn_leave_fronts();
+    order_shows_next();
 }
 
 /// A kept state is safe from a loss of power if the files of the account are durable, and nothing else may be
@@ -347,4 +275,18 @@ pub fn mbox_calls_keep_promises<W: Wire, D: MaildirDisk, F: FlatFile>()
     mbox_calls_are_sessions::<W, D, F>();
     mbox_sessions_append();
     mbox_starts();
+}
+
+/// The headline for an mboxrd file: with a server that keeps its order and one limit on sizes, after any list
+/// of calls that read only what is new the file holds what it held before, followed by the entries of the
+/// first of the selected messages that weren't recorded before, each once, and by at most a prefix of the next
+/// entry.
+pub fn mbox_headline<W: Wire, D: MaildirDisk, F: FlatFile>()
+    ensures { MboxHeadline W.Wire D.MaildirDisk F.FlatFile }
+{
+    mbox_calls_are_sessions::<W, D, F>();
+    mbox_sessions_append();
+    withdrawn_leave_mbox_prefixes();
+    mbox_starts_in_order();
+    order_shows_next();
 }

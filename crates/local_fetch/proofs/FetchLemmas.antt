@@ -18,7 +18,7 @@ use Rattle.fetch_runs.specs.Calls.{Called, CallsKeepPromises, Devices, EmptyAcco
 use Rattle.fetch_runs.specs.MboxCalls.{MboxCallsKeepPromises}
 use Rattle.local_fetch.specs.Local.{loop_to}
 use Rattle.local_fetch.specs.Fetches.{Fetch, FetchesFromNothing, FetchesKeepPromises, IsFetch, MboxFetchesFromNothing}
-use Rattle.local_fetch.specs.Fetches.{MboxFetchesKeepPromises, Removes, as_call, no_entries, nothing_yet, shown_by}
+use Rattle.local_fetch.specs.Fetches.{MboxFetchesKeepPromises, ServerRemoves, as_call, no_entries, nothing_yet, shown_by}
 use Rattle.local_fetch.proofs.LocalLemmas.{served_by}
 
 -- the server has messages
@@ -29,7 +29,7 @@ messages text_of (m ∷ all) (one, each) = (record { legal = one.legal; whole = 
 module _ {M D F : Type 0} (link : WireGhosts (Loop M)) (disk : DiskGhosts D) (file : FileGhosts F) (drop : DropGhosts M)
     (history : (w : Loop M) → link.history w ≡ w.link) where
   is_call : {S : Type 0} (In : S → Store D F) (text_of : List ℕ → List ℕ) (devices : Devices S F) (fetch : Fetch M S F)
-      → IsFetch link disk file drop In text_of devices fetch → (vanished : List (List ℕ)) × Removes drop fetch vanished
+      → IsFetch link disk file drop In text_of devices fetch → (vanished : List (List ℕ)) × ServerRemoves drop fetch vanished
       × IsCall link disk file In (λ store. is_sound disk file (In store)) text_of devices (as_call drop fetch vanished)
   is_call In text_of devices fetch is =
       let s = is.fetched.served is.store_sound is.file_sound is.drop_sound (messages text_of (shown_by drop fetch.server) is.maildrop.each) in (

@@ -1,5 +1,5 @@
--- From nothing on, a call keeps what it removes from the server, and an uncut one without limits all that was there.
-use Rattle.std.proofs.Common.{◌≡◌, inl, inr, ℕ, true, false, List, [], ◌∷◌, refl, sym, subst, ◌∙◌, true≢false, arith}
+-- From nothing on, a call keeps what it removes from the server, and an uncut one all that was there, up to its limits.
+use Rattle.std.proofs.Common.{◌≡◌, ◌⊎◌, ◌<◌, inl, inr, ℕ, true, false, List, [], ◌∷◌, refl, sym, subst, ◌∙◌, true≢false}
 use Rattle.std.specs.List.{AllByRecursion, list_any}
 use Rattle.std.specs.Prelude.{bytes_eq}
 use Rattle.std.proofs.lemmas.Bool.{cases_Bool}
@@ -64,16 +64,17 @@ keep_mail link disk file drop empty law mail devices fetch no_file no_record acc
       vanished,
       removed,
       rw (← shows'.maildir, ← promised.is.vanished) (all_by safe_held o.vanished kept'.gone),
-      λ ended no_size no_count.
-          subst (AllByRecursion (λ (m : Message). copies (disk.maildir fetch.after.store).files (stem_of mail.account m.uid) ≡ m.text ∷ [])) promised.is.maildrop
+      λ ended no_size.
+          subst (AllByRecursion (λ (m : Message). (copies (disk.maildir fetch.after.store).files (stem_of mail.account m.uid) ≡ m.text ∷ [])
+          ⊎ ((0 < fetch.settings.max_count) × (fetch.report.retrieved ≡ fetch.settings.max_count)))) promised.is.maildrop
           (each (λ m of p. elim p [
             | inl safe ↦
                 let is_there = safe_held m.uid safe in
                 elim (kept'.holds m.uid of.legal) [
                   | inl none ↦ absurd (true≢false (sym is_there ∙ no_copies (stem_of mail.account m.uid) o.after.maildir.files none))
-                  | inr one ↦ rw (← shows'.maildir, of.text) one
+                  | inr one ↦ inl (rw (← shows'.maildir, of.text) one)
                 ]
             | inr (inl large) ↦ absurd (true≢false (rw (promised.is.settings, no_size) at large))
-            | inr (inr past) ↦ absurd (let never = rw (promised.is.settings, no_count) at past.limit in omega arith)
+            | inr (inr past) ↦ inr (rw promised.is.settings at past.limit, sym promised.is.retrieved ∙ rw promised.is.settings at past.full)
           ]) o.maildrop of_each (promised.promises.left_out (promised.is.ended.1 ended))),
     )

@@ -31,7 +31,7 @@ use Rattle.pop3_server.specs.Maildrop.{Mail, there}
 use Rattle.pop3_server.specs.ServerMachine.{Machine}
 use Rattle.pop3_server.specs.HonestLoop.{IsNew, GivesHonest}
 use Rattle.pop3_server.specs.LoopLink.{Loop, Serves}
-use Rattle.local_fetch.specs.Local.{AreSessions, AreWithout, IsServed, loop_to, unused}
+use Rattle.local_fetch.specs.Local.{AreWithout, IsServed, loop_to, unused}
 use Rattle.run_law.specs.Plans.{step_commands, plan_commands, IsFrontOfPlan}
 use Rattle.pop3_server.specs.HonestServer.{IsOfSession, IsAsked, AreLeft}
 
@@ -104,12 +104,13 @@ module _ {M : Type 0} (sound : M → Type 0) (mail : M → Mail) (honesty : Give
       elim all.3 [
         | inl still ↦ record {
           vanished = [];
-          served = record { marks = all.0; honest = all.1; quits = inl refl; marked = tt };
+          served = record { marks = all.0; honest = all.1; marked = tt };
+          quits = inl refl;
           left = rw (all.2.before_quit still) (all_left before);
         }
         | inr quits ↦
             let (ids, marked, left) = missing before all.0 (there (mail loop.machine.drop).slots) all.2.left in
-            record { vanished = ids; served = record { marks = all.0; honest = all.1; quits = inr quits; marked = marked }; left = left }
+            record { vanished = ids; served = record { marks = all.0; honest = all.1; marked = marked }; quits = inr quits; left = left }
       ]
 
   pub fetches : SessionsAreConversations → (settings : Settings) (account : List ℕ) (now : ℕ) (server : Machine M) (loop : Loop M) (before : AccountFiles) (report : Report) (after : AccountFiles)
@@ -135,9 +136,3 @@ module _ {M : Type 0} (sound : M → Type 0) (mail : M → Mail) (honesty : Give
 pub served_by : (link : Link) {was drop : List Message} {vanished : List (List ℕ)} → was ≡ drop → Served was link.sent link.got vanished
     → (sent got : List ℕ) → link.sent ≡ sent → link.got ≡ got → Served drop sent got vanished
 served_by link same served sent got sent_is got_is = rw (← same, ← sent_is, ← got_is) served
-
--- ---- such sessions are those of the headlines
-
-pub are_sessions : {M : Type 0} (mail : M → Mail) → AreSessions mail
-are_sessions mail world state settings now come old new link report after are session is drop =
-    record { settings = are; session = session; served = served_by link drop is.served }

@@ -1,6 +1,6 @@
 -- Calls of `fetch_local`, and what others do between them: what is promised of any list of these. Here the server's
 -- honesty is no premise: it follows from the contract of `fetch_local`.
-use Rattle.std.specs.Prelude.{◌≡◌, ℕ, true, false, List, [], ◌∷◌, ◌++◌, None}
+use Rattle.std.specs.Prelude.{◌≡◌, ◌⊎◌, ◌<◌, ℕ, true, false, List, [], ◌∷◌, ◌++◌, None}
 use Rattle.mail_store.specs.Durable.{MayLeave}
 use Rattle.std.specs.List.{AllByRecursion}
 use Rattle.mail_store.specs.declared.maildir.disk.MaildirDisk.{Ghosts as DiskGhosts}
@@ -72,8 +72,8 @@ pub record IsFetch {M D F S : Type 0} (link : WireGhosts (Loop M)) (disk : DiskG
   pub drop_sound : drop.sound fetch.wire.machine.drop
 
 -- the server has its messages afterwards, but for those with these ids
-abbrev pub Removes : {M S F : Type 0} → DropGhosts M → Fetch M S F → List (List ℕ) → Type 0
-Removes drop fetch vanished = AreWithout (shown_by drop fetch.server) vanished (shown_by drop fetch.wire.machine)
+abbrev pub ServerRemoves : {M S F : Type 0} → DropGhosts M → Fetch M S F → List (List ℕ) → Type 0
+ServerRemoves drop fetch vanished = AreWithout (shown_by drop fetch.server) vanished (shown_by drop fetch.wire.machine)
 
 -- ---- with a Maildir
 
@@ -85,7 +85,7 @@ KeepPromises link disk file drop mail state devices [] = Shows disk file devices
 KeepPromises link disk file drop mail state devices (Called fetch ∷ later) = Shows disk file devices state.account
     × Kept mail state × (digits_of fetch.settings ≡ mail.account
     → IsFetch link disk file drop InMaildir mail.text devices fetch
-    → (vanished : List (List ℕ)) × Removes drop fetch vanished
+    → (vanished : List (List ℕ)) × ServerRemoves drop fetch vanished
     × (is : IsPromised link disk file mail state devices (as_call drop fetch vanished))
     × KeepPromises link disk file drop mail (after_session mail (with_left mail state is.left) is.occasion) fetch.after
     later)
@@ -126,17 +126,19 @@ FetchesFromNothing {M} {D} {F} link disk file drop = (mail : Mail) (devices : De
     → KeepPromises link disk file drop mail (nothing_yet (disk.maildir devices.store)) devices list
 
 -- a law: from a Maildir without files and no record on, each message that a call removed from its server is held; and
--- if the call is uncut and has no limits, each message that the server had is in one file, with its text
+-- if the call is uncut and has no limit on sizes, each message that the server had is in one file, with its text,
+-- unless as many were retrieved as the limit on their number says
 abbrev pub FirstFetchesKeepMail : {M D F : Type 0} → WireGhosts (Loop M) → DiskGhosts D → FileGhosts F → DropGhosts M
     → Type 0
 FirstFetchesKeepMail {M} {D} {F} link disk file drop = (mail : Mail) (devices : Devices D F)
     (fetch : Fetch M D F) → (disk.maildir devices.store).files ≡ [] → (file.stored devices.file).content ≡ None
     → digits_of fetch.settings ≡ mail.account → IsFetch link disk file drop InMaildir mail.text devices fetch
-    → (vanished : List (List ℕ)) × Removes drop fetch vanished
+    → (vanished : List (List ℕ)) × ServerRemoves drop fetch vanished
     × AllByRecursion (λ id. is_held mail.account (disk.maildir fetch.after.store) id ≡ true) vanished
-    × (fetch.report.outcome ≡ Ended → fetch.settings.max_size ≡ 0 → fetch.settings.max_count ≡ 0
-    → AllByRecursion (λ (m : Message). copies (disk.maildir fetch.after.store).files (stem_of mail.account m.uid)
-    ≡ m.text ∷ []) (shown_by drop fetch.server))
+    × (fetch.report.outcome ≡ Ended → fetch.settings.max_size ≡ 0 → AllByRecursion (λ (m : Message).
+    (copies (disk.maildir fetch.after.store).files (stem_of mail.account m.uid) ≡ m.text ∷ [])
+    ⊎ ((0 < fetch.settings.max_count) × (fetch.report.retrieved ≡ fetch.settings.max_count)))
+    (shown_by drop fetch.server))
 
 -- ---- with an mboxrd file
 
@@ -150,7 +152,7 @@ KeepMboxPromises link disk file drop base done account devices [] =
 KeepMboxPromises link disk file drop base done account devices (Called fetch ∷ later) =
     ShowsMbox file devices account × HoldsEntries base done account × (fetch.settings.read_all ≡ false
     → IsFetch link disk file drop InMbox base.text devices fetch
-    → (vanished : List (List ℕ)) × Removes drop fetch vanished
+    → (vanished : List (List ℕ)) × ServerRemoves drop fetch vanished
     × (holds : HoldsEntries base done account) × (occasion : Occasion MboxMail)
     × IsOccasion link (as_call drop fetch vanished) (ShowsMbox file fetch.after) occasion
     × (appends : Appends base holds occasion)

@@ -1,7 +1,6 @@
 //! Laws over what sessions over a server in memory did.
 ghost use Rattle.local_fetch.specs.Fetches.{FetchesFromNothing, FetchesKeepPromises, FirstFetchesKeepMail};
 ghost use Rattle.local_fetch.specs.Fetches.{MboxFetchesFromNothing, MboxFetchesKeepPromises};
-ghost use Rattle.local_fetch.specs.Local.{AreSessions};
 
 use crate::loop_wire::LoopWire;
 use fetch_runs::{calls_keep_promises, empty_accounts_are_kept, mbox_calls_keep_promises};
@@ -12,13 +11,6 @@ use pop3_wire::Wire;
 use run_law::mbox_starts;
 use test_devices::{MemoryFolder, MemoryFolders};
 
-/// A law: over the maildrop of a world, what [`fetch_local`](crate::fetch_local) did is one of the
-/// sessions that the headline is about.
-#[tactic(auto, using(crate::proofs::LocalLemmas::are_sessions))]
-pub fn local_sessions_are_sessions<M: Maildrop>()
-    ensures { AreSessions M.mail }
-{}
-
 /// A law: all that `calls_keep_promises` promises holds of any list of calls of
 /// [`fetch_local`](crate::fetch_local). That their servers are honest is no premise.
 pub fn fetches_keep_promises<M: Maildrop, D: MaildirDisk, F: FlatFile>()
@@ -28,8 +20,8 @@ pub fn fetches_keep_promises<M: Maildrop, D: MaildirDisk, F: FlatFile>()
 }
 
 /// What the promises come to, for the first call of an account with a Maildir: each message that is no longer on
-/// the server is held; and if the call is uncut and has no limits, each message that the server had is in one
-/// file, with its text.
+/// the server is held; and if the call is uncut and has no limit on sizes, each message that the server had is in
+/// one file, with its text, unless as many were retrieved as the limit on their number says.
 pub fn first_fetches_keep_mail<M: Maildrop, D: MaildirDisk, F: FlatFile>()
     ensures { FirstFetchesKeepMail ⟦<LoopWire<M> as Wire>⟧ D.MaildirDisk F.FlatFile M.Maildrop }
 {

@@ -8,7 +8,6 @@ mod loop_wire;
 pub use fetch::fetch_local;
 pub use laws::{
     fetch_in_folders, fetch_in_memory, fetches_keep_promises, first_fetches_keep_mail,
-    local_sessions_are_sessions, mbox_fetch_in_folders, mbox_fetch_in_memory,
-    mbox_fetches_keep_promises,
+    mbox_fetch_in_folders, mbox_fetch_in_memory, mbox_fetches_keep_promises,
 };
 pub use loop_wire::LoopWire;

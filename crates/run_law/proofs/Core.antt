@@ -1,10 +1,10 @@
 -- Which messages are wanted, and that a session fetches the next of the selected ones if a prefix of them is done. Stores don't come in here.
-use Rattle.std.proofs.Common.{◌≡◌, ◌≤◌, ◌<◌, ◌+◌, ◌-◌, ℕ, zero, suc, List, [], ◌∷◌, ◌++◌, Bool, not, ◌&&◌, ◌||◌, ◌==◌, length, take, drop, map, refl, sym, ◌∙◌, ap, arith, append_assoc, take-append-drop, length-take, length-append, Some, slice_get, ◌⊎◌, inl, inr, true, false, None}
+use Rattle.std.proofs.Common.{◌≡◌, ◌≤◌, ◌<◌, ◌+◌, ◌-◌, ℕ, zero, suc, List, [], ◌∷◌, ◌++◌, Bool, not, ◌&&◌, ◌==◌, length, take, drop, map, refl, sym, ◌∙◌, ap, arith, append_assoc, take-append-drop, length-take, length-append, Some, slice_get, ◌⊎◌, inl, inr, true, false, None}
 use Rattle.std.specs.Prelude.{bytes_eq, if◌then◌else◌, nat_le, zip}
 use Rattle.std.specs.List.{filter, enumerate_from, AllByRecursion}
 use Rattle.std.proofs.lemmas.Bool.{both_ways, cond_both, or_left, or_right, cases_Bool, false_from_ne_true}
 use Rattle.std.proofs.lemmas.Bool.Decides.{nat_tests}
-use Rattle.std.proofs.lemmas.List.{map-append, take-map, drop-map, append-nil, take_all, length-map}
+use Rattle.std.proofs.lemmas.List.{map-append, take-map, append-nil, take_all, length-map}
 use Rattle.std.proofs.lemmas.List.Elements.{recursion_from_All, filter-append}
 use Rattle.std.proofs.lemmas.List.FromFn.{length-enumerate_from, get_or-enumerate_from}
 use Rattle.std.proofs.lemmas.Option.{same_Some, slice_get-get_or}
@@ -17,10 +17,10 @@ use Rattle.rc_file.specs.declared.settings.Settings.{Settings}
 use Rattle.mail_store.specs.Maildir.{File, Maildir}
 use Rattle.mail_store.specs.FileName.{is_held, mail_file}
 use Rattle.mail_terms.specs.UniqueId.{has_id, is_legal_id}
-use Rattle.run_law.specs.Mails.{ids_of, item_of, listing_of, is_selected, selected, texts_of, without, WorldsShrink}
+use Rattle.run_law.specs.Mails.{ids_of, item_of, listing_of, is_selected, selected, without}
 use Rattle.run_law.specs.Steps.{CanEnd, AreTexts, file_for, is_unheld, Effect, IsHonest, ids_wanted, Stores}
 use Rattle.run_law.specs.Promises.{may_fetch, IsPastCount}
-use Rattle.run_law.proofs.Ids.{filter-map, filter-swap, any-map, all_map, all_take, all_filter, Distinct, are_distinct, front_is, filter-filter, filter_all, all_both, all_passing, all_parts, distinct_is, distinct_take, distinct_filter, ids_both, all_at, all_ids_at, bytes_self, bytes_same, members, other_id, each_text, whole_part}
+use Rattle.run_law.proofs.Ids.{filter-map, filter-swap, any-map, all_map, all_take, all_filter, Distinct, are_distinct, front_is, filter-filter, filter_all, all_both, all_passing, all_parts, distinct_is, distinct_take, distinct_filter, ids_both, all_at, all_ids_at, bytes_self, bytes_same, members, other_id}
 use Rattle.mail_store.specs.Held.{flags_of}
 use Rattle.run_law.specs.Accounts.{AccountMail, without_flags}
 use Rattle.run_law.specs.Mboxes.{MboxCanEnd, MboxMail, settled, none_held, MboxStores}
@@ -171,10 +171,7 @@ bridge fit left (x ∷ xs) (m ∷ ms) later rest d e h = elim (cases_Bool (fit m
 abbrev pub IsLegal : Message → Type 0
 IsLegal m = is_legal_id m.uid ≡ true
 
-pub legal_here : {all : List Message} (come : ℕ) (gone : List (List ℕ)) → IsWorld all → AllByRecursion IsLegal (maildrop_of all come gone)
-legal_here {all} come gone mail = all_filter _ _ (take come all) (all_take _ come all (all_map all mail.messages (λ m h. h.legal)))
-
--- they have distinct and legal ids, and all the texts of these
+-- they have distinct and legal ids
 module _ (limit : ℕ) {all : List Message} (done rest : List Message) (mail : IsWorld all) (prefix : selected limit all ≡ done ++ rest) where
   pub done_distinct : Distinct (ids_of done)
   done_distinct = rw (← front_is done rest prefix) (distinct_take (length done) (selected limit all) (distinct_filter (is_selected limit) all (distinct_is all mail.distinct)))
@@ -182,16 +179,7 @@ module _ (limit : ℕ) {all : List Message} (done rest : List Message) (mail : I
   pub done_legal : (id : List ℕ) → has_id (ids_of done) id ≡ true → is_legal_id id ≡ true
   done_legal id = all_at (λ x. is_legal_id x ≡ true) done (all_parts _ done _ (rw prefix at (all_filter _ (is_selected limit) _ (all_map _ mail.messages (λ m h. h.legal))))).0
 
-  pub done_texts : (id : List ℕ) → has_id (ids_of done) id ≡ true → texts_of done id ≡ texts_of all id
-  done_texts id = whole_part done all id done_distinct (all_parts _ done _ (rw prefix at (all_filter _ (is_selected limit) _ (each_text all (distinct_is all mail.distinct))))).0
-
 -- ---- messages that are withdrawn
-
-pub worlds_shrink : WorldsShrink
-worlds_shrink all ids sound = record {
-  messages = all_filter _ _ _ sound.messages;
-  distinct = are_distinct _ (distinct_filter (λ (m : Message). not (has_id ids m.uid)) all (distinct_is all sound.distinct));
-}
 
 -- if none of these is done, the same messages are done
 pub prefix_left : (limit : ℕ) (all done rest : List Message) (ids : List (List ℕ)) → selected limit all ≡ done ++ rest → ((id : List ℕ) → has_id (ids_of done) id ≡ true → has_id ids id ≡ true → ⊥)
@@ -338,9 +326,6 @@ module _ {settings : Settings} {rows : List Row} {drop' : List Message} {effect 
 
 -- ---- what a session stores is the next
 
-pub distinct_here : {all : List Message} (come : ℕ) (gone : List (List ℕ)) → IsWorld all → Distinct (ids_of (maildrop_of all come gone))
-distinct_here {all} come gone mail = distinct_filter (λ (m : Message). not (has_id gone m.uid)) (take come all) (distinct_take come all (distinct_is all mail.distinct))
-
 -- what is selected and isn't done
 abbrev pub next_in : ℕ → List Message → List Message → List Message
 next_in limit done ms = filter (λ (m : Message). is_selected limit m && not (has_id (ids_of done) m.uid)) ms
@@ -390,7 +375,7 @@ module _ {settings : Settings} {rows : List Row} {drop' : List Message} {effect 
   pub all_added : ((id : List ℕ) → is_delivered rows id ≡ has_id (ids_of done) id) → settings.read_all ≡ false → (n : ℕ) → added n ≡ take n (wants settings rows drop')
   all_added exact only_new n = filter_all undone (take n (wants settings rows drop')) (all_take _ _ _ (all_map _ (none_recorded is only_new) (λ m k. ap not (sym (exact m.uid) ∙ k))))
 
--- ---- in every state a session can end, so the laws over runs aren't empty
+-- ---- in every state a session can end, so the laws over accounts aren't empty
 
 are_texts : (drop : List Message) (qs : List (ℕ × Message)) → AllByRecursion (IsNumbered drop) qs → AreTexts drop (map num_item qs) (map (λ (q : ℕ × Message). q.1.text) qs)
 are_texts drop [] h = tt

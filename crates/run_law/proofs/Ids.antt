@@ -4,10 +4,9 @@ use Rattle.std.specs.List.{filter, list_any, AllByRecursion}
 use Rattle.std.proofs.lemmas.List.{take_at, map-append, take-take}
 use Rattle.std.specs.Prelude.{bytes_eq}
 use Rattle.std.proofs.Math.Logic.{⊎_elim}
-use Rattle.std.proofs.lemmas.Bool.{cases_Bool, both_ways, or_cases, or_left, or_right, false_from_ne_true}
+use Rattle.std.proofs.lemmas.Bool.{both_ways, or_cases, or_left, or_right, false_from_ne_true}
 use Rattle.std.proofs.lemmas.Bool.Decides.{same_from_decides, Decides-like}
 use Rattle.std.proofs.lemmas.Slice.Eq.{bytes_eq-Decides}
-use Rattle.std.proofs.lemmas.List.Elements.{filter-append}
 use Rattle.std.proofs.lemmas.List.Folds.{list_any-append, list_any_at, list_any_none}
 use Rattle.std.proofs.lemmas.List.Kept.{AllPairs-cons}
 use Rattle.mail_terms.specs.Distinct.{AreDistinct}
@@ -121,16 +120,9 @@ has_texts ms id = any-map (bytes_eq id) (λ (m : Message). m.uid) ms ∙ any_fil
 pub ids_both : (ms ns : List Message) (id : List ℕ) → has_id (ids_of (ms ++ ns)) id ≡ (has_id (ids_of ms) id || has_id (ids_of ns) id)
 ids_both ms ns id = simp (map-append, list_any-append)
 
-pub texts-append : (ms ns : List Message) (id : List ℕ) → texts_of (ms ++ ns) id ≡ texts_of ms id ++ texts_of ns id
-texts-append ms ns id = simp (filter-append, map-append)
-
 pub all_ids_at : (P : List ℕ → Type 0) (ids : List (List ℕ)) {id : List ℕ} → AllByRecursion P ids → has_id ids id ≡ true → P id
 all_ids_at P [] h e = absurd (both_ways false refl e)
 all_ids_at P (x ∷ xs) {id} h e = ⊎_elim (λ (same : bytes_eq id x ≡ true). rw (bytes_same id x same) h.0) (all_ids_at P xs h.1) (or_cases (bytes_eq id x) (has_id xs id) e)
-
--- what holds of this id, and of each other one, holds of all
-pub by_id : (P : List ℕ → Type 0) {id other : List ℕ} → P id → (bytes_eq other id ≡ false → P other) → P other
-by_id P {id} {other} here apart = ⊎_elim (λ (same : bytes_eq other id ≡ true). rw (bytes_same other id same) here) apart (cases_Bool (bytes_eq other id))
 
 -- what holds of each message's id holds of any id among them
 pub all_at : (P : List ℕ → Type 0) (ms : List Message) {id : List ℕ} → AllByRecursion (λ (m : Message). P m.uid) ms → has_id (ids_of ms) id ≡ true → P id
@@ -146,11 +138,6 @@ pub taken_more : {X : Type 0} (f : X → List ℕ) {m n : ℕ} (xs : List X) (id
 taken_more f {m} {n} xs id l e =
     rw (← take-append-drop m (take n xs), take-take m n xs l, map-append f (take m xs) (drop m (take n xs)), list_any-append (bytes_eq id) (map f (take m xs)) (map f (drop m (take n xs))))
     (or_left _ _ e)
-
--- what is gone after a session is done, if all that was gone before is, and each id for which a DELE was begun
-pub gone_is_done : {P Q : List ℕ → Type 0} (begun gone vanished : List (List ℕ)) → AllByRecursion P gone → ((id : List ℕ) → P id → Q id) → AllByRecursion Q begun
-    → AllByRecursion (λ id. has_id begun id ≡ true) vanished → AllByRecursion Q (gone ++ vanished)
-gone_is_done {Q} begun gone vanished g stays b v = all_append Q gone vanished (all_map gone g stays) (all_map vanished v (λ id e. all_ids_at Q begun b e))
 
 -- ---- distinct ids
 
@@ -191,10 +178,6 @@ no_texts (m ∷ ms) id e = grind (arith, e, no_texts ms id)
 pub other_id : (m : Message) (ms : List Message) (id : List ℕ) → has_id (ids_of ms) m.uid ≡ false → bytes_eq id m.uid ≡ true → has_id (ids_of ms) id ≡ false
 other_id m ms id none same = rw (bytes_same id m.uid same) none
 
-pub lone : (ms : List Message) (id : List ℕ) → Distinct (ids_of ms) → length (texts_of ms id) ≤ 1
-lone [] id d = omega arith
-lone (m ∷ ms) id d = grind (arith, λ (e : bytes_eq id m.uid ≡ true). no_texts ms id (other_id m ms id d.0 e), lone ms id d.1)
-
 -- ---- the texts of an id in a part of a list
 
 -- of messages picked by their ids an id has all its texts, or none
@@ -212,10 +195,6 @@ each_text (m ∷ ms) d = (
   rw (bytes_self m.uid, no_texts ms m.uid d.0),
   all_both ms (each_text ms d.1) (members ms) (λ x e there. grind (arith, e, there, other_id m ms x.uid d.0)),
 )
-
--- an id of a part has all its texts there
-pub whole_part : (part ms : List Message) (id : List ℕ) → Distinct (ids_of part) → AllByRecursion (HasOneText ms) part → has_id (ids_of part) id ≡ true → texts_of part id ≡ texts_of ms id
-whole_part part ms id d each = all_at (λ id. texts_of part id ≡ texts_of ms id) part (all_both part (each_text part d) each (λ m e f. e ∙ sym f))
 
 -- ---- what a record says of an id after it was merged and marked
 

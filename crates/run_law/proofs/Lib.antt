@@ -1,6 +1,5 @@
 mod Core
 mod Ids
-mod Laws
 mod Linked
 mod Listed
 mod MboxOrder

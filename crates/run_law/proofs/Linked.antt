@@ -1,4 +1,4 @@
--- What a session is by what its link gained, or by its numbers: a visit of the law over runs, and safe whatever its server says.
+-- What a session is by what its link gained, or by its numbers: one of the laws over accounts, and safe whatever its server says.
 use Rattle.std.proofs.Common.{◌≡◌, inl, inr, ◌≤◌, ◌<◌, ◌-◌, ℕ, suc, Bool, true, false, List, [], ◌∷◌, ◌++◌, map, take, zip, length, refl, sym, ap, ◌∙◌, arith, append_assoc, length-take, get_or-take, ◌⊎◌, ◌+◌, Some, slice_get, slice_set, zero, subst}
 use Rattle.std.specs.Prelude.{bytes_eq}
 use Rattle.std.specs.List.{filter, AllByRecursion}
@@ -384,7 +384,7 @@ module _ (one_line : OneLine) (one_reading : OneReading) (one_list : OneListOfCo
   pub mbox_honest_session : MboxHonestSession
   mbox_honest_session settings before sent got effect after drop marks honest session = ⊎_map (λ left. left.0) (λ (stores, reads).
       let wanted = mbox_wanted settings before effect in
-      let is = session_honest effect session.sends (record { marks = marks; honest = honest; quits = inl refl; marked = tt }) wanted reads in
+      let is = session_honest effect {drop = drop} {vanished = []} session.sends (record { marks = marks; honest = honest; marked = tt }) wanted reads in
       let (found, each, texts) = messages_of drop wanted effect.texts is.texts in
       let (rest, file, at_most) = tail_of settings before effect after stores in
       record {
@@ -401,7 +401,7 @@ module _ (one_line : OneLine) (one_reading : OneReading) (one_list : OneListOfCo
   pub honest_session : HonestSession
   honest_session settings account before sent got effect after drop marks honest session = ⊎_map (λ left. left) (λ (stores, reads).
       let wanted = wanted_at settings account before effect in
-      let is = session_honest effect session.sends (record { marks = marks; honest = honest; quits = inl refl; marked = tt }) wanted reads in
+      let is = session_honest effect {drop = drop} {vanished = []} session.sends (record { marks = marks; honest = honest; marked = tt }) wanted reads in
       let first = subst (λ (l : List Item). AllByRecursion (IsFirstAt l) wanted) is.listing (wanted_first settings (merged_rows account before effect) effect.listing) in
       record {
         listing = is.listing;

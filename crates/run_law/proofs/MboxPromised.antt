@@ -297,7 +297,7 @@ module _ (base : Base) where
 
       -- ---- in order
 
-      module _ (all : List Message) (front : IsMboxFront base kept all) (next : ShowsNext v (front.first ++ done) front.rest) where
+      module _ (all : List Message) (front : IsMboxFront base kept all) (next : ShowsNext v.settings v.maildrop (front.first ++ done) front.rest) where
         abbrev Next : Stands base (bytes_of (was ++ new s.stored)) v.after → Type 0
         Next stands = (rest : List Message) × (all ≡ (front.first ++ (was ++ new s.stored)) ++ rest) × IsNext base (bytes_of (was ++ new s.stored)) v.after rest stands
 
@@ -342,7 +342,7 @@ module _ (base : Base) where
     -- what it leaves, with the entries of these messages
     abbrev Leaves : Occasion MboxMail → List Message → Type 0
     Leaves v now = (holds : HoldsEntries base now v.after) × MboxPromises base done now v
-        × ((all : List Message) → (front : IsMboxFront base kept all) → ShowsNext v (front.first ++ done) front.rest → IsMboxFront base holds all)
+        × ((all : List Message) → (front : IsMboxFront base kept all) → ShowsNext v.settings v.maildrop (front.first ++ done) front.rest → IsMboxFront base holds all)
 
     left_front : (v : Occasion MboxMail) (did : Effect) (h : MboxLeaves before did v.after) (all : List Message) → IsMboxFront base kept all → IsMboxFront base (left_kept v did h) all
     unfolding left_kept

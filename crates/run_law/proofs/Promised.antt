@@ -1,5 +1,5 @@
--- One session of an account with a Maildir, from a kept state, keeps its promises and leaves a kept state, and so do other events.
-use Rattle.std.proofs.Common.{◌≡◌, ◌⊎◌, inl, inr, ◌<◌, ◌-◌, ℕ, zero, suc, List, [], ◌∷◌, ◌++◌, Bool, true, false, length, map, refl, sym, subst, ◌∙◌, ap, arith, not, cond, ◌==◌, ◌&&◌, ◌||◌, take, drop, length-append}
+-- One session of an account with a Maildir, from a kept state, keeps its promises and leaves a kept state, and so do others.
+use Rattle.std.proofs.Common.{◌≡◌, ◌⊎◌, inl, inr, ◌-◌, ℕ, zero, suc, List, [], ◌∷◌, ◌++◌, Bool, true, false, length, map, refl, sym, subst, ◌∙◌, ap, arith, not, cond, ◌&&◌, ◌||◌, take, drop, length-append}
 use Rattle.std.specs.Prelude.{bytes_eq, Some, slice_get}
 use Rattle.std.proofs.lemmas.Option.{same_Some}
 use Rattle.std.specs.List.{AllByRecursion, filter}
@@ -13,7 +13,6 @@ use Rattle.pop3_wire.specs.World.{Message}
 use Rattle.pop3_wire.specs.declared.command.Command.{Command}
 use Rattle.pop3_wire.specs.declared.command.Command.TheVariants.{Dele}
 use Rattle.fetch_rules.specs.Record.{is_delivered, Row}
-use Rattle.fetch_rules.specs.Wanted.{is_within, at_most, candidates}
 use Rattle.mail_store.specs.Maildir.{File}
 use Rattle.mail_terms.specs.MaildirName.{base}
 use Rattle.mail_store.specs.FileName.{names_id, name_of, stem, is_held, stem_of, IsAccountText}
@@ -22,8 +21,8 @@ use Rattle.run_law.specs.Accounts.{AccountMail, KeepsOthers, copies, count_files
 use Rattle.run_law.specs.Steps.{Effect, Leaves, Stores, IsHonest, wanted_at, merged_rows, ids_wanted}
 use Rattle.run_law.specs.Sessions.{SendsOnly, IsBegun, SessionsAreServed}
 use Rattle.run_law.specs.Below.{Below}
-use Rattle.run_law.specs.Events.{Mail, IsOf, IsMaildrop, State, is_safe, IsSafe, state_with, Occasion, Fetched, Between, Expired, Withdrawn, after_session}
-use Rattle.run_law.specs.Promises.{DeletesOneOf, ShowsNext, IsFront, Promises, Kept, EventsKeepPromises, OthersLeaveKept}
+use Rattle.run_law.specs.Events.{Mail, IsOf, IsMaildrop, State, is_safe, IsSafe, state_with, Occasion, after_session}
+use Rattle.run_law.specs.Promises.{DeletesOneOf, ShowsNext, IsFront, Promises, Kept, SessionsKeepPromises, OthersLeaveKept}
 use Rattle.run_law.proofs.Ids.{ids_both, ids_filtered, any_filter, same_tests, is_some, Distinct, distinct_is, each_text, all_map, all_filter, all_take, all_append, all_at, all_both, all_ids_at, all_passing, members, no_texts, has_texts, texts_filtered, taken_more, delivered_marked, delivered_merged, marks_stay, bytes_self, bytes_same}
 use Rattle.run_law.proofs.Core.{added, added_begins, prefix_after, Fetch, all_wanted, distinct_wanted, texts_are, taken_is, wanted_ids, none_recorded, left_out, IsLegal, wants, stored_files, message_file, has_listed}
 
@@ -241,7 +240,7 @@ module _ (laws : Below) {mail : Mail} (account_is : IsAccountText mail.account) 
       unsafe false false taken e f = refl
 
   -- what came is the next, if what could come is
-  front_after : (all : List Message) → AllByRecursion IsLegal all → (front : IsFront mail state all) → ShowsNext o front.done front.rest
+  front_after : (all : List Message) → AllByRecursion IsLegal all → (front : IsFront mail state all) → ShowsNext o.settings o.maildrop front.done front.rest
       → (later : IsFront mail after all) × (later.done ≡ front.done ++ filter (λ (m : Message). not (has_id (ids_of front.done) m.uid)) came)
   front_after all legal front next =
       let known = all_map _ legal_drop (λ m l d. front.is_done m.uid l ∙ (known_safe m.uid d).1) in (
@@ -322,12 +321,7 @@ left_kept {mail} {state} o e kept left ended sends vanished = (
     unchanged : (id : List ℕ) → is_safe mail state id ≡ is_safe mail (after_session mail state o) id
     unchanged id = grind (arith, same id)
 
--- what was held stays held
-pub session_holds : {mail : Mail} {state : State} {o : Occasion AccountMail} → Promises mail state o → (id : List ℕ) → is_held mail.account state.account.maildir id ≡ true → is_held mail.account o.after.maildir id ≡ true
-session_holds {mail} {state} {o} promises id held = held_copies mail.account o.after id ∙ ap is_some (copies_came (files state.account) (files o.after) _ (stem_of mail.account id) promises.added)
-    ∙ some_both (copies (files state.account) (stem_of mail.account id)) _ ∙ or_left _ _ (sym (held_copies mail.account state.account id) ∙ held)
-
--- ---- one event
+-- ---- sessions and others
 
 pub others_leave_kept : OthersLeaveKept
 others_leave_kept mail state after kept is = record {
@@ -336,12 +330,8 @@ others_leave_kept mail state after kept is = record {
   gone = all_map _ kept.gone (still_safe mail state after);
 }
 
-pub events_keep_promises : Below → SessionsAreServed → EventsKeepPromises
-events_keep_promises laws served mail state (Fetched o) account_is kept is =
+pub sessions_keep_promises : Below → SessionsAreServed → SessionsKeepPromises
+sessions_keep_promises laws served mail state o account_is kept is =
     let step = served o.settings mail.account state.account o.sent o.got is.effect o.after o.maildrop o.vanished is.session is.served in
     ⊎_elim (λ left. left_kept o is.effect kept left is.ended is.session.sends step.1)
     (λ (stores, honest). stored_kept laws account_is o kept is.effect is.maildrop stores honest is.ended is.counted is.session.sends step.1) step.0
-events_keep_promises laws served mail state (Between after) account_is kept is = (tt, others_leave_kept mail state after kept is)
-events_keep_promises laws served mail state (Expired ids) account_is kept is =
-    (tt, record { holds = kept.holds; recorded = kept.recorded; gone = all_append _ _ _ kept.gone is })
-events_keep_promises laws served mail state (Withdrawn ids) account_is kept is = (tt, kept)

@@ -1,4 +1,4 @@
--- What the laws over runs take from the crates below: names of files, settling, and what a record says of an id.
+-- What the laws over accounts take from the crates below: names of files, settling, and what a record says of an id.
 use Rattle.std.specs.Prelude.{◌≡◌, ℕ, Bool, List, ◌&&◌, ◌||◌, bytes_eq}
 use Rattle.mail_terms.specs.Listing.{Item, has_item, is_flagged}
 use Rattle.mail_terms.specs.MaildirName.{base}

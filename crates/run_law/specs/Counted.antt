@@ -31,7 +31,7 @@ pub record Counted (settings : Settings) (account : List ℕ) (before : AccountM
   pub begun : AllByRecursion (λ id. is_delivered after.rows id ≡ true) effect.begun
   pub ended : effect.ended ≡ true → k ≡ length (wanted_at settings account before effect)
 
--- a law: a session given by these numbers is one that the law over runs takes
+-- a law: a session given by these numbers is one that the law over accounts takes
 abbrev pub CountedStores : Type 0
 CountedStores = (settings : Settings) (account : List ℕ) (before : AccountMail) (effect : Effect) (after : AccountMail)
     → Counted settings account before effect after → Stores settings account before effect after

@@ -71,14 +71,6 @@ pub record IsSession (mail : Mail) (before : AccountMail) (occasion : Occasion A
   pub counted : occasion.ended ≡ true
       → occasion.retrieved ≡ length (wanted_at occasion.settings mail.account before effect)
 
--- a session; what others do to the files and the record; and messages that are gone from the server without a
--- session, after they were held, or before. `Visit` and `After` are what is known of a session, and of what others left
-pub data Event (Visit After : Type 0) : Type 0 where
-  Fetched : Visit → Event Visit After
-  Between : After → Event Visit After
-  Expired : List (List ℕ) → Event Visit After
-  Withdrawn : List (List ℕ) → Event Visit After
-
 -- the state once this is its account: what was held or taken away, and isn't held, was taken away; and what was taken
 -- away before still counts so until a file of it is there whose name is durable
 abbrev pub state_with : Mail → State → AccountMail → State
@@ -92,21 +84,7 @@ state_with mail state after = record {
 abbrev pub after_session : Mail → State → Occasion AccountMail → State
 after_session mail state o = record (state_with mail state o.after) { gone = state.gone ++ o.vanished }
 
--- what an event leaves
-abbrev pub after_event : Mail → State → Event (Occasion AccountMail) AccountMail → State
-after_event mail state (Fetched occasion) = after_session mail state occasion
-after_event mail state (Between after) = state_with mail state after
-after_event mail state (Expired ids) = record state { gone = state.gone ++ ids }
-after_event mail state (Withdrawn ids) = state
-
 -- others may move, mark, take away and put back files, and lose the record or put back an older one
 pub record IsBetween (mail : Mail) (before after : AccountMail) : Type 0 where
   pub holds : HoldsEachOnce mail after
   pub shows_no_more : (id : List ℕ) → is_delivered after.rows id ≡ true → is_delivered before.rows id ≡ true
-
--- the event happens in this state
-abbrev pub Happens : Mail → State → Event (Occasion AccountMail) AccountMail → Type 0
-Happens mail state (Fetched occasion) = IsSession mail state.account occasion
-Happens mail state (Between after) = IsBetween mail state.account after
-Happens mail state (Expired ids) = AllByRecursion (IsSafe mail state) ids
-Happens mail state (Withdrawn ids) = Unit {0}

@@ -16,7 +16,6 @@ pub mod Order
 pub mod Plans
 pub mod Promises
 pub mod Readings
-pub mod Runs
 pub mod Safety
 pub mod Sessions
 pub mod Steps

@@ -1,10 +1,10 @@
 -- The messages of a maildrop: their ids, their listing, and which of them are selected.
-use Rattle.std.specs.Prelude.{ℕ, Bool, not, List, [], ◌∷◌, map, if◌then◌else◌, bytes_eq}
+use Rattle.std.specs.Prelude.{ℕ, Bool, not, List, map, bytes_eq}
 use Rattle.std.specs.List.{filter}
 use Rattle.mail_terms.specs.Listing.{Item}
 use Rattle.fetch_rules.specs.Wanted.{is_within}
 use Rattle.mail_terms.specs.UniqueId.{has_id}
-use Rattle.pop3_wire.specs.World.{Message, IsWorld}
+use Rattle.pop3_wire.specs.World.{Message}
 
 abbrev pub ids_of : List Message → List (List ℕ)
 ids_of ms = map (λ (m : Message). m.uid) ms
@@ -27,15 +27,6 @@ selected limit ms = filter (is_selected limit) ms
 abbrev pub texts_of : List Message → List ℕ → List (List ℕ)
 texts_of ms id = map (λ (m : Message). m.text) (filter (λ (m : Message). bytes_eq id m.uid) ms)
 
--- the messages after the one that has the id
-abbrev pub messages_after : List ℕ → List Message → List Message
-messages_after id [] = []
-messages_after id (m ∷ ms) = if bytes_eq id m.uid then ms else messages_after id ms
-
 -- the messages without those of these ids
 abbrev pub without : List (List ℕ) → List Message → List Message
 without ids ms = filter (λ (m : Message). not (has_id ids m.uid)) ms
-
--- a law: what is left of a world is a world
-abbrev pub WorldsShrink : Type 0
-WorldsShrink = (all : List Message) (ids : List (List ℕ)) → IsWorld all → IsWorld (without ids all)

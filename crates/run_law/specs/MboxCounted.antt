@@ -49,7 +49,7 @@ pub record MboxCounted (settings : Settings) (before : MboxMail) (effect : Effec
   pub begun : AllByRecursion (λ id. is_delivered after.rows id ≡ true) effect.begun
   pub ended : effect.ended ≡ true → (j ≡ length (mbox_wanted settings before effect)) × (after.intent ≡ None)
 
--- a law: a session given by these numbers is one that the law over runs takes
+-- a law: a session given by these numbers is one that the law over accounts takes
 abbrev pub MboxCountedStores : Type 0
 MboxCountedStores = (settings : Settings) (before : MboxMail) (effect : Effect) (after : MboxMail)
     → MboxCounted settings before effect after → MboxStores settings before effect after

@@ -37,7 +37,7 @@ pub record Appends (base : Base) {done : List Message} {before : MboxMail} (hold
   pub promises : MboxPromises base done (done ++ more) occasion
   pub kept : HoldsEntries base (done ++ more) occasion.after
   pub in_order : (all : List Message) → (front : IsMboxFront base holds all)
-      → ShowsNext occasion (front.first ++ done) front.rest → IsMboxFront base kept all
+      → ShowsNext occasion.settings occasion.maildrop (front.first ++ done) front.rest → IsMboxFront base kept all
 
 -- a law: each session does
 abbrev pub MboxSessionsAppend : Type 0

@@ -13,8 +13,8 @@ use Rattle.mail_store.specs.FileName.{is_held, mail_file, IsAccountText}
 use Rattle.run_law.specs.Mails.{ids_of}
 use Rattle.run_law.specs.Accounts.{AccountMail, KeepsOthers, without_flags}
 use Rattle.run_law.specs.Sessions.{SendsOnly}
-use Rattle.run_law.specs.Events.{Mail, State, is_safe, IsSafe, HoldsEachOnce, Occasion, Event, Fetched, state_with}
-use Rattle.run_law.specs.Events.{after_session, after_event, Happens, IsBetween}
+use Rattle.run_law.specs.Events.{Mail, State, is_safe, IsSafe, HoldsEachOnce, Occasion, IsSession, state_with}
+use Rattle.run_law.specs.Events.{after_session, IsBetween}
 
 -- whether a session may fetch a message, if it knows those with such ids
 abbrev pub may_fetch : Settings → (List ℕ → Bool) → Message → Bool
@@ -44,10 +44,10 @@ LeavesOut occasion is_known Is = occasion.ended ≡ true → AllByRecursion (λ 
     Is m.uid ⊎ (is_within occasion.settings.max_size m.size ≡ false)
     ⊎ IsPastCount occasion.settings is_known occasion.maildrop occasion.retrieved m) occasion.maildrop
 
--- what is within this session's limit and isn't done is the first of these
-abbrev pub ShowsNext : {Account : Type 0} → Occasion Account → List Message → List Message → Type 0
-ShowsNext occasion done rest = (more : List Message) × (rest ≡ filter (λ (m : Message).
-    is_within occasion.settings.max_size m.size && not (has_id (ids_of done) m.uid)) occasion.maildrop ++ more)
+-- what a maildrop has within the session's limit and isn't done is the first of these
+abbrev pub ShowsNext : Settings → List Message → List Message → List Message → Type 0
+ShowsNext settings maildrop done rest = (more : List Message) × (rest ≡ filter (λ (m : Message).
+    is_within settings.max_size m.size && not (has_id (ids_of done) m.uid)) maildrop ++ more)
 
 -- those that are held or were taken away are exactly the first of these messages
 pub record IsFront (mail : Mail) (state : State) (all : List Message) : Type 0 where
@@ -76,14 +76,9 @@ pub record Promises (mail : Mail) (state : State) (occasion : Occasion AccountMa
   pub others : KeepsOthers mail.account state.account occasion.after
   pub recorded : (id : List ℕ) → is_delivered state.account.rows id ≡ true → is_delivered occasion.after.rows id ≡ true
   pub in_order : (all : List Message) → AllByRecursion (λ (m : Message). is_legal_id m.uid ≡ true) all
-      → (front : IsFront mail state all) → ShowsNext occasion front.done front.rest
+      → (front : IsFront mail state all) → ShowsNext occasion.settings occasion.maildrop front.done front.rest
       → (later : IsFront mail (after_session mail state occasion) all)
       × (later.done ≡ front.done ++ filter (λ (m : Message). not (has_id (ids_of front.done) m.uid)) came)
-
--- nothing is promised of what others do
-abbrev pub Promised : Mail → State → Event (Occasion AccountMail) AccountMail → Type 0
-Promised mail state (Fetched occasion) = Promises mail state occasion
-Promised mail state _ = Unit {0}
 
 -- each message is held once; what is recorded, or is gone from the server, is held or was taken away
 pub record Kept (mail : Mail) (state : State) : Type 0 where
@@ -91,11 +86,11 @@ pub record Kept (mail : Mail) (state : State) : Type 0 where
   pub recorded : (id : List ℕ) → is_delivered state.account.rows id ≡ true → IsSafe mail state id
   pub gone : AllByRecursion (IsSafe mail state) state.gone
 
--- the law: an event keeps its promises, and leads from a kept state to a kept state
-abbrev pub EventsKeepPromises : Type 0
-EventsKeepPromises = (mail : Mail) (state : State) (event : Event (Occasion AccountMail) AccountMail)
-    → IsAccountText mail.account
-    → Kept mail state → Happens mail state event → Promised mail state event × Kept mail (after_event mail state event)
+-- the law: a session keeps its promises, and leads from a kept state to a kept state
+abbrev pub SessionsKeepPromises : Type 0
+SessionsKeepPromises = (mail : Mail) (state : State) (occasion : Occasion AccountMail) → IsAccountText mail.account
+    → Kept mail state → IsSession mail state.account occasion
+    → Promises mail state occasion × Kept mail (after_session mail state occasion)
 
 -- a law: others leave a kept state
 abbrev pub OthersLeaveKept : Type 0

@@ -3,7 +3,7 @@ use Rattle.std.specs.Prelude.{◌≡◌, ◌⊎◌, ◌&&◌, ◌<◌, ◌-◌, 
 use Rattle.std.specs.Prelude.{slice_get}
 use Rattle.std.specs.List.{AllByRecursion}
 use Rattle.pop3_wire.specs.declared.command.Command.{Command}
-use Rattle.pop3_wire.specs.declared.command.Command.TheVariants.{User, Pass, Stat, UidlAll, ListAll, Dele, Quit}
+use Rattle.pop3_wire.specs.declared.command.Command.TheVariants.{User, Pass, Stat, UidlAll, ListAll, Dele}
 use Rattle.pop3_wire.specs.Commands.{line_of}
 use Rattle.pop3_wire.specs.Honest.{Asked, Honest}
 use Rattle.pop3_wire.specs.Line.{ended}
@@ -71,11 +71,10 @@ abbrev pub IsMarked : List Message → List Bool → List ℕ → Type 0
 IsMarked drop marks id = (place : ℕ) × (message : Message) × (slice_get marks place ≡ Some true)
     × (slice_get drop place ≡ Some message) × (message.uid ≡ id)
 
--- the link was honest, and the messages with these ids were marked, and were removed after QUIT
+-- the link was honest, and the messages with these ids were marked when it ended, and were removed
 pub record Served (drop : List Message) (sent got : List ℕ) (vanished : List (List ℕ)) : Type 0 where
   pub marks : List Bool
   pub honest : Honest drop sent got marks
-  pub quits : (vanished ≡ []) ⊎ ((front behind : List Command) × (honest.commands ≡ front ++ Quit ∷ behind))
   pub marked : AllByRecursion (IsMarked drop marks) vanished
 
 -- a law: what a session did over an honest link is what it read of the maildrop, and a DELE was begun for each message

@@ -14,7 +14,7 @@ use Rattle.run_law.specs.Mails.{ids_of, listing_of}
 use Rattle.run_law.specs.Accounts.{AccountMail, without_flags}
 use Rattle.run_law.specs.Readings.{IsNumbered}
 
--- the parts of a session that the law over runs uses
+-- the parts of a session that the law over accounts uses
 pub record Effect : Type 0 where
   pub now : ℕ
   -- the joined listing

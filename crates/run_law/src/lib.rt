@@ -1,5 +1,4 @@
-//! Laws over accounts: what sessions and others do to them, over any maildrops, and over those that keep
-//! their order.
+//! Laws over accounts: what sessions and others do to them, over any maildrops, and over those in order.
 #![tactic(auto)]
 
 ghost use Rattle.run_law.specs.Below.{Below};
@@ -8,16 +7,13 @@ ghost use Rattle.run_law.specs.HonestSession.{HonestSession};
 ghost use Rattle.run_law.specs.MboxCounted.{MboxCountedStores};
 ghost use Rattle.run_law.specs.Mboxes.{MboxCanEnd};
 ghost use Rattle.run_law.specs.MboxHonestSession.{MboxHonestSession};
-ghost use Rattle.run_law.specs.MboxOrder.{EntriesMeanTexts, MboxHeadline, MboxStartsInOrder};
+ghost use Rattle.run_law.specs.MboxOrder.{EntriesMeanTexts, MboxStartsInOrder, WithdrawnLeaveMboxPrefixes};
 ghost use Rattle.run_law.specs.MboxPromises.{MboxSessionsAppend, MboxStarts};
 ghost use Rattle.run_law.specs.MboxSafety.{MboxSessionsAreSafe};
 ghost use Rattle.run_law.specs.MboxSessions.{MboxSessionsAreServed};
-ghost use Rattle.run_law.specs.Order.{Headline, NoneTaken, StaysAway};
-ghost use Rattle.run_law.specs.Mails.{WorldsShrink};
-ghost use Rattle.run_law.specs.Promises.{EventsKeepPromises, OthersLeaveKept};
-ghost use Rattle.run_law.specs.Runs.{KeptHoldsWhatIsLeft, LikeStatesAreKept, LossesLeaveKept};
-ghost use Rattle.run_law.specs.Runs.{NothingTakenHoldsExactly, SessionsKeepOrder, StartsKept};
-ghost use Rattle.run_law.specs.Runs.{WithdrawnLeaveKept, WorldsShowMaildrops};
+ghost use Rattle.run_law.specs.Order.{EmptyFrontsBegin, FrontsArePrefixes, NoneTaken, OrderShowsNext};
+ghost use Rattle.run_law.specs.Order.{StaysAway, WithdrawnLeaveFronts};
+ghost use Rattle.run_law.specs.Promises.{OthersLeaveKept, SessionsKeepPromises};
 ghost use Rattle.run_law.specs.Readings.{HonestIsGranted, ListingIsMaildrop, MarksAreAsked, TextsAreMessages};
 ghost use Rattle.run_law.specs.Safety.{SessionsAreSafe};
 ghost use Rattle.run_law.specs.Sessions.{SessionsAreServed};
@@ -36,7 +32,7 @@ use pop3_wire::{
     only_one_reading, rows_have_fields,
 };
 
-/// What the laws over runs take from the laws of the crates below.
+/// What the laws over accounts take from the laws of the crates below.
 fn laws_below()
     ensures { Below }
 {
@@ -53,9 +49,9 @@ fn laws_below()
 }
 
 /// Over maildrops in any order and under any limits, a session of an account with a Maildir keeps its
-/// promises and leaves a kept state, and so do readers and other programs.
-pub fn events_keep_promises()
-    ensures { EventsKeepPromises }
+/// promises and leaves a kept state.
+pub fn sessions_keep_promises()
+    ensures { SessionsKeepPromises }
 {
     laws_below();
     sessions_are_served();
@@ -67,67 +63,43 @@ pub fn others_leave_kept()
     ensures { OthersLeaveKept }
 {}
 
-/// The headline, over accounts: with a server that keeps its order and one limit on sizes, the Maildir
-/// holds exactly the first of the selected messages, each once, before and after each of a list of events.
-pub fn headline()
-    ensures { Headline }
-{
-    events_keep_promises();
-}
+/// If exactly the first of the selected messages are held or were taken away, each is in one file with its
+/// text, or was taken away and is in none, and no other is held.
+#[tactic(auto, using(crate::proofs::Order::fronts_are_prefixes))]
+pub fn fronts_are_prefixes()
+    ensures { FrontsArePrefixes }
+{}
+
+/// So it begins, if nothing is held or was taken away.
+#[tactic(auto, using(crate::proofs::Order::empty_fronts_begin))]
+pub fn empty_fronts_begin()
+    ensures { EmptyFrontsBegin }
+{}
+
+/// So it is of all mail without messages that are neither held nor were taken away.
+pub fn withdrawn_leave_fronts()
+    ensures { WithdrawnLeaveFronts }
+{}
+
+/// A maildrop that begins all mail, without messages that are done, shows what is next, if these are the first
+/// of the selected messages.
+pub fn order_shows_next()
+    ensures { OrderShowsNext }
+{}
 
 /// If no reader takes anything away, nothing counts as taken away.
+#[tactic(auto, using(crate::proofs::Order::none_taken))]
 pub fn none_taken()
     ensures { NoneTaken }
-{
-    events_keep_promises();
-}
+{}
 
-/// A message that is recorded as delivered and was taken away isn't stored again by sessions that read
+/// A message that is recorded as delivered and was taken away isn't stored again by a session that reads
 /// only what is new.
 pub fn stays_away()
     ensures { StaysAway }
 {
     laws_below();
-    events_keep_promises();
 }
-
-/// With a server that keeps its order and one limit on sizes, a session keeps a prefix of the selected
-/// messages, and so do others: where the files of an account change, where messages are withdrawn, and
-/// where power is lost.
-pub fn kept_states()
-    ensures maildrops { WorldsShowMaildrops }
-    ensures sessions { SessionsKeepOrder }
-    ensures others { LikeStatesAreKept }
-    ensures withdrawn { WithdrawnLeaveKept }
-    ensures power { LossesLeaveKept }
-{
-    events_keep_promises();
-}
-
-/// What is left of a world after messages were withdrawn is a world.
-#[tactic(auto, using(crate::proofs::Core::worlds_shrink))]
-pub fn worlds_shrink()
-    ensures { WorldsShrink }
-{}
-
-/// A kept state holds exactly the first of the selected messages, each once, except for those
-/// that were taken away.
-#[tactic(auto, using(crate::proofs::Laws::holds_what_is_left))]
-pub fn holds_what_is_left()
-    ensures { KeptHoldsWhatIsLeft }
-{}
-
-/// If nothing was taken away, it holds exactly the first of the selected messages, each once.
-#[tactic(auto, using(crate::proofs::Laws::holds_exactly))]
-pub fn holds_exactly()
-    ensures { NothingTakenHoldsExactly }
-{}
-
-/// An account with an empty record and no file of its own is kept, if nothing is gone from the server.
-#[tactic(auto, using(crate::proofs::Laws::starts_kept))]
-pub fn starts_kept()
-    ensures { StartsKept }
-{}
 
 /// In an honest conversation each whole and positive reply is what the command asks of the maildrop.
 pub fn honest_is_granted()
@@ -195,7 +167,7 @@ pub fn can_end()
     distinct_messages_are_filtered();
 }
 
-/// A session given by its numbers is one that the law over runs takes.
+/// A session given by its numbers is one that the law over accounts takes.
 #[tactic(auto, using(crate::proofs::Linked::counted_stores))]
 pub fn counted_stores()
     ensures { CountedStores }
@@ -224,20 +196,15 @@ pub fn mbox_starts()
     ensures { MboxStarts }
 {}
 
-/// With an mboxrd, over accounts: with a server that keeps its order and one limit on sizes, the
-/// mboxrd file holds what it held before, followed by the entries of the first of the selected messages
-/// that weren't recorded before, each once, and by at most a prefix of the next entry.
-#[tactic(auto, using(crate::proofs::MboxOrder::mbox_headline))]
-pub fn mbox_headline()
-    ensures { MboxHeadline }
-{
-    mbox_sessions_append();
-    mbox_starts();
-}
+/// With an mboxrd: what holds exactly a prefix of the selected messages does so without messages that weren't
+/// begun.
+pub fn withdrawn_leave_mbox_prefixes()
+    ensures { WithdrawnLeaveMboxPrefixes }
+{}
 
 /// With an mboxrd: this may begin with any file, and with a record that has no open intent
 /// and shows exactly a prefix of the selected messages as delivered, as an empty one does.
-#[tactic(auto, using(crate::proofs::MboxOrder::rewritten))]
+#[tactic(auto, using(crate::proofs::MboxOrder::starts_in_order))]
 pub fn mbox_starts_in_order()
     ensures { MboxStartsInOrder }
 {
@@ -279,7 +246,7 @@ pub fn honest_sessions_append_messages()
     rows_have_fields();
 }
 
-/// With an mboxrd: a session given by its numbers is one that the law over runs takes.
+/// With an mboxrd: a session given by its numbers is one that the law over accounts takes.
 #[tactic(auto, using(crate::proofs::Linked::mbox_counted_stores))]
 pub fn mbox_counted_stores()
     ensures { MboxCountedStores }

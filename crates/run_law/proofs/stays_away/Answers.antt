@@ -2,4 +2,4 @@ use Rattle.run_law.proofs.Order as lemmas
 use Rattle.run_law.proofs.stays_away.Goals as goal
 
 pub returns : goal.returns
-returns c = lemmas.stays_away c.laws_below.ensures c.events_keep_promises.ensures
+returns c = lemmas.stays_away c.laws_below.ensures
