@@ -14,7 +14,7 @@ ghost use Rattle.run_law.specs.MboxSessions.{MboxSessionsAreServed};
 ghost use Rattle.run_law.specs.Order.{EmptyFrontsBegin, FrontsArePrefixes, NoneTaken, OrderShowsNext};
 ghost use Rattle.run_law.specs.Order.{StaysAway, WithdrawnLeaveFronts};
 ghost use Rattle.run_law.specs.Promises.{OthersLeaveKept, SessionsKeepPromises};
-ghost use Rattle.run_law.specs.Readings.{HonestIsGranted, ListingIsMaildrop, MarksAreAsked, TextsAreMessages};
+ghost use Rattle.run_law.specs.Readings.{HonestIsGranted};
 ghost use Rattle.run_law.specs.Safety.{SessionsAreSafe};
 ghost use Rattle.run_law.specs.Sessions.{SessionsAreServed};
 ghost use Rattle.run_law.specs.Steps.{CanEnd};
@@ -109,30 +109,6 @@ pub fn honest_is_granted()
     only_one_reading();
     only_one_list_of_commands();
 }
-
-/// If replies are granted, the text of each RETR is its message's.
-#[tactic(auto, using(crate::proofs::Listed::texts_are_messages))]
-pub fn texts_are_messages()
-    ensures { TextsAreMessages }
-{
-    only_one_line();
-    only_one_body();
-}
-
-/// If replies are granted, a joined listing is the maildrop's.
-pub fn listing_is_maildrop()
-    ensures { ListingIsMaildrop }
-{
-    only_one_line();
-    only_one_list_of_lines();
-    rows_have_fields();
-}
-
-/// A message that is marked at the end of an honest conversation was asked for by DELE.
-#[tactic(auto, using(crate::proofs::Linked::marks_are_asked))]
-pub fn marks_are_asked()
-    ensures { MarksAreAsked }
-{}
 
 /// What a session did over an honest link is what it read of the maildrop, whatever that is.
 pub fn sessions_are_served()
