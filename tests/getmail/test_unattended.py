@@ -7,10 +7,11 @@ import threading
 import time
 import unittest
 
+from getmail import terminal
 from getmail.account import Account
 from getmail.server import Server
 from getmail.shared_server import SharedServer
-from harness import preload, programs
+from harness import growths, preload, programs
 from harness.kernel import LOOPBACK
 
 TWO = [(b"a", b"one\n"), (b"b", b"two\n")]
@@ -76,6 +77,21 @@ class Unattended(unittest.TestCase):
         self.server._answer = lambda command: b"-ERR try at %d\r\n" % self.now
         self.assertEqual(self.session()[1][0], "getmail: server refused USER")
         self.assertEqual(self.session(), (1, []))
+
+    def test_it_says_what_a_quiet_run_with_reasons_says(self):
+        """At first sight, and nothing else, on a terminal too and whatever `verbose` is in the rc file."""
+        loud = "received = true\nverbose = 2\n"
+        for options, *refused in (loud,), ("", "UIDL"), (loud, "PASS p"), (loud, "RETR 1"):
+            with self.subTest(options=options, refused=refused):
+                self.refuse(*refused)
+                runs = set()
+                for words in ("-q", "--why"), ("--unattended",):
+                    with Account(self.server.port, options) as account:
+                        thread = self.server.begin_session()
+                        runs.add(terminal.run(account, *words))
+                        thread.join(programs.SECONDS)
+                (_, _, shown), = runs
+                self.assertNotEqual(shown, b"")
 
     def test_faults_that_take_turns(self):
         """Each is written once."""
@@ -202,6 +218,24 @@ class Unattended(unittest.TestCase):
             programs.run("getmail", "--unattended", err=full, HOME=str(self.account.home))
         thread.join(programs.SECONDS)
         self.assertEqual(len(self.session()[1]), 2)
+
+    def test_a_refused_growth_forgets_nothing(self):
+        """What can't be read for want of memory stays in the file."""
+        def faults():
+            return {line.split()[1] for line in path.read_bytes().splitlines() if line.startswith(b"fault ")}
+
+        good = self.account.rcfile.read_bytes()
+        self.account.rcfile.write_bytes(good.replace(b"port = ", b"port = x"))
+        self.run_getmail()
+        self.account.rcfile.write_bytes(good)
+        self.server.socket.close()
+        self.run_getmail()
+        path, = self.told()
+        told = faults()
+        self.assertEqual(len(told), 2)
+        for refusal in growths.refusals():
+            self.run_getmail(**refusal.environment())
+            self.assertLessEqual(told, faults(), f"growth {refusal.number} refused")
 
     def test_flags(self):
         self.assertEqual(self.session("-q", "--why"), (0, []))

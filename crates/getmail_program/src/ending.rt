@@ -11,7 +11,8 @@ use crate::reason::reasons_said;
 use crate::told::{Manner, Told};
 use fetch_rules::Settings;
 use fetch_session::{LeftOut, Outcome, fault_number};
-use getmail_setup::{Counts, Errors, OUT_OF_MEMORY, Output, Refusal, Subject};
+use getmail_setup::{Errors, OUT_OF_MEMORY, Output, Refusal, Subject};
+use run_memory::Counts;
 use std::alloc::Global;
 use std::io::Write;
 
@@ -101,9 +102,9 @@ fn close_left_out<E>(told: &Told, errors: &Errors<'_, E>) {
             repeated,
         } = report.left_out;
         errors.close(Subject::LeftOut(Counts {
-            too_large,
-            past_limit,
-            repeated,
+            too_large: u64::from(too_large),
+            past_limit: u64::from(past_limit),
+            repeated: u64::from(repeated),
         }));
     }
 }

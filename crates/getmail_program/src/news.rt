@@ -1,13 +1,13 @@
 //! What an unattended run tells of what it says: what no earlier run told.
 use crate::devices::seconds_now;
-use crate::news_file::{Memory, keep_at, memory_at};
+use crate::news_file::{keep_at, memory_at};
 use folder_store::ProcessMark;
-use getmail_setup::{
-    Counts, Journal, Output, Part, Subject, Telling, Times, Words, after, counts_after, has_more,
-    home, told_of, told_path,
-};
+use getmail_setup::{Journal, Output, Part, Subject, Words, home, told_path};
 use httpdate::{HttpDate, fmt_http_date};
-use mail_store::{AccountId, account_id};
+use mail_store::account_id;
+use run_memory::{
+    Counts, Key, KnownFault, Memory, Telling, Times, after, counts_after, has_more, told_of,
+};
 use std::alloc::{AllocError, Global};
 use std::env::Env;
 use std::io::Write;
@@ -45,10 +45,15 @@ fn unmarked(path: &str) -> &str {
     }
 }
 
+/// The key of a line that is about a path: a digest of both.
+fn key(line: &str, path: &str) -> Key {
+    Key::new(account_id(line, 0, path).as_str())
+}
+
 /// What a fault is known by: its line, without the lines of its reason, and the path that it is about.
-fn key_of(part: &Part) -> AccountId {
+fn key_of(part: &Part) -> Key {
     let line = text_in(&part.text).split('\n').next().unwrap_or("");
-    account_id(line, 0, unmarked(text_in(&part.place)))
+    key(line, unmarked(text_in(&part.place)))
 }
 
 /// A date as a reader knows it; the second since 1970 if it is past the year 9999.
@@ -65,7 +70,7 @@ impl News {
     /// A fault: when it is first seen, and then once a day with since when and in how many runs it was.
     fn add_fault(&mut self, part: &Part) -> Result<(), AllocError> {
         let key = key_of(part);
-        let known = self.memory.times_of(key.as_str());
+        let known = self.memory.times_of(key);
         let times = after(known, self.now);
         let telling = told_of(known, self.now);
         if telling != Telling::Nothing {
@@ -77,26 +82,24 @@ impl News {
             let line = format!(in self.alloc; "getmail: so since {date}, in {runs} runs\n")?;
             self.text.extend_from_slice(line.as_bytes())?;
         }
-        let key = String::from_str(self.alloc, key.as_str())?;
         self.is_changed = true;
-        self.memory.keep_fault(key, times)
+        self.memory.keep_fault(KnownFault { key, times })
     }
 
     /// A notice: once.
     fn add_notice(&mut self, part: &Part) -> Result<(), AllocError> {
-        let key = account_id(text_in(&part.text), 0, "");
-        if self.memory.has_told(key.as_str()) {
+        let key = key(text_in(&part.text), "");
+        if self.memory.has_told(key) {
             return Ok(());
         }
         self.text.extend_from_slice(&part.text)?;
-        let key = String::from_str(self.alloc, key.as_str())?;
         self.is_changed = true;
         self.memory.keep_notice(key)
     }
 
     /// How many messages were left out: if they are more than before.
     fn add_left_out(&mut self, part: &Part, counts: Counts) -> Result<(), AllocError> {
-        if has_more(self.memory.left, counts) {
+        if has_more(self.memory.left(), counts) {
             self.text.extend_from_slice(&part.text)?;
         }
         Ok(())
@@ -113,9 +116,10 @@ impl News {
 
     /// So many messages were left out in this run.
     fn count(&mut self, counts: Counts, has_ended: bool) {
-        let left = counts_after(self.memory.left, counts, has_ended);
-        self.is_changed = self.is_changed || left != self.memory.left;
-        self.memory.left = left;
+        let old = self.memory.left();
+        let left = counts_after(old, counts, has_ended);
+        self.is_changed = self.is_changed || left != old;
+        self.memory.set_left(left);
     }
 
     /// The run came to its end: that is told once, if earlier ones didn't.
@@ -126,7 +130,7 @@ impl News {
         let date = date_of(self.alloc, since)?;
         let line = format!(in self.alloc; "getmail: works again: runs had failed since {date}\n")?;
         self.text.extend_from_slice(line.as_bytes())?;
-        self.memory.faults.clear();
+        self.memory.forget_faults();
         self.is_changed = true;
         Ok(())
     }
@@ -152,6 +156,13 @@ fn path_of<R: Env + AllocGlobal>(rt: &R, words: &Words) -> Option<String> {
     told_path(rt.alloc(), home.as_deref(), words).ok()
 }
 
+/// Tells all that a run said.
+fn tell_all(journal: &Journal, err: &mut Output<impl Write>) {
+    for part in &journal.take() {
+        err.put(&part.text);
+    }
+}
+
 /// Tells what is new of what a run said. What there is no memory for is told.
 fn news_of(journal: &Journal, news: &mut News, err: &mut Output<impl Write>) {
     let parts = journal.take();
@@ -169,7 +180,7 @@ fn news_of(journal: &Journal, news: &mut News, err: &mut Output<impl Write>) {
 }
 
 /// Tells what no earlier run told of what this one said, and keeps that in a file, unless it couldn't be written:
-/// then the next run tells it.
+/// then the next run tells it. If there is no memory to read the file, all is told, and the file stays.
 pub fn tell_news<R, E: Write + Drop>(
     rt: &R,
     process: Process,
@@ -184,9 +195,14 @@ where
     let refusals = Refusals::new(alloc, None);
     let system = System::new(rt, &refusals);
     let path = path_of(rt, words);
+    let mut err = Output::new(err);
     let memory = match &path {
         Some(path) => memory_at(&system, path.as_str()),
-        None => Memory::new(alloc),
+        None => Ok(Memory::new(alloc)),
+    };
+    let Ok(memory) = memory else {
+        tell_all(journal, &mut err);
+        return;
     };
     let mut news = News {
         alloc,
@@ -195,7 +211,6 @@ where
         is_changed: false,
         text: Vec::new(alloc),
     };
-    let mut err = Output::new(err);
     news_of(journal, &mut news, &mut err);
     if let (Some(path), true, None) = (&path, news.is_changed, err.refusal()) {
         if let Ok(mark) = ProcessMark::new(process, rt) {

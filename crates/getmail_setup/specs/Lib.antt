@@ -1,7 +1,6 @@
 pub mod CommandLine
 pub mod Failures
 pub mod Lock
-pub mod Memory
 pub mod NoSetup
 pub mod Output
 pub mod Places

@@ -1,5 +1,5 @@
 //! What an unattended run says, kept until it is decided what of it is told.
-use crate::memory::Counts;
+use run_memory::Counts;
 use std::alloc::{AllocError, Global};
 use std::cell::Cell;
 use std::io::{self, Write};

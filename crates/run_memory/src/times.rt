@@ -1,6 +1,6 @@
 //! What an unattended run tells, by what earlier ones told.
 ghost use Rattle.std.specs.Prelude.{◌≡◌};
-ghost use Rattle.getmail_setup.specs.Memory.{after, counts_after, has_more, has_passed, is_long_held, told_of};
+ghost use Rattle.run_memory.specs.Times.{after, counts_after, has_more, has_passed, is_long_held, told_of};
 
 /// How many seconds a fault that goes on isn't told again.
 const DAY: u64 = 86_400;
@@ -22,9 +22,9 @@ pub struct Times {
 /// How many messages were left out.
 #[derive(Clone, Copy, Debug, PartialEq, Eq)]
 pub struct Counts {
-    pub too_large: u32,
-    pub past_limit: u32,
-    pub repeated: u32,
+    pub too_large: u64,
+    pub past_limit: u64,
+    pub repeated: u64,
 }
 
 /// What is told of a fault.
