@@ -219,7 +219,7 @@ class Install(Copied):
         sample = self.place / "share/doc/getmail/getmailrc.sample"
         sample.write_text(sample.read_text().replace("/run/user/1000", str(self.place)))
         run = programs.run("getmail", "-r", str(sample), HOME=str(self.place))
-        self.assertEqual((run.status, run.err), (1, f"getmail: cannot connect to {self.place}/getmail/pop3s:110\n".encode()))
+        self.assertEqual((run.status, run.err), (1, f"getmail: cannot connect to {self.place}/getmail/pop3s\n".encode()))
 
     def test_folders_are_open_to_all_whatever_the_umask(self):
         self.make("install", f"DESTDIR={self.place}")

@@ -44,13 +44,13 @@ class Sockets(unittest.TestCase):
             make()
             run = self.account.run("--why")
             self.assertEqual((run.status, run.err.decode().splitlines()),
-                             (1, [f"getmail: cannot connect to {self.path}:110", *self.told(f"{self.path}: {reason}")]))
+                             (1, [f"getmail: cannot connect to {self.path}", *self.told(f"{self.path}: {reason}")]))
 
     def test_a_path_that_is_too_long(self):
         path = "/" + "x" * 107
         with Account(110, server=path) as account:
             run = account.run()
-        self.assertEqual((run.status, run.err.decode()), (1, f"getmail: cannot connect to {path}:110\n"))
+        self.assertEqual((run.status, run.err.decode()), (1, f"getmail: cannot connect to {path}\n"))
 
     def test_a_tunnel_that_reaches_no_server(self):
         """It ends the connection at once."""

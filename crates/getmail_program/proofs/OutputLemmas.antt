@@ -1,6 +1,5 @@
 -- What one write after another has written.
-use Rattle.std.proofs.Common.{◌≡◌, ◌∙◌, ℕ, List, Option, ◌++◌, append_assoc, codes}
-use Rattle.std.proofs.KnownBytes.{Appends-trans}
+use Rattle.std.proofs.Common.{◌≡◌, ℕ, List, Option, ◌++◌, append_assoc, codes}
 use Rattle.rc_file.specs.declared.settings.Settings.{Settings}
 use Rattle.fetch_session.specs.Text.{fault_text}
 use Rattle.fetch_session.specs.declared.fault.Fault.{Fault}
@@ -8,17 +7,9 @@ use Rattle.fetch_session.specs.declared.report.Outcome.{Outcome}
 use Rattle.getmail_setup.specs.declared.output.Output.{Output}
 use Rattle.getmail_setup.specs.declared.errors.Errors.{Errors}
 use Rattle.getmail_setup.specs.Output.{Puts, number_text}
+pub use Rattle.getmail_setup.proofs.OutputLemmas.{puts_both}
 use Rattle.getmail_program.specs.Reasons.{reasons_said}
 use Rattle.getmail_program.specs.Telling.{TellsCut, fault_line, outcome_line}
-
-pub puts_both : {W : Type 0} (contents : W → Option (List ℕ)) (old mid new : Output W) (first second : List ℕ)
-    → Puts contents old first mid → Puts contents mid second new → Puts contents old (first ++ second) new
-puts_both contents old mid new first second put more = record {
-  whole = λ clean.
-      let rest = more.whole clean in let begun = put.whole rest.0 in
-      (begun.0, Appends-trans (contents old.writer) (contents mid.writer) (contents new.writer) first second begun.1 rest.1);
-  stays = λ refused. more.stays (λ clean. refused (put.whole clean).0) ∙ put.stays refused;
-}
 
 -- a cut, what was written next, and what was written last
 pub said : {E : Type 0} (contents : E → Option (List ℕ)) (settings : Settings) (outcome : Outcome) (next : List ℕ)

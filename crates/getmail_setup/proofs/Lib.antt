@@ -1,2 +1,3 @@
+pub mod OutputLemmas
 mod SetupLemmas
 mod WordsLemmas

@@ -3,8 +3,11 @@ ghost use Rattle.std.specs.Prelude.{◌≡◌, ◌≢◌, ◌⊎◌, ◌≤◌, 
 ghost use Rattle.std.specs.IoError.{error_kind};
 ghost use Rattle.clap.specs.Values.{kind_of};
 ghost use Rattle.command_line.specs.Rules.{is_asked_for};
-ghost use Rattle.getmail_setup.specs.Failures.{status_of};
+ghost use Rattle.getmail_setup.specs.Failures.{status_of, unconnected_line};
+ghost use Rattle.getmail_setup.specs.Output.{Puts};
+ghost use Rattle.getmail_setup.specs.Places.{peer_name};
 
+use crate::connection::is_socket;
 use crate::output::Output;
 use clap::Error;
 use command_line::show;
@@ -103,12 +106,27 @@ fn tell_other_list<E: Write>(list: &str, record: &str, err: &mut Output<E>) {
     err.put(b" to fetch all mail\n");
 }
 
-/// Writes the line of a server that takes no connection.
-fn tell_unconnected<E: Write>(server: &str, port: u16, err: &mut Output<E>) {
-    err.put(b"getmail: cannot connect to ");
+/// Writes the name of a peer: a socket's path, or an address with its port.
+#[tactic(auto, using(crate::proofs::OutputLemmas::puts_three))]
+fn put_peer<E: Write>(server: &str, port: u16, err: &mut Output<E>)
+    ensures { Puts E.contents err.old (peer_name server.now port) err.new }
+{
+    if is_socket(server) {
+        err.put(server.as_bytes());
+        return;
+    }
     err.put(server.as_bytes());
     err.put(b":");
     err.put_number(Some(u32::from(port)));
+}
+
+/// Writes the line of a server that takes no connection.
+#[tactic(auto, using(crate::proofs::OutputLemmas::puts_three))]
+fn tell_unconnected<E: Write>(server: &str, port: u16, err: &mut Output<E>)
+    ensures { Puts E.contents err.old (unconnected_line server.now port) err.new }
+{
+    err.put(b"getmail: cannot connect to ");
+    put_peer(server, port, err);
     err.put(b"\n");
 }
 
