@@ -12,8 +12,8 @@ use Rattle.fetch_session.specs.Reasons.{told_report}
 use Rattle.fetch_session.specs.Telling.{preview_text}
 use Rattle.fetch_session.specs.Text.{fault_text, outcome_number}
 use Rattle.getmail_setup.specs.declared.output.Output.{Output}
-use Rattle.getmail_setup.specs.declared.output.Refusal.{Refusal}
-use Rattle.getmail_setup.specs.declared.output.Refusal.TheVariants.{NoMemory, Refused}
+use Rattle.getmail_setup.specs.declared.output.OutputRefusal.{OutputRefusal}
+use Rattle.getmail_setup.specs.declared.output.OutputRefusal.TheVariants.{NoMemory, Refused}
 use Rattle.getmail_program.specs.declared.ending.Fetched.{Fetched}
 use Rattle.getmail_program.specs.declared.findings.Findings.{Findings}
 use Rattle.getmail_program.specs.declared.told.Told.{Told}
@@ -58,8 +58,8 @@ outcome_line Ended = []
 outcome_line (Cut fault) = fault_line fault
 
 -- how many messages were left out for one reason, and its words
-abbrev pub count_text : ℕ → List ℕ → List ℕ
-count_text count words = if count == 0 then [] else decimal count ++ words
+abbrev pub left_out_reason : ℕ → List ℕ → List ℕ
+left_out_reason count words = if count == 0 then [] else decimal count ++ words
 
 -- two texts, with a comma between them if neither is empty
 abbrev pub with_comma : List ℕ → List ℕ → List ℕ
@@ -69,9 +69,9 @@ with_comma first second =
 -- how many messages were left out for each reason
 abbrev pub left_out_text : LeftOut → List ℕ
 left_out_text left =
-    with_comma (with_comma (count_text left.too_large (codes " too large"))
-    (count_text left.past_limit (codes " past the limit")))
-    (count_text left.repeated (codes " with a repeated unique-id"))
+    with_comma (with_comma (left_out_reason left.too_large (codes " too large"))
+    (left_out_reason left.past_limit (codes " past the limit")))
+    (left_out_reason left.repeated (codes " with a repeated unique-id"))
 
 -- the line on messages that were left out although they aren't known, if there are any
 abbrev pub left_out_line : Settings → LeftOut → List ℕ
@@ -89,7 +89,7 @@ abbrev pub lacks_memory : Outcome → Bool
 lacks_memory outcome = outcome_number outcome == 13
 
 -- the line of a text that wasn't written to standard output; want of memory is told once
-abbrev pub unwritten_line : Outcome → Option Refusal → List ℕ
+abbrev pub unwritten_line : Outcome → Option OutputRefusal → List ℕ
 unwritten_line outcome None = []
 unwritten_line outcome (Some NoMemory) = if lacks_memory outcome then [] else codes "getmail: out of memory\n"
 unwritten_line outcome (Some Refused) = codes "getmail: cannot write standard output\n"
@@ -105,7 +105,7 @@ pub record TellsCut {E : Type 0} (contents : E → Option (List ℕ)) (settings 
   pub same : new.says_why ≡ old.says_why
 
 -- the exit status: 0 if the session ended and all was written
-abbrev pub status_when : Outcome → Option Refusal → ℕ
+abbrev pub status_when : Outcome → Option OutputRefusal → ℕ
 status_when Ended None = 0
 status_when Ended (Some why) = 1
 status_when (Cut fault) why = 1
@@ -113,7 +113,7 @@ status_when (Cut fault) why = 1
 -- to `err` were written the line of the fault that cut a session with its reasons, the line of a text that wasn't
 -- written, and the line on messages that were left out
 pub record TellsErrors {E : Type 0} (contents : E → Option (List ℕ)) (settings : Settings) (told : Told)
-    (refusal : Option Refusal) (old : Errors E) (fetched : Fetched) (new : Errors E) : Type 0 where
+    (refusal : Option OutputRefusal) (old : Errors E) (fetched : Fetched) (new : Errors E) : Type 0 where
   pub idle : fetched.is_idle ≡ is_idle told
   pub status : fetched.status ≡ status_when (outcome_of told) refusal
   pub found : Findings

@@ -11,7 +11,7 @@ use crate::reason::reasons_said;
 use crate::told::{Manner, Told};
 use fetch_rules::Settings;
 use fetch_session::{LeftOut, Outcome, fault_number};
-use getmail_setup::{Errors, OUT_OF_MEMORY, Output, Refusal, Subject};
+use getmail_setup::{Errors, OUT_OF_MEMORY, Output, OutputRefusal, Subject};
 use run_memory::Counts;
 use std::alloc::Global;
 use std::io::Write;
@@ -66,24 +66,24 @@ fn lacks_memory(outcome: &Outcome) -> bool
 
 /// The line of a text that wasn't written to standard output after a session that came out in this way. Want
 /// of memory is told once.
-pub fn unwritten_line(outcome: &Outcome, refusal: Option<Refusal>) -> &'static str
+pub fn unwritten_line(outcome: &Outcome, refusal: Option<OutputRefusal>) -> &'static str
     ensures { result.now ≡ unwritten_line outcome.now refusal }
 {
     match refusal {
         None => "",
-        Some(Refusal::NoMemory) => {
+        Some(OutputRefusal::NoMemory) => {
             if lacks_memory(outcome) {
                 ""
             } else {
                 OUT_OF_MEMORY
             }
         }
-        Some(Refusal::Refused) => "getmail: cannot write standard output\n",
+        Some(OutputRefusal::Refused) => "getmail: cannot write standard output\n",
     }
 }
 
 /// The exit status.
-fn status_when(outcome: Outcome, refusal: Option<Refusal>) -> u8
+fn status_when(outcome: Outcome, refusal: Option<OutputRefusal>) -> u8
     ensures status { result ≡ status_when outcome refusal }
     ensures within { result ≤ 1 }
 {
@@ -123,7 +123,7 @@ pub fn tell_all<E: Write>(
     settings: &Settings,
     manner: &Manner<'_>,
     told: &Told,
-    refusal: Option<Refusal>,
+    refusal: Option<OutputRefusal>,
     errors: &mut Errors<'_, E>,
 ) -> Fetched
     ensures within { result.status ≤ 1 }

@@ -2,7 +2,7 @@
 ghost use Rattle.std.specs.Prelude.{◌≡◌, IfOk};
 ghost use Rattle.std.specs.String.{string_bytes};
 ghost use Rattle.getmail_setup.specs.Output.{Puts};
-ghost use Rattle.getmail_program.specs.Telling.{count_text, left_out_line, left_out_said, left_out_text, with_comma};
+ghost use Rattle.getmail_program.specs.Telling.{left_out_reason, left_out_line, left_out_said, left_out_text, with_comma};
 
 use crate::reason::line_of;
 use crate::told::Told;
@@ -14,8 +14,8 @@ use std::io::Write;
 use std::vec::Vec;
 
 /// How many messages were left out for one reason, and its words; empty if there are none.
-fn count_text(alloc: Global, count: u32, words: &str) -> Result<String, AllocError>
-    ensures { IfOk result (λ text. string_bytes text ≡ count_text count words.now) }
+fn left_out_reason(alloc: Global, count: u32, words: &str) -> Result<String, AllocError>
+    ensures { IfOk result (λ text. string_bytes text ≡ left_out_reason count words.now) }
 {
     if count == 0 {
         return Ok(String::new(alloc));
@@ -40,9 +40,9 @@ fn with_comma(alloc: Global, first: String, second: String) -> Result<String, Al
 fn left_out_text(alloc: Global, left: &LeftOut) -> Result<String, AllocError>
     ensures { IfOk result (λ text. string_bytes text ≡ left_out_text left.now) }
 {
-    let large = count_text(alloc, left.too_large, " too large")?;
-    let past = count_text(alloc, left.past_limit, " past the limit")?;
-    let repeated = count_text(alloc, left.repeated, " with a repeated unique-id")?;
+    let large = left_out_reason(alloc, left.too_large, " too large")?;
+    let past = left_out_reason(alloc, left.past_limit, " past the limit")?;
+    let repeated = left_out_reason(alloc, left.repeated, " with a repeated unique-id")?;
     let both = with_comma(alloc, large, past)?;
     with_comma(alloc, both, repeated)
 }

@@ -21,7 +21,7 @@ pub use failure::{Failure, OUT_OF_MEMORY, explain, failure_of, tell};
 pub use in_place::other_list;
 pub use journal::{Journal, Kept, Part, Subject};
 pub use lock::{Lock, take_lock};
-pub use output::{Output, Refusal, refusal_of};
+pub use output::{Output, OutputRefusal, refusal_of};
 pub use place::{home, joined};
 pub use run_memory::is_long_held;
 pub use setup::{Paths, Setup, account_of, set_up, told_path};

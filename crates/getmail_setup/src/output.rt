@@ -9,7 +9,7 @@ use std::io::{self, ErrorKind, Write};
 
 /// Why something wasn't written.
 #[derive(Clone, Copy)]
-pub enum Refusal {
+pub enum OutputRefusal {
     /// There was no memory for it.
     NoMemory,
     /// The system refused it.
@@ -20,17 +20,17 @@ pub enum Refusal {
 #[derive(Clone, Copy, Drop)]
 pub struct Output<W> {
     writer: W,
-    refusal: Option<Refusal>,
+    refusal: Option<OutputRefusal>,
 }
 
 /// Why an error of the system kept something from being written.
-pub fn refusal_of(error: &io::Error) -> Refusal
-    ensures { error_kind error.now ≡ ErrorKind.OutOfMemory → result ≡ Refusal.NoMemory }
+pub fn refusal_of(error: &io::Error) -> OutputRefusal
+    ensures { error_kind error.now ≡ ErrorKind.OutOfMemory → result ≡ OutputRefusal.NoMemory }
 {
     if error.kind() == ErrorKind::OutOfMemory {
-        Refusal::NoMemory
+        OutputRefusal::NoMemory
     } else {
-        Refusal::Refused
+        OutputRefusal::Refused
     }
 }
 
@@ -71,7 +71,7 @@ impl<W: Write> Output<W> {
     }
 
     /// Why something wasn't written, if so.
-    pub fn refusal(&self) -> Option<Refusal>
+    pub fn refusal(&self) -> Option<OutputRefusal>
         ensures { result ≡ self.now.refusal }
     {
         self.refusal
@@ -105,9 +105,9 @@ impl<W: Write> Output<W> {
 
     /// Remembers that there was no memory for something.
     pub fn lack_memory(&mut self)
-        ensures { self.new ≡ record { writer = self.old.writer; refusal = Some Refusal.NoMemory } }
+        ensures { self.new ≡ record { writer = self.old.writer; refusal = Some OutputRefusal.NoMemory } }
     {
-        self.refusal = Some(Refusal::NoMemory);
+        self.refusal = Some(OutputRefusal::NoMemory);
     }
 
     /// Writes the rest of a text after what was written of it. A text that begins otherwise is refused, and
@@ -121,7 +121,7 @@ impl<W: Write> Output<W> {
         }
         match text.strip_prefix(written) {
             Some(rest) => self.put(rest),
-            None => self.refusal = Some(Refusal::Refused),
+            None => self.refusal = Some(OutputRefusal::Refused),
         }
     }
 }
