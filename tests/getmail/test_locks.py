@@ -182,6 +182,11 @@ class Files(Locks):
             run = self.account.run("-q", "--trace", LD_PRELOAD=str(library), REFUSED_CALL="lock-none-left")
             self.assertEqual(run.err.splitlines()[0], f"trace: flock {self.account.lock}: No locks available".encode())
 
+    def test_an_unattended_run_tells_it_once(self):
+        self.account.refuse_lock()
+        for told in (self.told(f"no lock: {self.account.lock}: not a regular file"), b""):
+            self.assertEqual(self.account.run("--unattended"), programs.Run(0, b"", told))
+
     def test_a_folder_that_is_not_there(self):
         """The record can't be had either, and its line is the last one, as ever."""
         rc, none = self.account.home / "rc", self.account.home / "none"

@@ -189,6 +189,13 @@ class Intents(unittest.TestCase):
             self.assertEqual(run("-d"), programs.SILENT)
             self.assertEqual(account.content(), entries(TEXTS))
 
+    def test_an_unattended_run_tells_of_it_once(self):
+        with SharedServer(THREE) as server, MboxAccount(server.port) as account:
+            account.kept.write_bytes(OTHER)
+            for wanted in (told(account), programs.SILENT):
+                self.assertEqual(account.run("--unattended", "-a"), wanted)
+                server.wait_for_end()
+
     def test_a_rest_that_cannot_be_kept(self):
         """Nothing is cut off while a folder has that name; the next session goes on."""
         rest = entry(TEXTS[1])[:100]

@@ -6,7 +6,7 @@ from pathlib import Path
 
 from getmail.account import Account
 from getmail.server import SocketServer
-from harness import programs
+from harness import programs, waits
 
 TWO = [(b"a", b"one\n"), (b"b", b"two\n")]
 
@@ -61,6 +61,14 @@ class Sockets(unittest.TestCase):
         self.assertEqual((run.status, run.err.decode().splitlines()),
                          (1, ["getmail: connection ended by the server",
                               *self.told("it ended before the greeting", "the tunnel's own log says why")]))
+
+    def test_each_wait_has_a_bound(self):
+        hurry = waits.hurry_for(type(self))
+        with SocketServer(TWO, self.path) as server:
+            thread = server.begin_session()
+            self.assertEqual(self.account.run("-q", **hurry.environment()), programs.SILENT)
+            thread.join(programs.SECONDS)
+        self.assertEqual(hurry.asked(), [("read", 180_000), ("write", 180_000)])
 
     def test_a_port_for_tls_is_not_used(self):
         with Account(995, server=self.path) as account, SocketServer(TWO, self.path) as server:

@@ -1,6 +1,7 @@
 """`--trace`: the conversation and refused calls of the system on standard error, and nothing else."""
 
 import os
+import re
 import shutil
 import subprocess
 import unittest
@@ -160,25 +161,24 @@ class Session(unittest.TestCase):
         self.account.record.chmod(0)
         self.assertIn(f"trace: open {self.account.record}: Permission denied", lines_of(self.session("--trace")))
 
-    def test_a_rename_that_is_refused(self):
-        """The old name, then the new one."""
+    def test_each_call_that_is_refused(self):
+        """By its name, and by its path or the link; a rename by the old name and then the new one."""
+        names = {"openat": "open", "statx": "[fl]?stat", "recv": "read", "send": "write", "rename": "rename /.*/tmp/[^/ ]+ to"}
         with preload.library("refuse_step") as refuse_step:
-            note = self.account.home / "note"
-            below = {"LD_PRELOAD": str(refuse_step), "STEP_BELOW": str(self.account.maildir), "STEP_NOTE": str(note)}
-            with self.server_thread():
-                self.account.run("-q", **below)
-            steps = [line.split("\t") for line in note.read_text().splitlines()]
-            number = next(k for k, (step, _) in enumerate(steps, 1) if step == "rename")
-            shutil.rmtree(self.account.maildir / "new")
-            (self.account.maildir / "new").mkdir()
-            self.account.record.unlink()
-            note.unlink()
-            with self.server_thread():
-                run = self.account.run("-q", "--trace", STEP_REFUSED=str(number), **below)
-        told = [line for line in lines_of(run) if line.startswith("trace: rename")]
-        new = f"{self.account.maildir}/new/{self.account.name(*TWO[0])}"
-        self.assertEqual(len(told), 1)
-        self.assertRegex(told[0], f"^trace: rename {self.account.maildir}/tmp/[^/ ]+ to {new}: Input/output error$")
+            # The first step is the connection, without which the server has no session.
+            for number in range(2, 200):
+                with self.subTest(number), Account(self.server.port) as account, self.server_thread():
+                    note = account.home / "note"
+                    run = account.run("-q", "--trace", LD_PRELOAD=str(refuse_step), STEP_BELOW=str(account.maildir),
+                                      STEP_NOTE=str(note), STEP_REFUSED=str(number))
+                    refused = re.search("^refused (.+)\t(.+)$", note.read_text(), re.MULTILINE)
+                    if not refused:
+                        self.assertGreater(number, 20)
+                        return
+                    step, path = refused.groups()
+                    path = path.replace("the link", f"{LOOPBACK}:{self.server.port}").rstrip("/")
+                    self.assertRegex(run.err.decode(), f"trace: {names.get(step, step)} {path}: Input/output error\n")
+        self.fail("more than 200 steps")
 
     def test_a_path_is_escaped(self):
         name = "\x1b[2J.rc"

@@ -99,6 +99,15 @@ class Unattended(unittest.TestCase):
             for command in ("UIDL", "LIST"):
                 self.refuse(command)
                 self.assertEqual(bool(self.session()[1]), told)
+        self.refuse()
+        self.assertEqual(self.session(), (0, ["getmail: works again: runs had failed since Tue, 14 Nov 2023 22:23:20 GMT"]))
+
+    def test_the_same_fault_of_another_folder(self):
+        for part in ("new", "cur"):
+            (self.account.maildir / part).rmdir()
+            for lines in (2, 0):
+                self.assertEqual(len(self.session()[1]), lines)
+            (self.account.maildir / part).mkdir()
 
     def test_a_clock_that_is_set_back(self):
         self.refuse("UIDL")
@@ -185,6 +194,17 @@ class Unattended(unittest.TestCase):
         self.assertNotIn(b"secret", path.read_bytes())
         self.assertNotIn(b"no such", path.read_bytes())
         self.assertLess(path.stat().st_size, 500)
+
+    def test_files_of_killed_runs_are_removed(self):
+        self.refuse("UIDL")
+        self.session()
+        path, = self.told()
+        left = path.with_name(path.name + ".tmp.P1R0123456789abcdef")
+        left.touch()
+        os.utime(left, (0, 0))
+        self.refuse("LIST")
+        self.session()
+        self.assertEqual(self.told(), [path])
 
     def test_odd_contents(self):
         """All is written again."""
@@ -280,6 +300,9 @@ class Beside(unittest.TestCase):
             say(octets)
 
         self.server.give = give
+        # An earlier run had the lock, long ago.
+        self.account.lock.touch()
+        os.utime(self.account.lock, (0, 0))
         self.first = self.account.start("-q")
         self.addCleanup(self.end)
         self.assertTrue(asked.wait(programs.SECONDS))

@@ -39,14 +39,17 @@ class Sessions(unittest.TestCase):
         self.assertEqual((run.status, first), (1, f"getmail: {fault}"))
         self.assertRegex(second, f"^getmail: u@{LOOPBACK}:{self.server.port}: {reason}$")
 
-
     def check_unflushed(self, folder):
         """A file system that flushes no folders is no fault. One of them is named, if reasons are asked for, by a run that
-        relies on it."""
-        line = f"getmail: u@{LOOPBACK}:{self.server.port}: {folder}: its file system flushes no folders\n".encode()
+        relies on it: the last one writes the record anew, and nothing else."""
+        of_store, of_record = (f"getmail: u@{LOOPBACK}:{self.server.port}: {path}: its file system flushes no folders\n".encode()
+                               for path in (folder, self.account.folder))
         with preload.library("refuse_call") as library:
-            for words, messages, told in (((), TWO[:1], b""), (("--why",), TWO, line), (("--why",), TWO, b"")):
+            for words, messages, torn, told in (((), TWO[:1], b"", b""), (("--why",), TWO, b"", of_store),
+                                                (("--why",), TWO, b"", b""), (("--why",), TWO, b"torn", of_record)):
                 self.server.messages = list(messages)
+                with open(self.account.record, "ab") as record:
+                    record.write(torn)
                 run = self.session(*words, LD_PRELOAD=str(library), REFUSED_CALL="folder-flush")
                 self.assertEqual(run, programs.Run(0, b"", told))
 
@@ -173,6 +176,7 @@ class BeforeSessions(unittest.TestCase):
         for old, new, fault, told in (
                 (b"port = 1", b"port = 0x1 # plain", "retriever.port has a bad value",
                  "line 4: port = 0x1 # plain: 1 to 65535" + own_line),
+                (b"port = 1", b"port = 0;plain", "retriever.port has a bad value", "line 4: port = 0;plain: 1 to 65535" + own_line),
                 (b"password = p", b"password = " + b"q" * 501, "retriever.password has a bad value",
                  "line 6: password: one line of 1 to 500 octets, with no CR and no NUL"),
                 (b"path = ~/Maildir/", b"path = ~/Mail\x1bdir", "destination.path has a bad form",
@@ -182,7 +186,9 @@ class BeforeSessions(unittest.TestCase):
                  "line 8: port = 7x: 1 to 65535"),
                 (b"port = 1", b"port = 1\nport = 0\nport = 110\nport = 0x", "retriever.port has a bad value",
                  "line 7: port = 0x: 1 to 65535"),
-                (b"type = Maildir", b"TYPE: Mbox", "destination.type unknown", "line 9: type = Mbox: Maildir or Mboxrd")):
+                (b"type = Maildir", b"TYPE: Mbox", "destination.type unknown", "line 9: type = Mbox: Maildir or Mboxrd"),
+                (b"SimplePOP3R", b"SimplePOP3SSLR", "retriever.type unknown",
+                 "line 2: type = SimplePOP3SSLRetriever: SimplePOP3Retriever; TLS needs a tunnel")):
             with self.subTest(new), Account(1) as self.account:
                 self.put(old, new)
                 self.check_told(2, fault, told)
@@ -212,7 +218,7 @@ class BeforeSessions(unittest.TestCase):
 
     def test_no_line_of_a_password_is_shown(self):
         self.put(b"port = 1", b"port = 0")
-        self.put(b"password = p\n", b"password = p\n  port = hidden\n")
+        self.put(b"password = p\n", b"password = p\n  port = hidden\n\tport = hidden\n")
         self.check_told(2, "retriever.port has a bad value", "line 4: port = 0: 1 to 65535")
 
     def test_lines_of_an_rc_file(self):

@@ -1,9 +1,11 @@
 """`--trace`: conversations and refused calls of the system on standard error, and nothing else."""
 
+import os
 import shutil
 import unittest
 
 from harness import programs
+from harness.kernel import LOOPBACK
 from popd.service import Maildir, Service
 
 TALK = [
@@ -73,6 +75,22 @@ class Trace(unittest.TestCase):
         self.maildir.add("new", "c", text * 5)
         run = self.run_popd("--trace", given=b"USER u\r\nPASS p\r\nRETR 3\r\nNOOP\r\n")
         self.assertEqual(lines_of(run)[-4:], ["S: +OK 500005 octets", "S: (5 lines, 500010 octets)", "C: NOOP", "S: +OK"])
+
+    def test_a_connection_that_is_reset(self):
+        with Service(self.maildir, "--trace", "--connections", "1") as service:
+            client = service.client()
+            client.line()
+            peer = f"{LOOPBACK}:{client.socket.getsockname()[1]}"
+            client.reset()
+            self.assertIn(f"trace: read {peer}: Connection reset by peer", service.finish()[1].decode().splitlines())
+
+    def test_standard_streams_that_are_refused(self):
+        folder = os.open(self.maildir.folder, os.O_RDONLY)
+        self.addCleanup(os.close, folder)
+        self.assertIn("trace: read standard input: Is a directory", lines_of(self.run_popd("--trace", given=folder)))
+        with open("/dev/full", "wb") as full:
+            run = programs.run("popd", "--rehearse", "--trace", out=full)
+        self.assertIn("trace: write standard output: No space left on device", lines_of(run))
 
     def test_a_missing_folder(self):
         shutil.rmtree(self.maildir.folder / "cur")
