@@ -104,7 +104,7 @@ class Progress(unittest.TestCase):
         process = subprocess.Popen([programs.path_of("getmail")], stdin=subprocess.DEVNULL, stdout=subprocess.DEVNULL, stderr=theirs,
                                    env=programs.environment(HOME=str(self.account.home)))
         shown = b""
-        while b"message 2 of 3, 0 octets" not in shown:
+        while b"message 2 of 3, " not in shown:
             shown += os.read(ours, 65536)
         process.send_signal(signal.SIGINT)
         process.wait(programs.SECONDS)
