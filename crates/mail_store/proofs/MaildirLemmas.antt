@@ -396,16 +396,28 @@ list_any-map : {A B : Type 0} (test : B → Bool) (f : A → B) (xs : List A) �
 list_any-map test f [] = refl
 list_any-map test f (x ∷ xs) = ap (λ b. test (f x) || b) (list_any-map test f xs)
 
--- the digits in the stems of the names show which items are held
+-- the digits in the stems of the names show whether an id is held
+held_by_names : {Z : Type 0} (account : List ℕ) (maildir : Maildir) (found : List ℕ → Bool) (names : List (String Z))
+    → ((q : List ℕ) → found q ≡ any_name account q names) → IsPermutation (names_of maildir.files) (bases_told names)
+    → (uid : List ℕ) → found (encode_lower uid) ≡ is_held account maildir uid
+held_by_names account maildir found names texts told uid =
+    let any = list_any-IsPermutation (names_id account uid) (names_of maildir.files) (bases_told names) told in
+    texts (encode_lower uid) ∙ sym (simp (list_any-map, stem_base) at any)
+
+-- and so which items are
 pub flags_found : {Z : Type 0} (account : List ℕ) (maildir : Maildir) (items : List Item) (found : List ℕ → Bool) (names : List (String Z))
     → ((q : List ℕ) → found q ≡ any_name account q names) → IsPermutation (names_of maildir.files) (bases_told names)
     → map (λ (item : Item). found (encode_lower item.uid)) items ≡ flags_of account maildir items
-flags_found account maildir items found names texts told = simp held
-  where
-    held : (uid : List ℕ) → found (encode_lower uid) ≡ is_held account maildir uid
-    held uid =
-        let any = list_any-IsPermutation (names_id account uid) (names_of maildir.files) (bases_told names) told in
-        texts (encode_lower uid) ∙ sym (simp (list_any-map, stem_base) at any)
+flags_found account maildir items found names texts told = simp (held_by_names account maildir found names texts told)
+
+-- and which of those that are asked for
+pub flags_of_many : {Z : Type 0} (account : List ℕ) (maildir : Maildir) (items : List Item) (flags : List Bool) (found : List ℕ → Bool) (names : List (String Z))
+    → ((q : List ℕ) → found q ≡ any_name account q names) → IsPermutation (names_of maildir.files) (bases_told names)
+    → sought_among found items flags ≡ flags_sought account maildir items flags
+flags_of_many account maildir [] flags found names texts told = refl
+flags_of_many account maildir (item ∷ items) [] found names texts told = refl
+flags_of_many account maildir (item ∷ items) (flag ∷ flags) found names texts told =
+    rw (held_by_names account maildir found names texts told item.uid, flags_of_many account maildir items flags found names texts told) refl
 
 -- ---- the names with some stems
 

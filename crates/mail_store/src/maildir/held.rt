@@ -29,6 +29,9 @@ pub struct Asked<'a> {
     pub flags: &'a [bool],
 }
 
+/// For how many ids at most the names are compared while they are listed; for more all names are kept.
+const MOST_STEMS: usize = 2_000;
+
 /// How many times more it is asked what is held, because readers took away files that were to be flushed.
 const MOST_TIMES: u32 = 8;
 
@@ -179,9 +182,29 @@ pub fn held<D: MaildirDisk>(
     Ok(flags_of(alloc, &found, listing)?)
 }
 
-/// As `held`, but only of the items for which a flag is set; the others' flags are false. No name is kept
-/// that none of these ids has.
-fn held_sought<D: MaildirDisk>(
+/// As `held`, but only of the items for which a flag is set; the others' flags are false.
+fn held_of_many<D: MaildirDisk>(
+    alloc: Global,
+    disk: &mut D,
+    account: &AccountId,
+    listing: &Listing,
+    flags: &[bool],
+) -> Result<Vec<bool>, StoreFault>
+    requires { length flags.now ≡ length listing.now }
+    ensures finds { D.sound disk.new → D.sound disk.old × AfterTaking (D.maildir disk.old)
+        (λ left. FindsFlags (flags_sought account.now left listing.now flags.now) left result (D.maildir disk.new)) }
+    ensures count { Tallies (refuses is_refusal result) (D.maildir disk.old).failures (D.maildir disk.new).failures }
+    ensures length { IfOk result (λ flags. vec_len flags ≡ length listing.now) }
+    ensures fault { result ≢ Err StoreFault.NotMbox }
+{
+    let all = disk.all_names()?;
+    let mut found = BTreeSet::new(alloc);
+    add_digits(&mut found, account.as_str(), &all)?;
+    Ok(flags_sought(alloc, &found, listing, flags)?)
+}
+
+/// As `held_of_many`, for few ids: no name is kept that none of these has.
+fn held_of_few<D: MaildirDisk>(
     alloc: Global,
     disk: &mut D,
     account: &AccountId,
@@ -221,7 +244,10 @@ pub fn held_asked<D: MaildirDisk>(
     if asked.all {
         return held(alloc, disk, account, listing);
     }
-    held_sought(alloc, disk, account, listing, asked.flags)
+    if asked.flags.iter().filter(|flag| **flag).count() > MOST_STEMS {
+        return held_of_many(alloc, disk, account, listing, asked.flags);
+    }
+    held_of_few(alloc, disk, account, listing, asked.flags)
 }
 
 /// As `flush_held`, but asks what is held this many times more.
