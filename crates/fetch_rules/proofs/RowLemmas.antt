@@ -1,7 +1,7 @@
 -- Ids, and the record's rows: their ids and their delivery, as the entries of a map, and as the reader takes them.
-use Rattle.std.proofs.Common.{All, Bool, Global, HoldsAt, IfNone, IfSome, List, None, Option, Some, String, [], ap, ap₂, arith, bytes_eq, cond, false, filter, get_or, inl, inr, is_some, length, length-append, map, not, position, refl, string_bytes, subst, suc, sym, take, true, true≢false, zero, ℕ, ◌&&◌, ◌++◌, ◌<◌, ◌==◌, ◌^◌, ◌||◌, ◌∙◌, ◌∷◌, ◌≡◌, ◌≢◌, ◌⊎◌, ◌≤◌, nat_le, IsUtf8}
+use Rattle.std.proofs.Common.{All, Bool, Global, HoldsAt, IfNone, IfSome, List, None, Option, Some, String, [], ap, ap₂, arith, bytes_eq, cond, false, filter, get_or, inl, inr, is_some, length, length-append, map, not, position, refl, slice_get, string_bytes, subst, suc, sym, take, true, true≢false, zero, ℕ, ◌&&◌, ◌++◌, ◌<◌, ◌==◌, ◌^◌, ◌||◌, ◌∙◌, ◌∷◌, ◌≡◌, ◌≢◌, ◌⊎◌, ◌≤◌, nat_le, IsUtf8}
 use Rattle.indexmap.proofs.MapLemmas.{absent_from_lookup, insert_entry-absent}
-use Rattle.indexmap.specs.IndexMap.{insert_entry}
+use Rattle.indexmap.specs.IndexMap.{insert_entry, set_value_at}
 use Rattle.mail_terms.specs.Distinct.{AreDistinct}
 use Rattle.mail_terms.specs.Listing.{Item, is_flagged}
 use Rattle.mail_terms.specs.UniqueId.{IsLegalId, is_id_byte}
@@ -20,7 +20,7 @@ use Rattle.std.proofs.lemmas.Option.{none-some, same_Some}
 use Rattle.std.proofs.lemmas.Slice.Eq.{bytes_eq-Decides}
 use Rattle.std.proofs.lemmas.Str.{IsUtf8-from_ascii}
 use Rattle.std.specs.List.{AllByRecursion, IsDistinct, list_any, list_all}
-use Rattle.std.specs.Map.{keys_of, lookup, set_value}
+use Rattle.std.specs.Map.{keys_of, lookup, set_value, values_of}
 use mathlib.Core.List.{map-map}
 use Rattle.fetch_rules.specs.Lines.{RefusesRow, TakesRow, after_row, is_within, version_of}
 use Rattle.fetch_rules.specs.Record.{Intent, IsRecord, IsRow, Row, has_row, is_delivered, is_of, marked, with_delivered, with_held}
@@ -243,6 +243,20 @@ is_delivered-at (row ∷ rows) (suc i) d is inside =
     rw (test_from_other (get_or rows i d).uid row.uid (λ same. rows_differ (row ∷ rows) is 0 (suc i) d (omega arith) (omega (arith, inside)) (sym same)))
     (is_delivered-at rows i d (rest_of row rows is) (omega (arith, inside)))
 
+-- and what is known of its message
+pub state_in-at : (rows : List Row) (i : ℕ) (d : Row) → IsRecord rows → i < length rows → state_in rows (get_or rows i d).uid ≡ Some (state_of (get_or rows i d))
+state_in-at [] i d is inside = absurd (omega (arith, inside))
+state_in-at (row ∷ rows) zero d is inside = rw (test_from_same row.uid row.uid refl) refl
+state_in-at (row ∷ rows) (suc i) d is inside =
+    rw (test_from_other (get_or rows i d).uid row.uid (λ same. rows_differ (row ∷ rows) is 0 (suc i) d (omega arith) (omega (arith, inside)) (sym same)))
+    (state_in-at rows i d (rest_of row rows is) (omega (arith, inside)))
+
+-- what was read at the place of an id is known of it
+pub state_found : (rows : List Row) (uid : List ℕ) (place : ℕ) (read : Row) → IsRecord rows → (place < length rows) × HoldsAt (λ (row : Row). row.uid ≡ uid) rows place
+    → HoldsAt (λ (row : Row). row ≡ read) rows place → state_in rows uid ≡ Some (state_of read)
+state_found rows uid place read is found at =
+    ap (state_in rows) (sym (found.1 read)) ∙ state_in-at rows place read is found.0 ∙ ap (λ (r : Row). Some (state_of r)) (at read)
+
 -- ---- the rows as the entries of a map
 
 pub lookup_state : (uid : List ℕ) (es : List (String Global × State)) → lookup (λ key. bytes_eq uid (string_bytes key)) es ≡ state_in (rows_of es) uid
@@ -259,6 +273,17 @@ set_here uid (e ∷ es) state new is found new_is = elim (cases_Bool (bytes_eq u
   | inl test ↦ rw (test, unmarked uid (rows_of es) (apart uid (row_of e) (rows_of es) is test), or-true, new_is, ← same_Some e.1 state (rw test at found)) refl
   | inr test ↦ rw (test, or-false, set_here uid es state new (rest_of (row_of e) (rows_of es) is) (rw test at found) new_is) refl
 ]
+
+-- the row at a place is marked
+pub set_at : (es : List (String Global × State)) (i : ℕ) (d : Row) (state new : State) → IsRecord (rows_of es) → i < length (rows_of es) → slice_get (values_of es) i ≡ Some state → new ≡ record state { delivered = true }
+    → rows_of (set_value_at es i new) ≡ marked (rows_of es) (get_or (rows_of es) i d).uid
+set_at [] i d state new is inside found new_is = absurd (omega (arith, inside))
+set_at (e ∷ es) zero d state new is inside found new_is =
+    let test = test_from_same (string_bytes e.0) (string_bytes e.0) refl in
+    rw (test, unmarked (string_bytes e.0) (rows_of es) (apart (string_bytes e.0) (row_of e) (rows_of es) is test), or-true, new_is, ← same_Some e.1 state found) refl
+set_at (e ∷ es) (suc i) d state new is inside found new_is =
+    let other = test_from_other (get_or (rows_of es) i d).uid (string_bytes e.0) (λ same. rows_differ (row_of e ∷ rows_of es) is 0 (suc i) d (omega arith) (omega (arith, inside)) (sym same)) in
+    rw (other, or-false, set_at es i d state new (rest_of (row_of e) (rows_of es) is) (omega (arith, inside)) found new_is) refl
 
 pub place_found : (uid : List ℕ) (es : List (String Global × State)) (place : Option ℕ) → place ≡ position (λ key. bytes_eq uid (string_bytes key)) (keys_of es)
     → IfSome place (λ i. (i < length (rows_of es)) × HoldsAt (λ (row : Row). row.uid ≡ uid) (rows_of es) i)

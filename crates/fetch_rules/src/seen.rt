@@ -262,23 +262,16 @@ impl<H: BuildHasher> Seen<H> {
         self.rows.is_delivered(uid)
     }
 
-    /// Whether each id of a listing is recorded as delivered. An id whose row follows that of the one
-    /// before it is found without a look-up.
+    /// Whether each id of a listing is recorded as delivered.
     pub fn knows(&self, listing: &Listing) -> bool
         ensures known { IsTrue result ↔ All (λ item. is_delivered self.now.rows item.uid ≡ true) listing.now }
         ensures is_record { IsRecord self.now.rows }
     {
-        let mut next = 0;
         let _ = self.rows.len();
         for i in 0..listing.len() {
-            let Some(place) = self.rows.place_of(listing.uid(i), next) else {
-                return false;
-            };
-            let (_, state) = self.rows.at(place);
-            if !state.delivered {
+            if !self.rows.is_delivered(listing.uid(i)) {
                 return false;
             }
-            next = place + 1;
         }
         true
     }

@@ -200,6 +200,14 @@ impl<H: BuildHasher> RowMap<H> {
     {
         // For the proof alone: `len` says that the rows are a record.
         let _ = self.len();
+        // Most rows of groups deliver the ids of earlier rows, in their order.
+        if part.is_within()
+            && let Some(place) = self.place_near(row.uid)
+            && delivers(older, self.at(place).1, row.state)
+        {
+            self.deliver_at(place);
+            return Ok(part.after_row());
+        }
         let known = self.put(row.uid, row.state)?;
         if let Part::Between = part {
             return Err(SeenFault::BadRow(number));

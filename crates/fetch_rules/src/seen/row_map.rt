@@ -13,6 +13,7 @@ use crate::id_set::text_of;
 use crate::seen::line::{HEADER, write_line};
 use indexmap::IndexMap;
 use std::alloc::{AllocError, Global};
+use std::cell::Cell;
 use std::hash::BuildHasher;
 use std::marker::Model;
 
@@ -30,6 +31,8 @@ pub struct State {
 pub(crate) struct RowMap<H: BuildHasher> {
     alloc: Global,
     states: IndexMap<String, State, H>,
+    /// The place of the row that was found last: ids are mostly looked up in the rows' order.
+    last: Cell<usize>,
 }
 
 impl<H: BuildHasher> Model for RowMap<H> {
@@ -47,6 +50,7 @@ impl<H: BuildHasher> RowMap<H> {
         RowMap {
             alloc,
             states: IndexMap::with_hasher(alloc, hasher),
+            last: Cell::new(0),
         }
     }
 
@@ -82,27 +86,56 @@ impl<H: BuildHasher> RowMap<H> {
     }
 
     /// What is known of an id's message, if it has a row.
-    #[tactic(auto, using(crate::proofs::RowLemmas::state_in_none, crate::proofs::RowLemmas::illegal))]
+    #[tactic(auto, using(crate::proofs::RowLemmas::state_in_none))]
     pub(crate) fn state(&self, uid: &[u8]) -> Option<State>
         ensures value { result ≡ state_in self.now uid.now }
         ensures is_record { IsRecord self.now }
     {
-        self.states.get(text_of(uid)?).copied()
+        let place = self.place_of(uid)?;
+        let (_, state) = self.at(place);
+        Some(state)
     }
 
-    /// The place of an id's row, if it has one. The row at the place `likely` is compared first, and the
-    /// id is hashed only if it is another's.
+    /// Whether the row at a place is an id's.
+    fn is_at(&self, place: usize, uid: &[u8]) -> bool
+        ensures { IsTrue result → (place < length self.now) × HoldsAt (λ row. row.uid ≡ uid.now) self.now place }
+    {
+        place < self.len() && self.at(place).0 == uid
+    }
+
+    /// The place of an id's row, if that is the one behind the row that was found last, or this row again.
+    pub(crate) fn place_near(&self, uid: &[u8]) -> Option<usize>
+        ensures { IfSome result (λ place. (place < length self.now)
+            × HoldsAt (λ row. row.uid ≡ uid.now) self.now place) }
+    {
+        let last = self.last.get();
+        let next = last.saturating_add(1);
+        if self.is_at(next, uid) {
+            self.last.set(next);
+            return Some(next);
+        }
+        if self.is_at(last, uid) {
+            return Some(last);
+        }
+        None
+    }
+
+    /// The place of an id's row, if it has one. The id is hashed only if it isn't near.
     #[tactic(auto, using(crate::proofs::RowLemmas::illegal, crate::proofs::RowLemmas::no_place))]
-    pub(crate) fn place_of(&self, uid: &[u8], likely: usize) -> Option<usize>
+    fn place_of(&self, uid: &[u8]) -> Option<usize>
         ensures found { IfSome result (λ place. (place < length self.now)
             × HoldsAt (λ row. row.uid ≡ uid.now) self.now place) }
         ensures none { IfNone result (has_row self.now uid.now ≡ false) }
         ensures is_record { IsRecord self.now }
     {
-        if likely < self.len() && self.at(likely).0 == uid {
-            return Some(likely);
+        // For the proof alone: `len` says that the rows are a record.
+        let _ = self.len();
+        if let Some(place) = self.place_near(uid) {
+            return Some(place);
         }
-        self.states.get_index_of(text_of(uid)?)
+        let place = self.states.get_index_of(text_of(uid)?)?;
+        self.last.set(place);
+        Some(place)
     }
 
     /// Whether an id is recorded as delivered.
@@ -116,21 +149,26 @@ impl<H: BuildHasher> RowMap<H> {
         }
     }
 
+    /// Sets delivered for the row at a place.
+    pub(crate) fn deliver_at(&mut self, place: usize)
+        requires { place < length self.old }
+        ensures rows { HoldsAt (λ row. self.new ≡ marked self.old row.uid) self.old place }
+        ensures is_record { IsRecord self.new }
+    {
+        match self.states.get_index_mut(place) {
+            Some(state) => state.delivered = true,
+            None => unreachable!(),
+        }
+    }
+
     /// Sets delivered for the id, if it has a row.
-    #[tactic(auto, using(crate::proofs::RowLemmas::illegal, crate::proofs::RowLemmas::unmarked))]
+    #[tactic(auto, using(crate::proofs::RowLemmas::unmarked))]
     pub(crate) fn set_delivered(&mut self, uid: &[u8])
         ensures rows { self.new ≡ marked self.old uid.now }
         ensures is_record { IsRecord self.new }
     {
-        // For the proof alone: `len` says that the rows are a record, so that no row has an id that
-        // isn't legal.
-        let _ = self.len();
-        let Some(text) = text_of(uid) else {
-            return;
-        };
-        match self.states.get_mut(text) {
-            Some(state) => state.delivered = true,
-            None => {}
+        if let Some(place) = self.place_of(uid) {
+            self.deliver_at(place);
         }
     }
 

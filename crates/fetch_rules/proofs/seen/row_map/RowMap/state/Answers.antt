@@ -1,6 +1,8 @@
-use Rattle.std.proofs.Common.{◌∙◌}
-use Rattle.fetch_rules.proofs.RowLemmas.{lookup_state}
+use Rattle.std.proofs.Common.{sym}
+use Rattle.fetch_rules.specs.Rows.{row_from}
+use Rattle.fetch_rules.proofs.RowLemmas.{state_found}
 use Rattle.fetch_rules.proofs.seen.row_map.RowMap.state.Goals as goal
 
 pub returns-clause-value : goal.returns-clause-value
-returns-clause-value g c = rw (← c.in_ok-text_of.ensures.text, ← c.self.view_is) (c.copied.ensures ∙ c.get.ensures.value ∙ lookup_state c.in_ok-text_of.field-0.now c.self.inside.states.entries)
+returns-clause-value g c =
+    sym (state_found c.args.self.now c.args.uid.now c.in_ok-place.place (row_from c.at.result.0.now c.at.result.1) c.place_of.ensures.is_record c.in_ok-place.ensures.found c.at.ensures)
