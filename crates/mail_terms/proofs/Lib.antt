@@ -1,3 +1,5 @@
+pub mod ErrLemmas
+pub mod ListLemmas
 mod ListingLemmas
 mod NumberingLemmas
 mod NumeralLemmas

@@ -1,7 +1,6 @@
 -- How the parts of a turn make a turn, and turns make a conversation, and what holds of every conversation.
-use Rattle.pop3_wire.specs.declared.wire.Wire.{Ghosts}
-use Rattle.pop3_wire.specs.Link.{WhereSound, Link}
-use Rattle.std.proofs.Common.{IsErrAnd, Some, Option, true, ◌≡◌, inl, inr, ◌<◌, ◌≤◌, ◌+◌, ◌*◌, ℕ, false, List, [], ◌∷◌, ◌++◌, length, take, drop, None, Result, Ok, Err, refl, sym, ap, subst, ◌∙◌, arith, append_assoc, length-append, codes, append-nil, take_all, length-take, ◌≢◌, ◌⊎◌, IfOk, IfErr, rules}
+use Rattle.pop3_wire.specs.Link.{Link}
+use Rattle.std.proofs.Common.{Some, Option, true, ◌≡◌, inl, inr, ◌<◌, ◌≤◌, ◌+◌, ◌*◌, ℕ, false, List, [], ◌∷◌, ◌++◌, length, take, drop, None, Result, Ok, Err, refl, sym, ap, subst, ◌∙◌, arith, append_assoc, length-append, codes, append-nil, take_all, length-take, ◌≢◌, ◌⊎◌, IfOk, IfErr, rules}
 use Rattle.std.specs.List.{flat_map, AllZip, AllByRecursion}
 use Rattle.pop3_wire.specs.Line.{crlf, IsLine, ended}
 use Rattle.pop3_wire.specs.Reply.{IsFirstLine}
@@ -9,7 +8,6 @@ use Rattle.pop3_wire.specs.Reading.{WholeReply, reply_bytes, body_bytes, gives_b
 use Rattle.pop3_wire.specs.Bodies.{Drew, Rest, LeavesRest}
 use Rattle.pop3_wire.specs.declared.reply.Status.{Status}
 use Rattle.std.proofs.lemmas.Bool.{false≢true}
-use Rattle.std.proofs.lemmas.Result.{err_from_is_err_and}
 use Rattle.std.proofs.lemmas.Grind.{flat_map-append}
 use Rattle.pop3_wire.specs.declared.reply.Status.TheVariants.{Positive, Negative}
 use Rattle.pop3_wire.specs.Commands.{line_of}
@@ -31,23 +29,7 @@ use Rattle.pop3_client.specs.Listing.{Listed, GetsListing, ListsRows, RowsCause,
 use Rattle.std.proofs.lemmas.List.{append_cancel_left}
 use Rattle.pop3_wire.specs.declared.unstuffer.Spot.TheVariants.{Done}
 use Rattle.pop3_client.specs.Texts.{Fetched, Fetching}
-
--- what `?` passes up
-pub is_err : {T E : Type 0} {e : E} (r : Result T E) → IsErrAnd r (λ y. y ≡ e) → r ≡ Err e
-is_err r h = let p = err_from_is_err_and r h in p.1 ∙ ap Err p.2
-
-module _ {W : Type 0} (link : Ghosts W) where
-  -- what follows from what a call did
-  pub in_words : {a b : W} {P Q : Type 0} → WhereSound link.sound link.leads_to a b P → (P → Q) → WhereSound link.sound link.leads_to a b Q
-  in_words did words sound = let all = did sound in (all.0, all.1, words all.2)
-
-  -- a call and then another
-  pub and_then : {a b c : W} {P Q R : Type 0} → ((u v w : W) → link.leads_to u v → link.leads_to v w → link.leads_to u w)
-      → WhereSound link.sound link.leads_to a b P → WhereSound link.sound link.leads_to b c Q → (P → Q → R) → WhereSound link.sound link.leads_to a c R
-  and_then on first second both sound =
-      let then = second sound in
-      let all = first then.0 in
-      (all.0, on _ _ _ all.1 then.1, both all.2 then.2)
+use Rattle.pop3_wire.proofs.BodiesLemmas.{drew_on}
 
 -- ---- how many octets a reply has at most
 
@@ -357,9 +339,6 @@ pub record TookRows {R : Type 0} (turn : Turn) (StandsFor : List ℕ → R → T
   pub read : AllZip StandsFor lines rows
   pub drew : Drew old.link new.link gained
   pub goes_on : GoesOn old.link new.link
-
-drew_on : {a b c : Link} {g h : List ℕ} → Drew a b g → Drew b c h → Drew a c (g ++ h)
-drew_on first then = record { got = simp (then.got, first.got, append_assoc); sent = then.sent ∙ first.sent }
 
 pub took_none : {R : Type 0} (turn : Turn) (StandsFor : List ℕ → R → Type 0) (place : Place) → IsListing turn → TookRows turn StandsFor place place []
 took_none turn StandsFor place listing = record {

@@ -23,7 +23,7 @@ under_way_none limit place = record {
   goes_on = record { ended = refl; failures = refl };
 }
 
-drew_on : {a b c : Link} {g h : List ℕ} → Drew a b g → Drew b c h → Drew a c (g ++ h)
+pub drew_on : {a b c : Link} {g h : List ℕ} → Drew a b g → Drew b c h → Drew a c (g ++ h)
 drew_on {a} {g} {h} first then = record { got = then.got ∙ rw first.got (append_assoc a.got g h); sent = then.sent ∙ first.sent }
 
 module _ {limit : ℕ} {old : Place} {link : Link} {waits : List ℕ} {body : Rest} {text : List ℕ} (now : UnderWay limit old (at link waits) body text) where

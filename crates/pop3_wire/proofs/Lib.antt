@@ -1,4 +1,5 @@
-mod BodiesLemmas
-mod BodyLemmas
+pub mod BodiesLemmas
+pub mod BodyLemmas
 mod LineReaderLemmas
-mod RowsLemmas
+pub mod LinkLemmas
+pub mod RowsLemmas

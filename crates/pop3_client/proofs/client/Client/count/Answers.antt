@@ -3,7 +3,9 @@ use Rattle.pop3_wire.specs.Place.{at}
 use Rattle.pop3_client.specs.Client.{place_of}
 use Rattle.pop3_client.specs.Turns.{stat}
 use Rattle.pop3_client.specs.Conversation.{GivesFew}
-use Rattle.pop3_client.proofs.TalkLemmas.{is_err, and_then, stat_bytes, sent_for, opened, broke_saying, broke_there, few_heard, talked_line}
+use Rattle.pop3_client.proofs.TalkLemmas.{stat_bytes, sent_for, opened, broke_saying, broke_there, few_heard, talked_line}
+use Rattle.pop3_wire.proofs.LinkLemmas.{and_then}
+use Rattle.mail_terms.proofs.ErrLemmas.{is_err}
 use Rattle.pop3_client.proofs.client.Client.count.Goals as goal
 
 pub returns-in_err-say-clause-counts : goal.returns-in_err-say-clause-counts

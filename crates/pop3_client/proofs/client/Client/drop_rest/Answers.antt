@@ -1,6 +1,8 @@
 use Rattle.std.proofs.Common.{refl, sym, ◌∙◌}
 use Rattle.std.proofs.lemmas.Bool.{false≢true}
-use Rattle.pop3_client.proofs.TalkLemmas.{is_err, and_then, fetched}
+use Rattle.pop3_client.proofs.TalkLemmas.{fetched}
+use Rattle.pop3_wire.proofs.LinkLemmas.{and_then}
+use Rattle.mail_terms.proofs.ErrLemmas.{is_err}
 use Rattle.pop3_client.proofs.client.Client.drop_rest.Goals as goal
 
 pub returns-then-has_ended-clause-completes : goal.returns-then-has_ended-clause-completes

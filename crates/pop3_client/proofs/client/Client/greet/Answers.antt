@@ -2,7 +2,8 @@ use Rattle.std.proofs.Common.{take, refl}
 use Rattle.std.proofs.lemmas.Bool.{false≢true}
 use Rattle.pop3_client.specs.Client.{place_of}
 use Rattle.pop3_client.specs.Turns.{greeting}
-use Rattle.pop3_client.proofs.TalkLemmas.{in_words, opened, nothing_said}
+use Rattle.pop3_client.proofs.TalkLemmas.{opened, nothing_said}
+use Rattle.pop3_wire.proofs.LinkLemmas.{in_words}
 use Rattle.pop3_client.proofs.client.Client.greet.Goals as goal
 
 pub returns-clause-asks : goal.returns-clause-asks

@@ -1,4 +1,6 @@
-use Rattle.pop3_client.proofs.TalkLemmas.{is_err, in_words, heard_none, heard_refused, heard_bad}
+use Rattle.pop3_client.proofs.TalkLemmas.{heard_none, heard_refused, heard_bad}
+use Rattle.pop3_wire.proofs.LinkLemmas.{in_words}
+use Rattle.mail_terms.proofs.ErrLemmas.{is_err}
 use Rattle.pop3_client.proofs.client.Client.hear.Goals as goal
 
 pub returns-in_err-length-clause-heard : goal.returns-in_err-length-clause-heard

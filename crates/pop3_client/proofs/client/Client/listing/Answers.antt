@@ -2,7 +2,8 @@ use Rattle.pop3_wire.specs.Bodies.{items_of}
 use Rattle.pop3_client.specs.Client.{place_of}
 use Rattle.std.proofs.Common.{◌≡◌, false, refl}
 use Rattle.pop3_client.specs.Turns.{gives_count}
-use Rattle.pop3_client.proofs.TalkLemmas.{and_then, lists_of, by_listing}
+use Rattle.pop3_client.proofs.TalkLemmas.{lists_of, by_listing}
+use Rattle.pop3_wire.proofs.LinkLemmas.{and_then}
 use Rattle.pop3_client.proofs.client.Client.listing.Goals as goal
 
 pub returns-clause-lists : goal.returns-clause-lists

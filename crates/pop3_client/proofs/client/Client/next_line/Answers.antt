@@ -1,5 +1,6 @@
 use Rattle.std.proofs.Common.{arith}
-use Rattle.pop3_client.proofs.TalkLemmas.{in_words, none_in_all}
+use Rattle.pop3_client.proofs.TalkLemmas.{none_in_all}
+use Rattle.pop3_wire.proofs.LinkLemmas.{in_words}
 use Rattle.pop3_client.proofs.client.Client.next_line.Goals as goal
 
 pub returns-in-Err-Ended-clause-waits : goal.returns-in-Err-Ended-clause-waits

@@ -3,7 +3,8 @@ use Rattle.pop3_client.specs.declared.fault.ClientFault.TheVariants.{ConnectionE
 use Rattle.pop3_client.specs.Client.{place_of}
 use Rattle.pop3_client.specs.Turns.{retr, text_limit}
 use Rattle.pop3_client.specs.Texts.{Fetching}
-use Rattle.pop3_client.proofs.TalkLemmas.{in_words, and_then, fetched, broke_text}
+use Rattle.pop3_client.proofs.TalkLemmas.{fetched, broke_text}
+use Rattle.pop3_wire.proofs.LinkLemmas.{in_words, and_then}
 use Rattle.pop3_client.proofs.client.Client.next_piece.Goals as goal
 
 pub returns-in-Ok-clause-takes : goal.returns-in-Ok-clause-takes

@@ -1,7 +1,7 @@
 use Rattle.std.proofs.Common.{refl, ◌∙◌}
 use Rattle.pop3_client.specs.Client.{place_of}
 use Rattle.pop3_client.specs.Turns.{retr}
-use Rattle.pop3_client.proofs.TalkLemmas.{in_words}
+use Rattle.pop3_wire.proofs.LinkLemmas.{in_words}
 use Rattle.pop3_client.proofs.client.Client.open.Goals as goal
 
 pub returns-clause-opens : goal.returns-clause-opens

@@ -1,7 +1,9 @@
 use Rattle.std.proofs.Common.{◌∙◌, inl, inr, length, take, refl, arith, sym, ap}
 use Rattle.std.proofs.lemmas.List.Elements.{All-nil, All-push}
 use Rattle.pop3_client.specs.declared.fault.ClientFault.TheVariants.{NoMemory}
-use Rattle.pop3_client.proofs.TalkLemmas.{is_err, and_then, not_end, took_none, took_on, took_row, row_behind, rows_full, rows_stop, rows_cause, rows_end}
+use Rattle.pop3_client.proofs.TalkLemmas.{not_end, took_none, took_on, took_row, row_behind, rows_full, rows_stop, rows_cause, rows_end}
+use Rattle.pop3_wire.proofs.LinkLemmas.{and_then}
+use Rattle.mail_terms.proofs.ErrLemmas.{is_err}
 use Rattle.pop3_client.proofs.client.Client.rows.Goals as goal
 
 pub rows-init : goal.rows-init

@@ -1,8 +1,8 @@
-use Rattle.std.proofs.Common.{ap, sym, subst, arith, ◌∙◌, Err}
-use Rattle.std.proofs.lemmas.Result.{err_from_is_err_and}
+use Rattle.std.proofs.Common.{ap, sym, subst, arith}
 use Rattle.pop3_wire.specs.Place.{at}
 use Rattle.pop3_wire.specs.Bodies.{Rest, UnderWay}
 use Rattle.pop3_wire.proofs.BodiesLemmas.{under_way_on, under_way_ends, under_way_too_long}
+use Rattle.mail_terms.proofs.ErrLemmas.{is_err}
 use Rattle.pop3_wire.proofs.body_reader.BodyReader.next.Goals as goal
 
 pub returns-then-self-eq0-clause-takes : goal.returns-then-self-eq0-clause-takes
@@ -15,8 +15,7 @@ returns-then-self-eq0-clause-takes g c = λ s.
 
 pub returns-in_err-draw-clause-takes : goal.returns-in_err-draw-clause-takes
 returns-in_err-draw-clause-takes g c =
-    let p = err_from_is_err_and c.from_residual.result c.from_residual.ensures.1 in
-    rw (p.1 ∙ ap Err p.2) (λ s.
+    rw (is_err c.from_residual.result c.from_residual.ensures.1) (λ s.
     let left = ap (λ (b : Rest). b.left) c.self.view_is in
     let nothing = c.in_err-draw.ensures.err in
     let after = nothing.2 s in (
