@@ -33,7 +33,7 @@ pub seen_all : (content : Option (List ℕ)) → seen_on (all_durable content) �
 seen_all None = refl
 seen_all (Some bytes) = refl
 
-flushed_all : (content : Option (List ℕ)) → IsFlushed (option_map secured content)
+pub flushed_all : (content : Option (List ℕ)) → IsFlushed (option_map secured content)
 flushed_all None = tt
 flushed_all (Some bytes) = refl
 

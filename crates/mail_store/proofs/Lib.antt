@@ -1,5 +1,5 @@
-mod MaildirLemmas
-mod MboxLemmas
-mod SettlingLemmas
-mod LossLemmas
+pub mod MaildirLemmas
+pub mod MboxLemmas
+pub mod SettlingLemmas
+pub mod LossLemmas
 pub mod DurableLemmas

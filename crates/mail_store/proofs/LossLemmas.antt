@@ -7,6 +7,7 @@ use Rattle.mail_store.specs.declared.fault.StoreFault.TheVariants.{Missing, Refu
 use Rattle.mail_store.specs.Loss.{AreLeftAs, IsLeftAs}
 use Rattle.mail_store.specs.Maildir.{AllDurable, AllFlushed, AreReached, Delivers, File, IsDurable, IsNamed, IsPart, IsWithout, Maildir, MayBeNamed, Reaches, mail, names_of}
 use Rattle.mail_store.proofs.MaildirLemmas.{reached_same, without_more}
+use Rattle.mail_terms.proofs.ListLemmas.{all_append}
 
 module _ {A : Type 0} where
   first : (x : A) (xs : List A) → Contains (x ∷ xs) x
@@ -105,18 +106,14 @@ flushed_part [] files left all are = flushed_reached files left all are
 flushed_part (f ∷ gone) files left all (front, back, are, is) =
     flushed_part gone (front ++ back) left (flushed_others front back f (flushed_reached files (front ++ f ∷ back) all are)) is
 
-flushed_more : (files : List File) (f : File) → AllFlushed files → f.is_flushed ≡ true → AllFlushed (files ++ f ∷ [])
-flushed_more [] f all is = (is, tt)
-flushed_more (g ∷ files) f all is = (all.0, flushed_more files f all.1 is)
-
 pub flushed_delivers : {T : Type 0} (old new : Maildir) (name text : List ℕ) (r : Result T StoreFault) → Delivers old (mail name text) r new
     → AllFlushed old.files → AllFlushed new.files
 flushed_delivers old new name text (Ok done) (risen, are, is) all =
-    rw is (flushed_more risen (mail name text) (flushed_named old.files risen all are) refl)
+    rw is (all_append _ risen (mail name text ∷ []) (flushed_named old.files risen all are) (refl, tt))
 flushed_delivers old new name text (Err Missing) is all = rw is.1 all
 flushed_delivers old new name text (Err Refused) (inl is) all = rw is all
 flushed_delivers old new name text (Err Refused) (inr (risen, are, (named, is))) all =
-    rw is (flushed_more risen (record (mail name text) { is_named = named }) (flushed_named old.files risen all are) refl)
+    rw is (all_append _ risen (record (mail name text) { is_named = named } ∷ []) (flushed_named old.files risen all are) (refl, tt))
 flushed_delivers old new name text (Err NoMemory) is all = rw is all
 flushed_delivers old new name text (Err fault) is all = absurd is
 

@@ -1,15 +1,15 @@
--- Names of files and what they hold; files that a Maildir in memory keeps in two folders; which stems are flushed.
-use Rattle.std.proofs.Common.{◌≡◌, ℕ, zero, suc, ◌/◌, ◌%◌, ◌==◌, ◌<◌, Bool, true, false, List, [], ◌∷◌, ◌++◌, length, get_or, slice_index, refl, sym, ap, ◌∙◌, arith, Ok, inl, inr, All, not, codes, subst, ◌+◌, ◌≤◌, take, drop, map, String, Vec, string_bytes, remove, insert, set, HoldsAt, Contains, ◌≢◌, IsPermutation, ◌||◌, ◌&&◌, bytes_eq, below_more}
+-- Names of files and what they hold; the files of a Maildir in memory; which stems are flushed.
+use Rattle.std.proofs.Common.{◌≡◌, ℕ, zero, suc, ◌/◌, ◌%◌, ◌==◌, ◌<◌, Bool, true, false, List, [], ◌∷◌, ◌++◌, length, get_or, slice_index, refl, sym, ap, ◌∙◌, arith, Ok, inl, inr, All, not, codes, ◌+◌, take, map, String, string_bytes, HoldsAt, Contains, IsPermutation, ◌||◌, ◌&&◌, bytes_eq, below_more}
 use Rattle.std.specs.List.{AllPass, AllZip, before_first, filter, position_or_len, list_any}
 use Rattle.std.specs.Fmt.{decimal, digits, digits_onto, digit_glyph}
-use Rattle.std.proofs.lemmas.Bool.{cases_lt, cond_both, both_ways}
-use Rattle.std.proofs.lemmas.List.{append-nil, append_cancel_left, take_all, take-append-le, get_or-take, get_or_past, length-take, append_assoc, map-append, length-map, length-append, get_or-map, length-take-le, take_more, take-append-drop}
-use Rattle.std.proofs.lemmas.List.Elements.{All-nil, All-cons, All-append, All-from_recursion, All-map, Contains-append_left, Contains-append_right, Contains-get_or}
+use Rattle.std.proofs.lemmas.Bool.{cases_lt, cond_both}
+use Rattle.std.proofs.lemmas.List.{append-nil, append_cancel_left, take_all, take-append-le, get_or-take, get_or_past, length-take, append_assoc, length-map, get_or-map, take_more}
+use Rattle.std.proofs.lemmas.List.Elements.{All-nil, All-cons, All-append, All-from_recursion, Contains-get_or}
 use Rattle.std.proofs.lemmas.List.Sums.{AllPass-from_list_all, fails_before_first, position_or_len_is, prefix_len-le-length}
 use Rattle.std.proofs.lemmas.List.Folds.{prefix_len-append, list_any-append, list_any_at, Any-from_list_any}
 use Rattle.std.proofs.lemmas.Bool.Decides.{nat_tests}
 use Rattle.std.proofs.lemmas.Simd.{map-map}
-use Rattle.std.proofs.lemmas.List.Sorted.{IsPermutation-refl, IsPermutation-cons, IsPermutation-map, IsPermutation-middle, IsPermutation-sym, IsPermutation-trans, Contains-permutation, list_any-IsPermutation}
+use Rattle.std.proofs.lemmas.List.Sorted.{IsPermutation-refl, list_any-IsPermutation}
 use Rattle.std.proofs.lemmas.Cmp.{nat_list_eq_equiv}
 use Rattle.std.proofs.lemmas.Map.Views.{any-filter_same}
 use Rattle.std.proofs.Math.Bool.{or-false, or-true}
@@ -23,12 +23,13 @@ use Rattle.mail_terms.specs.UniqueId.{IsLegalId, HasIdRanges}
 use Rattle.mail_terms.specs.MaildirName.{base, is_colon}
 use Rattle.mail_terms.specs.Listing.{Item, has_item, is_flagged}
 use Rattle.mail_store.specs.FileName.{account_text, is_comma, is_lower_hex_digit, name_of, stem, stem_of, IsAccountText, mail_file, names_id, is_held}
-use Rattle.mail_store.specs.Maildir.{AllNamed, AreReached, AreTheirs, File, IsNamed, IsThere, IsWithout, Maildir, MayBeNamed, Reaches, WereTaken, bases_told, file_of, name_in, names_of, with_file}
+use Rattle.mail_store.specs.Maildir.{AllNamed, AreReached, AreTheirs, File, IsNamed, IsThere, IsWithout, Maildir, MayBeNamed, Reaches, WereTaken, bases_told, name_in, names_of, with_file}
 use Rattle.mail_store.specs.declared.maildir.disk.Folder.{Folder}
 use Rattle.mail_store.specs.declared.maildir.disk.Folder.TheVariants.{New, Cur}
-use Rattle.mail_store.specs.MemoryMaildir.{TwoFolders, count, files_of_folder, merged, shown}
+use Rattle.mail_store.specs.MemoryMaildir.{MemoryMail, files_of_folder, shown}
 use Rattle.mail_store.specs.Held.{AreAmong, FoundDurable, HasDurable, HasStem, HasStems, any_name, flags_asked, flags_of, flags_sought, is_sought, sought_among}
 use Rattle.mail_store.specs.Loss.{flushed, flushed_by, is_among}
+use Rattle.mail_terms.proofs.ListLemmas.{list_any-map, zip_on, zip_same}
 
 -- ---- digits
 
@@ -142,10 +143,6 @@ stem_name_of account uid size h =
 pub base_marked : (name marks : List ℕ) → base (name ++ 58 ∷ marks) ≡ base name
 base_marked name marks = before_first-cut is_colon name marks 58 refl
 
-pub base-suffixed : (name suffix : List ℕ) → slice_index suffix 0 ≡ 58 → base (name ++ suffix) ≡ base name
-base-suffixed name [] first = absurd (omega (arith, first))
-base-suffixed name (colon ∷ marks) first = rw first (base_marked name marks)
-
 -- a base has no more to cut off
 pub base_base : (name : List ℕ) → base (base name) ≡ base name
 base_base name = all_before is_colon (base name) (λ k d inside.
@@ -171,134 +168,14 @@ pub stem_of_injective : HaveRanges → (account a b : List ℕ) → IsLegalId a 
 stem_of_injective ranges account a b la lb same =
     grind (arith, append_cancel_left {A = ℕ}, decode_of_legal ranges a (encode_lower a) la refl, decode_of_legal ranges b (encode_lower b) lb refl)
 
--- ---- names that are looked up
-
--- if nothing reads as the text, it isn't among what is read
-pub not_read : {A : Type 0} (read : A → List ℕ) (xs : List A) (text : List ℕ) → All (λ x. read x ≢ text) xs → Contains (map read xs) text → ⊥
-not_read read xs text none c = All-map (λ t. t ≢ text) read xs none c.0 text c.1 c.2
-
 pub Contains-map : {A B : Type 0} (f : A → B) (xs : List A) (x : A) → Contains xs x → Contains (map f xs) (f x)
 Contains-map f xs x c = (c.0, omega (arith, c.1, length-map xs f), get_or-map f xs c.0 x (f x) c.1 ∙ ap f c.2)
-
--- the name of a file that was found is among the names
-pub named_there : {Z Y : Type 0} (pairs : List (String Z × Vec ℕ Y)) (name : List ℕ) (k : ℕ) (p : String Z × Vec ℕ Y) → k < length pairs
-    → p ≡ get_or pairs k p → string_bytes p.0 ≡ name → Contains (names_of (map file_of pairs)) name
-named_there pairs name k p below is named =
-    subst (λ (names : List (List ℕ)). Contains names name) (sym (map-map name_in file_of pairs))
-    (rw named at (Contains-map (λ q. string_bytes q.0) pairs p (k, below, sym is)))
-
--- ---- flags and folders
-
--- each flag is one of the two
-pub counts_total : (flags : List Bool) → count true flags + count false flags ≡ length flags
-counts_total [] = refl
-counts_total (true ∷ flags) = omega (arith, counts_total flags)
-counts_total (false ∷ flags) = omega (arith, counts_total flags)
-
-count-append : (flag : Bool) (front back : List Bool) → count flag (front ++ back) ≡ count flag front + count flag back
-count-append flag [] back = omega arith
-count-append true (true ∷ front) back = omega (arith, count-append true front back)
-count-append true (false ∷ front) back = count-append true front back
-count-append false (true ∷ front) back = count-append false front back
-count-append false (false ∷ front) back = omega (arith, count-append false front back)
-
--- a true flag became false
-pub counts_set : (flags : List Bool) (i : ℕ) → i < length flags → HoldsAt (λ b. b ≡ true) flags i
-    → (count true (set flags i false) + 1 ≡ count true flags) × (count false (set flags i false) ≡ count false flags + 1)
-counts_set [] i below h = absurd (omega arith)
-counts_set (true ∷ flags) zero below h = (omega arith, omega arith)
-counts_set (false ∷ flags) zero below h = absurd (both_ways true (sym (h true)) refl)
-counts_set (true ∷ flags) (suc i) below h = omega (arith, counts_set flags i (omega arith) h)
-counts_set (false ∷ flags) (suc i) below h = omega (arith, counts_set flags i (omega arith) h)
-
--- ---- the two folders together
-
--- the flags tell of just these files
-abbrev pub Fit : {A : Type 0} → List Bool → List A → List A → Type 0
-Fit flags new cur = (count true flags ≡ length new) × (count false flags ≡ length cur)
-
-module _ {A : Type 0} where
-  pub merged_all : (flags : List Bool) (new cur : List A) → Fit flags new cur → IsPermutation (merged flags new cur) (new ++ cur)
-  merged_all [] [] [] fit = IsPermutation-refl []
-  merged_all (true ∷ flags) (f ∷ new) cur fit = IsPermutation-cons f _ _ (merged_all flags new cur (omega (arith, fit)))
-  merged_all (false ∷ flags) new (f ∷ cur) fit =
-      IsPermutation-trans _ _ _ (IsPermutation-cons f _ _ (merged_all flags new cur (omega (arith, fit))))
-      (IsPermutation-sym _ _ (IsPermutation-middle new f cur))
-  merged_all flags new cur fit = absurd (omega (arith, fit))
-
-  -- a file came to the first folder
-  pub merged_push : (flags : List Bool) (new cur : List A) (f : A) → Fit flags new cur
-      → merged (flags ++ true ∷ []) (new ++ f ∷ []) cur ≡ merged flags new cur ++ f ∷ []
-  merged_push [] [] cur f fit = refl
-  merged_push (true ∷ flags) (g ∷ new) cur f fit = ap (λ (fs : List A). g ∷ fs) (merged_push flags new cur f (omega (arith, fit)))
-  merged_push (false ∷ flags) new (g ∷ cur) f fit = ap (λ (fs : List A). g ∷ fs) (merged_push flags new cur f (omega (arith, fit)))
-  merged_push flags new cur f fit = absurd (omega (arith, fit))
-
--- a file went from the first folder to the second, and shows as before
-pub moved_to_cur : (flags : List Bool) (new cur : List File) (place : ℕ) (g d : File) → Fit flags new cur → place < length flags
-    → HoldsAt (λ b. b ≡ true) flags place → shown g ≡ shown (get_or new (count true (take place flags)) d)
-    → map shown (merged (set flags place false) (remove new (count true (take place flags))) (insert cur (count false (take place flags)) g))
-    ≡ map shown (merged flags new cur)
-moved_to_cur (true ∷ flags) (f ∷ new) cur zero g d fit below at same = ap (λ (s : File). s ∷ map shown (merged flags new cur)) same
-moved_to_cur (true ∷ flags) (f ∷ new) cur (suc place) g d fit below at same =
-    ap (λ (fs : List File). shown f ∷ fs) (moved_to_cur flags new cur place g d (omega (arith, fit)) (omega arith) at same)
-moved_to_cur (false ∷ flags) new cur zero g d fit below at same = absurd (both_ways true (sym (at true)) refl)
-moved_to_cur (false ∷ flags) new (f ∷ cur) (suc place) g d fit below at same =
-    ap (λ (fs : List File). shown f ∷ fs) (moved_to_cur flags new cur place g d (omega (arith, fit)) (omega arith) at same)
-moved_to_cur flags new cur place g d fit below at same = absurd (omega (arith, fit, below))
-
--- a file is shown under the base of its name, in one of the two folders
-pub shown_all : {Z Y : Type 0} (flags : List Bool) (new cur : List (String Z × Vec ℕ Y)) → Fit flags new cur
-    → IsPermutation (map shown (merged flags (map file_of new) (map file_of cur))) (map shown (map file_of new ++ map file_of cur))
-shown_all flags new cur fit =
-    IsPermutation-map shown (merged flags (map file_of new) (map file_of cur)) (map file_of new ++ map file_of cur)
-    (merged_all flags (map file_of new) (map file_of cur) (fit.0 ∙ sym (length-map new file_of), fit.1 ∙ sym (length-map cur file_of)))
-
--- one more flag
-pub counted_more : (flag : Bool) (flags : List Bool) (i : ℕ) → i < length flags
-    → count flag (take (i + 1) flags) ≡ count flag (take i flags) + count flag (get_or flags i false ∷ [])
-counted_more flag flags i below = ap (count flag) (take_more flags i false below) ∙ count-append flag (take i flags) (get_or flags i false ∷ [])
-
--- ---- what calls leave
-
--- how many flags of each kind come before a place
-pub before_place : (flags : List Bool) (place : ℕ) → place < length flags → count true (take place flags) + count false (take place flags) ≡ place
-before_place flags place inside = counts_total (take place flags) ∙ length-take-le place flags (omega (arith, inside))
-
--- a flag's count before a place is within its whole count
-pub within : (flag : Bool) (flags : List Bool) (place : ℕ) → count flag (take place flags) ≤ count flag flags
-within flag flags place = omega (arith, count-append flag (take place flags) (drop place flags), ap (count flag) (take-append-drop place flags))
-
-module _ {Z Y : Type 0} where
-  -- a file came to `new`
-  pub settled : (flags : List Bool) (new cur : List (String Z × Vec ℕ Y)) {flags' : List Bool} {new' : List (String Z × Vec ℕ Y)} (p : String Z × Vec ℕ Y)
-      → Fit flags new cur → flags' ≡ flags ++ true ∷ [] → new' ≡ new ++ p ∷ []
-      → (map shown (merged flags' (map file_of new') (map file_of cur)) ≡ map shown (merged flags (map file_of new) (map file_of cur)) ++ shown (file_of p) ∷ [])
-      × Fit flags' new' cur
-  settled flags new cur {flags'} {new'} p fit flagged pushed = rw (flagged, pushed) (
-    rw (map-append file_of new (p ∷ []), merged_push flags (map file_of new) (map file_of cur) (file_of p) (omega (arith, fit, length-map new file_of, length-map cur file_of)))
-        (map-append shown (merged flags (map file_of new) (map file_of cur)) (file_of p ∷ [])),
-    omega (arith, fit, count-append true flags (true ∷ []), count-append false flags (true ∷ []), length-append new (p ∷ [])),
-  )
 
 -- ---- names that are told
 
 -- the names that are told of files are those that the files are shown under
 bases_shown : {Z : Type 0} (names : List (String Z)) (files : List File) → map string_bytes names ≡ names_of files → bases_told names ≡ names_of (map shown files)
 bases_shown names files told = sym (map-map base string_bytes names) ∙ ap (map base) told ∙ map-map base name_in files ∙ sym (map-map name_in shown files)
-
--- what a folder shows is among the files
-shown_there : (two : TwoFolders) (folder : Folder) (front : List ℕ) → IsPermutation two.maildir.files (map shown (two.in_new ++ two.in_cur))
-    → Contains (names_of (map shown (files_of_folder two folder))) front → Contains (names_of two.maildir.files) front
-shown_there two folder front both there =
-    Contains-permutation (names_of (map shown two.in_new) ++ names_of (map shown two.in_cur)) (names_of two.maildir.files) front
-    (IsPermutation-sym _ _ (simp map-append at (IsPermutation-map name_in two.maildir.files (map shown (two.in_new ++ two.in_cur)) both)))
-    (in_both folder there)
-  where
-    in_both : (folder : Folder) → Contains (names_of (map shown (files_of_folder two folder))) front
-        → Contains (names_of (map shown two.in_new) ++ names_of (map shown two.in_cur)) front
-    in_both New c = Contains-append_left _ _ front c
-    in_both Cur c = Contains-append_right _ _ front c
 
 -- all that is in memory counts as durable
 pub all_shown : (files : List File) → AllNamed (map shown files)
@@ -310,20 +187,19 @@ filter_named [] all = refl
 filter_named (f ∷ files) all = rw (all.0, filter_named files all.1) refl
 
 -- names of a folder are those of files that are shown
-pub theirs_of : {Z : Type 0} (two : TwoFolders) (folder : Folder) (names : List (String Z)) → AllNamed two.maildir.files
-    → IsPermutation two.maildir.files (map shown (two.in_new ++ two.in_cur)) → map string_bytes names ≡ names_of (files_of_folder two folder)
-    → AreTheirs two.maildir.files names
+pub theirs_of : {Z : Type 0} (known : MemoryMail) (folder : Folder) (names : List (String Z)) → known.maildir.files ≡ map shown known.files
+    → map string_bytes names ≡ names_of (files_of_folder known folder) → AreTheirs known.maildir.files names
 unfolding AreTheirs
-theirs_of two folder names all both told = λ k d inside.
+theirs_of known New names all told = λ k d inside.
     let name = get_or names k d in
-    rw (filter_named two.maildir.files all) (shown_there two folder (base (string_bytes name)) both (rw (bases_shown names (files_of_folder two folder) told) at
-    (Contains-map (λ n. base (string_bytes n)) names name (Contains-get_or names k d inside))))
+    rw (all, filter_named (map shown known.files) (all_shown known.files)) (rw (bases_shown names known.files told) at
+    (Contains-map (λ n. base (string_bytes n)) names name (Contains-get_or names k d inside)))
+theirs_of known Cur names all told = λ k d inside. absurd (omega (arith, inside, ap length told, length-map names string_bytes))
 
--- the names of both folders tell all that is shown
-pub names_tell_both : {Z : Type 0} (files in_new in_cur : List File) (names : List (String Z)) → IsPermutation files (map shown (in_new ++ in_cur))
-    → map string_bytes names ≡ names_of in_new ++ names_of in_cur → IsPermutation (names_of files) (bases_told names)
-names_tell_both files in_new in_cur names both told =
-    rw (bases_shown names (in_new ++ in_cur) (told ∙ sym (map-append name_in in_new in_cur))) (IsPermutation-map name_in files (map shown (in_new ++ in_cur)) both)
+-- the names tell all that is shown
+pub told_all : {Z : Type 0} (files : List File) (names : List (String Z)) → map string_bytes names ≡ names_of files
+    → IsPermutation (names_of (map shown files)) (bases_told names)
+told_all files names told = rw (bases_shown names files told) (IsPermutation-refl (names_of (map shown files)))
 
 -- ---- files that readers took away
 
@@ -339,19 +215,13 @@ reaches_on f g h first next = record {
 }
 
 pub reached_same : (files : List File) → AreReached files files
-reached_same [] = tt
-reached_same (f ∷ files) = (reaches_same f, reached_same files)
+reached_same = zip_same Reaches reaches_same
 
 pub named_same : (files : List File) → AllZip MayBeNamed files files
-named_same [] = tt
-named_same (f ∷ files) = (inl refl, named_same files)
+named_same = zip_same MayBeNamed (λ f. inl refl)
 
-pub reached_on : (files mid left : List File) → AreReached files mid → AreReached mid left → AreReached files left
-reached_on [] [] left first next = next
-reached_on [] (g ∷ mid) left first next = absurd first
-reached_on (f ∷ files) [] left first next = absurd first
-reached_on (f ∷ files) (g ∷ mid) [] first next = absurd next
-reached_on (f ∷ files) (g ∷ mid) (h ∷ left) first next = (reaches_on f g h first.0 next.0, reached_on files mid left first.1 next.1)
+reached_on : (files mid left : List File) → AreReached files mid → AreReached mid left → AreReached files left
+reached_on = zip_on Reaches reaches_on
 
 -- more was durable first, and then some were taken
 without_reached : (gone files mid left : List File) → AreReached files mid → IsWithout mid gone left → IsWithout files gone left
@@ -365,7 +235,7 @@ reached_without (f ∷ gone) files mid left (front, back, first, is) are =
     (front, back, first, reached_without gone (front ++ back) mid left is are)
 
 -- what was taken first, and then of the rest
-without_on : (first next files mid left : List File) → IsWithout files first mid → IsWithout mid next left → IsWithout files (first ++ next) left
+pub without_on : (first next files mid left : List File) → IsWithout files first mid → IsWithout mid next left → IsWithout files (first ++ next) left
 without_on [] next files mid left are second = without_reached next files mid left are second
 without_on (f ∷ first) next files mid left (front, back, are, is) second =
     (front, back, are, without_on first next (front ++ back) mid left is second)
@@ -391,10 +261,6 @@ pub same_digits : (account a b : List ℕ) → bytes_eq (account ++ 46 ∷ a) (a
 same_digits account a b = grind (arith, bytes_eq-Decides (account ++ 46 ∷ a) (account ++ 46 ∷ b), bytes_eq-Decides a b, append_cancel_left {A = ℕ})
 
 -- ---- all names and all items
-
-list_any-map : {A B : Type 0} (test : B → Bool) (f : A → B) (xs : List A) → list_any test (map f xs) ≡ list_any (λ x. test (f x)) xs
-list_any-map test f [] = refl
-list_any-map test f (x ∷ xs) = ap (λ b. test (f x) || b) (list_any-map test f xs)
 
 -- the digits in the stems of the names show whether an id is held
 held_by_names : {Z : Type 0} (account : List ℕ) (maildir : Maildir) (found : List ℕ → Bool) (names : List (String Z))
@@ -426,16 +292,15 @@ pub sought_bases : {A : Type 0} (stems : List (String A)) (names : List (List �
 sought_bases stems [] = refl
 sought_bases stems (name ∷ names) = let rest = sought_bases stems names in let same = stem_base name in grind (arith, rest, same)
 
--- the names of both folders that have one of these stems tell all of these
-pub told_sought : {A B : Type 0} (stems : List (String A)) (files in_new in_cur : List File) (kept : List (String B)) → IsPermutation files (map shown (in_new ++ in_cur))
-    → map string_bytes kept ≡ filter (is_sought stems) (names_of in_new ++ names_of in_cur) → AreAmong stems (names_of files) (bases_told kept)
-told_sought stems files in_new in_cur kept both is =
-    let all = in_new ++ in_cur in
-    let bases : names_of (map shown all) ≡ map base (names_of in_new ++ names_of in_cur) = map-map name_in shown all ∙ sym (map-map base name_in all) ∙ ap (map base) (map-append name_in in_new in_cur) in (
-      map base (names_of in_new ++ names_of in_cur),
-      rw bases at (IsPermutation-map name_in files (map shown all) both),
-      sym (map-map base string_bytes kept) ∙ ap (map base) is ∙ sought_bases stems (names_of in_new ++ names_of in_cur),
-    )
+-- the names that have one of these stems tell all of these
+pub told_sought : {A B : Type 0} (stems : List (String A)) (files : List File) (kept : List (String B))
+    → map string_bytes kept ≡ filter (is_sought stems) (names_of files) → AreAmong stems (names_of (map shown files)) (bases_told kept)
+told_sought stems files kept is = (
+  names_of (map shown files),
+  IsPermutation-refl (names_of (map shown files)),
+  sym (map-map base string_bytes kept) ∙ ap (map base) is ∙ sought_bases stems (names_of files)
+      ∙ ap (filter (is_sought stems)) (map-map base name_in files ∙ sym (map-map name_in shown files)),
+)
 
 -- the digits in the stems of the names show which of the items that are asked for are held
 pub flags_among : {A B : Type 0} (account : List ℕ) (maildir : Maildir) (stems : List (String A)) (items : List Item) (flags : List Bool) (found : List ℕ → Bool) (names : List (String B))

@@ -12,15 +12,12 @@ use Rattle.std.proofs.lemmas.List.Folds.{flat_map-map}
 use Rattle.mail_terms.specs.Text.{IsWhole, HasNoLf}
 use Rattle.mail_store.specs.FlatFile.{edges_of, piece_at}
 use Rattle.mail_store.specs.Mboxrd.{lines_of, IsLine, from_words, begins_entry, is_marked, quoted, unquoted, quoted_text, unquoted_text, wire_size, UnquotesQuoted, separator, entry_of, Group, IsInner, IsGroup, group_bytes, group_text, MboxFile, MayGoOn, EntryAddsText, OneReading, IsApart, OpensEntry, CutsGroup, CutsLine, HoldsText}
+use Rattle.mail_terms.proofs.ListLemmas.{all_append}
 
 -- ---- lists of lines
 
 abbrev pub joined : List (List ℕ) → List ℕ
 joined lines = flat_map (λ (line : List ℕ). line) lines
-
-pub all_append : {A : Type 0} (P : A → Type 0) (xs ys : List A) → AllByRecursion P xs → AllByRecursion P ys → AllByRecursion P (xs ++ ys)
-all_append P [] ys left right = right
-all_append P (x ∷ xs) ys left right = (left.0, all_append P xs ys left.1 right)
 
 -- the first line, empty if there is none
 abbrev pub first_of : List (List ℕ) → List ℕ

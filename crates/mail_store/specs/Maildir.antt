@@ -172,15 +172,20 @@ Lists old folder (Err Missing) new = (is_there old.there folder ≡ false) × (n
 Lists old folder (Err Refused) new = new ≡ counted old
 Lists old folder (Err fault) new = ⊥
 
--- `all_names`: the name of each file of `new` and `cur`, in any order, and each is durable
-abbrev pub ListsAll : {A B : Type 0} → Maildir → Result (Vec (String A) B) StoreFault → Maildir → Type 0
-ListsAll old (Ok names) new =
-    (old.there.new ≡ true) × (old.there.cur ≡ true) × IsPermutation (names_of old.files) (bases_told names.items)
+-- the names of the files of `new` and `cur` were told so, and each is durable
+abbrev pub ListsBoth : {A B : Type 0} → (List (List ℕ) → List (List ℕ) → Type 0) → Maildir
+    → Result (Vec (String A) B) StoreFault → Maildir → Type 0
+ListsBoth Told old (Ok names) new =
+    (old.there.new ≡ true) × (old.there.cur ≡ true) × Told (names_of old.files) (bases_told names.items)
     × AllNamed old.files
     × (new ≡ old)
-ListsAll old (Err Missing) new = ((old.there.new ≡ false) ⊎ (old.there.cur ≡ false)) × (new ≡ old)
-ListsAll old (Err Refused) new = new ≡ counted old
-ListsAll old (Err fault) new = ⊥
+ListsBoth Told old (Err Missing) new = ((old.there.new ≡ false) ⊎ (old.there.cur ≡ false)) × (new ≡ old)
+ListsBoth Told old (Err Refused) new = new ≡ counted old
+ListsBoth Told old (Err fault) new = ⊥
+
+-- `all_names`: the name of each file, in any order
+abbrev pub ListsAll : {A B : Type 0} → Maildir → Result (Vec (String A) B) StoreFault → Maildir → Type 0
+ListsAll old result new = ListsBoth IsPermutation old result new
 
 -- `check`: the folder is there
 abbrev pub Checks : {T : Type 0} → Maildir → Folder → Result T StoreFault → Maildir → Type 0

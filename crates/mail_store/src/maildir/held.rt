@@ -278,8 +278,9 @@ fn flush_within<D: MaildirDisk>(
     flush_within(alloc, disk, account, listing, asked, times - 1)
 }
 
-/// As `held_asked`, and flushes the file of each item that is held and for which a flag is set. If a reader took such a file away meanwhile, it is asked again what is held;
-/// Refused also if readers do so again and again.
+/// As `held_asked`, and flushes the file of each item that is held and for which a flag is set. If a reader
+/// took such a file away meanwhile, it is asked again what is held; Refused also if readers do so again and
+/// again.
 pub fn flush_held<D: MaildirDisk>(
     alloc: Global,
     disk: &mut D,

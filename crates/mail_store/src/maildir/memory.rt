@@ -1,12 +1,10 @@
 //! A Maildir in memory.
 
-ghost use Rattle.std.specs.Prelude.{map, take, length, ◌<◌, ◌↔◌, ◌++◌, Contains, HoldsAt, IfOk, IsSome, OnOk, IfSome};
-ghost use Rattle.std.specs.Prelude.{◌≡◌};
+ghost use Rattle.std.specs.Prelude.{◌≡◌, map, IfOk};
 ghost use Rattle.std.specs.List.{filter};
 ghost use Rattle.std.specs.String.{string_bytes};
 ghost use Rattle.mail_store.specs.Held.{is_sought};
 ghost use Rattle.mail_store.specs.Maildir.{names_of, file_of};
-ghost use Rattle.mail_store.specs.MemoryMaildir.{count};
 
 use crate::fault::StoreFault;
 use crate::maildir::disk::{Folder, MaildirDisk};
@@ -16,77 +14,63 @@ use mail_terms::FailureCount;
 use std::alloc::{AllocError, Global};
 use std::marker::Model;
 
-/// A Maildir in memory. As long as the program runs, no loss of power reaches it: all of its files count as
-/// durable. Below the greatest count it refuses a call only if memory runs out.
+/// A Maildir in memory, whose files are all in `new`. As long as the program runs, no loss of power reaches it:
+/// all of them count as durable. Below the greatest count it refuses a call only if memory runs out.
 #[derive(Drop)]
 pub struct MemoryMaildir {
     alloc: Global,
-    in_new: Vec<(String, Vec<u8>)>,
-    in_cur: Vec<(String, Vec<u8>)>,
-    // Of each file, in the order in which they came, whether it is in `new`. Each folder's files
-    // have that order too.
-    are_new: Vec<bool>,
+    files: Vec<(String, Vec<u8>)>,
     begun: Option<(String, Vec<u8>)>,
     failures: FailureCount,
 }
 
 impl Model for MemoryMaildir {
-    ghost use Rattle.std.specs.Prelude.{[], ◌≡◌, length, map, option_map, true, false};
-    ghost use Rattle.mail_store.specs.Maildir.{Maildir, all_there, draft_of, file_of};
-    ghost use Rattle.mail_store.specs.MemoryMaildir.{TwoFolders, count, merged, shown};
+    ghost use Rattle.std.specs.Prelude.{[], map, option_map};
+    ghost use Rattle.mail_store.specs.Maildir.{all_there, draft_of, file_of};
+    ghost use Rattle.mail_store.specs.MemoryMaildir.{MemoryMail, shown};
 
-    ghost Value = { TwoFolders };
+    ghost Value = { MemoryMail };
 
     ghost view = { λ d. record {
       maildir = record {
         there = all_there;
-        files = map shown (merged d.are_new.items (map file_of d.in_new.items) (map file_of d.in_cur.items));
+        files = map shown (map file_of d.files.items);
         begun = option_map draft_of d.begun;
         failures = d.failures;
         taken = [];
       };
-      in_new = map file_of d.in_new.items;
-      in_cur = map file_of d.in_cur.items;
+      files = map file_of d.files.items;
     } };
-
-    ghost invariant = { λ d. (count true d.are_new.items ≡ length d.in_new.items)
-        × (count false d.are_new.items ≡ length d.in_cur.items) };
 }
 
 impl MemoryMaildir {
-    ghost use Rattle.std.specs.Prelude.{◌≡◌, ◌<◌, ◌↔◌, ◌++◌, ◌∷◌, [], None, map, slice_index, IsTrue, IsSome};
-    ghost use Rattle.std.specs.Prelude.{IsPermutation, OnErr, OnOk};
-    ghost use Rattle.mail_store.specs.Maildir.{Maildir, File, all_there, file, file_of, mail};
-    ghost use Rattle.mail_store.specs.MemoryMaildir.{TwoFolders, files_of_folder, shown, Moves};
+    ghost use Rattle.std.specs.Prelude.{◌≡◌, ◌↔◌, ◌++◌, ◌∷◌, [], None, map, IsTrue, IsSome, OnErr, OnOk};
+    ghost use Rattle.mail_store.specs.Maildir.{all_there, file, file_of, mail};
+    ghost use Rattle.mail_store.specs.MemoryMaildir.{files_of_folder};
 
     /// A Maildir without files.
     pub fn new(alloc: Global) -> MemoryMaildir
         ensures maildir { result ≡ record {
           maildir = record { there = all_there; files = []; begun = None; failures = 0; taken = [] };
-          in_new = [];
-          in_cur = [];
+          files = [];
         } }
         ensures sound { ⟦<MemoryMaildir as MaildirDisk>⟧.sound result }
     {
         MemoryMaildir {
             alloc,
-            in_new: Vec::new(alloc),
-            in_cur: Vec::new(alloc),
-            are_new: Vec::new(alloc),
+            files: Vec::new(alloc),
             begun: None,
             failures: FailureCount::new(),
         }
     }
 
     /// The files of a folder, each with its name and its bytes, in the order in which they came.
-    #[tactic(auto, using(crate::proofs::MaildirLemmas::shown_all))]
     pub fn files(&self, folder: Folder) -> &[(String, Vec<u8>)]
-        ensures files { map file_of result.now ≡ files_of_folder self.now folder }
-        ensures both { IsPermutation self.now.maildir.files (map shown (self.now.in_new ++ self.now.in_cur)) }
+        ensures { map file_of result.now ≡ files_of_folder self.now folder }
     {
         match folder {
-            Folder::New => self.in_new.as_slice(),
-            Folder::Cur => self.in_cur.as_slice(),
+            Folder::New => self.files.as_slice(),
+            Folder::Cur => &self.files[..0],
         }
     }
 
@@ -97,117 +81,41 @@ impl MemoryMaildir {
         self.begun.is_some()
     }
 
-    /// Adds a file to `new`. If memory runs out, nothing changes.
+    /// Adds a file. If memory runs out, nothing changes.
     fn put(&mut self, name: &str, content: Vec<u8>) -> Result<(), AllocError>
         ensures puts { OnOk result (self.new ≡ record self.old {
           maildir = record self.old.maildir { files = self.old.maildir.files ++ mail name.now content.items ∷ [] };
-          in_new = self.old.in_new ++ file name.now content.items ∷ [];
+          files = self.old.files ++ file name.now content.items ∷ [];
         }) }
         ensures same { OnErr result (self.new ≡ self.old) }
     {
         let name = String::from_str(self.alloc, name)?;
-        self.are_new.reserve(1)?;
-        self.in_new.push((name, content))?;
-        self.are_new.push(true).unwrap();
+        self.files.push((name, content))?;
         Ok(())
     }
-
-    /// Moves a file from `new` to `cur` and appends a suffix, which must begin with a colon, to its
-    /// name, as a reader does after it has seen the message. False, with nothing changed, if no
-    /// file of `new` has the name, or a file of `cur` has the name that would result.
-    pub fn move_to_cur(&mut self, name: &str, suffix: &str) -> Result<bool, AllocError>
-        requires { slice_index suffix.now 0 ≡ 58 }
-        ensures same { self.new.maildir ≡ self.old.maildir }
-        ensures moves { Moves self.old.in_new self.old.in_cur name.now
-            (name.now ++ suffix.now) result self.new.in_new self.new.in_cur }
-    {
-        let mut moved = String::from_str(self.alloc, name)?;
-        moved.push_str(suffix)?;
-        if place_of(&self.in_cur, moved.as_str()).is_some() {
-            return Ok(false);
-        }
-        let Some(at) = place_of(&self.in_new, name) else {
-            return Ok(false);
-        };
-        self.in_cur.reserve(1)?;
-        let place = place_in_order(&self.are_new, true, at);
-        let (_, content) = self.in_new.remove(at);
-        self.in_cur.insert(place - at, (moved, content)).unwrap();
-        self.are_new[place] = false;
-        Ok(true)
-    }
 }
 
-/// The place of a file of this name, if there is one.
-fn place_of(files: &[(String, Vec<u8>)], name: &str) -> Option<usize>
-    ensures some { IfSome result (λ place. (place < length files.now)
-        × HoldsAt (λ file. string_bytes file.0 ≡ name.now) files.now place) }
-    ensures there { IsSome result ↔ Contains (names_of (map file_of files.now)) name.now }
+/// The names of some files.
+fn names_of(alloc: Global, files: &[(String, Vec<u8>)]) -> Result<Vec<String>, AllocError>
+    ensures { IfOk result (λ names. map string_bytes names.items ≡ names_of (map file_of files.now)) }
 {
-    for (place, file) in files.iter().enumerate() {
-        if file.0.as_str() == name {
-            return Some(place);
-        }
-    }
-    None
-}
-
-/// Where the file that has this place in its own folder comes among all.
-#[tactic(auto, using(crate::proofs::MaildirLemmas::counted_more))]
-fn place_in_order(are_new: &[bool], folder_is_new: bool, at: usize) -> usize
-    requires { at < count folder_is_new are_new.now }
-    ensures found { (result < length are_new.now) × HoldsAt (λ is_new. is_new ≡ folder_is_new) are_new.now result }
-    ensures before { count folder_is_new (take result are_new.now) ≡ at }
-{
-    let mut before = 0;
-    for (place, is_new) in are_new.iter().enumerate() {
-        if *is_new == folder_is_new {
-            if before == at {
-                return place;
-            }
-            before += 1;
-        }
-    }
-    unreachable!()
-}
-
-/// Adds the names of some files.
-fn add_names(names: &mut Vec<String>, files: &[(String, Vec<u8>)]) -> Result<(), AllocError>
-    ensures { OnOk result (map string_bytes names.new.items
-        ≡ map string_bytes names.old.items ++ names_of (map file_of files.now)) }
-{
+    let mut names = Vec::new(alloc);
     for (name, _) in files {
         names.push(name.clone()?)?;
     }
-    Ok(())
-}
-
-/// The names of the files of two folders.
-fn names_of(
-    alloc: Global,
-    new: &[(String, Vec<u8>)],
-    cur: &[(String, Vec<u8>)],
-) -> Result<Vec<String>, AllocError>
-    ensures { IfOk result (λ names. map string_bytes names.items
-        ≡ names_of (map file_of new.now) ++ names_of (map file_of cur.now)) }
-{
-    let mut names = Vec::new(alloc);
-    add_names(&mut names, new)?;
-    add_names(&mut names, cur)?;
     Ok(names)
 }
 
-/// The names of the files of two folders that have one of these stems.
+/// The names of some files that have one of these stems.
 fn names_among(
     alloc: Global,
-    new: &[(String, Vec<u8>)],
-    cur: &[(String, Vec<u8>)],
+    files: &[(String, Vec<u8>)],
     stems: &[String],
 ) -> Result<Vec<String>, AllocError>
     ensures { IfOk result (λ names. map string_bytes names.items
-        ≡ filter (is_sought stems.now) (names_of (map file_of new.now) ++ names_of (map file_of cur.now))) }
+        ≡ filter (is_sought stems.now) (names_of (map file_of files.now))) }
 {
-    let names = names_of(alloc, new, cur)?;
+    let names = names_of(alloc, files)?;
     sought_names(alloc, &names, stems)
 }
 
@@ -219,8 +127,8 @@ impl MaildirDisk for MemoryMaildir {
     ghost use Rattle.mail_store.specs.Loss.{Flushes};
     ghost use Rattle.mail_store.specs.Maildir.{Adds, AfterTaking, Begins, Checks, IsThere, Lists, ListsAll, Settles};
     ghost use Rattle.mail_store.specs.Maildir.{dropped, name_begun};
-    ghost use Rattle.mail_store.specs.MemoryMaildir.{AddsAlone, BeginsAlone, Keeps, SettlesAlone, files_of_folder};
-    ghost use Rattle.mail_store.specs.MemoryMaildir.{with_begun};
+    ghost use Rattle.mail_store.specs.MemoryMaildir.{AddsAlone, BeginsAlone, ChangesOnlyCount, SettlesAlone};
+    ghost use Rattle.mail_store.specs.MemoryMaildir.{files_of_folder, with_begun};
 
     ghost maildir = { λ d. d.maildir };
 
@@ -229,28 +137,27 @@ impl MaildirDisk for MemoryMaildir {
     fn names(&mut self, folder: Folder) -> Result<Vec<String>, StoreFault>
         ensures tells { IfOk result (λ names. map string_bytes names.items
             ≡ names_of (files_of_folder self.old folder)) }
-        ensures keeps { Keeps self.old self.new }
+        ensures keeps { ChangesOnlyCount self.old self.new }
         ensures lists { DiskDoes ⟦<MemoryMaildir as MaildirDisk>⟧
             (λ old new. AfterTaking old (λ left. Lists left folder result new)) self.old self.new }
         ensures refuses { DiskRefuses ⟦<MemoryMaildir as MaildirDisk>⟧ self.old result self.new }
     {
         admit(&self.failures)?;
-        match names_of(self.alloc, self.files(folder), &[]) {
+        match names_of(self.alloc, self.files(folder)) {
             Ok(names) => Ok(names),
             Err(_) => Err(refuse(&mut self.failures)),
         }
     }
 
     fn all_names(&mut self) -> Result<Vec<String>, StoreFault>
-        ensures tells { IfOk result (λ names. map string_bytes names.items
-            ≡ names_of self.old.in_new ++ names_of self.old.in_cur) }
-        ensures keeps { Keeps self.old self.new }
+        ensures tells { IfOk result (λ names. map string_bytes names.items ≡ names_of self.old.files) }
+        ensures keeps { ChangesOnlyCount self.old self.new }
         ensures lists { DiskDoes ⟦<MemoryMaildir as MaildirDisk>⟧
             (λ old new. AfterTaking old (λ left. ListsAll left result new)) self.old self.new }
         ensures refuses { DiskRefuses ⟦<MemoryMaildir as MaildirDisk>⟧ self.old result self.new }
     {
         admit(&self.failures)?;
-        match names_of(self.alloc, &self.in_new, &self.in_cur) {
+        match names_of(self.alloc, &self.files) {
             Ok(names) => Ok(names),
             Err(_) => Err(refuse(&mut self.failures)),
         }
@@ -258,7 +165,7 @@ impl MaildirDisk for MemoryMaildir {
 
     fn names_among(&mut self, stems: &[String]) -> Result<Vec<String>, StoreFault> {
         admit(&self.failures)?;
-        match names_among(self.alloc, &self.in_new, &self.in_cur, stems) {
+        match names_among(self.alloc, &self.files, stems) {
             Ok(names) => Ok(names),
             Err(_) => Err(refuse(&mut self.failures)),
         }

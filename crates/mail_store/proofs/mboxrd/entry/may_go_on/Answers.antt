@@ -1,5 +1,5 @@
 use Rattle.std.proofs.Common.{◌≡◌, inl, inr, ℕ, ◌+◌, Bool, true, List, [], ◌∷◌, ◌++◌, length, take, drop, sym, ap, ◌∙◌, arith, length-append, bytes_eq}
-use Rattle.std.proofs.lemmas.List.{drop_all, drop_at, drop_more, take-append-drop}
+use Rattle.std.proofs.lemmas.List.{drop_at, take-append-drop}
 use Rattle.std.proofs.lemmas.Slice.Eq.{bytes_eq-Decides}
 use Rattle.mail_store.specs.FlatFile.{edges_of}
 use Rattle.mail_store.specs.Mboxrd.{from_words, begins_entry, MayGoOn}

@@ -1,10 +1,10 @@
 use Rattle.std.proofs.Common.{rules, refl}
-use Rattle.mail_store.proofs.MaildirLemmas.{all_shown, names_tell_both, none_taken, shown_all}
+use Rattle.mail_store.proofs.MaildirLemmas.{all_shown, none_taken, told_all}
 use Rattle.mail_store.proofs.maildir.memory.MemoryMaildirMaildirDisk.all_names.Goals as goal
 
 pub returns-in-Ok-clause-lists : goal.returns-in-Ok-clause-lists
 returns-in-Ok-clause-lists c = λ k.
-    let told = names_tell_both _ _ _ c.in-Ok.names.items (shown_all _ _ _ c.self.invariant) (rw (c.deref.ensures.value, c.deref-2.ensures.value) at c.in-Ok.ensures) in
+    let told = told_all _ c.in-Ok.names.items (rw c.deref.ensures.value at c.in-Ok.ensures) in
     (k, (c.args.self.now.maildir, none_taken c.args.self.now.maildir, rw (← c.self.view_is) (refl, refl, told, all_shown _, refl)))
 
 pub returns-in-Err-clause-lists : goal.returns-in-Err-clause-lists
