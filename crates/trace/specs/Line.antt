@@ -1,18 +1,15 @@
 -- The lines of a trace.
-use Rattle.std.specs.Prelude.{◌≡◌, ◌↔◌, ◌+◌, ◌/◌, ◌%◌, ◌==◌, ◌&&◌, ◌||◌, ℕ, Bool, false, not, nat_le}
+use Rattle.std.specs.Prelude.{◌≡◌, ◌↔◌, ◌==◌, ◌&&◌, ◌||◌, ℕ, Bool, false, not, nat_le}
 use Rattle.std.specs.Prelude.{nat_lt, List, [], ◌∷◌, ◌++◌, IsTrue, Option, codes, if◌then◌else◌}
 use Rattle.std.specs.List.{flat_map, list_any}
 use Rattle.std.specs.Fmt.{decimal}
 use Rattle.std.specs.Str.{IsUtf8}
 use Rattle.std.specs.Io.KnownBytes.{Appends}
+use Rattle.hex.specs.Hex.{encode_lower}
 
 -- UTF-8 with no character from U+0080 to U+00BF
 abbrev pub IsShowable : List ℕ → Type 0
 IsShowable octets = (list_any (λ octet. octet == 0xC2) octets ≡ false) × IsUtf8 octets
-
--- a hexadecimal digit
-abbrev pub hex_digit : ℕ → ℕ
-hex_digit digit = if nat_lt digit 10 then 48 + digit else 87 + digit
 
 -- printable ASCII except the backslash
 abbrev pub is_plain : ℕ → Bool
@@ -22,7 +19,7 @@ is_plain octet = nat_le 32 octet && (nat_lt octet 127 && not (octet == 92))
 unfoldable pub shown_octet : Bool → ℕ → List ℕ
 shown_octet wide octet =
     if is_plain octet || (wide && nat_le 128 octet) then octet ∷ []
-    else codes "\\x" ++ (hex_digit (octet / 16) ∷ hex_digit (octet % 16) ∷ [])
+    else codes "\\x" ++ encode_lower (octet ∷ [])
 
 -- a line shows a mark and octets, those above ASCII as they are only if all together may be shown so
 abbrev pub IsTraceLine : List ℕ → List ℕ → List ℕ → Type 0

@@ -1,7 +1,7 @@
 //! The lines of a trace.
-ghost use Rattle.std.specs.Prelude.{◌≡◌, ◌<◌, ◌++◌, ◌↔◌, IfOk, OnOk, IsTrue, take};
+ghost use Rattle.std.specs.Prelude.{◌≡◌, ◌++◌, ◌↔◌, IfOk, OnOk, IsTrue, take};
 ghost use Rattle.std.specs.String.{string_bytes};
-ghost use Rattle.trace.specs.Line.{IsTraceLine, IsShowable, IsWritten, count_text, hex_digit};
+ghost use Rattle.trace.specs.Line.{IsTraceLine, IsShowable, IsWritten, count_text};
 ghost use Rattle.trace.specs.Line.{most_shown, shown_octet};
 
 use std::alloc::{AllocError, Global};
@@ -22,18 +22,6 @@ fn is_showable(octets: &[u8]) -> bool
     str::from_utf8(octets).is_ok()
 }
 
-/// A hexadecimal digit.
-fn hex_digit(digit: u8) -> u8
-    requires { digit < 16 }
-    ensures { result ≡ hex_digit digit }
-{
-    if digit < 10 {
-        b'0' + digit
-    } else {
-        b'W' + digit
-    }
-}
-
 /// Appends what a line shows of an octet: the octet, or `\x` and two digits.
 #[tactic(auto, unfolding(crate::specs::Line::shown_octet))]
 fn put_octet(line: &mut Vec<u8>, wide: bool, octet: u8) -> Result<(), AllocError>
@@ -44,8 +32,10 @@ fn put_octet(line: &mut Vec<u8>, wide: bool, octet: u8) -> Result<(), AllocError
         line.push(octet)?;
         return Ok(());
     }
-    let escape = [b'\\', b'x', hex_digit(octet / 16), hex_digit(octet % 16)];
-    line.extend_from_slice(&escape)?;
+    let mut digits = [0; 2];
+    hex::encode_to_slice([octet].as_slice(), &mut digits).unwrap();
+    line.extend_from_slice(b"\\x")?;
+    line.extend_from_slice(&digits)?;
     Ok(())
 }
 
