@@ -1,5 +1,5 @@
 -- Loops over a listing, ids that occur once in it, and the plan: item by item, with a count, it is the plan by the wanted messages.
-use Rattle.std.proofs.Common.{Bool, List, [], ap, append_assoc, arith, cond, count_by, false, filter, get_or, inl, inr, length, length-append, map, nat_lt, ne_eqb, refl, subst, suc, sym, take, take_all, take_at, true, zero, zip, ℕ, ◌&&◌, ◌++◌, ◌+◌, ◌-◌, ◌<◌, ◌==◌, ◌||◌, ◌∙◌, ◌∷◌, ◌≡◌, ◌≤◌, Less, All, Bor, bytes_eq, drop, is_eq, length-set, nat_cmp, not, replicate, set, ◌≢◌}
+use Rattle.std.proofs.Common.{Bool, List, [], ap, append_assoc, arith, cond, count_by, false, filter, get_or, inl, inr, length, length-append, map, nat_lt, ne_eqb, refl, subst, suc, sym, take, take_all, take_at, true, zero, zip, ℕ, ◌&&◌, ◌++◌, ◌+◌, ◌-◌, ◌<◌, ◌==◌, ◌||◌, ◌∙◌, ◌∷◌, ◌≡◌, ◌≤◌, ◌⊎◌, Less, All, Bor, bytes_eq, drop, is_eq, length-set, nat_cmp, not, replicate, set, ◌≢◌}
 use Rattle.mail_terms.specs.Listing.{Item, has_item, is_first, numbered, HasDistinctIds, Joins, ids_of, is_last}
 use Rattle.mail_terms.specs.Numbering.{IsNumbering}
 use Rattle.mail_terms.specs.UniqueId.{has_id}
@@ -23,7 +23,7 @@ use Rattle.std.proofs.lemmas.Slice.Eq.{bytes_eq-Decides}
 use Rattle.std.specs.Cmp.Lexicographic.{slice_cmp}
 use Rattle.std.specs.List.{enumerate_from, list_any}
 use Rattle.fetch_rules.specs.Due.{is_due, may_delete}
-use Rattle.fetch_rules.specs.Laws.{FetchesAsked, FetchesFirsts}
+use Rattle.fetch_rules.specs.Laws.{FetchesAsked, FetchesFirsts, PassesOver}
 use Rattle.fetch_rules.specs.Plan.{has_number, is_deleted, planned, retrieved, step_of}
 use Rattle.fetch_rules.specs.Record.{Row}
 use Rattle.fetch_rules.specs.Wanted.{candidates, at_most, is_asked_for, is_candidate, is_within, wanted, DistinctAreFiltered}
@@ -206,6 +206,66 @@ firsts_from settings rows listing front (i ∷ rest) now k is at = (
 pub firsts_planned : (settings : Settings) (rows : List Row) (listing : List Item) (now : ℕ) → FetchesFirsts [] (planned settings rows listing now) listing
 firsts_planned settings rows listing now = firsts_from settings rows listing [] listing now 1 refl (omega arith)
 
+-- ---- A plan passes a message over only for one of three reasons
+
+-- as many are fetched as may be, or the limit is reached
+abbrev IsFull : ℕ → ℕ → ℕ → Type 0
+IsFull may fetched max = (may ≤ fetched) ⊎ (max ≤ fetched)
+
+known_by : (b : Bool) → not b ≡ false → b ≡ true
+known_by true is = refl
+known_by false is = sym is
+
+none_left : (c max : ℕ) → (max == 0 || nat_lt c max) ≡ false → ((max == 0) ≡ false) × (max ≤ c)
+none_left c max is = (grind (arith, nat_tests), grind (arith, nat_tests))
+
+-- one more message
+one_more : (c f max : ℕ) (may fetch : Bool) → fetch ≡ may && (max == 0 || nat_lt c max) → IsFull c f max → IsFull (c + cond may 1 0) (f + cond fetch 1 0) max
+one_more c f max may fetch is (inr full) = inr (omega (arith, full))
+one_more c f max false fetch is (inl few) = inl (omega (arith, few))
+one_more c f max true true is (inl few) = inl (omega (arith, few))
+one_more c f max true false is (inl few) = inr (omega (arith, few, (none_left c max (sym is)).1))
+
+passed_for : (c f max : ℕ) (first asked : Bool) → first && asked && (max == 0 || nat_lt c max) ≡ false → IsFull c f max
+    → (asked ≡ false) ⊎ ((first ≡ false) ⊎ (((max == 0) ≡ false) × (max ≤ f)))
+passed_for c f max first false is so_far = inl refl
+passed_for c f max false true is so_far = inr (inl refl)
+passed_for c f max true true is (inr full) = inr (inr ((none_left c max is).0, full))
+passed_for c f max true true is (inl few) = inr (inr ((none_left c max is).0, omega (arith, few, (none_left c max is).1)))
+
+module _ (settings : Settings) (rows : List Row) (listing : List Item) (now : ℕ) where
+  -- how many of the first n may be fetched
+  abbrev counted : ℕ → ℕ
+  counted n = count_by (is_candidate settings rows listing) (take n (numbered listing))
+
+  passes_from : (front rest : List Item) (k fetched : ℕ) → listing ≡ front ++ rest → k ≡ length front + 1 → IsFull (counted (length front)) fetched settings.max_count
+      → PassesOver settings rows fetched front (map (step_of settings rows listing now) (enumerate_from k rest)) rest
+  passes_from front [] k fetched is at so_far = tt
+  passes_from front (i ∷ rest) k fetched is at so_far = (
+    λ quiet. elim (passed_for (counted (length front)) fetched settings.max_count (is_first listing (k, i)) (is_asked_for settings rows (k, i)) (sym fetches ∙ quiet) so_far) [
+      | inl unasked ↦ inl unasked
+      | inr (inl later) ↦ inr (inl (rw (is, at, take_at front (i ∷ rest) (length front + 1 - 1) (omega arith)) at (known_by _ later)))
+      | inr (inr full) ↦ inr (inr full)
+    ],
+    passes_from (front ++ i ∷ []) rest (k + 1) (fetched + cond (step_of settings rows listing now (k, i)).retrieve 1 0) (is ∙ sym (append_assoc front (i ∷ []) rest)) (omega (arith, at, length-append front (i ∷ [])))
+        (rw (length-append front (i ∷ []), grows) (one_more (counted (length front)) fetched settings.max_count (is_candidate settings rows listing (k, i)) (step_of settings rows listing now (k, i)).retrieve fetches so_far)),
+  )
+    where
+      inside : length front < length listing
+      inside = omega (arith, ap (λ (l : List Item). length l) is, length-append front (i ∷ rest))
+
+      here : get_or (numbered listing) (length front) (0, nobody) ≡ (k, i)
+      here = message_at listing (length front) nobody inside ∙ rw (is, get_or-append_seam front i rest nobody, at) refl
+
+      fetches : (step_of settings rows listing now (k, i)).retrieve ≡ is_candidate settings rows listing (k, i) && (settings.max_count == 0 || nat_lt (counted (length front)) settings.max_count)
+      fetches = rw at (rw (here, at) at (has_number-at_most (is_candidate settings rows listing) settings.max_count (length front) listing (0, nobody) inside))
+
+      grows : counted (length front + 1) ≡ counted (length front) + cond (is_candidate settings rows listing (k, i)) 1 0
+      grows = rw (sum_by_more (λ (m : Message). cond (is_candidate settings rows listing m) 1 0) (numbered listing) (length front) (0, nobody) (omega (arith, inside, length-enumerate_from 1 listing)), here) refl
+
+pub passes_planned : (settings : Settings) (rows : List Row) (listing : List Item) (now : ℕ) → PassesOver settings rows 0 [] (planned settings rows listing now) listing
+passes_planned settings rows listing now = passes_from settings rows listing now [] listing 1 0 refl refl (inl (omega arith))
+
 -- ---- loops that fill a set of ids from the front or from the back
 
 -- the ids of the first i messages, and which of these are the first with their id
@@ -350,7 +410,7 @@ joined_once n uids sizes a b p q = ext_get_or nobody a b (p.count ∙ sym q.coun
     let sizes' = same_at (λ (row : ScanRow). row.number) (λ row. row.size) sizes n k (λ j. (get_or a j nobody).size) (λ j. (get_or b j nobody).size) p.agree.1 within (λ j row below. p.octets j row below nobody) (λ j row below. q.octets j row below nobody) in
     λ i. record { uid = ids i; size = sizes' i })
 
-pub ruleset plan_laws = (firsts_planned, asked_planned, retrieved-planned, candidates-distinct)
+pub ruleset plan_laws = (firsts_planned, asked_planned, passes_planned, retrieved-planned, candidates-distinct)
 
 -- ---- ids in a set that compares them
 

@@ -4,7 +4,7 @@
 
 ghost use Rattle.std.specs.Prelude.{◌≡◌, ℕ, ◌&&◌, ◌||◌, Bool, false, true, List, [], All, bytes_eq};
 ghost use Rattle.mail_terms.specs.Listing.{Item, Joins, has_item, is_flagged};
-ghost use Rattle.fetch_rules.specs.Laws.{FetchesAsked, FetchesFirsts};
+ghost use Rattle.fetch_rules.specs.Laws.{FetchesAsked, FetchesFirsts, PassesOver};
 ghost use Rattle.fetch_rules.specs.Plan.{planned, retrieved};
 ghost use Rattle.fetch_rules.specs.Record.{Row, IsRecord, has_row, is_delivered, marked, merged};
 ghost use Rattle.fetch_rules.specs.RecordGrowth.{AppendedCounts, BytesStand, CutIsIgnored, OneIsRead, OneMeaning};
@@ -25,6 +25,13 @@ pub fn firsts_are_fetched()
 pub fn plans_fetch_what_is_asked_for()
     ensures { (settings : Settings) (rows : List Row) (listing : List Item) (now : ℕ)
         → FetchesAsked settings rows (planned settings rows listing now) listing }
+{}
+
+/// A plan passes a message over only if it isn't asked for, a message before it has its id, or as many as may
+/// be are fetched before it.
+pub fn plans_pass_over()
+    ensures { (settings : Settings) (rows : List Row) (listing : List Item) (now : ℕ)
+        → PassesOver settings rows 0 [] (planned settings rows listing now) listing }
 {}
 
 /// The messages that a plan's steps fetch are those that are wanted.

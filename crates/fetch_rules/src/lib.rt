@@ -15,7 +15,7 @@ pub use laws::{
     distinct_messages_are_filtered, files_stand_for_one_record, firsts_are_fetched,
     held_is_delivered, known_listings_change_nothing, listed_has_row, marked_is_delivered,
     marked_keeps_rows, merges_ask_only_for_new_ids, older_files_are_read, open_intents_have_rows,
-    plans_fetch_wanted, plans_fetch_what_is_asked_for, rows_join_in_one_way,
+    plans_fetch_wanted, plans_fetch_what_is_asked_for, plans_pass_over, rows_join_in_one_way,
     torn_is_ignored_or_seen,
 };
 pub use mail_terms::{
