@@ -5,8 +5,8 @@ Polls of 20,000 and 100,000 known messages, none of them new: known by the recor
 (mpop looks into no Maildir). To be reached: at most mpop's processor time and memory, and a growth from
 20,000 to 100,000 that is linear within a tenth.
 
-Then a poll with one new message, which is fetched, where 20,000 are known and held, alone and beside 500,000 files of
-others. To be reached: at most 1.3 times mpop's processor time and 6 MiB, and 4 MiB beside the others.
+Then a poll with one new message, which is fetched, where 20,000 are known and held, and where 20 are beside 500,000 files
+of others. To be reached: at most 1.3 times mpop's processor time and 6 MiB, and 4 MiB beside the others.
 
 Then what both remember of 20,000 messages with ids of 16 octets, once `getmail` has fetched them and looked once more. To be
 reached: at most 36 octets a message.
@@ -48,10 +48,9 @@ MANY = 100_000
 POLLS = (20_000, 100_000)
 FETCHES = {2_000: 1.1, 20_000: 1.17, 100_000: 1.24}
 MOST_FIRST = 1.1
-NEW_AMONG = 20_000
-OTHERS = 500_000
 MOST_NEW = 1.3
-MOST_NEW_MEMORY = {0: 6 * measure.MEBIBYTE, OTHERS: 4 * measure.MEBIBYTE}
+# For so many messages known and so many files of others.
+MOST_NEW_MEMORY = {(20_000, 0): 6 * measure.MEBIBYTE, (20, 500_000): 4 * measure.MEBIBYTE}
 OCTETS = 400
 REMEMBERED = 20_000
 MOST_REMEMBERED = 36
@@ -153,18 +152,18 @@ def kept(*paths):
     yield lambda: [path.write_bytes(text) for path, text in zip(paths, texts)]
 
 
-def without_last(path):
-    """Takes the last message out of what mpop remembers."""
+def without_last(path, known):
+    """Takes the last message out of what mpop remembers, so that so many are known."""
     *lines, _ = path.read_text().splitlines(keepends=True)
-    path.write_text("".join(lines).replace(f" {NEW_AMONG + 1} ", f" {NEW_AMONG} "))
+    path.write_text("".join(lines).replace(f" {known + 1} ", f" {known} "))
 
 
-def measure_new(folder, others):
-    """Polls with one new message, beside so many files of others; answers whether the marks were reached."""
-    server = Letters(NEW_AMONG + 1)
+def measure_new(folder, known, others):
+    """Polls with one new message among so many known, beside so many files of others; answers whether the marks were reached."""
+    server = Letters(known + 1)
     known_to_mpop(folder, server)
-    without_last(folder / "uidls")
-    words = ours.account_knowing(folder, server, NEW_AMONG, True)
+    without_last(folder / "uidls", known)
+    words = ours.account_knowing(folder, server, known, True)
     mail = folder / "account" / "mail"
     for number in range(others):
         (mail / "cur" / f"1700000000.{number}.other:2,S").touch()
@@ -181,8 +180,8 @@ def measure_new(folder, others):
         costs = in_turns(lambda: again(words), lambda: again(mpop_at(folder, server.port)))
     if len(os.listdir(folder / "mpop" / "new")) != 1 or measure.cost_of(again(words)) and len(os.listdir(mail / "new")) != 1:
         sys.exit("the new message wasn't fetched")
-    ratio, _ = print_costs(f"one new among {NEW_AMONG:,} held" + (f", beside {others:,} other files" if others else ""), *costs)
-    return (others > 0 or ratio <= MOST_NEW) and greatest_memory(costs[0]) <= MOST_NEW_MEMORY[others]
+    ratio, _ = print_costs(f"one new among {known:,} held" + (f", beside {others:,} other files" if others else ""), *costs)
+    return (others > 0 or ratio <= MOST_NEW) and greatest_memory(costs[0]) <= MOST_NEW_MEMORY[known, others]
 
 
 def measure_first_poll(folder, count, service):
@@ -302,7 +301,7 @@ def parts(disk, memory):
     head = ("processor time (the first)", "mpop's", "ratio", "peak of memory", "mpop's", "ratio")
     return {
         "polls": (("poll", *head), lambda: measure_polls(disk, memory)),
-        "new": (("poll", *head), lambda: all([measure_new(memory, others) for others in MOST_NEW_MEMORY])),
+        "new": (("poll", *head), lambda: all([measure_new(memory, *scene) for scene in MOST_NEW_MEMORY])),
         "record": (("record", "octets a message", "mpop's", "ratio"), lambda: measure_records(memory)),
         "fetches": (("fetch on tmpfs", *head), lambda: measure_fetches(memory)),
         "first": (("poll", *head), lambda: measure_first_polls(memory)),
