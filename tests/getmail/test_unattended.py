@@ -90,8 +90,8 @@ class Unattended(unittest.TestCase):
                         thread = self.server.begin_session()
                         runs.add(terminal.run(account, *words))
                         thread.join(programs.SECONDS)
-                (_, _, shown), = runs
-                self.assertNotEqual(shown, b"")
+                self.assertEqual(len(runs), 1, runs)
+                self.assertNotEqual(runs.pop()[2], b"")
 
     def test_faults_that_take_turns(self):
         """Each is written once."""
