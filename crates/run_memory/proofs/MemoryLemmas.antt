@@ -1,5 +1,5 @@
 -- What is written is read back as the same.
-use Rattle.std.proofs.Common.{All, Bool, Err, None, Ok, OnErr, OnOk, Result, List, Option, Some, [], ap, append-nil, append_assoc, arith, bytes_eq, decimal, drop, false, flat_map, inl, inr, length, length-append, nat_le, nat_lt, refl, remove, suc, sym, take, true, ℕ, ◌++◌, ◌+◌, ◌<◌, ◌==◌, ◌^◌, ◌∙◌, ◌∷◌, ◌≡◌, ◌≢◌, ◌≤◌, option_map, if◌then◌else◌}
+use Rattle.std.proofs.Common.{All, Bool, Err, None, Ok, OnErr, OnOk, Result, List, Option, Some, [], ap, append-nil, append_assoc, arith, bytes_eq, decimal, drop, false, flat_map, inl, inr, length, length-append, nat_le, nat_lt, refl, remove, subst, suc, sym, take, true, ℕ, ◌++◌, ◌+◌, ◌<◌, ◌==◌, ◌^◌, ◌∙◌, ◌∷◌, ◌≡◌, ◌≢◌, ◌≤◌, option_map, if◌then◌else◌}
 use Rattle.mail_terms.specs.Numeral.{greatest_size, is_numeral, numeral_value}
 use Rattle.mail_terms.specs.Text.{lines_of_text}
 use Rattle.std.proofs.Math.Seq.{take-append_seam}
@@ -19,7 +19,7 @@ use Rattle.std.specs.Str.{all_ascii_digits}
 use Rattle.std.specs.Str.Parse.{AllDigits, digits_value}
 use Rattle.run_memory.specs.Fields.{IsKey, is_digit, key_in, numbers_in}
 use Rattle.run_memory.specs.Lines.{AreNumbers, IsKnown, counts_of, fault_in, fault_line, left_line, line_in, notice_line, numbers_text}
-use Rattle.run_memory.specs.Memory.{IsKept, Told, end, ended, header, nothing, room, text_of, told_after, told_in, with_line}
+use Rattle.run_memory.specs.Memory.{IsKept, IsReadBack, Told, end, ended, header, nothing, room, text_of, told_after, told_in, with_line}
 use Rattle.run_memory.specs.declared.line.KnownFault.{KnownFault}
 use Rattle.run_memory.specs.declared.line.Line.{Line}
 use Rattle.run_memory.specs.declared.line.Line.TheVariants.{Left, Fault, Notice}
@@ -212,16 +212,18 @@ notices_read told (key ∷ keys) rest are few =
     ∙ notices_read (record told { notices = told.notices ++ key ∷ [] }) keys rest are.1 (omega (arith, few, length-append told.notices (key ∷ [])))
     ∙ ap (λ (items : List (List ℕ)). told_after (record told { notices = items }) (lines_of_text rest)) (append_assoc told.notices (key ∷ []) keys)
 
-pub told_again : (told : Told) → IsKept told → told_in (text_of told) ≡ told
+told_again : (told : Told) → IsKept told → told_in (text_of told) ≡ told
 told_again told kept =
     let notices = flat_map (λ key. ended (notice_line key)) told.notices ++ end in
     let more = flat_map (λ fault. ended (fault_line fault)) told.faults ++ notices in
+    let few_faults : 0 + length told.faults ≤ 16 = omega (arith, kept.few_faults) in
+    let few_notices : 0 + length told.notices ≤ 1000 = omega (arith, kept.few_notices) in
     let shape : ended (left_line told.left) ++ more ≡ left_line told.left ++ 10 ∷ more = append_assoc (left_line told.left) (10 ∷ []) more in
     ap (λ (text : List ℕ). told_after nothing (lines_of_text text)) shape
     ∙ ap (λ (lines : List (List ℕ)). told_after nothing lines) (first_line (left_line told.left) more (HasNo-left told.left kept.left))
     ∙ ap (λ (o : Option Line). option_map_or (λ said. told_after (with_line nothing said) (lines_of_text more)) o nothing) (left_read told.left kept.left)
-    ∙ faults_read (record nothing { left = told.left }) told.faults notices (recursion_from_All IsKnown told.faults kept.faults) kept.few_faults
-    ∙ notices_read (record told { notices = [] }) told.notices end (recursion_from_All IsKey told.notices kept.notices) kept.few_notices
+    ∙ faults_read (record nothing { left = told.left }) told.faults notices (recursion_from_All IsKnown told.faults kept.faults) few_faults
+    ∙ notices_read (record told { notices = [] }) told.notices end (recursion_from_All IsKey told.notices kept.notices) few_notices
 
 fault_fits : (f : KnownFault) → IsKnown f → length (ended (fault_line f)) ≤ 134
 fault_fits f is =
@@ -236,7 +238,7 @@ fault_fits f is =
 notice_fits : (key : List ℕ) → IsKey key → length (ended (notice_line key)) ≤ 70
 notice_fits key is = omega (arith, length-append (notice_line key) (10 ∷ []), is.0)
 
-pub text_fits : (told : Told) → IsKept told → length (text_of told) ≤ 131072
+text_fits : (told : Told) → IsKept told → length (text_of told) ≤ 131072
 text_fits told kept =
     let notices = flat_map (λ key. ended (notice_line key)) told.notices in
     let faults = flat_map (λ fault. ended (fault_line fault)) told.faults in
@@ -254,6 +256,9 @@ text_fits told kept =
       kept.few_faults,
       kept.few_notices,
     )
+
+pub read_back : (told value : Told) → IsKept told → told ≡ value → IsReadBack value
+read_back told value kept same = subst IsReadBack same (record { again = told_again told kept; fits = text_fits told kept })
 
 -- ---- what is kept
 

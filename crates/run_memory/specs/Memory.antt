@@ -82,6 +82,7 @@ abbrev pub told_in : List ℕ → Told
 told_in octets =
     if bytes_eq (take 15 octets) header then told_after nothing (lines_of_text (drop 15 octets)) else nothing
 
--- how long a file may be that is read
-abbrev pub most_octets : ℕ
-most_octets = 131072
+-- what is written is read back as the same, since no more than this is read
+pub record IsReadBack (told : Told) : Type 0 where
+  pub again : told_in (text_of told) ≡ told
+  pub fits : length (text_of told) ≤ 131072

