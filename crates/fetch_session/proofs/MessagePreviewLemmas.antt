@@ -1,10 +1,15 @@
 -- What a preview says of a listing, message by message.
-use Rattle.std.proofs.Common.{◌≡◌, ◌<◌, ◌≤◌, ◌+◌, ℕ, suc, Bool, true, false, List, [], ◌∷◌, ◌++◌, append_assoc, append-nil, drop, get_or, length, cond, add-one, zero-add, refl, sym, ap, ap₂, ◌∙◌, arith, All, ◌&&◌, if◌then◌else◌, drop-cons}
+use Rattle.std.proofs.Common.{◌≡◌, ◌<◌, ◌≤◌, ◌+◌, ◌==◌, ◌||◌, ◌⊎◌, inl, inr, not, nat_le, true≢false, subst, ℕ, suc, Bool, true, false, List, [], ◌∷◌, ◌++◌, append_assoc, append-nil, drop, get_or, length, cond, add-one, zero-add, refl, sym, ap, ap₂, ◌∙◌, arith, All, ◌&&◌, if◌then◌else◌, drop-cons}
 use Rattle.std.proofs.lemmas.List.{drop_all, get_or-map, length-map}
 use Rattle.std.proofs.lemmas.List.Sums.{sum_by-append}
-use Rattle.mail_terms.specs.Listing.{Item}
+use Rattle.std.proofs.lemmas.Bool.{and_parts, cases_Bool}
+use Rattle.std.proofs.lemmas.Bool.Decides.{nat_tests}
+use Rattle.mail_terms.specs.Listing.{Item, has_item}
 use Rattle.rc_file.specs.declared.settings.Settings.{Settings}
+use Rattle.fetch_rules.specs.Laws.{IsPassedOver, PassesOver}
+use Rattle.fetch_rules.specs.Plan.{planned}
 use Rattle.fetch_rules.specs.Record.{Row, is_delivered}
+use Rattle.fetch_rules.specs.Wanted.{is_asked_for, is_within}
 use Rattle.fetch_rules.specs.declared.steps.Step.{Step}
 use Rattle.fetch_session.specs.declared.message_preview.Known.{Known}
 use Rattle.fetch_session.specs.declared.message_preview.MessagePreview.{MessagePreview}
@@ -13,7 +18,7 @@ use Rattle.fetch_session.proofs.ReadyLemmas.{no_item, step_at}
 use Rattle.fetch_session.specs.declared.message_preview.Fate.{Fate}
 use Rattle.fetch_session.specs.declared.message_preview.Fate.TheVariants.{Fetched, FetchedAndDeleted, Deleted, DeliveredBefore, TooLarge}
 use Rattle.fetch_session.specs.declared.report.LeftOut.{LeftOut}
-use Rattle.fetch_session.specs.MessagePreview.{fate_of, fetched_by, known_of, message_preview_of, message_previews}
+use Rattle.fetch_session.specs.MessagePreview.{HasCause, HaveCauses, PlansHaveCauses, fate_of, fetched_as, fetched_by, known_of, message_preview_of, message_previews, reason}
 use Rattle.fetch_session.specs.Report.{count_fates, is_for_id, is_for_limit, is_for_size, left_out_of, with_fate}
 use Rattle.fetch_session.specs.Target.{none_held}
 
@@ -101,3 +106,81 @@ none_left settings rows now fetched (s ∷ ss) (i ∷ is) new all =
     uncounted (message_previews settings rows now (fetched + fetched_by s) ss is (none_held is)) (message_preview_of settings now fetched s (known_of rows now false i)) s.retrieve s.delete (rw (new, all 0 i (omega arith)) refl)
     ∙ none_left settings rows now (fetched + fetched_by s) ss is new (λ k d inside. all (suc k) d (omega (arith, inside)))
 none_left settings rows now fetched _ _ new all = refl
+
+-- ---- what is said of messages is so
+
+free : (all delivered : Bool) → not all && delivered ≡ false → all || not delivered ≡ true
+free true delivered is = refl
+free false true is = sym is
+free false false is = refl
+
+limited : (max fetched : ℕ) → (max == 0) ≡ false → max ≤ fetched → not (max == 0) && nat_le max fetched ≡ false → ⊥
+limited max fetched some full room = grind (arith, nat_tests)
+
+none_as : (settings : Settings) (known : Known) (fetched : ℕ) → fetched_as (reason settings known fetched) ≡ 0
+none_as settings known fetched = elim (cases_Bool (not settings.read_all && known.held)) [
+  | inl hit ↦ rw hit refl
+  | inr unheld ↦ elim (cases_Bool (not settings.read_all && known.delivered)) [
+    | inl hit ↦ rw (unheld, hit) refl
+    | inr unknown ↦ elim (cases_Bool (is_within settings.max_size known.size)) [
+      | inr large ↦ rw (unheld, unknown, large) refl
+      | inl within ↦ elim (cases_Bool (not (settings.max_count == 0) && nat_le settings.max_count fetched)) [
+        | inl full ↦ rw (unheld, unknown, within, full) refl
+        | inr room ↦ rw (unheld, unknown, within, room) refl
+      ]
+    ]
+  ]
+]
+
+cause : (settings : Settings) (known : Known) (fetched : ℕ) (earlier : Bool) (message : ℕ × Item) (rows : List Row) (front : List Item) → known.size ≡ message.1.size → known.delivered ≡ is_delivered rows message.1.uid → earlier ≡ has_item front message.1.uid
+    → IsPassedOver settings rows fetched front message → HasCause settings known fetched earlier (reason settings known fetched)
+cause settings known fetched earlier message rows front size_is delivered_is earlier_is passed = elim (cases_Bool (not settings.read_all && known.held)) [
+  | inl hit ↦ rw hit (and_parts _ _ hit).1
+  | inr unheld ↦ elim (cases_Bool (not settings.read_all && known.delivered)) [
+    | inl hit ↦ rw (unheld, hit) (and_parts _ _ hit).1
+    | inr unknown ↦ elim (cases_Bool (is_within settings.max_size known.size)) [
+      | inr large ↦ rw (unheld, unknown, large) large
+      | inl within ↦ elim (cases_Bool (not (settings.max_count == 0) && nat_le settings.max_count fetched)) [
+        | inl full ↦ rw (unheld, unknown, within, full) (is_full full)
+        | inr room ↦ rw (unheld, unknown, within, room) (earlier_is ∙ has_earlier unknown within room passed)
+      ]
+    ]
+  ]
+]
+  where
+    is_full : not (settings.max_count == 0) && nat_le settings.max_count fetched ≡ true → ((settings.max_count == 0) ≡ false) × (settings.max_count ≤ fetched)
+    is_full full = (grind (arith, nat_tests), grind (arith, nat_tests))
+
+    asked : not settings.read_all && known.delivered ≡ false → is_within settings.max_size known.size ≡ true → is_asked_for settings rows message ≡ true
+    asked unknown within = rw (← size_is, within, ← delivered_is) (free settings.read_all known.delivered unknown)
+
+    has_earlier : not settings.read_all && known.delivered ≡ false → is_within settings.max_size known.size ≡ true → not (settings.max_count == 0) && nat_le settings.max_count fetched ≡ false
+        → IsPassedOver settings rows fetched front message → has_item front message.1.uid ≡ true
+    has_earlier unknown within room (inl unasked) = absurd (true≢false (sym (asked unknown within) ∙ unasked))
+    has_earlier unknown within room (inr (inl same)) = same
+    has_earlier unknown within room (inr (inr full)) = absurd (limited settings.max_count fetched full.0 full.1 room)
+
+-- the fate of a message that is fetched or not, and deleted or not
+fate_cause : (settings : Settings) (known : Known) (fetched : ℕ) (earlier retrieve delete : Bool) (fate : Fate) → fate ≡ (if retrieve && delete then FetchedAndDeleted else if retrieve then Fetched else if delete then Deleted else reason settings known fetched)
+    → (retrieve ≡ false → HasCause settings known fetched earlier (reason settings known fetched)) → HasCause settings known fetched earlier fate × (fetched_as fate ≡ cond retrieve 1 0)
+fate_cause settings known fetched earlier true true fate is passed = rw is (tt, refl)
+fate_cause settings known fetched earlier true false fate is passed = rw is (tt, refl)
+fate_cause settings known fetched earlier false true fate is passed = rw is (tt, refl)
+fate_cause settings known fetched earlier false false fate is passed = rw is (passed refl, none_as settings known fetched)
+
+causes_from : (settings : Settings) (rows : List Row) (now fetched : ℕ) (front : List Item) (steps : List Step) (items : List Item) (flags : List Bool) → PassesOver settings rows fetched front steps items
+    → HaveCauses settings rows now fetched front (message_previews settings rows now fetched steps items flags) items flags
+causes_from settings rows now fetched front [] items flags passes = tt
+causes_from settings rows now fetched front (step ∷ steps) [] flags passes = tt
+causes_from settings rows now fetched front (step ∷ steps) (item ∷ items) [] passes = tt
+causes_from settings rows now fetched front (step ∷ steps) (item ∷ items) (held ∷ flags) passes =
+    let known = known_of rows now held item in
+    let here = fate_cause settings known fetched (has_item front item.uid) step.retrieve step.delete (fate_of settings step known fetched) refl
+    (λ quiet. cause settings known fetched (has_item front item.uid) (step.number, item) rows front refl refl refl (passes.0 quiet)) in (
+      here.0,
+      subst (λ n. HaveCauses settings rows now (fetched + n) (front ++ item ∷ []) (message_previews settings rows now (fetched + fetched_by step) steps items flags) items flags) (sym here.1)
+          (causes_from settings rows now (fetched + fetched_by step) (front ++ item ∷ []) steps items flags passes.1),
+    )
+
+pub plans_have_causes : ((settings : Settings) (rows : List Row) (items : List Item) (now : ℕ) → PassesOver settings rows 0 [] (planned settings rows items now) items) → PlansHaveCauses
+plans_have_causes passes settings rows now items flags = causes_from settings rows now 0 [] (planned settings rows items now) items flags (passes settings rows items now)

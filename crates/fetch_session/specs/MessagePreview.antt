@@ -1,12 +1,12 @@
 -- What a run would do with each message of a listing, and why it would do nothing with some.
-use Rattle.std.specs.Prelude.{ℕ, ◌+◌, ◌*◌, ◌==◌, ◌&&◌, ◌||◌, not, nat_le, nat_lt, min, Bool, List, [], ◌∷◌, Option}
-use Rattle.std.specs.Prelude.{Some, None, if◌then◌else◌}
-use Rattle.mail_terms.specs.Listing.{Item}
+use Rattle.std.specs.Prelude.{◌≡◌, ◌≤◌, ℕ, ◌+◌, ◌*◌, ◌==◌, ◌&&◌, ◌||◌, not, nat_le, nat_lt, min, Bool, true, false}
+use Rattle.std.specs.Prelude.{List, [], ◌∷◌, ◌++◌, Option, Some, None, if◌then◌else◌}
+use Rattle.mail_terms.specs.Listing.{Item, has_item}
 use Rattle.mail_terms.specs.Numeral.{greatest_size}
 use Rattle.rc_file.specs.declared.settings.Settings.{Settings}
 use Rattle.fetch_rules.specs.Due.{seconds_per_day}
 use Rattle.fetch_rules.specs.Record.{Row, is_delivered}
-use Rattle.fetch_rules.specs.Plan.{seen_since}
+use Rattle.fetch_rules.specs.Plan.{planned, seen_since}
 use Rattle.fetch_rules.specs.Wanted.{is_within}
 use Rattle.fetch_rules.specs.declared.steps.Step.{Step}
 use Rattle.fetch_session.specs.declared.message_preview.Fate.{Fate}
@@ -78,3 +78,37 @@ message_previews settings rows now fetched (step ∷ steps) (item ∷ items) [] 
 message_previews settings rows now fetched (step ∷ steps) (item ∷ items) (held ∷ flags) =
     message_preview_of settings now fetched step (known_of rows now held item) ∷ message_previews settings rows now
     (fetched + fetched_by step) steps items flags
+
+-- ---- what is said of messages is so
+
+-- why nothing is done with a message, if `fetched` before it are fetched; `earlier` says whether one of them has its id
+abbrev pub HasCause : Settings → Known → ℕ → Bool → Fate → Type 0
+HasCause settings known fetched earlier Held = known.held ≡ true
+HasCause settings known fetched earlier DeliveredBefore = known.delivered ≡ true
+HasCause settings known fetched earlier TooLarge = is_within settings.max_size known.size ≡ false
+HasCause settings known fetched earlier PastLimit = ((settings.max_count == 0) ≡ false)
+    × (settings.max_count ≤ fetched)
+HasCause settings known fetched earlier SameId = earlier ≡ true
+HasCause settings known fetched earlier fate = Unit {0}
+
+-- how many messages are fetched where this is said of one
+abbrev pub fetched_as : Fate → ℕ
+fetched_as Fetched = 1
+fetched_as FetchedAndDeleted = 1
+fetched_as fate = 0
+
+-- each of these messages has the cause that is said of it; `front` are the messages before the first one, and `fetched`
+-- of them are fetched
+abbrev pub HaveCauses : Settings → List Row → ℕ → ℕ → List Item → List MessagePreview → List Item → List Bool → Type 0
+HaveCauses settings rows now fetched front [] items flags = Unit {0}
+HaveCauses settings rows now fetched front (told ∷ more) [] flags = Unit {0}
+HaveCauses settings rows now fetched front (told ∷ more) (item ∷ items) [] = Unit {0}
+HaveCauses settings rows now fetched front (told ∷ more) (item ∷ items) (held ∷ flags) =
+    HasCause settings (known_of rows now held item) fetched (has_item front item.uid) told.fate
+    × HaveCauses settings rows now (fetched + fetched_as told.fate) (front ++ item ∷ []) more items flags
+
+-- a law: what is said of the messages of a plan has its cause
+abbrev pub PlansHaveCauses : Type 0
+PlansHaveCauses = (settings : Settings) (rows : List Row) (now : ℕ) (items : List Item) (flags : List Bool)
+    → HaveCauses settings rows now 0 []
+    (message_previews settings rows now 0 (planned settings rows items now) items flags) items flags
