@@ -4,6 +4,7 @@ mod MessagePreviewLemmas
 mod PartLemmas
 mod ReadyLemmas
 mod SceneLemmas
+mod ServedLemmas
 mod SessionLemmas
 mod TakenLemmas
 mod TalkLemmas

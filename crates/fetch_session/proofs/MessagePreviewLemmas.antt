@@ -1,5 +1,5 @@
 -- What a preview says of a listing, message by message.
-use Rattle.std.proofs.Common.{◌≡◌, ◌<◌, ◌≤◌, ◌+◌, ◌==◌, ◌||◌, ◌⊎◌, inl, inr, not, nat_le, true≢false, subst, ℕ, suc, Bool, true, false, List, [], ◌∷◌, ◌++◌, append_assoc, append-nil, drop, get_or, length, cond, add-one, zero-add, refl, sym, ap, ap₂, ◌∙◌, arith, All, ◌&&◌, if◌then◌else◌, drop-cons}
+use Rattle.std.proofs.Common.{◌≡◌, ◌<◌, ◌≤◌, ◌+◌, ◌==◌, ◌||◌, inl, inr, not, nat_le, true≢false, subst, ℕ, suc, Bool, true, false, List, [], ◌∷◌, ◌++◌, append_assoc, append-nil, drop, get_or, length, cond, add-one, zero-add, refl, sym, ap, ap₂, ◌∙◌, arith, All, ◌&&◌, if◌then◌else◌, drop-cons}
 use Rattle.std.proofs.lemmas.List.{drop_all, get_or-map, length-map}
 use Rattle.std.proofs.lemmas.List.Sums.{sum_by-append}
 use Rattle.std.proofs.lemmas.Bool.{and_parts, cases_Bool}

@@ -48,6 +48,11 @@ IsMissing (AsFiles account) store = (store.maildir.there.tmp ≡ false)
     ⊎ ((store.maildir.there.new ≡ false) ⊎ (store.maildir.there.cur ≡ false))
 IsMissing AsEntries store = store.mbox.content ≡ None
 
+-- an entry may not follow the mboxrd file's bytes
+abbrev pub IsUnusable : Target → Stores → Type 0
+IsUnusable (AsFiles account) store = ⊥
+IsUnusable AsEntries store = IsOther store.mbox
+
 -- a call of the store was refused
 abbrev pub StoreRose : Target → Stores → Stores → Type 0
 StoreRose (AsFiles account) old new = old.maildir.failures < new.maildir.failures
@@ -57,16 +62,14 @@ StoreRose AsEntries old new = old.mbox.failures < new.mbox.failures
 abbrev pub CausesFault : Settings → Target → Link → Keeping → Fault → Place → Keeping → Type 0
 CausesFault settings target link before (StoreRefused Missing) mid after = IsMissing target after.store
 CausesFault settings target link before (StoreRefused Refused) mid after = StoreRose target before.store after.store
-CausesFault settings target link before (StoreRefused NotMbox) mid after = IsOther after.store.mbox
+CausesFault settings target link before (StoreRefused NotMbox) mid after = IsUnusable target after.store
 CausesFault settings target link before SeenRefused mid after = before.file.failures < after.file.failures
 CausesFault settings target link before (BadSeen line) mid after = Misread before.file line after.file
 CausesFault settings target link before ListingsDisagree mid after = Disagreed settings link mid
 CausesFault settings target link before NoMemory mid after = Unit {0}
 CausesFault settings target link before fault mid after = TurnBroke link mid fault
 
--- a law: a session that didn't end has its cause. So if its server answers each turn whole and well, within the limits,
--- with listings that agree, the store is there and usable, the record can be read, no call is refused and memory
--- doesn't run out, then the session ends
+-- a law: a session that didn't end has its cause
 abbrev pub CutsHaveCauses : Type 0
 CutsHaveCauses = (settings : Settings) (target : Target) (now : ℕ) (link : Link) (before : Keeping) (report : Report)
     (link' : Link) (after : Keeping) → SessionIn settings target now link before report link' after

@@ -10,6 +10,7 @@ pub mod Plan
 pub mod Tail
 pub mod Report
 pub mod Opening
+pub mod Served
 pub mod Session
 pub mod Account
 pub mod Target

@@ -1,0 +1,105 @@
+-- What a session does if nothing fails: it ends, and has stored what it wants.
+use Rattle.std.specs.Prelude.{◌≡◌, ◌≢◌, ◌⊎◌, ℕ, true, List, [], ◌∷◌, ◌++◌, Contains, Some, Ok, Err, zip}
+use Rattle.std.specs.List.{AllByRecursion, flat_map}
+use Rattle.std.specs.String.{string_bytes}
+use Rattle.mail_terms.specs.Listing.{Agree, Item}
+use Rattle.mail_terms.specs.declared.listing.UidRow.{UidRow}
+use Rattle.mail_terms.specs.declared.listing.ScanRow.{ScanRow}
+use Rattle.mail_store.specs.Mboxrd.{MayGoOn, entry_of}
+use Rattle.rc_file.specs.declared.settings.Settings.{Settings}
+use Rattle.fetch_rules.specs.Record.{Loaded, RecordState}
+use Rattle.fetch_rules.specs.Wanted.{wanted}
+use Rattle.pop3_wire.specs.Link.{Link}
+use Rattle.pop3_wire.specs.Place.{Place, at}
+use Rattle.pop3_wire.specs.Reading.{WholeReply, reply_bytes}
+use Rattle.pop3_client.specs.Conversation.{Talked}
+use Rattle.pop3_client.specs.Texts.{body_text}
+use Rattle.pop3_client.specs.Turns.{IsGood, Turn, retr}
+use Rattle.fetch_session.specs.declared.fault.Cut.{Cut}
+use Rattle.fetch_session.specs.declared.fault.Fault.TheVariants.{NoMemory}
+use Rattle.fetch_session.specs.declared.report.Outcome.TheVariants.{Ended, Cut as WasCut}
+use Rattle.fetch_session.specs.declared.report.Report.{Report}
+use Rattle.fetch_session.specs.Cuts.{TurnBroke}
+use Rattle.fetch_session.specs.Opening.{Opened}
+use Rattle.fetch_session.specs.Readiness.{merged_in}
+use Rattle.fetch_session.specs.Record.{Keeps, ReadAs}
+use Rattle.fetch_session.specs.Session.{Enters_with, Keeping, LeavesLink, SessionIn}
+use Rattle.fetch_session.specs.Target.{Target, AsFiles, AsEntries, Stores, flags_in}
+use Rattle.fetch_session.specs.Task.{file_from}
+
+-- ---- nothing fails
+
+-- a whole and positive reply to this turn came, within the limits, and no call of the link was refused
+pub record WasAnswered (turn : Turn) (old new : Place) : Type 0 where
+  pub gained : List ℕ
+  pub rest : List ℕ
+  pub reply : WholeReply
+  pub got : new.link.got ≡ old.link.got ++ gained
+  pub whole : old.waiting ++ gained ≡ reply_bytes reply ++ rest
+  pub good : IsGood turn reply
+  pub none_refused : new.link.failures ≡ old.link.failures
+
+-- the folders of the Maildir are there; or the mboxrd file is, and an entry may follow it
+abbrev pub IsUsable : Target → Stores → Type 0
+IsUsable (AsFiles account) store = (store.maildir.there.tmp ≡ true) × (store.maildir.there.new ≡ true)
+    × (store.maildir.there.cur ≡ true)
+IsUsable AsEntries store = (bytes : List ℕ) × (store.mbox.content ≡ Some bytes) × MayGoOn bytes
+
+-- how many calls of the store were refused
+abbrev pub refused_in : Target → Stores → ℕ
+refused_in (AsFiles account) store = store.maildir.failures
+refused_in AsEntries store = store.mbox.failures
+
+-- the server answers each turn, also the one at which the session was cut, if it was, with listings that agree; the
+-- store can be used, the record can be read, no call of them is refused, and memory doesn't run out
+pub record IsServed (settings : Settings) (target : Target) (link : Link) (before : Keeping) (report : Report)
+    (link' : Link) (after : Keeping) : Type 0 where
+  pub answered : (cut : Cut) (mid : Place) → report.outcome ≡ WasCut cut.fault → LeavesLink (Err cut) mid link'
+      → (broke : TurnBroke link mid cut.fault) → WasAnswered broke.next broke.mid mid
+  pub agree : (cut : Cut) (mid : Place) → report.outcome ≡ WasCut cut.fault → LeavesLink (Err cut) mid link'
+      → (count : ℕ) (uids : List UidRow) (sizes : List ScanRow)
+      → Opened (string_bytes settings.username) (string_bytes settings.password) (at link []) mid count uids sizes
+      → Agree count uids sizes
+  pub usable : IsUsable target after.store
+  pub read : (loaded : Loaded) × ReadAs before.file.content loaded
+  pub store_refused : refused_in target after.store ≡ refused_in target before.store
+  pub file_refused : after.file.failures ≡ before.file.failures
+  pub memory : report.outcome ≢ WasCut NoMemory
+
+-- ---- what is stored
+
+-- the text of this reply is stored under this id: in a file of the Maildir; or as one of the entries at the end of the
+-- mboxrd file
+abbrev pub HasText : Target → Stores → List ℕ → WholeReply → Type 0
+HasText (AsFiles account) store uid reply = Contains store.maildir.files (file_from account uid reply)
+HasText AsEntries store uid reply = (was : List ℕ) × (texts : List (List ℕ))
+    × (store.mbox.content ≡ Some (was ++ flat_map entry_of texts)) × Contains texts (body_text reply.body)
+
+-- a message was held before; or RETR was sent for it, and the text that came is stored
+abbrev pub IsStored : Target → Stores → List (Turn × WholeReply) → Stores → ℕ × Item → Type 0
+IsStored target old said new message = (flags_in target old (message.1 ∷ []) ≡ true ∷ [])
+    ⊎ ((reply : WholeReply) × Contains said (retr message.0, reply) × HasText target new message.1.uid reply)
+
+-- each message that is wanted of the listing that the server gave, by the record once that is merged into it, is stored
+pub record StoresAll (settings : Settings) (target : Target) (now : ℕ) (link : Link) (before : Keeping) (link' : Link)
+    (after : Keeping) : Type 0 where
+  pub items : List Item
+  pub mid : Place
+  pub listed : Enters_with settings (at link []) (Ok items) mid
+  pub was : RecordState
+  pub stood : Keeps before.file.content was
+  pub turns : List Turn
+  pub replies : List WholeReply
+  pub new : Place
+  pub talked : Talked turns replies mid new
+  pub last : link' ≡ new.link
+  pub each : AllByRecursion (IsStored target before.store (zip turns replies) after.store)
+      (wanted settings (merged_in target before.store was items now) items)
+
+-- a law: if nothing fails, a session ends; and one that ended has stored each message that it wants
+abbrev pub ServedSessionsStoreAll : Type 0
+ServedSessionsStoreAll = (settings : Settings) (target : Target) (now : ℕ) (link : Link) (before : Keeping)
+    (report : Report) (link' : Link) (after : Keeping)
+    → SessionIn settings target now link before report link' after
+    → (IsServed settings target link before report link' after → report.outcome ≡ Ended)
+    × (report.outcome ≡ Ended → StoresAll settings target now link before link' after)
