@@ -12,11 +12,12 @@ use Rattle.std.proofs.lemmas.List.{take-append-drop, take-append-le, take-take, 
 use Rattle.std.proofs.Math.Seq.{take-append-add, take-append_seam, take-length}
 use Rattle.mail_store.specs.Power.{IsLonger, LeavesNoMore, LastsWhole}
 use Rattle.mail_store.specs.Durable.{Blob, IsByteLeft, IsFlushed, IsLeft, IsLeftOf, IsLeftOfOne, IsSure, IsTorn, MayLeave, content_in, secured}
-use Rattle.mail_store.proofs.DurableLemmas.{durable_is_left, left_flushed, left_of, no_rest}
+use Rattle.mail_store.proofs.DurableLemmas.{durable_is_left, left_flushed, left_of, no_rest, flushed_all, seen_all}
 use Rattle.folder_store.specs.PowerLoss.{left_under, WasOnce, MayBe, disk_at, older_at, IsOnDisk, IsKnown, DiskIsLeft, DiskIsKnown, PowerLeaves}
 use Rattle.std.specs.List.{list_all}
 use Rattle.std.proofs.lemmas.Grind.{same_number_lists}
 use Rattle.mail_store.specs.Settling.{block_size, MayBeLeft}
+use Rattle.mail_store.proofs.SettlingLemmas.{part_left}
 
 -- a name leads to the first file that has it
 pub find_here : (name : List ℕ) (e : Entry) (es : List Entry) → bytes_eq name e.name ≡ true → find name (e ∷ es) ≡ Some e.blob
@@ -417,12 +418,6 @@ in_part also old new name (Err fault) t = t
 
 -- ---- `append`
 
--- what may be left of bytes that were appended at a place, and of more of them, is a part
-part_more : (place : ℕ) (front rest left : List ℕ) → MayBeLeft place front left → MayBeLeft place (front ++ rest) left
-part_more place front rest [] is = tt
-part_more place [] rest (byte ∷ left) is = absurd is
-part_more place (word ∷ front) rest (byte ∷ left) is = (is.0, part_more (place + 1) front rest left is.1)
-
 part_later : (place : ℕ) (first more left : List ℕ) → MayBeLeft (place + length first) more left → MayBeLeft place (first ++ more) (first ++ left)
 part_later place [] more left is = subst (λ (n : ℕ). MayBeLeft n more left) (omega arith) is
 part_later place (byte ∷ first) more left is =
@@ -493,7 +488,7 @@ pieces_behind was bytes first front rest c left parts is h =
       first ++ t.0,
       t.1 ∙ ap Some (append_assoc was first t.0),
       rw parts (part_later (length was) first (front ++ rest) t.0
-          (part_more (length was + length first) front rest t.0 (subst (λ (n : ℕ). MayBeLeft n front t.0) (length-append was first) t.2))),
+          (part_left (length was + length first) front rest t.0 (subst (λ (n : ℕ). MayBeLeft n front t.0) (length-append was first) t.2))),
     )
 
 pub appends_for_good : AppendsLast
@@ -630,30 +625,22 @@ may_arrive : (o : Option Blob) → IsLeftOf o (option_map content_in o)
 may_arrive None = tt
 may_arrive (Some b) = inr (inl refl)
 
-pub left_is_flushed : (left : Option (List ℕ)) → IsFlushed (option_map secured left)
-left_is_flushed None = tt
-left_is_flushed (Some bytes) = refl
-
-pub left_content : (left : Option (List ℕ)) → option_map content_in (option_map secured left) ≡ left
-left_content None = refl
-left_content (Some bytes) = refl
-
 pub power_leaves : PowerLeaves
 power_leaves old name left = (
   λ may. (
     record old { entries = entries_left name left old.entries; older = []; made = None },
     record {
       can_make = refl;
-      each = λ n. rw (find_left name n left old.entries, left_content (left_at name left old.entries n))
+      each = λ n. rw (find_left name n left old.entries, seen_all (left_at name left old.entries n))
           (cond_both (bytes_eq n name) left (content_at old n) (λ (o : Option (List ℕ)). MayBe old n o)
           (λ same. rw ((bytes_eq-Decides n name).0 same) may) (λ _. may_now old n (content_at old n) (may_arrive (find n old.entries))));
       on_disk = λ n. record {
         named = refl;
-        flushed = rw (find_left name n left old.entries) (left_is_flushed (left_at name left old.entries n));
+        flushed = rw (find_left name n left old.entries) (flushed_all (left_at name left old.entries n));
       };
       made = refl;
     },
-    ap (option_map content_in) (find_left name name left old.entries) ∙ left_content (left_at name left old.entries name)
+    ap (option_map content_in) (find_left name name left old.entries) ∙ seen_all (left_at name left old.entries name)
         ∙ cond-true (bytes_eq name name) left (content_at old name) ((bytes_eq-Decides name name).1 refl),
   ),
   λ after. subst (λ (o : Option (List ℕ)). MayBe old name o) after.2 (after.1.each name),

@@ -1,37 +1,32 @@
 -- What telling the names of the folders, and writing and settling a file, does to the Maildir of the folders.
 use Rattle.std.proofs.Common.{◌≡◌, ◌+◌, inl, inr, ⊎_elim, ℕ, List, [], ◌∷◌, refl, subst, arith, ◌⊎◌, true, sym, ap, ◌∙◌, Bool, false, not, ◌++◌, map, get_or, Contains, Option, Result, Ok, Err, IsErrAnd, IsPermutation, IsTrue, IfErr, String, Global, Vec, string_bytes, filter, if◌then◌else◌, ◌≢◌, suc, Some, append_assoc, append-nil, None}
-use Rattle.mail_store.specs.Maildir.{AfterFlushing, AfterTaking, AllNamed, AreReached, AreTheirs, Checks, Draft as Begun, File, Folders, IsWithout, Lists, ListsAll, Maildir, MayBeNamed, MayHave, WereTaken, bases_told, counted, draft, dropped, is_there, mail, names_of, with_file}
-use Rattle.mail_store.specs.Held.{ListsAmong, is_sought}
+use Rattle.mail_store.specs.Maildir.{AfterFlushing, AfterTaking, AllNamed, AreTheirs, Checks, Draft as Begun, File, Folders, IsWithout, Lists, Maildir, MayBeNamed, MayHave, bases_told, counted, draft, dropped, is_there, mail, names_of, with_file, ListsBoth}
+use Rattle.mail_store.specs.Held.{is_sought}
 use Rattle.mail_store.specs.Loss.{Flushes, flushed, flushed_by}
-use Rattle.std.specs.Borrow.{Bor}
 use Rattle.std.specs.List.{AllByRecursion, AllZip, filter}
 use Rattle.std.proofs.Math.Bool.{or-false, or-true}
 use Rattle.std.proofs.lemmas.Bool.{cases_Bool, cond_both, or_left, or_right}
-use Rattle.std.proofs.lemmas.List.Elements.{All-filter, All-from_recursion, recursion_from_All, All-weaker, filter-append, filter_passes}
+use Rattle.std.proofs.lemmas.List.Elements.{recursion_from_All, All-weaker, filter-append, filter_passes}
 use Rattle.mail_terms.specs.MaildirName.{base}
 use Rattle.mail_store.specs.declared.maildir.disk.Folder.{Folder}
 use Rattle.mail_store.specs.declared.maildir.disk.Folder.TheVariants.{New, Cur}
-use Rattle.folder_store.specs.MailFolders.{MailFile, Directories, Each, files_at, is_left, is_taken, mail_at, MovesFile, Moved, touches, touches_new, touches_cur, name_at, is_in, entries_in, maildir_in, Draft, content_made}
-use Rattle.folder_store.specs.MailPower.{EntriesNamed}
+use Rattle.folder_store.specs.MailFolders.{MailFile, Directories, files_at, is_left, is_taken, mail_at, MovesFile, Moved, touches, touches_new, touches_cur, name_at, is_in, entries_in, maildir_in, Draft, content_made}
 use Rattle.folder_store.specs.declared.mail_folders.Sought.{Sought}
 use Rattle.folder_store.specs.declared.mail_folders.Sought.TheVariants.{All, Stems}
 use Rattle.folder_store.specs.MailCalls.{AreSought, Brings, ChangesMade, ChecksIn, FlushesDraft, FlushesFiles, FlushesNamesIn, GivesUp, IsUnknown, Lacks, Leads, Learns, ListsIn, LooksAtBoth, MakesDraft, PutsDraft, PutsForGood, PutsIntoNew, Rests, StandsIn, TellsBoth, TellsOne, TellsRest, Then, ToldBoth, WritesDraft, entry_flushed_by, listed, named_by, names_flushed_in, names_sought, put_as, without_taken}
 use Rattle.std.proofs.lemmas.List.{map-append, get_or-map, length-map}
 use Rattle.std.proofs.lemmas.List.Sorted.{Contains-permutation, IsPermutation-append, IsPermutation-sym, IsPermutation-map, IsPermutation-trans, IsPermutation-filter_both}
-use Rattle.std.proofs.lemmas.Result.{err_from_is_err_and}
 use Rattle.std.proofs.lemmas.Simd.{map-map}
 use Rattle.mail_store.specs.declared.fault.StoreFault.{StoreFault}
 use Rattle.mail_store.specs.declared.fault.StoreFault.TheVariants.{Missing, Refused}
 use Rattle.mail_terms.specs.FailureCount.{refuses}
 use Rattle.mail_store.specs.Fault.{IsDeviceFault, is_refusal}
-use Rattle.folder_store.proofs.MailMoves.{SomeIs, both_named, files_moved, files_reached, flush_keeps, leads_same, mapped_leads, moved_leads, moved_maildir, moved_rests, moved_same, named_moved, named_same, reached_same, rests_new, rests_on_at, same_rests_at, some_kept, some_map, there_some, without_more, without_on}
+use Rattle.folder_store.proofs.MailMoves.{SomeIs, both_named, files_moved, files_reached, flush_keeps, leads_same, mapped_leads, moved_leads, moved_maildir, moved_rests, moved_same, rests_new, rests_on_at, same_rests_at, some_kept, some_map, there_some}
 use Rattle.std.proofs.lemmas.Option.{same_Some}
-use Rattle.mail_store.specs.FileName.{stem}
+use Rattle.mail_store.proofs.MaildirLemmas.{named_same, reached_same, reaches_same, without_more, without_on, sought_bases, stem_base}
+use Rattle.mail_terms.proofs.ErrLemmas.{is_err}
 
 -- ---- what is known of the folders once files that readers took away are known no longer
-
-pub all_left : (P : MailFile → Type 0) (ss : List MailFile) → AllByRecursion P ss → AllByRecursion P (filter is_left ss)
-all_left P ss all = recursion_from_All P (filter is_left ss) (All-filter is_left P ss (All-from_recursion P ss all))
 
 pub left_twice : (ss : List MailFile) → filter is_left (filter is_left ss) ≡ filter is_left ss
 left_twice [] = refl
@@ -42,11 +37,17 @@ pub listed_is : (folder : Folder) (a : Directories) → ((listed folder a).entri
 listed_is New a = (refl, refl)
 listed_is Cur a = (refl, refl)
 
+-- names that are durable stay so
+left_named : (ss : List MailFile) → AllNamed (files_at ss) → AllNamed (files_at (filter is_left ss))
+left_named [] all = tt
+left_named (s ∷ ss) all = cond_both (is_left s) (s ∷ filter is_left ss) (filter is_left ss) (λ (ts : List MailFile). AllNamed (files_at ts))
+    (λ _. (all.0, left_named ss all.1)) (λ _. left_named ss all.1)
+
 -- what is left once those that readers took away were taken from the others
 left_without : (ss : List MailFile) → IsWithout (files_at ss) (files_at (filter is_taken ss)) (files_at (filter is_left ss))
 left_without [] = tt
 left_without (s ∷ ss) = ⊎_elim (λ gone. rw gone ([], files_at ss, reached_same (files_at (s ∷ ss)), left_without ss))
-    (λ here. rw here (without_more (mail_at s) _ _ _ (left_without ss))) (cases_Bool s.is_gone)
+    (λ here. rw here (without_more _ _ _ (mail_at s) (mail_at s) (reaches_same (mail_at s)) (left_without ss))) (cases_Bool s.is_gone)
 
 taken_learns : (a : Directories) (new_rests cur_rests : Bool) → Learns a (record (without_taken a) { new_rests = new_rests; cur_rests = cur_rests })
 taken_learns a new_rests cur_rests = record {
@@ -120,11 +121,10 @@ one_unflushed a b c folder fault led t =
 pub unflushed : {P Q R : Type 0} (sought : Sought) (a b c : Directories) (folder : Folder) (fault : StoreFault) (r : Result (Option (Vec (String Global) Global)) StoreFault) → IsErrAnd r (λ e. e ≡ fault)
     → (Q → P × Learns a b) → (R → Q × Then (FlushesNamesIn {T = Unit {0}} folder (Err fault)) b c) → R → P × LooksAtBoth sought a r c
 unflushed sought a b c folder fault r is before call s =
-    let p = err_from_is_err_and r is in
     let t = call s in
     let led = before t.0 in
     let told = one_unflushed a b c folder fault led.1 t.1 in
-    (led.0, rw (p.1 ∙ ap Err p.2) (told.0, tt, λ missing. (folder, told.2 missing)))
+    (led.0, rw (is_err r is) (told.0, tt, λ missing. (folder, told.2 missing)))
 
 pub lacked : {P Q R : Type 0} (sought : Sought) (a b c : Directories) (folder : Folder) (fault : StoreFault) (r : Result (Option (Vec (String Global) Global)) StoreFault) → IsErrAnd r (λ e. e ≡ fault)
     → (Q → P × Learns a b) → (R → Q × Then (λ m x. Lacks m folder fault x) b c) → R → P × LooksAtBoth sought a r c
@@ -145,21 +145,13 @@ sought_on : (sought : Sought) (names more : List (List ℕ)) → names_sought so
 sought_on All names more = refl
 sought_on (Stems stems) names more = filter-append (is_sought stems.now) names more
 
--- a base has the stem of its name
-abbrev BasesHaveStems : Type 0
-BasesHaveStems = (name : List ℕ) → stem (base name) ≡ stem name
+sought_title : (sought : Sought) (names : List (List ℕ)) → map base (names_sought sought names) ≡ names_sought sought (map base names)
+sought_title All names = refl
+sought_title (Stems stems) names = sought_bases stems.now names
 
-filtered_bases : {A : Type 0} → BasesHaveStems → (stems : List (String A)) (names : List (List ℕ)) → map base (filter (is_sought stems) names) ≡ filter (is_sought stems) (map base names)
-filtered_bases law stems [] = refl
-filtered_bases law stems (name ∷ names) = let rest = filtered_bases law stems names in let same = law name in grind (arith, rest, same)
-
-sought_title : BasesHaveStems → (sought : Sought) (names : List (List ℕ)) → map base (names_sought sought names) ≡ names_sought sought (map base names)
-sought_title law All names = refl
-sought_title law (Stems stems) names = filtered_bases law stems.now names
-
-told_both : {A : Type 0} → BasesHaveStems → (sought : Sought) (ss : List MailFile) (new cur : List (String A)) → AreSought sought (map name_at (entries_in New ss)) (map string_bytes new)
+told_both : {A : Type 0} (sought : Sought) (ss : List MailFile) (new cur : List (String A)) → AreSought sought (map name_at (entries_in New ss)) (map string_bytes new)
     → AreSought sought (map name_at (entries_in Cur ss)) (map string_bytes cur) → AreSought sought (names_of (files_at (filter is_left ss))) (bases_told (new ++ cur))
-told_both law sought ss new cur (first, in_new, are_new) (second, in_cur, are_cur) =
+told_both sought ss new cur (first, in_new, are_new) (second, in_cur, are_cur) =
     let left = filter is_left ss in
     let both = entries_in New ss ++ entries_in Cur ss in
     let all = IsPermutation-trans (map name_at left) (map name_at both) (first ++ second)
@@ -168,7 +160,7 @@ told_both law sought ss new cur (first, in_new, are_new) (second, in_cur, are_cu
     let bases = IsPermutation-map base (map name_at left) (first ++ second) all in (
       map base (first ++ second),
       rw map-map (rw map-map at bases),
-      sym (map-map base string_bytes (new ++ cur)) ∙ ap (map base) (map-append string_bytes new cur ∙ rw (are_new, are_cur) (sym (sought_on sought first second))) ∙ sought_title law sought (first ++ second),
+      sym (map-map base string_bytes (new ++ cur)) ∙ ap (map base) (map-append string_bytes new cur ∙ rw (are_new, are_cur) (sym (sought_on sought first second))) ∙ sought_title sought (first ++ second),
     )
 
 -- what was told is still so once others moved files
@@ -177,14 +169,14 @@ told_moved sought names a b m told = record {
   new_is_there = rw m.there told.new_is_there;
   cur_is_there = rw m.there told.cur_is_there;
   lists = rw (files_moved a.entries b.entries m.moves) told.lists;
-  named = named_moved a.entries b.entries m.moves told.named;
+  named = rw (files_moved a.entries b.entries m.moves) told.named;
 }
 
 -- all of it: the flushes, the lists, and `new` has rested since its own
-pub looked : {A B T : Type 0} → BasesHaveStems → (sought : Sought) (b0 b1 b2 b3 b4 b5 : Directories) (new cur : Vec (String A) B) (done done' : T) (rests : Bool)
+pub looked : {A B T : Type 0} (sought : Sought) (b0 b1 b2 b3 b4 b5 : Directories) (new cur : Vec (String A) B) (done done' : T) (rests : Bool)
     → Then (FlushesNamesIn New (Ok done)) b0 b1 → Then (FlushesNamesIn Cur (Ok done')) b1 b2
     → Then (ListsIn New sought (Ok new)) b2 b3 → Then (ListsIn Cur sought (Ok cur)) b3 b4 → Then (TellsRest New (Ok rests)) b4 b5 → IsTrue rests → ToldBoth sought (new.items ++ cur.items) b5
-looked law sought b0 b1 b2 b3 b4 b5 new cur done done' rests (m1, v1, s1) (m2, v2, s2) (m3, v3, s3) (m4, v4, s4) (m5, v5, s5) rested_since =
+looked sought b0 b1 b2 b3 b4 b5 new cur done done' rests (m1, v1, s1) (m2, v2, s2) (m3, v3, s3) (m4, v4, s4) (m5, v5, s5) rested_since =
     rw s5.0 (told_moved sought (new.items ++ cur.items) (listed Cur m4) m5 last told)
   where
     last : Moved (listed Cur m4) m5
@@ -198,15 +190,15 @@ looked law sought b0 b1 b2 b3 b4 b5 new cur done done' rests (m1, v1, s1) (m2, v
     in_new = rests_new (filter is_left m3.entries) m4.entries (still.rests New (last.rests New (s5.1 rested_since)).0).1
         ∙ ap (λ (ss : List MailFile). map name_at (filter (is_in New) ss)) (left_twice m3.entries)
 
-    near : EntriesNamed m3.entries
-    near = named_moved b2.entries m3.entries v3.moves (rw s2 (both_named m1.entries m2.entries (rw s1 at v2.moves)))
+    near : AllNamed (files_at m3.entries)
+    near = rw (files_moved b2.entries m3.entries v3.moves) (rw s2 (both_named m1.entries m2.entries (rw s1 at v2.moves)))
 
     told : ToldBoth sought (new.items ++ cur.items) (listed Cur m4)
     told = record {
       new_is_there = rw still.there s3.0;
       cur_is_there = s4.0;
-      lists = told_both law sought m4.entries new.items cur.items (rw in_new s3.1) s4.1;
-      named = all_left (λ s. s.is_named ≡ true) m4.entries (named_moved (filter is_left m3.entries) m4.entries still.moves (all_left (λ s. s.is_named ≡ true) m3.entries near));
+      lists = told_both sought m4.entries new.items cur.items (rw in_new s3.1) s4.1;
+      named = left_named m4.entries (rw (files_moved (filter is_left m3.entries) m4.entries still.moves) (left_named m3.entries near));
     }
 
 -- ---- the names of one folder
@@ -285,8 +277,9 @@ IsCountAfter r n m = m ≡ (if refuses is_refusal r then n + 1 else n)
 abbrev left_in : Directories → Directories → Option (List ℕ) → ℕ → Maildir
 left_in a b begun n = record (maildir_in a begun n) { files = files_at b.entries; taken = b.taken }
 
-were_taken : (a b : Directories) (begun : Option (List ℕ)) (n : ℕ) → Learns a b → WereTaken (maildir_in a begun n) (left_in a b begun n)
-were_taken a b begun n l = record { gone = l.gone; files = l.left; is = rw l.taken refl }
+-- this holds of what readers left
+seen : {Does : Maildir → Type 0} (a b : Directories) (begun : Option (List ℕ)) (n : ℕ) → Learns a b → Does (left_in a b begun n) → AfterTaking (maildir_in a begun n) Does
+seen a b begun n l does = (left_in a b begun n, record { gone = l.gone; files = l.left; is = rw l.taken refl }, does)
 
 left_as : (a b : Directories) (begun : Option (List ℕ)) (m k n : ℕ) → Learns a b → m ≡ k
     → maildir_in b begun m ≡ record (left_in a b begun n) { failures = k }
@@ -296,47 +289,26 @@ one_lacks : (there : Folders) (folder : Folder) → is_there there folder ≡ fa
 one_lacks there New e = inl e
 one_lacks there Cur e = inr e
 
-named_at : (ss : List MailFile) → EntriesNamed ss → AllNamed (files_at ss)
-named_at [] all = tt
-named_at (s ∷ ss) all = (all.0, named_at ss all.1)
-
 -- what was told
-pub told_all : {A B : Type 0} (a b : Directories) (begun : Option (List ℕ)) (n m : ℕ) (r : Result (Vec (String A) B) StoreFault) → TellsBoth All a r b
-    → IfErr r IsDeviceFault → IsCountAfter r n m → AfterTaking (maildir_in a begun n) (λ left. ListsAll left r (maildir_in b begun m))
-told_all a b begun n m (Ok names) (l, told, _) device k = (
-  left_in a b begun n,
-  were_taken a b begun n l,
-  (rw (sym l.there) told.new_is_there, rw (sym l.there) told.cur_is_there, subst (IsPermutation (names_of (files_at b.entries))) (sym told.lists.2) told.lists.1, named_at b.entries told.named, left_as a b begun m n n l k),
-)
-told_all a b begun n m (Err Missing) (l, _, missing) device k =
+pub told_names : {A B : Type 0} (Told : List (List ℕ) → List (List ℕ) → Type 0) (sought : Sought) → ((names told : List (List ℕ)) → AreSought sought names told → Told names told)
+    → (a b : Directories) (begun : Option (List ℕ)) (n m : ℕ) (r : Result (Vec (String A) B) StoreFault) → TellsBoth sought a r b
+    → IfErr r IsDeviceFault → IsCountAfter r n m → AfterTaking (maildir_in a begun n) (λ left. ListsBoth Told left r (maildir_in b begun m))
+told_names Told sought is a b begun n m (Ok names) (l, told, _) device k =
+    seen a b begun n l (rw (sym l.there) told.new_is_there, rw (sym l.there) told.cur_is_there, is _ _ told.lists, told.named, left_as a b begun m n n l k)
+told_names Told sought is a b begun n m (Err Missing) (l, _, missing) device k =
     let lacks = missing refl in
-    (left_in a b begun n, were_taken a b begun n l, (rw (sym l.there) (one_lacks b.there lacks.0 lacks.1), left_as a b begun m n n l k))
-told_all a b begun n m (Err Refused) (l, _, missing) device k =
-    (left_in a b begun n, were_taken a b begun n l, left_as a b begun m (n + 1) n l k)
-told_all a b begun n m (Err _) t device k = absurd (⊎_elim (λ e. cc) (λ e. cc) device)
-
-pub told_among : {A B : Type 0} (a b : Directories) (stems : Bor (List (String Global))) (begun : Option (List ℕ)) (n m : ℕ) (r : Result (Vec (String A) B) StoreFault) → TellsBoth (Stems stems) a r b
-    → IfErr r IsDeviceFault → IsCountAfter r n m → AfterTaking (maildir_in a begun n) (λ left. ListsAmong left stems.now r (maildir_in b begun m))
-told_among a b stems begun n m (Ok names) (l, told, _) device k = (
-  left_in a b begun n,
-  were_taken a b begun n l,
-  (rw (sym l.there) told.new_is_there, rw (sym l.there) told.cur_is_there, told.lists, named_at b.entries told.named, left_as a b begun m n n l k),
-)
-told_among a b stems begun n m (Err Missing) (l, _, missing) device k =
-    let lacks = missing refl in
-    (left_in a b begun n, were_taken a b begun n l, (rw (sym l.there) (one_lacks b.there lacks.0 lacks.1), left_as a b begun m n n l k))
-told_among a b stems begun n m (Err Refused) (l, _, missing) device k =
-    (left_in a b begun n, were_taken a b begun n l, left_as a b begun m (n + 1) n l k)
-told_among a b stems begun n m (Err _) t device k = absurd (⊎_elim (λ e. cc) (λ e. cc) device)
+    seen a b begun n l (rw (sym l.there) (one_lacks b.there lacks.0 lacks.1), left_as a b begun m n n l k)
+told_names Told sought is a b begun n m (Err Refused) (l, _, missing) device k = seen a b begun n l (left_as a b begun m (n + 1) n l k)
+told_names Told sought is a b begun n m (Err _) t device k = absurd (⊎_elim (λ e. cc) (λ e. cc) device)
 
 pub told_those : {A B : Type 0} (a b : Directories) (folder : Folder) (begun : Option (List ℕ)) (n m : ℕ) (r : Result (Vec (String A) B) StoreFault) → TellsOne a folder r b
     → IfErr r IsDeviceFault → IsCountAfter r n m → AfterTaking (maildir_in a begun n) (λ left. Lists left folder r (maildir_in b begun m))
 told_those a b folder begun n m (Ok names) (l, (there, theirs), _) device k =
-    (left_in a b begun n, were_taken a b begun n l, (rw (sym l.there) there, theirs, left_as a b begun m n n l k))
+    seen a b begun n l (rw (sym l.there) there, theirs, left_as a b begun m n n l k)
 told_those a b folder begun n m (Err Missing) (l, _, missing) device k =
-    (left_in a b begun n, were_taken a b begun n l, (rw (sym l.there) (missing refl), left_as a b begun m n n l k))
+    seen a b begun n l (rw (sym l.there) (missing refl), left_as a b begun m n n l k)
 told_those a b folder begun n m (Err Refused) (l, _, _) device k =
-    (left_in a b begun n, were_taken a b begun n l, left_as a b begun m (n + 1) n l k)
+    seen a b begun n l (left_as a b begun m (n + 1) n l k)
 told_those a b folder begun n m (Err _) t device k = absurd (⊎_elim (λ e. cc) (λ e. cc) device)
 
 pub checked : {T : Type 0} (a b : Directories) (folder : Folder) (begun : Option (List ℕ)) (n m : ℕ) (r : Result T StoreFault) → Then (ChecksIn folder r) a b
@@ -367,14 +339,14 @@ flushed_rests b0 b1 b2 (m, v, (d, made, e)) led =
 
 -- the last of some files that were moved, and those before it
 abbrev Splits : List MailFile → MailFile → List MailFile → Type 0
-Splits ss s ts = (front : List MailFile) × (t : MailFile) × (ts ≡ front ++ t ∷ []) × Each MovesFile ss front × MovesFile s t
+Splits ss s ts = (front : List MailFile) × (t : MailFile) × (ts ≡ front ++ t ∷ []) × AllZip MovesFile ss front × MovesFile s t
 
 -- a flush of the names of `new`
 named_files : (ss : List MailFile) → AllZip MayBeNamed (files_at ss) (files_at (map (named_by New) ss))
 named_files [] = tt
 named_files (s ∷ ss) = (⊎_elim (λ (new : touches_new s ≡ true). inr (rw (new, or-true s.is_named) refl)) (λ (not : touches_new s ≡ false). inl (rw (not, or-false s.is_named) refl)) (cases_Bool (touches_new s)), named_files ss)
 
-split_last : (ss : List MailFile) (s : MailFile) (ts : List MailFile) → Each MovesFile (ss ++ s ∷ []) ts → Splits ss s ts
+split_last : (ss : List MailFile) (s : MailFile) (ts : List MailFile) → AllZip MovesFile (ss ++ s ∷ []) ts → Splits ss s ts
 split_last [] s [] h = absurd h
 split_last [] s (t ∷ []) h = ([], t, refl, tt, h.0)
 split_last [] s (t ∷ (u ∷ ts)) h = absurd h.1
@@ -551,10 +523,10 @@ not_put b0 b1 b2 b3 name fault x f led same (m, v, inr p) = inr (put_unnamed b0 
 
 -- ---- what a flush of files does to the folders of a Maildir
 
-module _ {A : Type 0} (stems : List (String A)) (same : (name : List ℕ) → stem (base name) ≡ stem name) where
+module _ {A : Type 0} (stems : List (String A)) where
   flushed_at : (ss : List MailFile) → files_at (map (entry_flushed_by stems) ss) ≡ map (flushed_by stems) (files_at ss)
   flushed_at [] = refl
-  flushed_at (s ∷ ss) = rw (same s.name, flushed_at ss) refl
+  flushed_at (s ∷ ss) = rw (stem_base s.name, flushed_at ss) refl
 
   pub files_flush : (a b : Directories) (begun : Option (List ℕ)) (n : ℕ) (done : Bool) → Then (FlushesFiles stems (Ok done)) a b
       → Flushes (maildir_in a begun n) stems (Ok done) (maildir_in b begun n)

@@ -6,14 +6,15 @@ use Rattle.mail_terms.specs.MaildirName.{base}
 use Rattle.mail_store.specs.declared.maildir.disk.Folder.{Folder}
 use Rattle.mail_store.specs.declared.maildir.disk.Folder.TheVariants.{New, Cur}
 use Rattle.mail_store.specs.Loss.{AreLeftAs}
-use Rattle.mail_store.specs.Maildir.{AllDurable, AreReached, File, IsWithout, MayBeNamed, Reaches, names_of}
-use Rattle.folder_store.specs.MailFolders.{Draft, MailFile, Directories, KeepsFile, MovesFile, RestsFile, Each, Moved, mail_at, files_at, name_at, entries_in, touches_new, touches_cur, maildir_in, OneMoves, is_in}
-use Rattle.folder_store.specs.MailPower.{EntriesNamed, EntriesLeftAs, IsLeftAs, MailCanLosePower}
+use Rattle.mail_store.specs.Maildir.{AreReached, File, Reaches, AllNamed}
+use Rattle.folder_store.specs.MailFolders.{Draft, MailFile, Directories, KeepsFile, MovesFile, RestsFile, Moved, mail_at, files_at, name_at, entries_in, touches_new, touches_cur, maildir_in, OneMoves, is_in}
+use Rattle.folder_store.specs.MailPower.{EntriesLeftAs, IsLeftAs, MailCanLosePower}
 use Rattle.folder_store.specs.MailCalls.{Leads, Rests, named_by}
+use Rattle.mail_terms.proofs.ListLemmas.{zip_on, zip_same}
 
 -- what holds of two lists of files that are so related one by one
 pub each_by : (Does : MailFile → MailFile → Type 0) (P : List MailFile → List MailFile → Type 0) → P [] []
-    → ((s t : MailFile) (ss ts : List MailFile) → Does s t → P ss ts → P (s ∷ ss) (t ∷ ts)) → (a b : List MailFile) → Each Does a b → P a b
+    → ((s t : MailFile) (ss ts : List MailFile) → Does s t → P ss ts → P (s ∷ ss) (t ∷ ts)) → (a b : List MailFile) → AllZip Does a b → P a b
 each_by Does P none more [] [] h = none
 each_by Does P none more [] (t ∷ ts) h = absurd h
 each_by Does P none more (s ∷ ss) [] h = absurd h
@@ -25,7 +26,7 @@ SomeIs Is [] = ⊥
 SomeIs Is (s ∷ entries) = Is s ⊎ SomeIs Is entries
 
 -- what holds of one of the files, then holds of one of the others
-pub some_kept : {Does : MailFile → MailFile → Type 0} {Is Will : MailFile → Type 0} → (a b : List MailFile) → Each Does a b → SomeIs Is a
+pub some_kept : {Does : MailFile → MailFile → Type 0} {Is Will : MailFile → Type 0} → (a b : List MailFile) → AllZip Does a b → SomeIs Is a
     → ((s t : MailFile) → Does s t → Is s → Will t) → SomeIs Will b
 some_kept {Does} {Is} {Will} a b h is each =
     each_by Does (λ a b. SomeIs Is a → SomeIs Will b) (λ is. is)
@@ -35,12 +36,6 @@ pub some_map : {Is : MailFile → Type 0} (Will : MailFile → Type 0) (f : Mail
 some_map Will f [] is each = absurd is
 some_map Will f (s ∷ ss) (inl is) each = inl (each s is)
 some_map Will f (s ∷ ss) (inr is) each = inr (some_map Will f ss is each)
-
--- one of the files is there, and each that is there is one of them
-pub some_there : {A : Type 0} {Is : MailFile → Type 0} (g : MailFile → A) (x : A) → ((s : MailFile) → Is s → g s ≡ x) → (ss : List MailFile) → SomeIs Is ss → Contains (map g ss) x
-some_there g x each [] is = absurd is
-some_there g x each (s ∷ ss) (inl is) = (0, omega arith, each s is)
-some_there g x each (s ∷ ss) (inr is) = let c = some_there g x each ss is in (suc c.0, omega (arith, c.1), c.2)
 
 pub there_some : {A : Type 0} (g : MailFile → A) (x : A) (P : MailFile → Type 0) → (ss : List MailFile) → AllByRecursion P ss → Contains (map g ss) x
     → SomeIs (λ (s : MailFile). (g s ≡ x) × P s) ss
@@ -57,23 +52,19 @@ same_mail s t title content named flushed = rw (title, content, named, flushed) 
 pub reaches_at : (s t : MailFile) → KeepsFile s t → Reaches (mail_at s) (mail_at t)
 reaches_at s t k = record { name = k.title; content = k.content; named = k.named; flushed = k.flushed }
 
-pub files_reached : (a b : List MailFile) → Each KeepsFile a b → AreReached (files_at a) (files_at b)
+pub files_reached : (a b : List MailFile) → AllZip KeepsFile a b → AreReached (files_at a) (files_at b)
 files_reached a b = each_by KeepsFile (λ a b. AreReached (files_at a) (files_at b)) tt
     (λ s t ss ts k rest. (reaches_at s t k, rest)) a b
 
-pub files_moved : (a b : List MailFile) → Each MovesFile a b → files_at b ≡ files_at a
+pub files_moved : (a b : List MailFile) → AllZip MovesFile a b → files_at b ≡ files_at a
 files_moved a b = each_by MovesFile (λ a b. files_at b ≡ files_at a) refl
     (λ s t ss ts m same. ap (λ (f : File). f ∷ files_at ts) (same_mail s t m.keeps.title m.keeps.content m.named m.flushed)
     ∙ ap (λ (fs : List File). mail_at s ∷ fs) same) a b
 
-pub titles_kept : (a b : List MailFile) → Each KeepsFile a b → names_of (files_at b) ≡ names_of (files_at a)
-titles_kept a b = each_by KeepsFile (λ a b. names_of (files_at b) ≡ names_of (files_at a)) refl
-    (λ s t ss ts k same. ap (λ (n : List ℕ). n ∷ names_of (files_at ts)) k.title ∙ ap (λ (ns : List (List ℕ)). base s.name ∷ ns) same) a b
-
 -- ---- others' moves, and flushes of names
 
-pub each_keeps : (a b : List MailFile) → Each MovesFile a b → Each KeepsFile a b
-each_keeps a b = each_by MovesFile (Each KeepsFile) tt (λ s t ss ts m rest. (m.keeps, rest)) a b
+pub each_keeps : (a b : List MailFile) → AllZip MovesFile a b → AllZip KeepsFile a b
+each_keeps a b = each_by MovesFile (AllZip KeepsFile) tt (λ s t ss ts m rest. (m.keeps, rest)) a b
 
 pub moved_leads : (a b : Directories) → Moved a b → Leads a b
 moved_leads a b m = record { there = m.there; made = m.made; taken = m.taken; keeps = each_keeps a.entries b.entries m.moves }
@@ -89,53 +80,10 @@ flush_keeps Cur s = record { title = refl; content = refl; flushed = λ h. h; na
 pub same_keeps : (s : MailFile) → KeepsFile s s
 same_keeps s = record { title = refl; content = refl; flushed = λ h. h; named = λ h. h }
 
-pub each_same : (Does : MailFile → MailFile → Type 0) → ((s : MailFile) → Does s s) → (ss : List MailFile) → Each Does ss ss
-each_same Does same [] = tt
-each_same Does same (s ∷ ss) = (same s, each_same Does same ss)
-
 pub leads_same : (a : Directories) → Leads a a
-leads_same a = record { there = refl; made = refl; taken = refl; keeps = each_same KeepsFile same_keeps a.entries }
+leads_same a = record { there = refl; made = refl; taken = refl; keeps = zip_same KeepsFile same_keeps a.entries }
 
 -- ---- one after another
-
-pub reaches_same : (f : File) → Reaches f f
-reaches_same f = record { name = refl; content = refl; named = λ is. is; flushed = λ is. is }
-
-pub reached_same : (files : List File) → AreReached files files
-reached_same [] = tt
-reached_same (f ∷ files) = (reaches_same f, reached_same files)
-
-reaches_on : (f g h : File) → Reaches f g → Reaches g h → Reaches f h
-reaches_on f g h first next = record {
-  name = next.name ∙ first.name;
-  content = next.content ∙ first.content;
-  named = λ is. next.named (first.named is);
-  flushed = λ is. next.flushed (first.flushed is);
-}
-
-pub named_same : (files : List File) → AllZip MayBeNamed files files
-named_same [] = tt
-named_same (f ∷ files) = (inl refl, named_same files)
-
-pub reached_on : (files mid left : List File) → AreReached files mid → AreReached mid left → AreReached files left
-reached_on [] [] left first next = next
-reached_on [] (g ∷ mid) left first next = absurd first
-reached_on (f ∷ files) [] left first next = absurd first
-reached_on (f ∷ files) (g ∷ mid) [] first next = absurd next
-reached_on (f ∷ files) (g ∷ mid) (h ∷ left) first next = (reaches_on f g h first.0 next.0, reached_on files mid left first.1 next.1)
-
--- nothing was taken of one more
-pub without_more : (f : File) (gone files left : List File) → IsWithout files gone left → IsWithout (f ∷ files) gone (f ∷ left)
-without_more f [] files left are = (reaches_same f, are)
-without_more f (g ∷ gone) files left (front, back, are, is) =
-    (f ∷ front, back, (reaches_same f, are), without_more f gone (front ++ back) left is)
-
--- what was taken first, and then of the rest
-pub without_on : (first next files mid left : List File) → IsWithout files first mid → IsWithout mid next left → IsWithout files (first ++ next) left
-without_on [] [] files mid left are second = reached_on files mid left are second
-without_on [] (f ∷ next) files mid left are (front, back, second, is) = (front, back, reached_on files mid (front ++ f ∷ back) are second, is)
-without_on (f ∷ first) next files mid left (front, back, are, is) second =
-    (front, back, are, without_on first next (front ++ back) mid left is second)
 
 pub keeps_on : (s t u : MailFile) → KeepsFile s t → KeepsFile t u → KeepsFile s u
 keeps_on s t u a b = record {
@@ -145,16 +93,13 @@ keeps_on s t u a b = record {
   named = λ h. b.named (a.named h);
 }
 
-pub mapped_each : (f : MailFile → MailFile) → ((s : MailFile) → KeepsFile s (f s)) → (a b : List MailFile) → Each MovesFile a b → Each KeepsFile a (map f b)
-mapped_each f keeps a b = each_by MovesFile (λ a b. Each KeepsFile a (map f b)) tt (λ s t ss ts m rest. (keeps_on s t (f t) m.keeps (keeps t), rest)) a b
-
 -- others moved files, and then something was done to each that keeps it
 pub mapped_leads : (f : MailFile → MailFile) → ((s : MailFile) → KeepsFile s (f s)) → (a m : Directories) → Moved a m → Leads a (record m { entries = map f m.entries })
 mapped_leads f keeps a m v = record {
   there = v.there;
   made = v.made;
   taken = v.taken;
-  keeps = each_by MovesFile (λ a b. Each KeepsFile a (map f b)) tt
+  keeps = each_by MovesFile (λ a b. AllZip KeepsFile a (map f b)) tt
       (λ s t ss ts m rest. (keeps_on s t (f t) m.keeps (keeps t), rest)) a.entries m.entries v.moves;
 }
 
@@ -180,15 +125,11 @@ rests_on_at a b c first then = record { there = then.there ∙ first.there; take
 near : (s t : MailFile) → MovesFile (named_by New s) t → (named_by Cur t).is_named ≡ true
 near s t m = grind (arith, m.keeps.named, m.cur)
 
-pub both_named : (ss ts : List MailFile) → Each MovesFile (map (named_by New) ss) ts → EntriesNamed (map (named_by Cur) ts)
+pub both_named : (ss ts : List MailFile) → AllZip MovesFile (map (named_by New) ss) ts → AllNamed (files_at (map (named_by Cur) ts))
 both_named [] [] h = tt
 both_named [] (t ∷ ts) h = absurd h
 both_named (s ∷ ss) [] h = absurd h
 both_named (s ∷ ss) (t ∷ ts) h = (near s t h.0, both_named ss ts h.1)
-
-pub named_moved : (a b : List MailFile) → Each MovesFile a b → EntriesNamed a → EntriesNamed b
-named_moved a b =
-    each_by MovesFile (λ a b. EntriesNamed a → EntriesNamed b) (λ all. all) (λ s t ss ts m rest all. (m.keeps.named all.0, rest all.1)) a b
 
 -- ---- `new` at rest
 
@@ -199,7 +140,7 @@ rests_one : (s t : MailFile) (ss ts : List MailFile) → RestsFile New s t → S
     → SameNames (entries_in New (s ∷ ss)) (entries_in New (t ∷ ts))
 rests_one s t ss ts r rest = grind (arith, r.place, r.name, r.gone, rest)
 
-pub rests_new : (a b : List MailFile) → Each (RestsFile New) a b → SameNames (entries_in New a) (entries_in New b)
+pub rests_new : (a b : List MailFile) → AllZip (RestsFile New) a b → SameNames (entries_in New a) (entries_in New b)
 rests_new a b = each_by (RestsFile New) (λ a b. SameNames (entries_in New a) (entries_in New b)) refl rests_one a b
 
 -- ---- what readers do is a step that `Moved` allows
@@ -215,13 +156,13 @@ rest b = record {
   there = refl;
   made = refl;
   taken = refl;
-  moves = each_same MovesFile same_moves b.entries;
-  rests = λ folder quiet. (quiet, each_same (RestsFile folder) (same_rests folder) b.entries);
+  moves = zip_same MovesFile same_moves b.entries;
+  rests = λ folder quiet. (quiet, zip_same (RestsFile folder) (same_rests folder) b.entries);
 }
 
 pub each_one : (Does : MailFile → MailFile → Type 0) → ((s : MailFile) → Does s s) → (front back : List MailFile) (s t : MailFile) → Does s t
-    → Each Does (front ++ s ∷ back) (front ++ t ∷ back)
-each_one Does same [] back s t m = (m, each_same Does same back)
+    → AllZip Does (front ++ s ∷ back) (front ++ t ∷ back)
+each_one Does same [] back s t m = (m, zip_same Does same back)
 each_one Does same (x ∷ front) back s t m = (same x, each_one Does same front back s t m)
 
 pub one : (old : Directories) (front back : List MailFile) (s t : MailFile) (new : Directories) → OneMoves old front back s t new → Moved old new
@@ -249,23 +190,16 @@ rests_on folder s t u a b = record {
   gone = λ h. b.gone (still_in folder s t a.place h) ∙ a.gone h;
 }
 
-each_on : (Does : MailFile → MailFile → Type 0) → ((s t u : MailFile) → Does s t → Does t u → Does s u) → (ss ts us : List MailFile) → Each Does ss ts → Each Does ts us → Each Does ss us
-each_on Does on [] [] us a b = b
-each_on Does on [] (t ∷ ts) us a b = absurd a
-each_on Does on (s ∷ ss) [] us a b = absurd a
-each_on Does on (s ∷ ss) (t ∷ ts) [] a b = absurd b
-each_on Does on (s ∷ ss) (t ∷ ts) (u ∷ us) a b = (on s t u a.0 b.0, each_on Does on ss ts us a.1 b.1)
-
 pub on : (a b c : Directories) → Moved a b → Moved b c → Moved a c
 on a b c first then = record {
   there = then.there ∙ first.there;
   made = then.made ∙ first.made;
   taken = then.taken ∙ first.taken;
-  moves = each_on MovesFile moves_on a.entries b.entries c.entries first.moves then.moves;
+  moves = zip_on MovesFile moves_on a.entries b.entries c.entries first.moves then.moves;
   rests = λ folder quiet.
       let after = then.rests folder quiet in
       let before = first.rests folder after.0 in
-      (before.0, each_on (RestsFile folder) (rests_on folder) a.entries b.entries c.entries before.1 after.1);
+      (before.0, zip_on (RestsFile folder) (rests_on folder) a.entries b.entries c.entries before.1 after.1);
 }
 
 -- ---- what a loss of power leaves of the folders of a Maildir
@@ -281,12 +215,6 @@ left_as (s ∷ ss) left (inr (t, rest, e, is, l)) = inr (
   record { name = is.title; content = is.content; durable = (is.named, is.flushed) },
   left_as ss rest l,
 )
-
--- and is durable
-pub left_durable : (ss left : List MailFile) → EntriesLeftAs ss left → AllDurable (files_at left)
-left_durable [] left l = rw l (tt, tt)
-left_durable (s ∷ ss) left (inl (gone, l)) = left_durable ss left l
-left_durable (s ∷ ss) left (inr (t, rest, e, is, l)) = let r = left_durable ss rest l in rw e ((is.named, r.0), (is.flushed, r.1))
 
 -- each file stays where it is, with its bytes
 abbrev pub staying : MailFile → MailFile

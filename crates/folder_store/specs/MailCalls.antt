@@ -8,16 +8,16 @@ use Rattle.mail_store.specs.declared.fault.StoreFault.{StoreFault}
 use Rattle.mail_store.specs.declared.fault.StoreFault.TheVariants.{Missing, Refused}
 use Rattle.mail_store.specs.declared.maildir.disk.Folder.{Folder}
 use Rattle.mail_store.specs.declared.maildir.disk.Folder.TheVariants.{New, Cur}
-use Rattle.mail_store.specs.Maildir.{AreTheirs, File, IsWithout, MayBeNamed, bases_told, is_there, mail, names_of}
+use Rattle.mail_store.specs.Maildir.{AllNamed, AreTheirs, File, IsWithout, MayBeNamed, bases_told, is_there, mail}
+use Rattle.mail_store.specs.Maildir.{names_of}
 use Rattle.mail_store.specs.FileName.{stem}
 use Rattle.mail_store.specs.Held.{is_sought}
 use Rattle.mail_store.specs.Loss.{is_among}
 use Rattle.folder_store.specs.declared.mail_folders.Sought.{Sought}
 use Rattle.folder_store.specs.declared.mail_folders.Sought.TheVariants.{All, Stems}
-use Rattle.folder_store.specs.MailFolders.{Directories, MailFile, Draft, Each, KeepsFile, Moved, files_at, is_left}
+use Rattle.folder_store.specs.MailFolders.{Directories, MailFile, Draft, KeepsFile, Moved, files_at, is_left}
 use Rattle.folder_store.specs.MailFolders.{is_taken}
 use Rattle.folder_store.specs.MailFolders.{name_at, entries_in, rests_in, touches_new, touches_cur}
-use Rattle.folder_store.specs.MailPower.{EntriesNamed}
 
 -- others moved files, and then the call did this
 abbrev pub Then : (Directories → Directories → Type 0) → Directories → Directories → Type 0
@@ -179,7 +179,7 @@ pub record Leads (old new : Directories) : Type 0 where
   pub there : new.there ≡ old.there
   pub made : new.made ≡ old.made
   pub taken : new.taken ≡ old.taken
-  pub keeps : Each KeepsFile old.entries new.entries
+  pub keeps : AllZip KeepsFile old.entries new.entries
 
 -- the same, but files that readers took away may be known no longer, except as taken
 pub record Learns (old new : Directories) : Type 0 where
@@ -194,7 +194,7 @@ pub record ToldBoth {A : Type 0} (sought : Sought) (names : List (String A)) (d 
   pub new_is_there : d.there.new ≡ true
   pub cur_is_there : d.there.cur ≡ true
   pub lists : AreSought sought (names_of (files_at d.entries)) (bases_told names)
-  pub named : EntriesNamed d.entries
+  pub named : AllNamed (files_at d.entries)
 
 -- one of the folders isn't there
 abbrev pub LacksOne : Directories → Type 0

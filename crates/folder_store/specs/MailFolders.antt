@@ -2,7 +2,7 @@
 -- any moment.
 use Rattle.std.specs.Prelude.{◌≡◌, ◌||◌, ◌&&◌, ℕ, Bool, true, false, not, List, [], ◌∷◌, ◌++◌, map, Option, Some, None}
 use Rattle.std.specs.Prelude.{option_map}
-use Rattle.std.specs.List.{filter}
+use Rattle.std.specs.List.{AllZip, filter}
 use Rattle.mail_terms.specs.MaildirName.{base}
 use Rattle.mail_store.specs.declared.maildir.disk.Folder.{Folder}
 use Rattle.mail_store.specs.declared.maildir.disk.Folder.TheVariants.{New, Cur}
@@ -101,21 +101,14 @@ pub record RestsFile (folder : Folder) (s t : MailFile) : Type 0 where
   pub name : is_in folder s ≡ true → t.name ≡ s.name
   pub gone : is_in folder s ≡ true → t.is_gone ≡ s.is_gone
 
--- each of these files, in order
-abbrev pub Each : (MailFile → MailFile → Type 0) → List MailFile → List MailFile → Type 0
-Each Does [] [] = Unit {0}
-Each Does [] (t ∷ ts) = ⊥
-Each Does (s ∷ ss) [] = ⊥
-Each Does (s ∷ ss) (t ∷ ts) = Does s t × Each Does ss ts
-
 -- others moved and marked files, or took some away; a folder that still rests wasn't touched
 pub record Moved (old new : Directories) : Type 0 where
   pub there : new.there ≡ old.there
   pub made : new.made ≡ old.made
   pub taken : new.taken ≡ old.taken
-  pub moves : Each MovesFile old.entries new.entries
+  pub moves : AllZip MovesFile old.entries new.entries
   pub rests : (folder : Folder) → rests_in folder new ≡ true
-      → (rests_in folder old ≡ true) × Each (RestsFile folder) old.entries new.entries
+      → (rests_in folder old ≡ true) × AllZip (RestsFile folder) old.entries new.entries
 
 -- a reader moved or marked one file, or took it away; each folder that it touched no longer rests
 pub record OneMoves (old : Directories) (front back : List MailFile) (s t : MailFile) (new : Directories) : Type 0 where

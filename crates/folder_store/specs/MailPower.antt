@@ -1,7 +1,6 @@
 -- What a loss of power may leave of the folders of a Maildir. A rename is one step, which a loss of power leaves done
 -- or not, and a flush of either of the folders that it changed makes it durable.
 use Rattle.std.specs.Prelude.{◌≡◌, ◌⊎◌, true, false, List, [], ◌∷◌, None}
-use Rattle.std.specs.List.{AllByRecursion}
 use Rattle.mail_terms.specs.MaildirName.{base}
 use Rattle.folder_store.specs.MailFolders.{MailFile, Directories, touches_new, touches_cur}
 
@@ -30,10 +29,6 @@ pub record LosesMail (old new : Directories) : Type 0 where
   pub each : EntriesLeftAs old.entries new.entries
   pub made : new.made ≡ None
   pub taken : new.taken ≡ old.taken
-
--- each file has a durable name
-abbrev pub EntriesNamed : List MailFile → Type 0
-EntriesNamed entries = AllByRecursion (λ (s : MailFile). s.is_named ≡ true) entries
 
 -- a loss of power is possible in each state
 abbrev pub MailCanLosePower : Type 0

@@ -1,5 +1,6 @@
 -- What a loss of power leaves to a device, and what a device that is made anew over the same folders begins with.
 use Rattle.std.specs.Prelude.{◌≡◌, ℕ, Bool, false, List, None, Option}
+use Rattle.std.specs.List.{AllZip}
 use Rattle.mail_store.specs.declared.file.flat_file.FlatFile.{Ghosts as FileGhosts}
 use Rattle.mail_store.specs.declared.maildir.disk.MaildirDisk.{Ghosts as DiskGhosts}
 use Rattle.mail_store.specs.Durable.{MayLeave}
@@ -8,7 +9,7 @@ use Rattle.mail_store.specs.Maildir.{AllDurable}
 use Rattle.mail_store.specs.Power.{LeavesNoMore}
 use Rattle.folder_store.specs.FileFolder.{Directory}
 use Rattle.folder_store.specs.PowerLoss.{Loses}
-use Rattle.folder_store.specs.MailFolders.{Directories, Each, MovesFile, maildir_in}
+use Rattle.folder_store.specs.MailFolders.{Directories, MovesFile, maildir_in}
 use Rattle.folder_store.specs.MailPower.{LosesMail}
 
 -- ---- a Maildir
@@ -16,7 +17,7 @@ use Rattle.folder_store.specs.MailPower.{LosesMail}
 -- the folders as another process finds them: readers may have moved, marked and taken away files
 pub record FoundAgain (old new : Directories) : Type 0 where
   pub there : new.there ≡ old.there
-  pub moves : Each MovesFile old.entries new.entries
+  pub moves : AllZip MovesFile old.entries new.entries
 
 -- a law: a loss of power of the folders is one of the Maildir
 abbrev pub LossesMayLeave : {D : Type 0} → DiskGhosts D → (D → Directories) → Type 0

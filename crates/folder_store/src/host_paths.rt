@@ -1,8 +1,9 @@
 //! The paths of a folder of the machine's file system.
 
 use crate::process_mark::ProcessMark;
-use std::alloc::{AllocError, Global};
+use std::alloc::Global;
 use std::io;
+use std::path::PathBuf;
 use trace::Refusals;
 
 /// Where a folder and its files are, and what notes why they can't be used.
@@ -21,46 +22,37 @@ pub struct HostPaths<'a> {
     pub mark: ProcessMark,
 }
 
-/// Ends a path by a slash, if it has none at its end.
-fn end_folder(path: &mut String) -> Result<(), AllocError> {
-    if path.ends_with('/') {
-        return Ok(());
-    }
-    path.push('/')
-}
-
 impl<'a> HostPaths<'a> {
     // The path of a folder, made with room for so many octets more.
-    fn path_in(&self, folder: &str, more: usize) -> io::Result<String> {
+    fn path_in(&self, folder: &str, more: usize) -> io::Result<PathBuf> {
         let room = self
             .base
             .len()
             .saturating_add(folder.len())
             .saturating_add(more);
-        let mut path = String::with_capacity(self.alloc, room.saturating_add(2))?;
-        path.push_str(self.base)?;
+        let mut base = String::with_capacity(self.alloc, room.saturating_add(2))?;
+        base.push_str(self.base)?;
+        let mut path = PathBuf::from(base);
         if !folder.is_empty() {
-            end_folder(&mut path)?;
-            path.push_str(folder)?;
+            path.push(folder)?;
         }
         Ok(path)
     }
 
     fn file_path(&self, folder: &str, name: &str) -> io::Result<String> {
         let mut path = self.path_in(folder, name.len())?;
-        end_folder(&mut path)?;
-        path.push_str(name)?;
-        Ok(path)
+        path.push(name)?;
+        Ok(path.into_string())
     }
 
     /// The path of the folder.
     pub fn folder_path(&self) -> io::Result<String> {
-        self.path_in(self.folder, 0)
+        Ok(self.path_in(self.folder, 0)?.into_string())
     }
 
     /// The path of the folder in which files are made.
     pub fn scratch_path(&self) -> io::Result<String> {
-        self.path_in(self.scratch, 0)
+        Ok(self.path_in(self.scratch, 0)?.into_string())
     }
 
     /// The path of a file.
@@ -73,8 +65,8 @@ impl<'a> HostPaths<'a> {
         let mark = self.mark.marked(self.alloc, self.suffix)?;
         let room = name.len().saturating_add(mark.len());
         let mut path = self.path_in(self.scratch, room)?;
-        end_folder(&mut path)?;
-        path.push_str(name)?;
+        path.push(name)?;
+        let mut path = path.into_string();
         path.push_str(mark.as_str())?;
         Ok(path)
     }

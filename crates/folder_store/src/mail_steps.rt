@@ -5,7 +5,7 @@ ghost use Rattle.mail_store.specs.Fault.{IsDeviceFault};
 ghost use Rattle.folder_store.specs.MailCalls.{LooksAtBoth, PutsForGood, TellsBoth, TellsOne};
 
 use crate::mail_folders::{MailFolders, Sought};
-use mail_store::{Folder, StoreFault, marks_keep_the_base};
+use mail_store::{Folder, StoreFault};
 
 /// How many times the folders are listed for one answer.
 const MOST_LOOKS: u32 = 100;
@@ -20,7 +20,6 @@ fn look_at_both<F: MailFolders>(
         × LooksAtBoth sought.entry (F.directories folders.old) result (F.directories folders.new) }
     ensures fault { IfErr result IsDeviceFault }
 {
-    marks_keep_the_base();
     folders.flush_names(Folder::New)?;
     folders.flush_names(Folder::Cur)?;
     let mut names = folders.list(Folder::New, sought)?;

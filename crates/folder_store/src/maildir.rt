@@ -10,7 +10,7 @@ use crate::mail_folders::{MailFolders, Sought};
 use crate::mail_steps::{put_for_good, told_names, told_names_of};
 use crate::process_mark::ProcessMark;
 use crate::tally::tally;
-use mail_store::{AccountId, Folder, MaildirDisk, StoreFault, admit, marks_keep_the_base, refuse};
+use mail_store::{AccountId, Folder, MaildirDisk, StoreFault, admit, refuse};
 use mail_terms::FailureCount;
 use std::alloc::Global;
 use std::rt::Files;
@@ -130,7 +130,6 @@ impl<F: MailFolders + Drop> MaildirDisk for FolderMaildir<F> {
     }
 
     fn flush(&mut self, stems: &[String], may_miss: bool) -> Result<bool, StoreFault> {
-        marks_keep_the_base();
         admit(&self.failures)?;
         match self.folders.flush_files(stems, may_miss) {
             Ok(are_flushed) => Ok(are_flushed),

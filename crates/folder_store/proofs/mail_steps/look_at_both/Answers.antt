@@ -71,7 +71,7 @@ returns-in-Ok-clause-looks g c = λ s.
     let t3 = c.in_ok-names.ensures.lists t4.0 in
     let t2 = c.in_ok-flush_names-2.ensures.flushes t3.0 in
     let t1 = c.in_ok-flush_names.ensures.flushes t2.0 in
-    let told = looked c.marks_keep_the_base.ensures.stems c.args.sought _ _ _ _ _ _ c.in_ok-names.names c.in_ok-in_cur.in_cur c.in_ok-flush_names.field-0 c.in_ok-flush_names-2.field-0
+    let told = looked c.args.sought _ _ _ _ _ _ c.in_ok-names.names c.in_ok-in_cur.in_cur c.in_ok-flush_names.field-0 c.in_ok-flush_names-2.field-0
     c.in_ok-rests.field-0 t1.1 t2.1 t3.1 t4.1 t5.1 (search rules) in
     let all = by_all g (goal.at.returns-in-Ok-clause-looks g c).In_ok-rests s in
     let now = g.F.MailFolders.directories c.rests.new.self in

@@ -1,6 +1,5 @@
-use Rattle.std.proofs.Common.{◌∙◌, Err, ap}
-use Rattle.std.proofs.lemmas.Result.{err_from_is_err_and}
 use Rattle.folder_store.proofs.MailCalls.{learns_on, learns_same}
+use Rattle.mail_terms.proofs.ErrLemmas.{is_err}
 use Rattle.folder_store.proofs.mail_steps.told_names.Goals as goal
 
 pub loop-times-init : goal.loop-times-init
@@ -8,8 +7,7 @@ loop-times-init g c = λ s. (s, learns_same (g.F.MailFolders.directories c.args.
 
 pub returns-in_err-names-clause-tells : goal.returns-in_err-names-clause-tells
 returns-in_err-names-clause-tells g c =
-    let p = err_from_is_err_and c.from_residual.result c.from_residual.ensures.1 in
-    rw (p.1 ∙ ap Err p.2) (λ s.
+    rw (is_err c.from_residual.result c.from_residual.ensures.1) (λ s.
     let look = c.in_err-names.ensures.looks s in
     let may = c.may_list_again.ensures look.0 in
     let so_far = c.loop-times.invariant may.0 in

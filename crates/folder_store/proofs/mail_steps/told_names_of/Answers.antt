@@ -1,20 +1,18 @@
-use Rattle.std.proofs.Common.{◌∙◌, Ok, Err, ap, inl}
-use Rattle.std.proofs.lemmas.Result.{err_from_is_err_and}
+use Rattle.std.proofs.Common.{Ok, inl}
 use Rattle.folder_store.specs.declared.mail_folders.Sought.TheVariants.{All}
 use Rattle.folder_store.proofs.MailCalls.{learns_same, lists_learns, one_unflushed, told_one}
+use Rattle.mail_terms.proofs.ErrLemmas.{is_err}
 use Rattle.folder_store.proofs.mail_steps.told_names_of.Goals as goal
 
 pub returns-in_err-names-clause-tells : goal.returns-in_err-names-clause-tells
 returns-in_err-names-clause-tells g c =
-    let p = err_from_is_err_and c.from_residual.result c.from_residual.ensures.1 in
-    rw (p.1 ∙ ap Err p.2) (λ s.
+    rw (is_err c.from_residual.result c.from_residual.ensures.1) (λ s.
     let t = c.in_err-names.ensures.lists s in
     (t.0, one_unflushed _ _ _ c.args.folder c.in_err-names.field-0.0 (learns_same _) (t.1.0, t.1.1, inl t.1.2)))
 
 pub returns-in_err-flush_names-clause-tells : goal.returns-in_err-flush_names-clause-tells
 returns-in_err-flush_names-clause-tells g c =
-    let p = err_from_is_err_and c.from_residual-in_err-flush_names.result c.from_residual-in_err-flush_names.ensures.1 in
-    rw (p.1 ∙ ap Err p.2) (λ s.
+    rw (is_err c.from_residual-in_err-flush_names.result c.from_residual-in_err-flush_names.ensures.1) (λ s.
     let n = c.in_err-flush_names.ensures.flushes s in
     let t = c.in_ok-names.ensures.lists n.0 in (
       t.0,

@@ -1,5 +1,6 @@
-use Rattle.std.proofs.Common.{string_bytes, option_map}
-use Rattle.folder_store.proofs.MailCalls.{told_all}
+use Rattle.std.proofs.Common.{IsPermutation, subst, sym, string_bytes, option_map}
+use Rattle.folder_store.proofs.MailCalls.{told_names}
+use Rattle.folder_store.specs.declared.mail_folders.Sought.TheVariants.{All}
 use Rattle.folder_store.proofs.maildir.FolderMaildirMaildirDisk.all_names.Goals as goal
 
 pub returns-clause-lists : goal.returns-clause-lists
@@ -7,5 +8,5 @@ returns-clause-lists g c = rw c.tally.ensures.same (λ s.
     let begun = option_map string_bytes c.args.self.now.begun in
     let t = c.told_names.ensures.tells s.0 in (
       (t.0, c.in_ok-admit.ensures.admitted),
-      told_all _ _ begun _ c.tally.new.failures c.told_names.result t.1 c.told_names.ensures.fault c.tally.ensures.counted,
+      told_names IsPermutation All (λ names told t. subst (IsPermutation names) (sym t.2) t.1) _ _ begun _ c.tally.new.failures c.told_names.result t.1 c.told_names.ensures.fault c.tally.ensures.counted,
     ))

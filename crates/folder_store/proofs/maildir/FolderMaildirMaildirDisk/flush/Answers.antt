@@ -5,7 +5,7 @@ use Rattle.folder_store.proofs.maildir.FolderMaildirMaildirDisk.flush.Goals as g
 pub returns-in-Ok-clause-flushes : goal.returns-in-Ok-clause-flushes
 returns-in-Ok-clause-flushes g c = λ s.
     let t = c.in-Ok.ensures.flushes s.0 in
-    ((t.0, s.1), files_flush c.args.stems.now c.marks_keep_the_base.ensures.stems _ _ (option_map string_bytes c.args.self.now.begun) _ c.in-Ok.are_flushed t.1)
+    ((t.0, s.1), files_flush c.args.stems.now _ _ (option_map string_bytes c.args.self.now.begun) _ c.in-Ok.are_flushed t.1)
 
 pub returns-in-Err-clause-flushes : goal.returns-in-Err-clause-flushes
 returns-in-Err-clause-flushes g c = λ s.

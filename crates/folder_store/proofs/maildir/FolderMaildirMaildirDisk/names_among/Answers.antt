@@ -1,5 +1,7 @@
 use Rattle.std.proofs.Common.{string_bytes, option_map}
-use Rattle.folder_store.proofs.MailCalls.{told_among}
+use Rattle.folder_store.proofs.MailCalls.{told_names}
+use Rattle.folder_store.specs.declared.mail_folders.Sought.TheVariants.{Stems}
+use Rattle.mail_store.specs.Held.{AreAmong}
 use Rattle.folder_store.proofs.maildir.FolderMaildirMaildirDisk.names_among.Goals as goal
 
 pub returns-clause-lists : goal.returns-clause-lists
@@ -7,5 +9,5 @@ returns-clause-lists g c = rw c.tally.ensures.same (λ s.
     let begun = option_map string_bytes c.args.self.now.begun in
     let t = c.told_names.ensures.tells s.0 in (
       (t.0, c.in_ok-admit.ensures.admitted),
-      told_among _ _ c.args.stems begun _ c.tally.new.failures c.told_names.result t.1 c.told_names.ensures.fault c.tally.ensures.counted,
+      told_names (AreAmong c.args.stems.now) (Stems c.args.stems) (λ names told t. t) _ _ begun _ c.tally.new.failures c.told_names.result t.1 c.told_names.ensures.fault c.tally.ensures.counted,
     ))
