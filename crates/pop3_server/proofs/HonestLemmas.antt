@@ -1,22 +1,21 @@
 -- The server's conversations are honest: how its rows follow the messages and their marks, and what each answer says.
-use Rattle.std.proofs.Common.{length-append, ◌%◌, ◌≡◌, ◌⊎◌, inl, inr, ◌<◌, ◌≤◌, ◌+◌, ◌-◌, ◌*◌, ◌^◌, ℕ, zero, suc, Bool, true, false, cond, List, [], ◌∷◌, ◌++◌, map, length, refl, sym, ap, subst, ◌∙◌, arith, append_assoc, Some, None, codes, not, slice_get, slice_set, decimal, length-append, Option, Ok, bytes_eq, ◌&&◌, ap₂}
+use Rattle.std.proofs.Common.{length-append, ◌≡◌, ◌⊎◌, inl, inr, ◌<◌, ◌≤◌, ◌+◌, ◌-◌, ◌*◌, ◌^◌, ℕ, zero, suc, Bool, true, false, cond, List, [], ◌∷◌, ◌++◌, map, length, refl, sym, ap, subst, ◌∙◌, arith, append_assoc, Some, None, codes, not, slice_get, slice_set, decimal, length-append, Option, Ok, bytes_eq, ◌&&◌, ap₂}
 use Rattle.std.specs.List.{flat_map, All, AllByRecursion, AllZip, count_by, enumerate_from}
-use Rattle.std.proofs.lemmas.Bool.{and_from, cond-true, cond-false, false≢true}
-use Rattle.std.proofs.lemmas.Fmt.{decimal_by_steps}
+use Rattle.std.proofs.lemmas.Bool.{cond-true, cond-false, false≢true}
 use Rattle.std.proofs.lemmas.List.{length-map, append-nil, length-set}
 use Rattle.std.proofs.lemmas.List.Folds.{list_all-append, flat_map-map}
-use Rattle.std.proofs.lemmas.Bool.Decides.{eqb_tells, nat_tests}
+use Rattle.std.proofs.lemmas.Bool.Decides.{eqb_tells}
 use Rattle.std.proofs.lemmas.List.Elements.{recursion_from_All}
 use Rattle.std.proofs.lemmas.List.Sums.{sum_by-cons, count_by-le-length}
 use Rattle.std.proofs.lemmas.List.Sorted.{IsPermutation-refl}
 use Rattle.pop3_wire.specs.declared.command.Command.{Command}
 use Rattle.pop3_wire.specs.declared.reply.Status.TheVariants.{Positive, Negative}
-use Rattle.pop3_wire.specs.Line.{crlf, ended, HoldsNoLf, IsLine, OneLine}
+use Rattle.pop3_wire.specs.Line.{crlf, ended, HoldsNoLf, IsLine}
 use Rattle.pop3_wire.specs.Body.{dot, IsContent, unstuffed}
 use Rattle.pop3_wire.specs.Fields.{number_and_size, number_and_id}
 use Rattle.pop3_wire.specs.World.{Message, IsMessage}
-use Rattle.pop3_wire.specs.Honest.{SaysAnything, FirstLinesAreRead, UidRowsHaveFields, ScanRowsHaveFields, IsScanRow, IsUidRow, ListsAll, Reply, no_marks, Honest, Grants, Replies}
-use Rattle.pop3_wire.specs.Rows.{ScanRowsAreRead, UidRowsAreRead, scan_row}
+use Rattle.pop3_wire.specs.Honest.{SaysAnything, IsScanRow, IsUidRow, ListsAll, Reply, no_marks, Honest, Grants, Replies}
+use Rattle.pop3_wire.specs.Rows.{scan_row}
 use Rattle.pop3_server.specs.declared.rows.MessageRow.{MessageRow}
 use Rattle.pop3_server.proofs.RemovalLemmas.{none_gone, left_by_quit}
 use Rattle.pop3_server.proofs.RowLemmas.{row_with, rows_with}
@@ -25,24 +24,16 @@ use Rattle.pop3_server.specs.ServerMachine.{said, is_left, left_count, left_size
 use Rattle.pop3_server.specs.HonestServer.{AreLeft, IsClosedByQuit, IsOfSession, IsAsked, lines_of, IsHonest, Gone}
 use Rattle.pop3_wire.specs.declared.command.Command.TheVariants.{User, Pass, Stat, UidlAll, ListAll, Retr, Dele, Rset, Noop, Quit}
 use Rattle.pop3_wire.specs.Commands.{line_of, can_be_sent}
-use Rattle.pop3_wire.specs.CommandLine.{HasNumbers, ReadAsWritten, CommandsAreLines}
+use Rattle.pop3_wire.specs.CommandLine.{HasNumbers}
 use Rattle.mail_terms.specs.Text.{lines_of_text, IsWhole, whole_text}
-use Rattle.pop3_wire.specs.Stuffed.{stuffed_lines, StuffedIsBody}
+use Rattle.pop3_wire.specs.Stuffed.{stuffed_lines}
 use Rattle.pop3_server.specs.declared.state.State.{State}
 use Rattle.pop3_server.specs.declared.state.State.TheVariants.{Authorization, Transaction, Closed}
 use Rattle.pop3_server.specs.AnswersLines.{AnswersLines}
 use Rattle.pop3_server.proofs.SlotLemmas.{there_map}
 use Rattle.pop3_server.specs.HonestLoop.{GivesHonest}
-
--- the laws of the wire on what is written
-pub record Laws : Type 0 where
-  pub first : FirstLinesAreRead
-  pub scan : ScanRowsAreRead
-  pub uid : UidRowsAreRead
-  pub uid_fields : UidRowsHaveFields
-  pub scan_fields : ScanRowsHaveFields
-  pub stuffed : StuffedIsBody
-  pub read : ReadAsWritten
+use Rattle.pop3_wire.proofs.RowsLemmas.{first_lines_are_read, is_line, no_lf_decimal, round_trip, scan_fields, scan_rows_are_read, uid_fields, uid_rows_are_read}
+use Rattle.pop3_wire.proofs.BodyLemmas.{one_line, stuffed_is_body}
 
 -- ---- messages that PASS listed
 
@@ -119,17 +110,11 @@ left_of (m ∷ ms) (b ∷ bs) all e =
 
 -- ---- first lines
 
-pub no_lf_decimal : (n : ℕ) → n < 2 ^ 64 → HoldsNoLf (decimal n)
-no_lf_decimal = decimal_by_steps (λ _ digits. HoldsNoLf digits) (λ n small. digit n small) (λ n digits _ none. rw list_all-append (and_from _ _ none (digit (n % 10) (omega arith))))
-  where
-    digit : (n : ℕ) → n < 10 → HoldsNoLf ((48 + n) ∷ [])
-    digit n small = grind (arith, nat_tests)
+pub refused : (ms : List Message) (bs : List Bool) (c : Command) (answer after : List ℕ) → answer ≡ said (codes "-ERR" ++ after) → HoldsNoLf after → Reply ms bs c answer bs
+refused ms bs c answer after is none = inl ((after, ((first_lines_are_read Negative after none).0, is)), refl)
 
-pub refused : Laws → (ms : List Message) (bs : List Bool) (c : Command) (answer after : List ℕ) → answer ≡ said (codes "-ERR" ++ after) → HoldsNoLf after → Reply ms bs c answer bs
-refused laws ms bs c answer after is none = inl ((after, ((laws.first Negative after none).0, is)), refl)
-
-pub granted : Laws → (answer after : List ℕ) → answer ≡ said (codes "+OK" ++ after) → HoldsNoLf after → SaysAnything Positive answer
-granted laws answer after is none = (after, ((laws.first Positive after none).0, is))
+pub granted : (answer after : List ℕ) → answer ≡ said (codes "+OK" ++ after) → HoldsNoLf after → SaysAnything Positive answer
+granted answer after is none = (after, ((first_lines_are_read Positive after none).0, is))
 
 -- ---- listings
 
@@ -162,24 +147,24 @@ rows_content line IsRow good k (m ∷ ms) (false ∷ bs) few all =
     let more = rows_content line IsRow good (k + 1) ms bs (omega arith) all.1 in
     (line k (row_with m false) ∷ more.0, ap (λ (l : List ℕ). said (line k (row_with m false)) ++ l) more.1, (one.0, more.2), (one.1, more.3))
 
-pub scan_rows : Laws → GoodRows scan_line IsScanRow
-scan_rows laws k m few served =
-    let row = laws.scan k m.size few (omega (arith, served.within)) in
-    (row.0.0, laws.scan_fields _ k m (ap number_and_size row.0.1 ∙ row.1))
+pub scan_rows : GoodRows scan_line IsScanRow
+scan_rows k m few served =
+    let row = scan_rows_are_read k m.size few (omega (arith, served.within)) in
+    (row.0.0, scan_fields _ k m (ap number_and_size row.0.1 ∙ row.1))
 
-pub uid_rows : Laws → GoodRows uid_line IsUidRow
-uid_rows laws k m few served =
-    let row = laws.uid k m.uid few served.is_message.legal in
-    (row.0.0, laws.uid_fields _ k m (ap number_and_id row.0.1 ∙ row.1))
+pub uid_rows : GoodRows uid_line IsUidRow
+uid_rows k m few served =
+    let row = uid_rows_are_read k m.uid few served.is_message.legal in
+    (row.0.0, uid_fields _ k m (ap number_and_id row.0.1 ∙ row.1))
 
-pub lists_all : Laws → (line : ℕ → MessageRow → List ℕ) (IsRow : ℕ × Message → List ℕ → Type 0) → GoodRows line IsRow → (ms : List Message) (bs : List Bool) (answer : List ℕ) → AreServed ms → answer ≡ listed line (rows_with ms bs)
+pub lists_all : (line : ℕ → MessageRow → List ℕ) (IsRow : ℕ × Message → List ℕ → Type 0) → GoodRows line IsRow → (ms : List Message) (bs : List Bool) (answer : List ℕ) → AreServed ms → answer ≡ listed line (rows_with ms bs)
     → ListsAll IsRow ms bs answer × (bs ≡ bs)
-lists_all laws line IsRow good ms bs answer served is =
+lists_all line IsRow good ms bs answer served is =
     let few : length ms ≤ 100000 = served.few in
     let rows = rows_content line IsRow good 1 ms bs (omega arith) served.served in (
       record {
         first = said (codes "+OK");
-        says = granted laws (said (codes "+OK")) [] refl refl;
+        says = granted (said (codes "+OK")) [] refl refl;
         lines = rows.0;
         content = rows.2;
         whole = is ∙ append_assoc (codes "+OK" ++ crlf) (lines_from line 1 (rows_with ms bs)) (ended dot) ∙ ap (λ (l : List ℕ). said (codes "+OK") ++ (l ++ ended dot)) rows.1;
@@ -223,7 +208,7 @@ record Replied (ms : List Message) (marks : List Bool) (c : Command) (answer : L
   closes : (is_open next ≡ true) ⊎ (c ≡ Quit)
 
 -- one answer, with these messages in the maildrop at first
-module _ (laws : Laws) {D : Type 0} (sound : D → Type 0) (mail : D → Mail) (ms : List Message) (messages : AllByRecursion IsMessage ms) (old : D) (answer : List ℕ) (next : State) (new : D) (s : sound new) where
+module _ {D : Type 0} (sound : D → Type 0) (mail : D → Mail) (ms : List Message) (messages : AllByRecursion IsMessage ms) (old : D) (answer : List ℕ) (next : State) (new : D) (s : sound new) where
   -- by the state that is next, and the maildrop as it is then
   replies : {marks : List Bool} {c : Command} {state : State} {then_ : Mail} (after : List Bool) → next ≡ state → mail new ≡ then_ → Reply ms marks c answer after
       → IsStateWith ms state then_ after → (is_open state ≡ true) ⊎ (c ≡ Quit) → Replied ms marks c answer next (mail new)
@@ -233,14 +218,14 @@ module _ (laws : Laws) {D : Type 0} (sound : D → Type 0) (mail : D → Mail) (
   says_no : {marks : List Bool} {c : Command} {state : State} (after : List ℕ) → (answer ≡ said (codes "-ERR" ++ after)) × (next ≡ state) × (new ≡ old)
       → HoldsNoLf after → IsStateWith ms state (mail old) marks → is_open state ≡ true → Replied ms marks c answer next (mail new)
   says_no {marks} {c} after does none stands opened =
-      replies marks does.1 (ap mail does.2) (refused laws ms marks c answer after does.0 none) stands (inl opened)
+      replies marks does.1 (ap mail does.2) (refused ms marks c answer after does.0 none) stands (inl opened)
 
   -- a line that says yes, if no more is asked for
   says_yes : {marks : List Bool} {c : Command} {state : State} (after_marks : List Bool) (after : List ℕ) → (answer ≡ said (codes "+OK" ++ after)) × (next ≡ state) × (new ≡ old)
       → HoldsNoLf after → (SaysAnything Positive answer → Grants ms marks c answer after_marks) → IsStateWith ms state (mail old) after_marks
       → (is_open state ≡ true) ⊎ (c ≡ Quit) → Replied ms marks c answer next (mail new)
   says_yes after_marks after does none grants stands closes =
-      replies after_marks does.1 (ap mail does.2) (inr (grants (granted laws answer after does.0 none))) stands closes
+      replies after_marks does.1 (ap mail does.2) (inr (grants (granted answer after does.0 none))) stands closes
 
   -- ---- AUTHORIZATION
 
@@ -248,13 +233,13 @@ module _ (laws : Laws) {D : Type 0} (sound : D → Type 0) (mail : D → Mail) (
       → Does sound mail (cond right Open (Say (said (codes "-ERR refused")) (Authorization None))) old answer next new → Replied ms (no_marks ms) (Pass word) answer next (mail new)
   passed word false same does = says_no (codes " refused") does refl (same, refl) refl
   passed word true same (inl (is, state, known)) =
-      replies (no_marks ms) state (known s).1 (refused laws ms (no_marks ms) (Pass word) answer (codes " maildrop unavailable") is refl) (same, refl) (inl refl)
+      replies (no_marks ms) state (known s).1 (refused ms (no_marks ms) (Pass word) answer (codes " maildrop unavailable") is refl) (same, refl) (inl refl)
   passed word true same (inr (rows, limits, is, state, known)) =
       let drop = (known s).1 in
       let same_rows : rows ≡ map row_of ms = drop.1 ∙ ap (map row_of) same in
       let few : length rows ≤ 100000 = limits.few in
       let none : HoldsNoLf (32 ∷ (decimal (length rows) ++ codes " messages")) = simp (list_all-append, no_lf_decimal (length rows) (omega arith)) in
-      replies (no_marks ms) state drop.0 (inr (granted laws answer (32 ∷ (decimal (length rows) ++ codes " messages")) is none, refl))
+      replies (no_marks ms) state drop.0 (inr (granted answer (32 ∷ (decimal (length rows) ++ codes " messages")) is none, refl))
       (ap (map Some) same, length-map ms _, same_rows ∙ fresh_rows ms, are_served ms rows messages limits same_rows) (inl refl)
 
   in_auth : (user pass : List ℕ) (kept : Option (List ℕ)) (c : Command) → there (mail old).slots ≡ ms → Does sound mail (in_authorization user pass kept c) old answer next new
@@ -273,7 +258,7 @@ module _ (laws : Laws) {D : Type 0} (sound : D → Type 0) (mail : D → Mail) (
     gave : (k : ℕ) (m : Message) → slice_get ms (k - 1) ≡ Some m → slice_get (map Some ms) (k - 1) ≡ Some (Some m) → IsServed m
         → Does sound mail (Give (rows_with ms marks) (k - 1) (said (octets_line (row_with m false))) None) old answer next new → Replied ms marks (Retr k) answer next (mail new)
     gave k m at slot served (state, inl (is, known)) =
-        replies marks state (known s).1 (refused laws ms marks (Retr k) answer (codes " message unavailable") is refl) stands (inl refl)
+        replies marks state (known s).1 (refused ms marks (Retr k) answer (codes " message unavailable") is refl) stands (inl refl)
     gave k m at slot served (state, inr (text, is, known)) =
         let drop = (known s).1 in
         let found = rw stands.0 at drop.1.1 in
@@ -284,10 +269,10 @@ module _ (laws : Laws) {D : Type 0} (sound : D → Type 0) (mail : D → Mail) (
           said (octets_line (row_with m false)),
           stuffed_lines (lines_of_text text),
           m,
-          granted laws (said (octets_line (row_with m false))) (32 ∷ (decimal m.size ++ codes " octets")) refl none,
+          granted (said (octets_line (row_with m false))) (32 ∷ (decimal m.size ++ codes " octets")) refl none,
           is,
           at,
-          rw words (rw (whole_stays m.text served.is_message.whole) at (laws.stuffed m.text)),
+          rw words (rw (whole_stays m.text served.is_message.whole) at (stuffed_is_body m.text)),
           refl,
         )) stands (inl refl)
 
@@ -301,11 +286,11 @@ module _ (laws : Laws) {D : Type 0} (sound : D → Type 0) (mail : D → Mail) (
         let small : count ≤ 4294967295 = omega arith in
         let fits : total < 2 ^ 64 = omega arith in
         let none : HoldsNoLf (32 ∷ scan_row count total) = simp (list_all-append, no_lf_decimal count (omega arith), no_lf_decimal total fits) in
-        let (field, more, (word, are, value), size) = laws.scan_fields (scan_row count total) count (record { uid = []; size = total; text = [] }) (laws.scan count total small (omega arith)).1 in
+        let (field, more, (word, are, value), size) = scan_fields (scan_row count total) count (record { uid = []; size = total; text = [] }) (scan_rows_are_read count total small (omega arith)).1 in
         replies marks does.1 (ap mail does.2) (inr (
           32 ∷ scan_row count total,
           field ∷ more,
-          ((laws.first Positive (32 ∷ scan_row count total) none).0, does.0),
+          ((first_lines_are_read Positive (32 ∷ scan_row count total) none).0, does.0),
           λ fresh. (word, are, value ∙ left.0 ∙ ap (count_by not) fresh ∙ fresh_count ms),
           refl,
         )) stands (inl refl)
@@ -315,9 +300,9 @@ module _ (laws : Laws) {D : Type 0} (sound : D → Type 0) (mail : D → Mail) (
     in_trans (Pass word) asked does = says_no (codes " not now") does refl stands refl
     in_trans Stat asked does = stated does
     in_trans UidlAll asked does =
-        replies marks does.1 (ap mail does.2) (inr (lists_all laws uid_line IsUidRow (uid_rows laws) ms marks answer stands.3 does.0)) stands (inl refl)
+        replies marks does.1 (ap mail does.2) (inr (lists_all uid_line IsUidRow (uid_rows) ms marks answer stands.3 does.0)) stands (inl refl)
     in_trans ListAll asked does =
-        replies marks does.1 (ap mail does.2) (inr (lists_all laws scan_line IsScanRow (scan_rows laws) ms marks answer stands.3 does.0)) stands (inl refl)
+        replies marks does.1 (ap mail does.2) (inr (lists_all scan_line IsScanRow (scan_rows) ms marks answer stands.3 does.0)) stands (inl refl)
     in_trans (Retr k) asked does = elim (found ms marks k stands.3.served) [
       | inl none ↦ says_no (codes " no such message") (rw none at does) refl stands refl
       | inr some ↦ gave k some.0 some.2 some.3 some.4 (rw some.1 at does)
@@ -331,9 +316,9 @@ module _ (laws : Laws) {D : Type 0} (sound : D → Type 0) (mail : D → Mail) (
         says_yes (map (λ _. false) marks) [] does refl (λ says. (says, refl)) (stands.0, length-map marks _ ∙ stands.1, cleared_rows ms marks, stands.3) (inl refl)
     in_trans Noop asked does = says_yes marks [] does refl (λ says. (says, refl)) stands (inl refl)
     in_trans Quit asked (state, (true, is, known)) =
-        replies marks state refl (inr (granted laws answer (codes " bye") is refl, refl)) (left_by_quit ms marks (mail old) (mail new) true stands.1 stands.0 (known s).1) (inr refl)
+        replies marks state refl (inr (granted answer (codes " bye") is refl, refl)) (left_by_quit ms marks (mail old) (mail new) true stands.1 stands.0 (known s).1) (inr refl)
     in_trans Quit asked (state, (false, is, known)) =
-        replies marks state refl (refused laws ms marks Quit answer (codes " some messages not removed") is refl) (left_by_quit ms marks (mail old) (mail new) false stands.1 stands.0 (known s).1) (inr refl)
+        replies marks state refl (refused ms marks Quit answer (codes " some messages not removed") is refl) (left_by_quit ms marks (mail old) (mail new) false stands.1 stands.0 (known s).1) (inr refl)
     in_trans other asked does = absurd asked
 
   replied : (marks : List Bool) (user pass : List ℕ) (state : State) (c : Command) → is_open state ≡ true → IsStateWith ms state (mail old) marks → IsOfSession c
@@ -344,7 +329,7 @@ module _ (laws : Laws) {D : Type 0} (sound : D → Type 0) (mail : D → Mail) (
 
 -- ---- all answers in order
 
-module _ (laws : Laws) {D : Type 0} (sound : D → Type 0) (mail : D → Mail) where
+module _ {D : Type 0} (sound : D → Type 0) (mail : D → Mail) where
   did_sound : (asked : Action) (old : D) (answer : List ℕ) (next : State) (new : D) → Does sound mail asked old answer next new → sound new → sound old
   did_sound (Say bytes state) old answer next new does s = rw does.2 at s
   did_sound Open old answer next new (inl (is, state, known)) s = (known s).0
@@ -370,8 +355,8 @@ module _ (laws : Laws) {D : Type 0} (sound : D → Type 0) (mail : D → Mail) w
       → (last : List Bool) × Replies ms marks commands answers last × IsStateWith ms new.state (mail new.drop) last × (is_open old.state ≡ true → IsClosedByQuit new.state commands)
   all_replied ms marks [] old new answers messages asked run s stands = (marks, (run.0, refl), rw run.1 stands, λ opened. inl (rw run.1 opened))
   all_replied ms marks (c ∷ commands) old new answers messages asked (first, rest, next, is, turn, run) s stands =
-      let does = rw (laws.read c asked.0.numbers asked.0.sendable) at turn.answers.does in
-      let one = replied laws sound mail ms messages old.drop first next.state next.drop (run_sound next new (lines_of commands) rest run s) marks old.user old.pass old.state c turn.was_open stands asked.0.of_session does in
+      let does = rw (round_trip c asked.0.numbers asked.0.sendable) at turn.answers.does in
+      let one = replied sound mail ms messages old.drop first next.state next.drop (run_sound next new (lines_of commands) rest run s) marks old.user old.pass old.state c turn.was_open stands asked.0.of_session does in
       let more = all_replied ms one.after commands next new rest messages asked.1 run s one.stands in
       (more.0, (first, rest, one.after, is, one.reply, more.1), more.2, λ _. closed_by next.state new.state one.closes more.3)
 
@@ -400,7 +385,7 @@ module _ (laws : Laws) {D : Type 0} (sound : D → Type 0) (mail : D → Mail) w
   honest_from ms marks commands part replies got later sent asked line is replied begins = record {
     status = Positive;
     hello = greeting;
-    greets = granted laws greeting (codes " popd ready") refl refl;
+    greets = granted greeting (codes " popd ready") refl refl;
     commands = commands;
     asked = (let all = all_asked commands asked in record { sendable = all.0; numbers = all.1; part = part; no_line = line; whole = is ∙ ap (λ (l : List ℕ). l ++ part) (flat_map-map ended line_of commands) });
     replies = replies;
@@ -424,13 +409,13 @@ pub record Cut (lines : List (List ℕ)) (commands : List Command) (waiting part
   pub lines_are : lines ≡ lines_of first
   pub rest : waiting ≡ flat_map ended (lines_of later) ++ part
 
-cut_at : OneLine → CommandsAreLines → (lines : List (List ℕ)) (commands : List Command) (waiting part : List ℕ) → AllByRecursion IsLine lines → AllByRecursion IsAsked commands → IsLine part
+cut_at : (lines : List (List ℕ)) (commands : List Command) (waiting part : List ℕ) → AllByRecursion IsLine lines → AllByRecursion IsAsked commands → IsLine part
     → flat_map ended lines ++ waiting ≡ flat_map ended (lines_of commands) ++ part → Cut lines commands waiting part
-cut_at one are_lines [] commands waiting part each asked whole e = record { first = []; later = commands; all = refl; lines_are = refl; rest = e }
-cut_at one are_lines (l ∷ ls) [] waiting part each asked whole e = absurd (whole l _ (simp append_assoc at (sym e)))
-cut_at one are_lines (l ∷ ls) (c ∷ cs) waiting part each asked whole e =
-    let same = one l (line_of c) _ _ each.0 (are_lines c asked.0.numbers asked.0.sendable) (rw (append_assoc (ended l), append_assoc (ended (line_of c))) at e) in
-    let more = cut_at one are_lines ls cs waiting part each.1 asked.1 whole same.1 in
+cut_at [] commands waiting part each asked whole e = record { first = []; later = commands; all = refl; lines_are = refl; rest = e }
+cut_at (l ∷ ls) [] waiting part each asked whole e = absurd (whole l _ (simp append_assoc at (sym e)))
+cut_at (l ∷ ls) (c ∷ cs) waiting part each asked whole e =
+    let same = one_line l (line_of c) _ _ each.0 (is_line c asked.0.numbers asked.0.sendable) (rw (append_assoc (ended l), append_assoc (ended (line_of c))) at e) in
+    let more = cut_at ls cs waiting part each.1 asked.1 whole same.1 in
     record {
       first = c ∷ more.first;
       later = more.later;
@@ -448,9 +433,9 @@ abbrev nos : List Command → List ℕ
 nos [] = []
 nos (c ∷ commands) = said (codes "-ERR") ++ nos commands
 
-refused_all : Laws → (ms : List Message) (marks : List Bool) (commands : List Command) → Replies ms marks commands (nos commands) marks
-refused_all laws ms marks [] = (refl, refl)
-refused_all laws ms marks (c ∷ commands) = (said (codes "-ERR"), nos commands, marks, refl, refused laws ms marks c (said (codes "-ERR")) [] refl refl, refused_all laws ms marks commands)
+refused_all : (ms : List Message) (marks : List Bool) (commands : List Command) → Replies ms marks commands (nos commands) marks
+refused_all ms marks [] = (refl, refl)
+refused_all ms marks (c ∷ commands) = (said (codes "-ERR"), nos commands, marks, refl, refused ms marks c (said (codes "-ERR")) [] refl refl, refused_all ms marks commands)
 
 replies_on : (ms : List Message) (marks mid last : List Bool) (a b : List Command) (x y : List ℕ) → Replies ms marks a x mid → Replies ms mid b y last → Replies ms marks (a ++ b) (x ++ y) last
 replies_on ms marks mid last [] b x y first second = rw first.0 (rw first.1 at second)
@@ -464,20 +449,20 @@ closed_later : (state : State) (first later : List Command) → IsClosedByQuit s
 closed_later state first later (inl still) = inl still
 closed_later state first later (inr (front, behind, split)) = inr (front, behind ++ later, rw (split, append_assoc))
 
-pub gives_honest : Laws → OneLine → CommandsAreLines → {D : Type 0} (sound : D → Type 0) (mail : D → Mail) → GivesHonest sound mail
-gives_honest laws one are_lines sound mail old new commands part fresh serves asked line sent s served =
+pub gives_honest : {D : Type 0} (sound : D → Type 0) (mail : D → Mail) → GivesHonest sound mail
+gives_honest sound mail old new commands part fresh serves asked line sent s served =
     let ms = there (mail old.machine.drop).slots in
     let gained : serves.gained ≡ flat_map ended (lines_of commands) ++ part = rw fresh.sent at (sym serves.sent ∙ sent) in
-    let cut = cut_at one are_lines serves.lines commands new.waiting part serves.each asked line (rw fresh.waiting at (sym serves.heard) ∙ gained) in
+    let cut = cut_at serves.lines commands new.waiting part serves.each asked line (rw fresh.waiting at (sym serves.heard) ∙ gained) in
     let asked_all = rw cut.all at asked in
     let same = serves.same.unanswered.messages s in
-    let replied = answers_honestly laws sound mail old.machine serves.last cut.first (serves.more ++ serves.lost) fresh.state
+    let replied = answers_honestly sound mail old.machine serves.last cut.first (serves.more ++ serves.lost) fresh.state
     (asked_front cut.first cut.later asked_all) (rw cut.lines_are at serves.run) same.0 served in
     let told : new.link.got ++ new.left ≡ greeting ++ serves.more = rw (serves.answers, fresh.answers) at (serves.told (rw (fresh.got, fresh.left, fresh.answers))) in (
       replied.0,
-      honest_from laws sound mail ms replied.0 (cut.first ++ cut.later) part ((serves.more ++ serves.lost) ++ nos cut.later) new.link.got (new.left ++ (serves.lost ++ nos cut.later)) new.link.sent
+      honest_from sound mail ms replied.0 (cut.first ++ cut.later) part ((serves.more ++ serves.lost) ++ nos cut.later) new.link.got (new.left ++ (serves.lost ++ nos cut.later)) new.link.sent
           asked_all line (rw cut.all at sent)
-          (replies_on ms (no_marks ms) replied.0 replied.0 cut.first cut.later (serves.more ++ serves.lost) (nos cut.later) replied.1 (refused_all laws ms replied.0 cut.later))
+          (replies_on ms (no_marks ms) replied.0 replied.0 cut.first cut.later (serves.more ++ serves.lost) (nos cut.later) replied.1 (refused_all ms replied.0 cut.later))
           (shuffle greeting serves.more serves.lost (nos cut.later) new.link.got new.left told),
       rw (serves.same.state, same.1) replied.2,
       closed_later new.machine.state cut.first cut.later (rw serves.same.state replied.3),

@@ -1,7 +1,6 @@
 -- How far a server that serves a link has come, and why it ends.
-use Rattle.pop3_wire.specs.declared.wire.Wire.{Ghosts}
-use Rattle.pop3_wire.specs.Link.{WhereSound, Link}
-use Rattle.std.proofs.Common.{IsErrAnd, Bool, true, ◌⊎◌, Ok, ◌≡◌, ◌<◌, ◌≤◌, ◌+◌, ℕ, zero, suc, List, [], ◌∷◌, ◌++◌, length, take, drop, refl, sym, ap, subst, ◌∙◌, arith, append_assoc, length-append, length-take-le, take-append-drop, take_all, append-nil, length-drop, inl, inr, false, Option, Some, Result, Err, codes}
+use Rattle.pop3_wire.specs.Link.{Link}
+use Rattle.std.proofs.Common.{Bool, true, ◌⊎◌, Ok, ◌≡◌, ◌<◌, ◌≤◌, ◌+◌, ℕ, zero, suc, List, [], ◌∷◌, ◌++◌, length, take, drop, refl, sym, ap, subst, ◌∙◌, arith, append_assoc, length-append, length-take-le, take-append-drop, take_all, append-nil, length-drop, inl, inr, false, Option, Some, Result, Err, codes}
 use Rattle.std.proofs.lemmas.List.{nil_from_length, take-append-le}
 use Rattle.std.proofs.Math.Seq.{take-add}
 use Rattle.pop3_wire.specs.Line.{crlf, IsLine, ended}
@@ -11,7 +10,6 @@ use Rattle.pop3_server.specs.Serving.{Hears, Queues, LastSent, SendsAnswer, Serv
 use Rattle.pop3_server.specs.declared.intake.NextLine.TheVariants.{LongLine, End, Line}
 use Rattle.pop3_wire.specs.Bodies.{Drew}
 use Rattle.std.specs.List.{flat_map, AllByRecursion}
-use Rattle.std.proofs.lemmas.Result.{err_from_is_err_and}
 use Rattle.std.proofs.lemmas.Bool.{cond-true, lt-ltb}
 use Rattle.pop3_wire.specs.declared.fault.WireFault.TheVariants.{BadCommand}
 use Rattle.pop3_wire.specs.CommandLine.{command_of}
@@ -23,38 +21,9 @@ use Rattle.pop3_server.specs.ServerMachine.{Machine, greeting, said, is_open}
 use Rattle.pop3_server.specs.RunLaws.{lines_on, runs_on}
 use Rattle.pop3_server.specs.AnswersLines.{AnswersLines, AnswersLine, MakesAnswer}
 use Rattle.std.proofs.lemmas.Grind.{flat_map-append}
-
--- what `?` passes up
-pub is_err : {T E : Type 0} {e : E} (r : Result T E) → IsErrAnd r (λ y. y ≡ e) → r ≡ Err e
-is_err r h = let p = err_from_is_err_and r h in p.1 ∙ ap Err p.2
-
-module _ {W : Type 0} (link : Ghosts W) where
-  -- what follows from what a call did
-  pub in_words : {a b : W} {P Q : Type 0} → WhereSound link.sound link.leads_to a b P → (P → Q) → WhereSound link.sound link.leads_to a b Q
-  in_words did words sound = let all = did sound in (all.0, all.1, words all.2)
-
-  -- a call and then another
-  pub and_then : {a b c : W} {P Q R : Type 0} → ((u v w : W) → link.leads_to u v → link.leads_to v w → link.leads_to u w)
-      → WhereSound link.sound link.leads_to a b P → WhereSound link.sound link.leads_to b c Q → (P → Q → R) → WhereSound link.sound link.leads_to a c R
-  and_then on first second both sound =
-      let later = second sound in
-      let all = first later.0 in
-      (all.0, on _ _ _ all.1 later.1, both all.2 later.2)
-
-  -- three calls
-  pub and_then_two : {a b c d : W} {P Q R S : Type 0} → ((u v w : W) → link.leads_to u v → link.leads_to v w → link.leads_to u w)
-      → WhereSound link.sound link.leads_to a b P → WhereSound link.sound link.leads_to b c Q → WhereSound link.sound link.leads_to c d R → (P → Q → R → S)
-      → WhereSound link.sound link.leads_to a d S
-  and_then_two {Q = Q} {R = R} on first second third all = and_then on first (and_then {R = Q × R} on second third (λ q r. (q, r))) (λ p both. all p both.0 both.1)
+use Rattle.pop3_wire.proofs.BodyLemmas.{IsLine-front, IsLine-back}
 
 -- ---- octets that are dropped in pieces and make one line
-
--- the parts of a line are lines
-IsLine-front : (a b : List ℕ) → IsLine (a ++ b) → IsLine a
-IsLine-front a b line front rest e = line front (rest ++ b) (ap (λ l. l ++ b) e ∙ append_assoc front (crlf ++ rest) b)
-
-IsLine-back : (a b : List ℕ) → IsLine (a ++ b) → IsLine b
-IsLine-back a b line front rest e = line (a ++ front) rest (ap (λ l. a ++ l) e ∙ sym (append_assoc a front (crlf ++ rest)))
 
 -- two pieces that share an octet are a line if both are
 no_split : (part back : List ℕ) (b : ℕ) → IsLine (part ++ b ∷ []) → IsLine (b ∷ back) → (front rest : List ℕ) → part ++ b ∷ back ≡ front ++ (crlf ++ rest) → ⊥

@@ -3,10 +3,6 @@ ghost use Rattle.pop3_server.specs.HonestServer.{IsHonest};
 ghost use Rattle.pop3_server.specs.HonestLoop.{GivesHonest};
 
 use crate::maildrop::Maildrop;
-use pop3_wire::{
-    commands_are_lines, only_one_line, read_as_written, replies_are_read_as_written,
-    rows_have_fields, stuffed_is_body,
-};
 
 /// A new server's greeting and its answers to any commands that a session sends, one after another,
 /// are an honest conversation over the messages of its maildrop; while the server is open all of
@@ -14,22 +10,10 @@ use pop3_wire::{
 #[tactic(auto, using(crate::proofs::HonestLemmas::is_honest))]
 pub fn conversations_are_honest<D: Maildrop>()
     ensures { IsHonest D.sound D.mail }
-{
-    stuffed_is_body();
-    read_as_written();
-    replies_are_read_as_written();
-    rows_have_fields();
-}
+{}
 
 /// The same for a link to a new server in the same process, for whole commands of a session and a
 /// part of one more, even if the link went down; and the server is open unless QUIT was sent whole.
 pub fn loops_are_honest<D: Maildrop>()
     ensures { GivesHonest D.sound D.mail }
-{
-    stuffed_is_body();
-    read_as_written();
-    replies_are_read_as_written();
-    rows_have_fields();
-    only_one_line();
-    commands_are_lines();
-}
+{}

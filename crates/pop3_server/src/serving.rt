@@ -6,7 +6,7 @@ ghost use Rattle.pop3_server.specs.Serving.{SendsAnswer, Served, is_refusal};
 
 use crate::fault::ServerFault;
 use crate::intake::{Intake, NextLine};
-use crate::journal::{Journal, NoJournal};
+use crate::journal::Journal;
 use crate::maildrop::Maildrop;
 use crate::server::{Begun, Server};
 use crate::text_part::{ROOM, TextBody};
@@ -120,19 +120,7 @@ fn answer_line<D: Maildrop, W: Wire, J: Journal>(
 /// ReadFailed or WriteFailed if the link refused a call; MaildropFailed if the maildrop refused a
 /// part of a text after other parts of it were sent; NoMemory if memory ran out, before anything
 /// of the answer was sent. After a fault nothing more is sent, and no message is removed that
-/// QUIT hadn't removed.
-pub fn serve<D: Maildrop, W: Wire>(server: &mut Server<D>, wire: &mut W) -> Result<(), ServerFault>
-    requires { is_open server.old.state ≡ true }
-    ensures counted { CountsRefusal is_refusal (W.history wire.old) result (W.history wire.new) }
-    ensures removals { is_open server.new.state ≡ true
-        → (D.mail server.new.drop).removals ≡ (D.mail server.old.drop).removals }
-    ensures served { WhereSound W.sound W.leads_to wire.old wire.new
-        (Served D.sound D.mail server.old (W.history wire.old) result server.new (W.history wire.new)) }
-{
-    serve_and_note(server, wire, &mut NoJournal)
-}
-
-/// Does what `serve` does, and notes each event in a journal before the answer to its line is sent.
+/// QUIT hadn't removed. A journal is told of each event before the answer to its line is sent.
 pub fn serve_and_note<D: Maildrop, W: Wire, J: Journal>(
     server: &mut Server<D>,
     wire: &mut W,

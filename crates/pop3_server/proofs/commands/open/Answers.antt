@@ -5,8 +5,8 @@ use Rattle.pop3_server.specs.declared.rows.MessageRow.{MessageRow}
 use Rattle.pop3_server.specs.declared.state.State.TheVariants.{Transaction}
 use Rattle.pop3_server.specs.Maildrop.{Listed, Mail, there, entry_of, ListsMessages}
 use Rattle.pop3_server.specs.ServerMachine.{row_of, row_of_entry, Unanswered, Tied}
-use Rattle.pop3_server.proofs.ServeLemmas.{is_err}
 use Rattle.pop3_server.proofs.SlotLemmas.{there_map}
+use Rattle.mail_terms.proofs.ErrLemmas.{is_err}
 use Rattle.pop3_server.proofs.commands.open.Goals as goal
 
 -- a row of a listing has its message

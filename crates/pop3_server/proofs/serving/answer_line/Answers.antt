@@ -1,5 +1,6 @@
 use Rattle.std.proofs.Common.{rules, [], ◌++◌, append_assoc}
-use Rattle.pop3_server.proofs.ServeLemmas.{is_err, and_then}
+use Rattle.pop3_wire.proofs.LinkLemmas.{and_then}
+use Rattle.mail_terms.proofs.ErrLemmas.{is_err}
 use Rattle.pop3_server.proofs.serving.answer_line.Goals as goal
 
 pub returns-in_err-send-clause-answers : goal.returns-in_err-send-clause-answers

@@ -3,7 +3,9 @@ use Rattle.std.proofs.lemmas.Bool.{not-true, not-false}
 use Rattle.pop3_server.specs.declared.fault.ServerFault.TheVariants.{WriteFailed}
 use Rattle.pop3_server.specs.ServerMachine.{is_open}
 use Rattle.pop3_server.specs.AnswersLines.{MakesAnswer}
-use Rattle.pop3_server.proofs.ServeLemmas.{is_err, and_then_two, greeted, served_unmade, served_ungreeted, served_stopped, served_closed, progress_line, long_turn, line_came}
+use Rattle.pop3_server.proofs.ServeLemmas.{greeted, served_unmade, served_ungreeted, served_stopped, served_closed, progress_line, long_turn, line_came}
+use Rattle.pop3_wire.proofs.LinkLemmas.{and_then_two}
+use Rattle.mail_terms.proofs.ErrLemmas.{is_err}
 use Rattle.pop3_server.proofs.serving.serve_and_note.Goals as goal
 
 pub returns-in_err-hello-clause-served : goal.returns-in_err-hello-clause-served
