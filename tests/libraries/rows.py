@@ -81,7 +81,7 @@ DELIVERED = ("one,S=2", "x/", "none begun")
 ROWS = {
     "wires::stuff_row": Row("stuff", ("a|..b|.|",)),
     "wires::unstuff_row": Row("unstuff", ("a/.b/",)),
-    "wires::endless_wire_row": changing("EndlessWire::send", ("",), ("sent",), ("QUIT|",), (REFUSED,)),
+    "wires::script_wire_row": changing("ScriptWire::send", ("",), ("sent",), ("QUIT|",), (REFUSED,)),
     "settings::rc_text_row": Row("rc_text", ("retriever.port has a bad value",)),
     "settings::warning_text_row": Row("warning_text", ("warning: line 10: options.timeout has no effect",)),
     "records::read_row": Row("Seen::read", (f"{RECORD}! a 7 8/",)),

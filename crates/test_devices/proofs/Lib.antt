@@ -1,4 +1,3 @@
-mod EndlessLemmas
 mod MemoryFiles
 mod MemoryMail
 mod PartLemmas

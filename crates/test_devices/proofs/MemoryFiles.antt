@@ -1,7 +1,7 @@
 -- The files that a folder in memory keeps, as entries.
 use Rattle.std.proofs.Common.{◌≡◌, ◌⊎◌, ◌≢◌, ℕ, zero, suc, ◌<◌, length, get_or, slice_set, refl, List, [], ◌∷◌, ◌++◌, sym, ap, ◌∙◌, arith, false, Option, Some, None, Result, Ok, Err, OnOk, OnErr, Contains, HoldsAt, bytes_eq, inl, inr, ⊎_elim, String, Global, string_bytes, ◌-◌, ◌≤◌, take, drop, map, subst, true, option_map, append_assoc, append-nil, length-append, length-take, take-append-drop, take-take, get_or-take, slice_index, true≢false}
 use Rattle.std.proofs.lemmas.Slice.Eq.{bytes_eq-Decides}
-use Rattle.std.proofs.lemmas.Bool.{cases_Bool, cases_lt, cond-true, cond-false, cond_both, false_from_ne_true}
+use Rattle.std.proofs.lemmas.Bool.{cases_Bool, cases_lt, cond_both, false_from_ne_true}
 use Rattle.std.proofs.lemmas.Option.{none-some}
 use Rattle.std.proofs.lemmas.List.{map-append, get_or_default, get_or_append_left, get_or-append_right}
 use Rattle.std.proofs.lemmas.List.Quantifiers.{all_pairs_push}
@@ -9,23 +9,17 @@ use Rattle.std.proofs.lemmas.List.Recursion.{found_at as found_first}
 use Rattle.mail_terms.specs.Distinct.{AreDistinct}
 use Rattle.test_devices.specs.declared.memory_folder.MemoryBlob.{MemoryBlob}
 use Rattle.mail_store.specs.declared.fault.StoreFault.{StoreFault}
-use Rattle.mail_store.specs.Durable.{Blob, IsFlushed, IsLeft, IsLeftOf, content_in, secured}
+use Rattle.mail_store.specs.Durable.{Blob, IsLeft, IsLeftOf, secured}
 use Rattle.folder_store.specs.FileFolder.{Directory, Entry, names_in, find, placed, AltersInPart, changed, Older, entry}
 use Rattle.test_devices.specs.MemoryFolder.{blob_of, entry_of, entries_of, older_of, IsZeroed, MayBeOf, Survive}
 use Rattle.std.proofs.lemmas.List.Elements.{Contains-get_or}
 use Rattle.std.proofs.lemmas.List.Kept.{AllPairs-cons}
 use Rattle.folder_store.specs.PowerLoss.{WasOnce, Loses, left_under}
-use Rattle.folder_store.proofs.Files.{may_now, may_once}
+use Rattle.folder_store.proofs.Files.{may_now, may_once, find_here, find_later}
+use Rattle.mail_store.proofs.DurableLemmas.{flushed_all, seen_all}
 
 differ : (one two : List ℕ) → (one ≡ two → ⊥) → bytes_eq one two ≡ false
 differ one two apart = false_from_ne_true (bytes_eq one two) (λ same. apart ((bytes_eq-Decides one two).0 same))
-
--- a name leads to the first file that has it
-find_here : (name : List ℕ) (e : Entry) (es : List Entry) → bytes_eq name e.name ≡ true → find name (e ∷ es) ≡ Some e.blob
-find_here name e es = cond-true (bytes_eq name e.name) (Some e.blob) (find name es)
-
-find_later : (name : List ℕ) (e : Entry) (es : List Entry) → bytes_eq name e.name ≡ false → find name (e ∷ es) ≡ find name es
-find_later name e es = cond-false (bytes_eq name e.name) (Some e.blob) (find name es)
 
 -- a name that leads to no file isn't the first
 not_here : (name : List ℕ) (e : Entry) (es : List Entry) → find name (e ∷ es) ≡ None → (bytes_eq name e.name ≡ false) × (find name es ≡ None)
@@ -47,14 +41,6 @@ not_ahead name first names free apart (suc k) inside is = free (k, omega (arith,
 placed_new : (name : List ℕ) (b : Blob) (es : List Entry) → find name es ≡ None → placed name b es ≡ es ++ entry name b ∷ []
 placed_new name b [] none = refl
 placed_new name b (e ∷ es) none = let n = not_here name e es none in rw n.0 (ap (λ (xs : List Entry). e ∷ xs) (placed_new name b es n.1))
-
-left_is_flushed : (left : Option (List ℕ)) → IsFlushed (option_map secured left)
-left_is_flushed None = tt
-left_is_flushed (Some bytes) = refl
-
-left_content : (left : Option (List ℕ)) → option_map content_in (option_map secured left) ≡ left
-left_content None = refl
-left_content (Some bytes) = refl
 
 abbrev pub Pair : Type 0
 Pair = String Global × MemoryBlob
@@ -264,7 +250,7 @@ memory_loses files left was now made distinct h e =
       each = λ name.
           let s = found name in
           let d = memory_in files was made in
-          rw (s.1, left_content s.0) (⊎_elim (may_now d name s.0) (may_once d name s.0) s.2);
-      on_disk = λ name. let s = found name in record { named = refl; flushed = rw s.1 (left_is_flushed s.0) };
+          rw (s.1, seen_all s.0) (⊎_elim (may_now d name s.0) (may_once d name s.0) s.2);
+      on_disk = λ name. let s = found name in record { named = refl; flushed = rw s.1 (flushed_all s.0) };
       made = refl;
     })

@@ -1,4 +1,3 @@
-pub mod Endless
 pub mod LinkFuse
 pub mod MemoryFolder
 pub mod MemoryFolders

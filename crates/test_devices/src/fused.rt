@@ -38,13 +38,6 @@ impl<D> Fused<D> {
         }
     }
 
-    /// The device.
-    pub fn device(&self) -> &D
-        ensures { result.now ≡ device_of self.now }
-    {
-        &self.device
-    }
-
     /// Gives the device back.
     pub fn into_inner(self) -> D
         ensures { result ≡ device_of self }
@@ -112,7 +105,7 @@ impl<D: MaildirDisk> MaildirDisk for Fused<D> {
     ghost use Rattle.mail_store.specs.Loss.{Flushes};
     ghost use Rattle.mail_store.specs.Maildir.{AfterTaking, IsThere, Lists, ListsAll, Checks, Begins, Adds, Settles};
     ghost use Rattle.mail_store.specs.Maildir.{dropped, name_begun};
-    ghost use Rattle.mail_store.specs.Devices.{DiskDoes};
+    ghost use Rattle.mail_store.specs.Devices.{DiskDoes, DiskRefuses};
     ghost use Rattle.test_devices.specs.StoreFuse.{device_of, passes_left, effect_is_due, refusals, fused_maildir};
     ghost use Rattle.test_devices.specs.StoreFuse.{FusedIsSound, Burns, Fuses, SettlesBehind};
 
@@ -172,8 +165,7 @@ impl<D: MaildirDisk> MaildirDisk for Fused<D> {
         ensures misses { result ≡ Ok false → may_miss ≡ true }
         ensures flushes { DiskDoes ⟦<Fused<D> as MaildirDisk>⟧
             (λ old new. Flushes old stems.now result new) self.old self.new }
-        ensures fault { IfErr result (λ e. e ≡ StoreFault.Refused) }
-        ensures count { Tallies (refuses is_refusal result) (refusals self.old) (refusals self.new) }
+        ensures refuses { DiskRefuses ⟦<Fused<D> as MaildirDisk>⟧ self.old result self.new }
         ensures fuse { Fuses (λ d. (D.maildir d).failures) self.old result self.new }
     {
         self.pass()?;
@@ -201,8 +193,7 @@ impl<D: MaildirDisk> MaildirDisk for Fused<D> {
         ensures adds { DiskDoes ⟦<Fused<D> as MaildirDisk>⟧
             (λ old new. Adds old bytes.now result new) self.old self.new }
         ensures begun { name_begun (D.maildir (device_of self.new)) ≡ name_begun (D.maildir (device_of self.old)) }
-        ensures fault { IfErr result (λ e. e ≡ StoreFault.Refused) }
-        ensures count { Tallies (refuses is_refusal result) (refusals self.old) (refusals self.new) }
+        ensures refuses { DiskRefuses ⟦<Fused<D> as MaildirDisk>⟧ self.old result self.new }
         ensures fuse { Fuses (λ d. (D.maildir d).failures) self.old result self.new }
     {
         self.pass()?;
@@ -216,8 +207,7 @@ impl<D: MaildirDisk> MaildirDisk for Fused<D> {
         ensures settles { DiskDoes ⟦<Fused<D> as MaildirDisk>⟧
             (λ old new. Settles old name.now result new) self.old self.new }
         ensures none_begun { (D.maildir (device_of self.new)).begun ≡ None }
-        ensures fault { IfErr result (λ e. e ≡ StoreFault.Refused) }
-        ensures count { Tallies (refuses is_refusal result) (refusals self.old) (refusals self.new) }
+        ensures refuses { DiskRefuses ⟦<Fused<D> as MaildirDisk>⟧ self.old result self.new }
         ensures fuse { (refusals self.old < greatest_count
             → Burns (λ d. (D.maildir d).failures) self.old result self.new)
             × (passes_left self.old ≡ 0 → FusedIsSound D.sound self.new

@@ -1,15 +1,13 @@
-//! Devices for tests: links with prepared replies, without an end or with a fuse, stores with a fuse, and folders in
-//! memory that lose their power.
+//! Devices for tests: links with prepared replies or with a fuse, stores with a fuse, and folders in memory that lose
+//! their power.
 #![tactic(auto)]
 
-mod endless_wire;
 mod fused;
 mod fused_wire;
 mod memory_folder;
 mod memory_folders;
 mod script_wire;
 
-pub use endless_wire::EndlessWire;
 pub use fused::Fused;
 pub use fused_wire::FusedWire;
 pub use memory_folder::{Left, MemoryFolder};

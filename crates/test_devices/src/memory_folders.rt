@@ -14,7 +14,7 @@ ghost use Rattle.folder_store.specs.MailPower.{EntriesLeftAs, LosesMail};
 ghost use Rattle.test_devices.specs.MemoryFolders.{list_of, mail_file};
 
 use folder_store::{MailFolders, Sought, readers_move};
-use mail_store::{Folder, StoreFault, marks_keep_the_base, sought_names, stem};
+use mail_store::{Folder, StoreFault, sought_names, stem};
 use mail_terms::base;
 use std::alloc::{AllocError, Global};
 use std::marker::Model;
@@ -231,7 +231,6 @@ fn still_rests(rests: bool, was_there: bool, is_there: bool) -> bool
 fn name_for(alloc: Global, name: &str, is_new: bool) -> Result<String, AllocError>
     ensures { IfOk result (λ text. base (string_bytes text) ≡ base name.now) }
 {
-    marks_keep_the_base();
     let mut text = String::from_str(alloc, base(name))?;
     if is_new {
         return Ok(text);

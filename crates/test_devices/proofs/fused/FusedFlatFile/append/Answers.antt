@@ -2,7 +2,7 @@ use Rattle.std.proofs.Common.{ℕ, ◌+◌, ◌/◌, List, ◌++◌, length, tak
 use Rattle.mail_store.specs.declared.fault.StoreFault.{StoreFault}
 use Rattle.mail_store.specs.declared.fault.StoreFault.TheVariants.{Refused}
 use Rattle.mail_store.specs.FlatFile.{Stored, Appends}
-use Rattle.test_devices.proofs.PartLemmas.{part_left}
+use Rattle.mail_store.proofs.SettlingLemmas.{part_left}
 use Rattle.test_devices.proofs.fused.FusedFlatFile.append.Goals as goal
 
 -- the first half of the bytes was appended, or a front of it: a front of the bytes is there
