@@ -18,25 +18,25 @@ use Rattle.mail_terms.specs.MaildirName.{base}
 use Rattle.mail_terms.specs.UniqueId.{is_legal_id}
 use Rattle.pop3_server.specs.Maildrop.{Listed, max_count, max_size}
 use Rattle.folder_drop.specs.declared.listed_file.ListedFile.{ListedFile}
-use Rattle.folder_drop.specs.ListedIds.{same_key, bases_of, AreListed, AreSeen, IsBefore, FollowsLast, IsNext}
-use Rattle.folder_drop.specs.MaildirNames.{id_of}
+use Rattle.folder_drop.specs.Listing.{same_key, bases_of, AreListed, AreSeen, IsBefore, FollowsLast, IsNext}
+use Rattle.folder_drop.specs.MaildirNames.{id_of, digest_length}
 use Rattle.folder_drop.specs.RealMaildir.{HaveIds, id_of_name, name_of, names_of, uid_of}
 
 -- ---- ids
 
-digest_long : (name : List ℕ) → length (encode_lower (sha256 name)) ≡ 64
+digest_long : (name : List ℕ) → length (encode_lower (sha256 name)) ≡ digest_length
 digest_long name = let digits = length-encode_with lower_digits (sha256 name) in let bytes = length-sha256 name in omega (arith, digits, bytes)
 
 -- an id is its base, or as long as a digest
-id_cases : (name : List ℕ) → (id_of name ≡ name) ⊎ (length (id_of name) ≡ 64)
-id_cases name = cond_both (is_legal_id name) name (encode_lower (sha256 name)) (λ id. (id ≡ name) ⊎ (length id ≡ 64)) (λ _. inl refl) (λ _. inr (digest_long name))
+id_cases : (name : List ℕ) → (id_of name ≡ name) ⊎ (length (id_of name) ≡ digest_length)
+id_cases name = cond_both (is_legal_id name) name (encode_lower (sha256 name)) (λ id. (id ≡ name) ⊎ (length id ≡ digest_length)) (λ _. inl refl) (λ _. inr (digest_long name))
 
 -- it is as long as a digest unless the base is legal and has another length
-pub long_unless : (name : List ℕ) → (is_legal_id name ≡ true → length name ≡ 64) → length (id_of name) ≡ 64
-long_unless name keeps = cond_both (is_legal_id name) name (encode_lower (sha256 name)) (λ id. length id ≡ 64) keeps (λ _. digest_long name)
+pub long_unless : (name : List ℕ) → (is_legal_id name ≡ true → length name ≡ digest_length) → length (id_of name) ≡ digest_length
+long_unless name keeps = cond_both (is_legal_id name) name (encode_lower (sha256 name)) (λ id. length id ≡ digest_length) keeps (λ _. digest_long name)
 
 -- only one base has an id of another length
-same_base : (a b : List ℕ) → id_of a ≡ id_of b → length (id_of b) ≢ 64 → a ≡ b
+same_base : (a b : List ℕ) → id_of a ≡ id_of b → length (id_of b) ≢ digest_length → a ≡ b
 same_base a b e other =
     ⊎_elim
     (λ is. ⊎_elim (λ is_too. sym is_too ∙ e ∙ is) (λ long. absurd (other (sym (ap length e) ∙ long))) (id_cases a))
@@ -119,7 +119,7 @@ listed_more old new key files file seen next few small listed = record {
 }
 
 -- an id of another length isn't kept
-pub seen_same : {Z S : Type 0} (seen : HashSet (Vec ℕ Z) S) (ids : List (List ℕ)) (id : List ℕ) → AreSeen seen ids → length id ≢ 64 → AreSeen seen (ids ++ id ∷ [])
+pub seen_same : {Z S : Type 0} (seen : HashSet (Vec ℕ Z) S) (ids : List (List ℕ)) (id : List ℕ) → AreSeen seen ids → length id ≢ digest_length → AreSeen seen (ids ++ id ∷ [])
 seen_same seen ids id all other = λ q h long.
     ⊎_elim (λ before. all q before long) (λ now. absurd (other (ap length now ∙ long))) (Contains-push_cases ids id q.items h)
 

@@ -1,6 +1,6 @@
+pub mod CountedSizes
 pub mod FoldersLook
-pub mod ListedFiles
-pub mod ListedIds
+pub mod Listing
 pub mod MaildirNames
 pub mod RealMaildir
 pub mod Removal

@@ -2,7 +2,7 @@
 ghost use Rattle.std.specs.Prelude.{◌≡◌, IsTrue, IfSome};
 ghost use Rattle.std.specs.String.{string_bytes};
 ghost use Rattle.mail_terms.specs.MaildirName.{base as base_of};
-ghost use Rattle.folder_drop.specs.ListedFiles.{WasCounted};
+ghost use Rattle.folder_drop.specs.CountedSizes.{WasCounted};
 ghost use Rattle.folder_drop.specs.RealMaildir.{name_of};
 
 use crate::maildir_names::{Folder, PlacedFile, Stamp};

@@ -5,7 +5,7 @@ ghost use Rattle.folder_drop.specs.FoldersLook.{IsUnchanged};
 ghost use Rattle.mail_terms.specs.Distinct.{AreDistinct};
 ghost use Rattle.mail_terms.specs.MaildirName.{base as base_of};
 ghost use Rattle.pop3_server.specs.Maildrop.{max_size};
-ghost use Rattle.folder_drop.specs.ListedIds.{AreListed, FollowsLast, IsNext, IsUnseen};
+ghost use Rattle.folder_drop.specs.Listing.{AreListed, FollowsLast, IsNext, IsUnseen};
 ghost use Rattle.folder_drop.specs.RealMaildir.{name_of, names_of, uid_of, HaveIds};
 
 use crate::folders_look::FoldersLook;
@@ -27,7 +27,7 @@ pub struct Listing {
 }
 
 impl Model for Listing {
-    ghost use Rattle.folder_drop.specs.ListedIds.{AreMessages, FileListing};
+    ghost use Rattle.folder_drop.specs.Listing.{AreMessages, FileListing};
 
     ghost Value = { FileListing };
 

@@ -19,3 +19,12 @@ fn want_of_memory_is_no_refusal(rt: HostRuntime) {
     );
     assert!(rt; refusals.take().is_none());
 }
+
+/// What the system refuses for want of memory is its refusal.
+#[test]
+fn the_systems_want_of_memory_is_a_refusal(rt: HostRuntime) {
+    let refusals = Refusals::new(rt.alloc(), None);
+    let error = Error::from_raw_os_error(12);
+    let _ = refusals.noted("open", "a", Err::<(), Error>(error));
+    assert!(rt; refusals.take().is_some());
+}

@@ -2,7 +2,7 @@ use Rattle.std.proofs.Common.{◌≡◌, ◌≤◌, ◌∙◌, ℕ, List, ap, ar
 use Rattle.mail_terms.specs.MaildirName.{base}
 use Rattle.pop3_server.specs.Maildrop.{max_size}
 use Rattle.folder_drop.specs.declared.listed_file.ListedFile.{ListedFile}
-use Rattle.folder_drop.specs.ListedIds.{FollowsLast}
+use Rattle.folder_drop.specs.Listing.{FollowsLast}
 use Rattle.folder_drop.specs.MaildirNames.{IsKey, id_of}
 use Rattle.folder_drop.specs.RealMaildir.{name_of}
 use Rattle.folder_drop.proofs.maildir_drop.MaildirDrop.list.Goals as goal

@@ -1,4 +1,4 @@
-use Rattle.folder_drop.specs.ListedIds.{AreListed}
+use Rattle.folder_drop.specs.Listing.{AreListed}
 use Rattle.folder_drop.proofs.maildir_drop.MaildirDrop.list.Given as goal
 
 abbrev pub invariant-loop-file : goal.invariant-loop-file
