@@ -1,7 +1,63 @@
--- What a rehearsal shows of the commands that it sends.
-use Rattle.std.specs.Prelude.{ℕ, List, ◌==◌, codes, if◌then◌else◌}
+-- What a rehearsal holds, and what it shows of the commands that it sends.
+use Rattle.std.specs.Prelude.{◌≡◌, ℕ, Bool, true, false, List, ◌==◌, codes, if◌then◌else◌}
 use Rattle.std.specs.List.{starts_with}
+use Rattle.pop3_wire.specs.declared.wire.Wire.{Ghosts as WireGhosts}
+use Rattle.mail_store.specs.declared.maildir.disk.MaildirDisk.{Ghosts as DiskGhosts}
+use Rattle.mail_store.specs.declared.file.flat_file.FlatFile.{Ghosts as FileGhosts}
+use Rattle.rc_file.specs.Flags.{is_contradiction, overridden}
+use Rattle.rc_file.specs.Settings.{Content, content_of, maildir}
+use Rattle.rc_file.specs.declared.flags.Flags.{Flags}
+use Rattle.rc_file.specs.declared.settings.Settings.{Settings}
+use Rattle.fetch_session.specs.Account.{Holding}
+use Rattle.fetch_session.specs.Lasting.{RunsSession}
+use Rattle.fetch_session.specs.declared.account.Store.{Store}
+use Rattle.fetch_session.specs.declared.report.Outcome.{Outcome}
+use Rattle.fetch_session.specs.declared.report.Outcome.TheVariants.{Ended}
+use Rattle.fetch_session.specs.declared.report.Report.{Report}
+use Rattle.getmail_program.specs.Holding.{holding_of}
 
 -- a command as it is shown: PASS without its argument
 abbrev pub shown_of : List ℕ → List ℕ
 shown_of command = if starts_with (λ a b. a == b) command (codes "PASS ") then codes "PASS *" else command
+
+-- the settings of a rehearsal: all options at their defaults
+abbrev pub defaults : Content
+defaults = record {
+  server = codes "rehearsal";
+  port = 110;
+  username = codes "u";
+  password = codes "p";
+  dest = maildir (codes "rehearsal/");
+  read_all = true;
+  delete = false;
+  delete_after = 0;
+  max_size = 0;
+  max_count = 0;
+  verbose = 1;
+}
+
+-- a session with these settings was held, and came out so
+pub record HoldsOne {W D F : Type 0} (link : WireGhosts W) (disk : DiskGhosts D) (file : FileGhosts F)
+    (settings : Settings) (outcome : Outcome) : Type 0 where
+  pub store : Store D F
+  pub seen_file : F
+  pub wire : W
+  pub report : Report
+  pub left : Holding D F
+  pub wire' : W
+  pub runs : RunsSession link disk file 0 (holding_of settings store seen_file) wire report left wire'
+  pub outcome_is : report.outcome ≡ outcome
+
+-- one of a rehearsal's settings, changed by the flags, was held to its end
+pub record HoldsWhole {W D F : Type 0} (link : WireGhosts W) (disk : DiskGhosts D) (file : FileGhosts F)
+    (flags : Flags) : Type 0 where
+  pub settings : Settings
+  pub agree : is_contradiction flags ≡ false
+  pub changed : content_of settings ≡ overridden defaults flags
+  pub held : HoldsOne link disk file settings Ended
+
+-- a rehearsal's status: 0 if its session was held to its end, 2 for opposite flags alone
+pub record Rehearses {W D F : Type 0} (link : WireGhosts W) (disk : DiskGhosts D) (file : FileGhosts F)
+    (flags : Flags) (status : ℕ) : Type 0 where
+  pub ended : status ≡ 0 → HoldsWhole link disk file flags
+  pub opposite : status ≡ 2 → is_contradiction flags ≡ true

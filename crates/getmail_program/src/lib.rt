@@ -4,7 +4,9 @@
 mod devices;
 mod doubt;
 mod ending;
+mod errand;
 mod fault_line;
+mod fetch;
 mod findings;
 mod left_out;
 mod news;
@@ -17,8 +19,10 @@ mod teller;
 mod told;
 mod transcript;
 
-pub use devices::fetch_at;
+pub use devices::{Devices, HostDevices};
 pub use ending::Fetched;
+pub use errand::{Errand, fetch_at};
+pub use fetch::{Machine, RunSetup};
 pub use rehearsal::rehearse;
 pub use run::fetch_over;
 pub use start::obey_command_line;

@@ -1,16 +1,18 @@
 //! The rehearsal: a session with a recorded conversation as its server, and with a Maildir and a
 //! record in memory.
-ghost use Rattle.std.specs.Prelude.{◌≡◌, ◌≤◌, ◌<◌, true, IfOk};
-ghost use Rattle.rc_file.specs.Flags.{is_contradiction};
-ghost use Rattle.rc_file.specs.Settings.{IsValid};
+ghost use Rattle.std.specs.Prelude.{◌≡◌, ◌≤◌, IfOk};
+ghost use Rattle.rc_file.specs.Settings.{IsValid, content_of};
+ghost use Rattle.getmail_program.specs.Rehearsal.{HoldsOne, Rehearses, defaults};
 
 use crate::ending::unwritten_line;
 use crate::transcript::Transcript;
 use fetch_rules::{Dest, Flags, RcFault, Settings, override_with};
 use fetch_session::{Account, Outcome, Store, fault_number, session};
 use getmail_setup::{OUT_OF_MEMORY, refusal_of};
-use mail_store::{AccountId, Folder, MemoryFile, MemoryMaildir, account_id, uid_of};
-use pop3_wire::StreamWire;
+use mail_store::{
+    AccountId, FlatFile, Folder, MaildirDisk, MemoryFile, MemoryMaildir, account_id, uid_of,
+};
+use pop3_wire::{StreamWire, Wire};
 use std::alloc::{AllocError, Global};
 use std::hash::{BuildHasherDefault, FoldHasher};
 use std::io;
@@ -25,7 +27,8 @@ const USER: &str = "u";
 
 /// The settings of a rehearsal: all options at their defaults.
 fn defaults(alloc: Global) -> Result<Settings, AllocError>
-    ensures { IfOk result IsValid }
+    ensures valid { IfOk result IsValid }
+    ensures content { IfOk result (λ settings. content_of settings ≡ defaults) }
 {
     Ok(Settings {
         server: String::from_str(alloc, SERVER)?,
@@ -101,6 +104,8 @@ fn run_in_memory<R: Read + Drop, W: Write + Drop, T: Write + Drop>(
     trace: Option<T>,
 ) -> (Outcome, Store<MemoryMaildir, MemoryFile>, W)
     requires { IsValid settings }
+    ensures { HoldsOne ⟦<TracedWire<'static, StreamWire<R, Transcript<W>>, T> as Wire>⟧
+        ⟦<MemoryMaildir as MaildirDisk>⟧ ⟦<MemoryFile as FlatFile>⟧ settings result.0 }
 {
     let (input, output) = streams;
     let store = Store::Maildir(MemoryMaildir::new(alloc));
@@ -127,7 +132,8 @@ fn tell_end<W: Write, E: Write>(
     outcome: &Outcome,
     err: &mut E,
 ) -> u8
-    ensures { result ≤ 1 }
+    ensures within { result ≤ 1 }
+    ensures ended { result ≡ 0 → outcome.now ≡ Outcome.Ended }
 {
     if let Err(error) = write_outcome(alloc, output, maildir, outcome) {
         let line = unwritten_line(&Outcome::Ended, Some(refusal_of(&error)));
@@ -149,7 +155,9 @@ fn rehearse_with<R: Read + Drop, W: Write + Drop, E: Write, T: Write + Drop>(
     trace: Option<T>,
 ) -> u8
     requires { IsValid settings }
-    ensures { result ≤ 1 }
+    ensures within { result ≤ 1 }
+    ensures ended { result ≡ 0 → HoldsOne ⟦<TracedWire<'static, StreamWire<R, Transcript<W>>, T> as Wire>⟧
+        ⟦<MemoryMaildir as MaildirDisk>⟧ ⟦<MemoryFile as FlatFile>⟧ settings Outcome.Ended }
 {
     let (outcome, store, mut output) = run_in_memory(alloc, settings, streams, trace);
     match &store {
@@ -171,8 +179,8 @@ pub fn rehearse<R: Read + Drop, W: Write + Drop, E: Write, T: Write + Drop>(
     trace: Option<T>,
 ) -> u8
     ensures within { result ≤ 2 }
-    ensures refused { is_contradiction flags ≡ true → 0 < result }
-    ensures opposite { result ≡ 2 → is_contradiction flags ≡ true }
+    ensures rehearses { Rehearses ⟦<TracedWire<'static, StreamWire<R, Transcript<W>>, T> as Wire>⟧
+        ⟦<MemoryMaildir as MaildirDisk>⟧ ⟦<MemoryFile as FlatFile>⟧ flags result }
 {
     let Ok(settings) = defaults(alloc) else {
         let _ = err.write_all(OUT_OF_MEMORY.as_bytes());

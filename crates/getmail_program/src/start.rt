@@ -1,139 +1,63 @@
 //! A run from its command line to its exit status.
-ghost use Rattle.std.specs.Prelude.{◌≡◌, ◌≤◌, true};
-ghost use Rattle.rc_file.specs.Settings.{IsValid};
-ghost use Rattle.getmail_setup.specs.Lock.{goes_on};
+ghost use Rattle.std.specs.Prelude.{◌≡◌, ◌≤◌, ◌&&◌, map, not};
+ghost use Rattle.std.specs.String.{string_bytes};
+ghost use Rattle.trace.specs.declared.system.System.{System};
+ghost use Rattle.getmail_program.specs.Rehearsal.{Rehearses};
+ghost use Rattle.getmail_program.specs.Starting.{LeadsTo, Obeys, Starts};
 
-use crate::devices::{fetch_at, seconds_now};
+use crate::fetch::{Machine, RunSetup};
 use crate::news::tell_news;
 use crate::rehearsal::rehearse;
-use fetch_rules::{RcFault, Settings};
-use folder_store::ProcessMark;
+use crate::transcript::Transcript;
+use fetch_rules::RcFault;
+use file_reading::ReadFile;
 use getmail_setup::{
-    Errors, Failure, Journal, Kept, Lock, Output, Peer, Reasons, Setup, Words, connect, explain,
-    fail, failure_of, home, is_long_held, link_over, other_list, peer_of, read_words, set_up,
-    take_lock, tell,
+    Errors, Failure, Journal, Kept, Output, Reasons, Words, explain, fail, home, read_words,
+    set_up, tell,
 };
+use mail_store::{FlatFile, MaildirDisk, MemoryFile, MemoryMaildir};
+use pop3_wire::{StreamWire, Wire};
+use std::alloc::Global;
 use std::env::{self, Env};
 use std::fs::File;
-use std::hash::RandomState;
-use std::io::{self, ErrorKind, IsTerminal, Read, Stderr, Write};
+use std::io::{ErrorKind, IsTerminal, Read, Stderr, Write};
 use std::net::{Net, TcpStream};
 use std::process::Process;
 use std::random::RandomSource;
 use std::rt::{Clock, Files};
-use trace::System;
+use trace::{System, TracedWire};
 
-/// The random values of a run: keys for hashing, since a server chooses the unique-ids and mustn't be
-/// able to choose ids that collide, and the mark of the files that the run writes.
-fn draw(random: &impl RandomSource, process: Process) -> io::Result<(RandomState, ProcessMark)> {
-    let hasher = RandomState::new(random)?;
-    let mark = ProcessMark::new(process, random)?;
-    Ok((hasher, mark))
+/// Whether nobody waits for what is said. A preview is for somebody.
+fn is_unattended(words: &Words) -> bool
+    ensures { result ≡ (words.now.unattended && not words.now.pretend) }
+{
+    words.unattended && !words.pretend
 }
 
-/// What a run needs before it connects: the random values, and what the link needs.
-type Prepared = ((RandomState, ProcessMark), Peer);
-
-/// Prepares a run, so that nothing is refused for want of memory between the connection and the session.
-fn prepare<'a, R: RandomSource + AllocGlobal>(
+/// Sets a run up from the rc file that the words name, and runs it. Returns the exit status.
+fn run<R, S, M, O, E>(
     rt: &R,
-    process: Process,
-    settings: &Settings,
-) -> Result<Prepared, Failure<'a>> {
-    match draw(rt, process) {
-        Ok(drawn) => Ok((drawn, peer_of(rt.alloc(), settings)?)),
-        Err(error) => Err(failure_of(error, Failure::CannotRead)),
-    }
-}
-
-/// Connects, runs one session or only shows what it would do, and returns the exit status. A run of which
-/// another one has the lock does neither.
-fn fetch_with<R, O, E>(
-    rt: &R,
-    setup: Setup,
-    prepared: Prepared,
-    _lock: &Lock,
+    files: &S,
+    machine: &M,
+    words: &Words,
     out: O,
     mut errors: Errors<'_, E>,
 ) -> u8
 where
-    R: Net<Stream = TcpStream> + Files + Clock + AllocGlobal + Clone + Drop,
+    R: Files + Env + AllocGlobal,
+    S: ReadFile,
+    M: RunSetup,
     O: Write + Drop,
     E: Write + Copy + Drop,
-    requires valid { IsValid setup.settings }
-    requires turn { goes_on _lock.now ≡ true }
-    ensures { result ≤ 2 }
+    ensures within { result ≤ 2 }
+    ensures starts { Starts (S.gave files.now) (S.refused files.now) (M.ran machine.now) words.now
+        result }
 {
-    let settings = &setup.settings;
-    let (drawn, peer) = prepared;
-    let server = settings.server.as_str();
-    let stream = match connect(rt, &errors.reasons.before, server, settings.port) {
-        Ok(stream) => stream,
-        Err(failure) => return fail(rt.alloc(), failure, Some(settings), &mut errors),
+    let Ok(home) = home(rt) else {
+        return fail(rt.alloc(), Failure::NoMemory, None, &mut errors);
     };
-    let link = link_over(rt.alloc(), &stream, peer, &errors);
-    fetch_at(rt, setup, link, drawn, &mut Output::new(out), errors)
-}
-
-/// Whether an unattended run says nothing of another one that has the lock: not for the first hour.
-fn is_patient<E>(rt: &impl Clock, errors: &Errors<'_, E>) -> bool {
-    match (errors.journal, errors.reasons.held_since.get()) {
-        (Some(_), Some(since)) => !is_long_held(since, seconds_now(rt)),
-        _ => false,
-    }
-}
-
-/// Takes the lock, which is held to the end, then connects and runs one session or only shows what it would
-/// do, and returns the exit status.
-fn fetch<R, O, E>(rt: &R, process: Process, setup: Setup, out: O, mut errors: Errors<'_, E>) -> u8
-where
-    R: Net<Stream = TcpStream> + Files<File = File> + Clock + RandomSource + AllocGlobal,
-    R: Clone + Drop,
-    O: Write + Drop,
-    E: Write + Copy + Drop,
-    requires { IsValid setup.settings }
-    ensures { result ≤ 2 }
-{
-    if let Some(list) = other_list(rt, &setup) {
-        let failure = Failure::OtherList(list.as_str(), setup.paths.record.as_str());
-        return fail(rt.alloc(), failure, None, &mut errors);
-    }
-    let prepared = match prepare(rt, process, &setup.settings) {
-        Ok(prepared) => prepared,
-        Err(failure) => return fail(rt.alloc(), failure, None, &mut errors),
-    };
-    let lock = take_lock(rt, &setup, &mut errors);
-    if let Lock::Elsewhere = &lock {
-        if is_patient(rt, &errors) {
-            return 0;
-        }
-        return fail(
-            rt.alloc(),
-            Failure::AtWork,
-            Some(&setup.settings),
-            &mut errors,
-        );
-    }
-    fetch_with(rt, setup, prepared, &lock, out, errors)
-}
-
-/// Sets a run up, and runs it. Returns the exit status.
-fn run<R, O, E>(rt: &R, process: Process, words: &Words, out: O, mut errors: Errors<'_, E>) -> u8
-where
-    R: Net<Stream = TcpStream> + Files<File = File> + Env + Clock,
-    R: RandomSource + AllocGlobal + Clone + Drop,
-    O: Write + Drop,
-    E: Write + Copy + Drop,
-    ensures { result ≤ 2 }
-{
-    let home = match home(rt) {
-        Ok(home) => home,
-        Err(failure) => return fail(rt.alloc(), failure, None, &mut errors),
-    };
-    let reasons = errors.reasons;
-    let files = System::new(rt, &reasons.before);
-    match set_up(rt, &files, home.as_deref(), words, &mut errors) {
-        Ok(setup) => fetch(rt, process, setup, out, errors),
+    match set_up(rt, files, home.as_deref(), words, &mut errors) {
+        Ok(setup) => machine.run(setup, is_unattended(words), out, errors),
         Err(failure) => fail(rt.alloc(), failure, None, &mut errors),
     }
 }
@@ -153,9 +77,8 @@ fn errors_kept<'a>(journal: &'a Journal, reasons: &'a Reasons) -> Errors<'a, Kep
 }
 
 /// Runs with what is said kept in a journal, and tells of it what no earlier run told. Returns the exit status.
-fn run_unattended<R, O>(
-    rt: &R,
-    process: Process,
+fn run_unattended<'a, R, O>(
+    machine: &Machine<'a, R>,
     words: &Words,
     out: O,
     err: Stderr,
@@ -165,30 +88,60 @@ where
     R: Net<Stream = TcpStream> + Files<File = File> + Env + Clock,
     R: RandomSource + AllocGlobal + Clone + Drop,
     O: Write + Drop,
-    ensures { result ≤ 2 }
+    ensures within { result ≤ 2 }
+    ensures starts { (files : System R) × Starts (⟦<System<'a, R> as ReadFile>⟧.gave files)
+        (⟦<System<'a, R> as ReadFile>⟧.refused files) (⟦<Machine<'a, R> as RunSetup>⟧.ran machine.now) words.now
+        result }
 {
+    let rt = machine.rt;
     let journal = Journal::new(rt.alloc());
     let errors = errors_kept(&journal, reasons);
-    let status = run(rt, process, words, out, errors);
-    tell_news(rt, process, words, &journal, err);
+    let files = System::new(rt, &reasons.before);
+    let status = run(rt, &files, machine, words, out, errors);
+    tell_news(rt, machine.process, words, &journal, err);
+    status
+}
+
+/// Rehearses a session, and returns the exit status. Opposite flags are told.
+fn rehearse_told<I, O>(
+    alloc: Global,
+    words: &Words,
+    streams: (I, O),
+    trace: Option<Stderr>,
+    errors: &mut Errors<'_, Stderr>,
+) -> u8
+where
+    I: Read + Drop,
+    O: Write + Drop,
+    ensures within { result ≤ 2 }
+    ensures rehearses { Rehearses ⟦<TracedWire<'static, StreamWire<I, Transcript<O>>, Stderr> as Wire>⟧
+        ⟦<MemoryMaildir as MaildirDisk>⟧ ⟦<MemoryFile as FlatFile>⟧ words.now.flags result }
+{
+    let status = rehearse(alloc, words.flags, streams, &mut errors.err.writer(), trace);
+    if status == 2 {
+        let failure = Failure::Rc(RcFault::Contradiction);
+        return fail(alloc, failure, None, errors);
+    }
     status
 }
 
 /// Does what these words ask for, and returns the exit status.
-fn obey<R, I, O>(rt: &R, process: Process, words: &Words, streams: (I, O), mut err: Stderr) -> u8
+fn obey<'a, R, I, O>(machine: &Machine<'a, R>, words: &Words, streams: (I, O), err: Stderr) -> u8
 where
     R: Net<Stream = TcpStream> + Files<File = File> + Env + Clock,
     R: RandomSource + AllocGlobal + Clone + Drop,
     I: Read + Drop,
     O: Write + IsTerminal + Drop,
-    ensures { result ≤ 2 }
+    ensures within { result ≤ 2 }
+    ensures obeys { Obeys (Rehearses ⟦<TracedWire<'static, StreamWire<I, Transcript<O>>, Stderr> as Wire>⟧
+        ⟦<MemoryMaildir as MaildirDisk>⟧ ⟦<MemoryFile as FlatFile>⟧)
+        ⟦<System<'a, R> as ReadFile>⟧.gave ⟦<System<'a, R> as ReadFile>⟧.refused
+        (⟦<Machine<'a, R> as RunSetup>⟧.ran machine.now) words.now result }
 {
+    let rt = machine.rt;
     let is_terminal = err.is_terminal();
     let trace = if words.trace { Some(err) } else { None };
     let reasons = Reasons::new(rt.alloc(), trace);
-    if words.unattended && !words.pretend {
-        return run_unattended(rt, process, words, streams.1, err, &reasons);
-    }
     let mut errors = Errors {
         err: Output::new(err),
         shows_progress: is_terminal && !words.trace,
@@ -197,19 +150,14 @@ where
         reasons: &reasons,
         journal: None,
     };
-    if !words.rehearse {
-        return run(rt, process, words, streams.1, errors);
+    if words.rehearse {
+        return rehearse_told(rt.alloc(), words, streams, trace, &mut errors);
     }
-    let status = rehearse(rt.alloc(), words.flags, streams, &mut err, trace);
-    if status == 2 {
-        return fail(
-            rt.alloc(),
-            Failure::Rc(RcFault::Contradiction),
-            None,
-            &mut errors,
-        );
+    if is_unattended(words) {
+        return run_unattended(machine, words, streams.1, err, &reasons);
     }
-    status
+    let files = System::new(rt, &reasons.before);
+    run(rt, &files, machine, words, streams.1, errors)
 }
 
 /// The words of the command line, the program's name first. If they can't be read, for example because
@@ -229,6 +177,30 @@ fn arguments<'a, R: Env + AllocGlobal>(rt: &R) -> Result<Vec<String>, Failure<'a
     }
 }
 
+/// Does what these arguments ask for, the program's name first, and returns the exit status.
+fn obey_arguments<'a, R, I, O>(
+    machine: &Machine<'a, R>,
+    arguments: &[String],
+    streams: (I, O),
+    err: Stderr,
+) -> u8
+where
+    R: Net<Stream = TcpStream> + Files<File = File> + Env + Clock,
+    R: RandomSource + AllocGlobal + Print + Eprint + Clone + Drop,
+    I: Read + Drop,
+    O: Write + IsTerminal + Drop,
+    ensures within { result ≤ 2 }
+    ensures leads { LeadsTo (Rehearses ⟦<TracedWire<'static, StreamWire<I, Transcript<O>>, Stderr> as Wire>⟧
+        ⟦<MemoryMaildir as MaildirDisk>⟧ ⟦<MemoryFile as FlatFile>⟧)
+        ⟦<System<'a, R> as ReadFile>⟧.gave ⟦<System<'a, R> as ReadFile>⟧.refused
+        (⟦<Machine<'a, R> as RunSetup>⟧.ran machine.now) (map string_bytes arguments.now) result }
+{
+    match read_words(machine.rt.alloc(), arguments) {
+        Ok(words) => obey(machine, &words, streams, err),
+        Err(error) => explain(machine.rt, &error, &mut Output::new(err)),
+    }
+}
+
 /// Does what the command line of a runtime asks for, and returns the exit status. The streams are standard
 /// input and output; `err` is standard error, to which a trace goes.
 pub fn obey_command_line<R, I, O>(rt: &R, process: Process, streams: (I, O), err: Stderr) -> u8
@@ -239,12 +211,8 @@ where
     O: Write + IsTerminal + Drop,
     ensures { result ≤ 2 }
 {
-    let arguments = match arguments(rt) {
-        Ok(arguments) => arguments,
-        Err(failure) => return tell(rt.alloc(), failure, &mut Output::new(err)),
-    };
-    match read_words(rt.alloc(), arguments.as_slice()) {
-        Ok(words) => obey(rt, process, &words, streams, err),
-        Err(error) => explain(rt, &error, &mut Output::new(err)),
+    match arguments(rt) {
+        Ok(arguments) => obey_arguments(&Machine { rt, process }, &arguments, streams, err),
+        Err(failure) => tell(rt.alloc(), failure, &mut Output::new(err)),
     }
 }

@@ -1,0 +1,64 @@
+-- A run over devices that are made for it.
+use Rattle.std.specs.Prelude.{◌≡◌, ◌⊎◌, ℕ, Bool, true, List, Option}
+use Rattle.std.specs.String.{string_bytes}
+use Rattle.pop3_wire.specs.declared.wire.Wire.{Ghosts as WireGhosts}
+use Rattle.mail_store.specs.declared.maildir.disk.MaildirDisk.{Ghosts as DiskGhosts}
+use Rattle.mail_store.specs.declared.file.flat_file.FlatFile.{Ghosts as FileGhosts}
+use Rattle.rc_file.specs.declared.settings.Dest.{Dest}
+use Rattle.rc_file.specs.declared.settings.Settings.{Settings}
+use Rattle.fetch_session.specs.Account.{Holding}
+use Rattle.fetch_session.specs.declared.account.Store.{Store}
+use Rattle.getmail_setup.specs.Failures.{status_of}
+use Rattle.getmail_setup.specs.declared.errors.Errors.{Errors}
+use Rattle.getmail_setup.specs.declared.failure.Failure.{Failure}
+use Rattle.getmail_setup.specs.declared.output.Output.{Output}
+use Rattle.getmail_setup.specs.declared.output.OutputRefusal.{OutputRefusal}
+use Rattle.getmail_setup.specs.declared.setup.Paths.{Paths}
+use Rattle.getmail_setup.specs.declared.setup.Setup.{Setup}
+use Rattle.getmail_program.specs.Holding.{HoldsSession, holding_of}
+use Rattle.getmail_program.specs.Telling.{TellsAll, outcome_of, status_when}
+use Rattle.getmail_program.specs.declared.ending.Fetched.{Fetched}
+use Rattle.getmail_program.specs.declared.told.Told.{Told}
+
+-- with a store and a file of the record that were made at these paths, a session of the settings was held, or it was
+-- only previewed
+pub record FetchesAt {W D F : Type 0} (link : WireGhosts W) (disk : DiskGhosts D) (file : FileGhosts F)
+    (made_store : Dest → List ℕ → List ℕ → Store D F → Type 0) (made_record : List ℕ → F → Type 0)
+    (settings : Settings) (paths : Paths) (pretends : Bool) (now : ℕ) (wire : W) (told : Told) : Type 0 where
+  pub store : Store D F
+  pub store_made : made_store settings.dest (string_bytes paths.destination) (string_bytes paths.rests) store
+  pub seen_file : F
+  pub record_made : made_record (string_bytes paths.record) seen_file
+  pub left : Holding D F
+  pub wire' : W
+  pub holds : HoldsSession link disk file pretends now (holding_of settings store seen_file) wire told left wire'
+
+-- what a session said was written, and this is its exit status
+pub record TellsOf {O E : Type 0} (out_contents : O → Option (List ℕ)) (err_contents : E → Option (List ℕ))
+    (settings : Settings) (told : Told) (out : Output O) (errors : Errors E) (status : ℕ) (out' : Output O)
+    : Type 0 where
+  pub fetched : Fetched
+  pub errors' : Errors E
+  pub tells : TellsAll out_contents err_contents errors.explains settings told out errors fetched out' errors'
+  pub status_is : status ≡ fetched.status
+
+-- a session of a setup was held over some link, or only previewed; the status is 0 if it ended and all was written
+pub record HoldsSetup {W D F : Type 0} (link : WireGhosts W) (disk : DiskGhosts D) (file : FileGhosts F)
+    (setup : Setup) (status : ℕ) : Type 0 where
+  pub now : ℕ
+  pub wire : W
+  pub told : Told
+  pub fetches : FetchesAt link disk file (λ _ _ _ _. Unit {0}) (λ _ _. Unit {0}) setup.settings setup.paths
+      setup.pretends now wire told
+  pub refusal : Option OutputRefusal
+  pub status_is : status ≡ status_when (outcome_of told) refusal
+
+-- so it was, or there was none for a failure, which the status tells
+abbrev pub ConnectsAndHolds : {W D F : Type 0} → WireGhosts W → DiskGhosts D → FileGhosts F → Setup → ℕ → Type 0
+ConnectsAndHolds link disk file setup status = ((failure : Failure) × (status ≡ status_of failure))
+    ⊎ HoldsSetup link disk file setup status
+
+-- so it was; or an unattended run leaves the account to another one that is at work
+abbrev pub Runs : {W D F : Type 0} → WireGhosts W → DiskGhosts D → FileGhosts F → Setup → Bool → ℕ → Type 0
+Runs link disk file setup is_unattended status = ((is_unattended ≡ true) × (status ≡ 0))
+    ⊎ ConnectsAndHolds link disk file setup status

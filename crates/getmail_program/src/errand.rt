@@ -1,0 +1,147 @@
+//! A run over devices that are made for it.
+ghost use Rattle.std.specs.Prelude.{◌≤◌, ℕ};
+ghost use Rattle.rc_file.specs.Settings.{IsValid};
+ghost use Rattle.getmail_program.specs.Fetching.{FetchesAt, TellsOf};
+ghost use Rattle.getmail_program.specs.declared.told.Told.{Told};
+
+use crate::devices::{Devices, seconds_now};
+use crate::reason::line_of;
+use crate::run::{Left, Parts, fetch_with};
+use crate::told::Manner;
+use fetch_rules::Settings;
+use getmail_setup::{Errors, Output, Paths, ShownWire, Subject};
+use pop3_wire::Wire;
+use std::alloc::Global;
+use std::hash::BuildHasher;
+use std::io::Write;
+use std::rt::{Clock, Files};
+
+/// What a run is to do: with these settings, at these paths.
+pub struct Errand<'a> {
+    pub settings: Settings,
+    pub paths: &'a Paths,
+    /// Whether it only shows what it would do.
+    pub pretends: bool,
+}
+
+/// Writes the line of a reason, if there is memory for it.
+fn put_reason<E: Write>(
+    alloc: Global,
+    settings: &Settings,
+    reason: &[u8],
+    errors: &mut Errors<'_, E>,
+) {
+    if let Ok(line) = line_of(alloc, settings, reason) {
+        errors.err.put(line.as_slice());
+    }
+}
+
+/// Writes why the store refused the run, unless that was told as the fault's reason.
+fn tell_store_refusal<E: Write>(alloc: Global, settings: &Settings, errors: &mut Errors<'_, E>) {
+    let Some(refusal) = errors.reasons.store.take() else {
+        return;
+    };
+    if let Ok(reason) = refusal.text(alloc) {
+        put_reason(alloc, settings, reason.as_slice(), errors);
+    }
+}
+
+/// Writes where is kept what was cut off from an mboxrd file; or what bears the name of a message in a
+/// Maildir and refused the run: else nobody learns why all later runs are refused too.
+fn tell_store<'a, M: Devices<'a>, E: Write>(
+    alloc: Global,
+    devices: &M,
+    left: &Left<M::Maildir, M::File>,
+    rests: &str,
+    errors: &mut Errors<'_, E>,
+) {
+    if devices.keeps_rests(&left.store, left.fetched.is_idle) {
+        errors.err.put(b"getmail: what was cut off from the mbox file is kept in ");
+        errors.err.put(rests.as_bytes());
+        errors.err.put(b"\n");
+    }
+    if devices.is_obstructed(&left.store) {
+        tell_store_refusal(alloc, &left.settings, errors);
+    }
+}
+
+/// Tells of a folder whose names weren't flushed because the system flushes no folders, if reasons are asked
+/// for and there is one: a loss of power may take back what was put there.
+fn tell_unflushed<'a, M: Devices<'a>, E: Write>(
+    alloc: Global,
+    devices: &M,
+    left: &Left<M::Maildir, M::File>,
+    errors: &mut Errors<'_, E>,
+) {
+    let found = devices.unflushed(&left.store, &left.seen_file);
+    if let (true, Some(path)) = (errors.says_why, found) {
+        if let Ok(reason) = format!(in alloc; "{path}: its file system flushes no folders") {
+            put_reason(alloc, &left.settings, reason.as_bytes(), errors);
+        }
+    }
+}
+
+/// Runs one session over devices that are made for it, or only previews it, and returns the exit status. Then it
+/// removes what killed runs left, unless the run had nothing to fetch. The caller has drawn the hasher's keys.
+pub fn fetch_at<'a, R, M, E, W, H, O>(
+    rt: &R,
+    devices: &M,
+    errand: Errand<'a>,
+    link: (W, H),
+    out: &mut Output<O>,
+    mut errors: Errors<'_, E>,
+) -> u8
+where
+    R: Files + Clock + AllocGlobal,
+    M: Devices<'a>,
+    E: Write + Copy + Drop,
+    W: Wire + Drop,
+    H: BuildHasher + Drop,
+    O: Write,
+    requires { IsValid errand.settings }
+    ensures within { result ≤ 1 }
+    ensures fetches { (now : ℕ) × (told : Told)
+        × FetchesAt W.Wire M.Maildir.MaildirDisk M.File.FlatFile (M.made_store devices.now) (M.made_record devices.now)
+        errand.entry.settings errand.entry.paths.now errand.entry.pretends now link.0 told
+        × TellsOf O.contents E.contents errand.entry.settings told out.old errors.entry result out.new }
+{
+    let Errand {
+        settings,
+        paths,
+        pretends,
+    } = errand;
+    let (wire, hasher) = link;
+    let mut wire = ShownWire::new(rt.alloc(), wire, errors.screen(&settings));
+    let parts = Parts {
+        store: devices.store(
+            &settings.dest,
+            paths.destination.as_str(),
+            paths.rests.as_str(),
+        ),
+        seen_file: devices.record_file(paths.record.as_str()),
+        settings,
+        hasher,
+    };
+    let manner = Manner {
+        now: seconds_now(rt),
+        destination: paths.destination.as_str(),
+        record: paths.record.as_str(),
+        pretends,
+        explains: errors.explains,
+    };
+    let left = fetch_with(rt, parts, &mut wire, manner, out, &mut errors);
+    tell_store(
+        rt.alloc(),
+        devices,
+        &left,
+        paths.rests.as_str(),
+        &mut errors,
+    );
+    errors.close(Subject::Notice);
+    tell_unflushed(rt.alloc(), devices, &left, &mut errors);
+    errors.close(Subject::Notice);
+    if !left.fetched.is_idle {
+        devices.sweep(&left.settings, &left.store, &left.seen_file);
+    }
+    left.into_status()
+}
