@@ -1,8 +1,7 @@
-/* What the preloaded libraries that write notes share: the file of notes, a call's next definition, and the path of a
-   descriptor. Included once, before the calls are defined. */
+/* What the preloaded libraries that write notes share: the file of notes and the path of a descriptor. Included once, before
+   the calls are defined. */
 
-#define _GNU_SOURCE
-#include <dlfcn.h>
+#include "next.h"
 #include <errno.h>
 #include <fcntl.h>
 #include <limits.h>
@@ -11,12 +10,6 @@
 #include <string.h>
 #include <sys/stat.h>
 #include <unistd.h>
-
-/* Makes `next` the definition of a call that the library replaces. */
-#define NEXT(name) \
-    static __typeof__(name) *next; \
-    if (!next) \
-        next = (__typeof__(name) *)dlsym(RTLD_NEXT, #name)
 
 /* The file of notes, or -1. */
 static int note = -1;

@@ -97,13 +97,11 @@ static int opened(int descriptor, const char *path, int flags, off_t before)
 
 int open(const char *path, int flags, ...)
 {
-    static int (*next)(const char *, int, ...);
     off_t before = length_before(path);
     va_list more;
     mode_t mode;
+    NEXT(open);
 
-    if (!next)
-        next = (int (*)(const char *, int, ...))dlsym(RTLD_NEXT, "open");
     va_start(more, flags);
     mode = va_arg(more, mode_t);
     va_end(more);
@@ -112,14 +110,12 @@ int open(const char *path, int flags, ...)
 
 int openat(int folder, const char *path, int flags, ...)
 {
-    static int (*next)(int, const char *, int, ...);
     off_t before = length_before(path);
     va_list more;
     mode_t mode;
+    NEXT(openat);
 
     /* The programs open no file by a folder; if one is made so, its tree isn't the one that the rows give. */
-    if (!next)
-        next = (int (*)(int, const char *, int, ...))dlsym(RTLD_NEXT, "openat");
     va_start(more, flags);
     mode = va_arg(more, mode_t);
     va_end(more);

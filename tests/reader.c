@@ -13,9 +13,8 @@
    Just before the second open, here, of a file of `new` or `cur`, and before the four after it, that file alone is moved
    to `cur` with other flags; with READER_AWAY it is removed. */
 
-#define _GNU_SOURCE
+#include "next.h"
 #include <dirent.h>
-#include <dlfcn.h>
 #include <fcntl.h>
 #include <limits.h>
 #include <stdarg.h>
@@ -121,12 +120,10 @@ static void before_open(const char *path)
 
 int open(const char *path, int flags, ...)
 {
-    static int (*next)(const char *, int, ...);
     va_list more;
     mode_t mode;
+    NEXT(open);
 
-    if (!next)
-        next = (int (*)(const char *, int, ...))dlsym(RTLD_NEXT, "open");
     va_start(more, flags);
     mode = va_arg(more, mode_t);
     va_end(more);
@@ -136,12 +133,10 @@ int open(const char *path, int flags, ...)
 
 ssize_t getdents64(int folder, void *entries, size_t size)
 {
-    static ssize_t (*next)(int, void *, size_t);
     static long calls = 0;
     long wanted = atol(getenv("READER_CALL"));
+    NEXT(getdents64);
 
-    if (!next)
-        next = (ssize_t (*)(int, void *, size_t))dlsym(RTLD_NEXT, "getdents64");
     if (++calls == wanted || wanted == 0)
         read_mail();
     return next(folder, entries, size);

@@ -78,14 +78,12 @@ static enum effect taken_of(const char *word, int descriptor)
 
 int open(const char *path, int flags, ...)
 {
-    static int (*next)(const char *, int, ...);
     enum effect effect = is_below(path) ? taken("open", path) : DONE;
     va_list more;
     mode_t mode;
     int answer;
+    NEXT(open);
 
-    if (!next)
-        next = (int (*)(const char *, int, ...))dlsym(RTLD_NEXT, "open");
     va_start(more, flags);
     mode = va_arg(more, mode_t);
     va_end(more);
@@ -101,13 +99,11 @@ int open(const char *path, int flags, ...)
 
 int openat(int folder, const char *path, int flags, ...)
 {
-    static int (*next)(int, const char *, int, ...);
     enum effect effect = is_below(path) ? taken("openat", path) : DONE;
     va_list more;
     mode_t mode;
+    NEXT(openat);
 
-    if (!next)
-        next = (int (*)(int, const char *, int, ...))dlsym(RTLD_NEXT, "openat");
     va_start(more, flags);
     mode = va_arg(more, mode_t);
     va_end(more);

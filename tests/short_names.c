@@ -5,14 +5,13 @@
 
    To open a file whose name has more octets, and to rename one to such a name, is refused with ENAMETOOLONG. */
 
-#define _GNU_SOURCE
-#include <dlfcn.h>
+#include "next.h"
 #include <errno.h>
+#include <fcntl.h>
 #include <stdarg.h>
 #include <stdio.h>
 #include <stdlib.h>
 #include <string.h>
-#include <sys/types.h>
 
 static int is_long(const char *path)
 {
@@ -29,12 +28,10 @@ static int refused(void)
 
 int open(const char *path, int flags, ...)
 {
-    static int (*next)(const char *, int, ...);
     va_list more;
     mode_t mode;
+    NEXT(open);
 
-    if (!next)
-        next = (int (*)(const char *, int, ...))dlsym(RTLD_NEXT, "open");
     va_start(more, flags);
     mode = va_arg(more, mode_t);
     va_end(more);
@@ -43,12 +40,10 @@ int open(const char *path, int flags, ...)
 
 int openat(int folder, const char *path, int flags, ...)
 {
-    static int (*next)(int, const char *, int, ...);
     va_list more;
     mode_t mode;
+    NEXT(openat);
 
-    if (!next)
-        next = (int (*)(int, const char *, int, ...))dlsym(RTLD_NEXT, "openat");
     va_start(more, flags);
     mode = va_arg(more, mode_t);
     va_end(more);
@@ -57,9 +52,7 @@ int openat(int folder, const char *path, int flags, ...)
 
 int rename(const char *from, const char *to)
 {
-    static int (*next)(const char *, const char *);
+    NEXT(rename);
 
-    if (!next)
-        next = (int (*)(const char *, const char *))dlsym(RTLD_NEXT, "rename");
     return is_long(to) ? refused() : next(from, to);
 }

@@ -101,8 +101,10 @@ class Progress(unittest.TestCase):
         self.server.pause = 0.002
         ours, theirs = pty.openpty()
         thread = self.server.begin_session()
+        # (a shell's commands in the background ignore SIGINT)
         process = subprocess.Popen([programs.path_of("getmail")], stdin=subprocess.DEVNULL, stdout=subprocess.DEVNULL, stderr=theirs,
-                                   env=programs.environment(HOME=str(self.account.home)))
+                                   env=programs.environment(HOME=str(self.account.home)),
+                                   preexec_fn=lambda: signal.signal(signal.SIGINT, signal.SIG_DFL))
         shown = b""
         while b"message 2 of 3, " not in shown:
             shown += os.read(ours, 65536)
