@@ -269,10 +269,6 @@ part_longer b c first front is left h =
     let early = before late.0 late.1 in
     (early.0, early.1, longer_on early.0 late.0 left early.2 late.2)
 
--- what is left of a file that was cut is what could have been left before, or begins with the first bytes of that
-abbrev pub IsFrontOf : ℕ → Option (List ℕ) → Option (List ℕ) → Type 0
-IsFrontOf len was left = IsLonger was left ⊎ IsLonger (option_map (take len) was) left
-
 torn_front : (b : Blob) (len : ℕ) (left : List ℕ) → b.uncut ≤ len → IsTorn (take len b.content) b.flushed (min len b.uncut) left
     → IsTorn b.content b.flushed b.uncut left
 torn_front b len left le t = record {
@@ -293,21 +289,20 @@ torn_front b len left le t = record {
     byte i (inr (inl p)) = inr (inl p)
     byte i (inr (inr (below, zeros))) = inr (inr (inside i below, zeros))
 
-cut_fronts : (b : Blob) (len : ℕ) → Leaves (IsFrontOf len) b (cut b len)
-cut_fronts b len None h = absurd h
-cut_fronts b len (Some left) (inl e) = (Some left, inl e, inl (inl refl))
-cut_fronts b len (Some left) (inr (inl e)) = (Some b.content, inr (inl refl), inr (inl (ap Some e)))
-cut_fronts b len (Some left) (inr (inr t)) = elim (cases_lt len b.uncut) [
+-- what is left of a file that was cut could have been left before, or begins with its first bytes
+cut_front : (b : Blob) (len : ℕ) (left : Option (List ℕ)) → IsLeftOf (Some (cut b len)) left
+    → IsLeftOf (Some b) left ⊎ ((behind : List ℕ) × (left ≡ Some (take len b.content ++ behind)))
+cut_front b len None h = absurd h
+cut_front b len (Some left) (inl e) = inl (inl e)
+cut_front b len (Some left) (inr (inl e)) = inr ([], ap Some (e ∙ sym (append-nil (take len b.content))))
+cut_front b len (Some left) (inr (inr t)) = elim (cases_lt len b.uncut) [
   | inl below ↦
       let size : min len b.uncut ≡ len = omega (arith, below) in
       let front : take (min len b.uncut) (take len b.content) ≡ take len b.content =
       ap (λ (n : ℕ). take n (take len b.content)) size ∙ take-take len len b.content (omega arith) in
-      (Some b.content, inr (inl refl), inr (inr (take len b.content, t.behind, refl, ap Some (t.kept ∙ ap (λ (xs : List ℕ). xs ++ t.behind) front))))
-  | inr le ↦ (Some left, inr (inr (torn_front b len left le t)), inl (inl refl))
+      inr (t.behind, ap Some (t.kept ∙ ap (λ (xs : List ℕ). xs ++ t.behind) front))
+  | inr le ↦ inl (inr (inr (torn_front b len left le t)))
 ]
-
-pub may_front : (b c : Blob) (len : ℕ) → MayBeFlushed (cut b len) c → Leaves (IsFrontOf len) b c
-may_front b c len is left h = cut_fronts b len left (no_more (cut b len) c is left h)
 
 -- ---- the file of a name
 
@@ -334,6 +329,10 @@ may_now d name left now = inl now
 pub may_once : (d : Directory) (name : List ℕ) (left : Option (List ℕ)) → WasOnce d.older name left → MayBe d name left
 unfolding MayLeave
 may_once d name left was = inr (once_here name d.older left was)
+
+may_arrive : (o : Option Blob) → IsLeftOf o (option_map content_in o)
+may_arrive None = tt
+may_arrive (Some b) = inr (inl refl)
 
 -- what may be left of it
 pub may_held : (d : Directory) (name : List ℕ) (o : Option Blob) (older : List Older) → Holds d name o older → (left : Option (List ℕ)) → MayBe d name left
@@ -524,14 +523,29 @@ left_cut was len (Some left) (inl e) = inl (ap Some e)
 left_cut was len (Some left) (inr (inl e)) = inr (ap Some e)
 left_cut was len (Some left) (inr (inr t)) = ⊎_elim (λ e. inl (ap Some e)) (λ e. inr (ap Some e)) (loose_cut was left len t)
 
+-- the file didn't change
+kept_may : (old new : Directory) (name : List ℕ) (left : Option (List ℕ)) → Keeps old name new → MayBe new name left → MayBe old name left
+kept_may old new name left h may = ⊎_elim (may_now old name left) (may_once old name left) (may_held new name (find name old.entries) old.older h left may)
+
+front_left : (old new : Directory) (name was : List ℕ) (len : ℕ) (left : Option (List ℕ)) → content_at old name ≡ Some was → Becomes (λ b c. MayBeFlushed (cut b len) c) old name new
+    → MayBe new name left → MayBe old name left ⊎ ((behind : List ℕ) × (left ≡ Some (take len was ++ behind)))
+front_left old new name was len left has (b, c, at, is, h) may = elim (may_held new name (Some c) old.older h left may) [
+  | inl now ↦ elim (cut_front b len left (no_more (cut b len) c is left now)) [
+    | inl before ↦ inl (may_now old name left (subst (λ (o : Option Blob). IsLeftOf o left) (sym at) before))
+    | inr (behind, e) ↦ inr (behind, e ∙ ap (λ (xs : List ℕ). Some (take len xs ++ behind)) (content_is old name was b at has))
+  ]
+  | inr once ↦ inl (may_once old name left once)
+]
+
 pub cuts_for_good : CutsLast
 cuts_for_good old new name len r t =
     let part = in_part (λ b c is. inr (inl is)) old new name r t in
     record {
-      fronts = leaves_become (IsFrontOf len) old new name (λ left. inl (inl refl)) (λ b c is. may_front b c len is) part;
-      leaves = λ was left on has may. ⊎_elim (λ h. inl (left_kept old new name left on h may ∙ has))
+      front = λ was has left may. ⊎_elim (λ h. inl (kept_may old new name left h may)) (λ t. front_left old new name was len left has t may) part;
+      leaves = λ on was has left may. ⊎_elim (λ h. inl (kept_may old new name left h may))
           (λ t. let k = left_become old new name was left t on has may in
-          left_cut was len left (no_more (cut (secured was) len) k.0 k.1 left k.2)) part;
+          ⊎_elim (λ e. inl (subst (λ (o : Option (List ℕ)). MayBe old name o) (has ∙ sym e) (may_now old name _ (may_arrive (find name old.entries))))) inr
+          (left_cut was len left (no_more (cut (secured was) len) k.0 k.1 left k.2))) part;
       outlives = now_on_disk (λ b. flushed (cut b len)) (λ was. refl) (λ b c. MayBeFlushed (cut b len) c) old new name r t;
     }
 
@@ -548,7 +562,7 @@ replaces_for_good old new name bytes (Ok done) h = record {
   outlives = record { named = ap (older_at name) h.named; flushed = rw h.leads_to refl };
 }
 replaces_for_good old new name bytes (Err e) (inl h) =
-    record { leaves = λ left may. inl (⊎_elim (may_now old name left) (may_once old name left) (may_held new name (find name old.entries) old.older h left may)); outlives = tt }
+    record { leaves = λ left may. inl (kept_may old new name left h may); outlives = tt }
 replaces_for_good old new name bytes (Err e) (inr (inl h)) =
     record { leaves = λ left. of_new new name bytes _ h left (⊎_elim (λ last. may_now old name left last.1) (may_once old name left)); outlives = tt }
 replaces_for_good old new name bytes (Err e) (inr (inr h)) =
@@ -620,10 +634,6 @@ find_left : (name other : List ℕ) (left : Option (List ℕ)) (es : List Entry)
     → find other (entries_left name left es) ≡ option_map secured (left_at name left es other)
 find_left name other None es = find_others name other es
 find_left name other (Some bytes) es = let rest = find_others name other es in grind (arith, rest)
-
-may_arrive : (o : Option Blob) → IsLeftOf o (option_map content_in o)
-may_arrive None = tt
-may_arrive (Some b) = inr (inl refl)
 
 pub power_leaves : PowerLeaves
 power_leaves old name left = (

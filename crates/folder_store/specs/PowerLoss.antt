@@ -1,9 +1,9 @@
 -- What a loss of power may leave of a folder, and what each call of a device leaves to it.
-use Rattle.std.specs.Prelude.{◌≡◌, ◌↔◌, ℕ, List, [], ◌∷◌, take, Bool, bytes_eq, if◌then◌else◌}
+use Rattle.std.specs.Prelude.{◌≡◌, ◌↔◌, ℕ, List, [], ◌∷◌, Bool, bytes_eq, if◌then◌else◌}
 use Rattle.std.specs.Prelude.{true, Option, Some, None, Result, ◌⊎◌, OnOk}
 use Rattle.mail_store.specs.declared.fault.StoreFault.{StoreFault}
 use Rattle.mail_store.specs.Durable.{Blob, Disk, IsDurable, IsLeftOf, IsSure, MayLeave, secured}
-use Rattle.mail_store.specs.Power.{LeavesEither, LeavesFronts, LeavesLonger, LeavesPart}
+use Rattle.mail_store.specs.Power.{LeavesCut, LeavesEither, LeavesFront, LeavesLonger, LeavesPart}
 use Rattle.folder_store.specs.FileFolder.{Directory, Entry, Older, entry, find, content_at}
 
 -- the file of a name that is left with these bytes, all of them on the disk, or none
@@ -72,14 +72,12 @@ pub record AppendsForGood {T : Type 0} (old : Directory) (name bytes : List ℕ)
   pub leaves : IsOnDisk old name → LeavesPart (content_at old name) bytes (MayBe new name)
   pub outlives : OnOk r (IsOnDisk old name → IsOnDisk new name)
 
--- `cut_to`: what could have been left before, or the first bytes of it, or more bytes behind; of a file that was on the
+-- `cut_to`: what could have been left before, or the first bytes, perhaps with more behind; of a file that was on the
 -- disk the old bytes or the first of them, and after Ok only these
 pub record CutsForGood {T : Type 0} (old : Directory) (name : List ℕ) (len : ℕ) (r : Result T StoreFault)
     (new : Directory) : Type 0 where
-  pub fronts : LeavesFronts len (MayBe old name) (MayBe new name)
-  pub leaves : (was : List ℕ) (left : Option (List ℕ)) → IsOnDisk old name → content_at old name ≡ Some was
-      → MayBe new name left
-      → (left ≡ Some was) ⊎ (left ≡ Some (take len was))
+  pub front : LeavesFront (content_at old name) len (MayBe old name) (MayBe new name)
+  pub leaves : IsOnDisk old name → LeavesCut (content_at old name) len (MayBe old name) (MayBe new name)
   pub outlives : OnOk r (IsOnDisk old name → IsOnDisk new name)
 
 -- `replace`: what could have been left before, a file or none, or the new bytes; after Ok only these, whatever was

@@ -1,5 +1,5 @@
 -- What a loss of power may leave of a file and of an entry in it, and what settling does to that file.
-use Rattle.std.proofs.Common.{◌≡◌, inl, inr, ℕ, ◌+◌, List, [], ◌∷◌, ◌++◌, length, take, Option, Some, None, is_some, take-append-drop, option_map, refl, sym, ap, ◌∙◌, append_assoc, append-nil, Bool, false, ◌&&◌, drop, arith, length-append, ◌⊎◌, suc, ◌-◌, ◌≤◌, ◌%◌, true, subst, not, nat_eq, ◌==◌}
+use Rattle.std.proofs.Common.{◌≡◌, inl, inr, ℕ, ◌+◌, List, [], ◌∷◌, ◌++◌, length, take, Option, Some, None, is_some, take-append-drop, refl, sym, ap, ◌∙◌, append_assoc, append-nil, Bool, false, ◌&&◌, drop, arith, length-append, ◌⊎◌, suc, ◌-◌, ◌≤◌, ◌%◌, true, subst, not, nat_eq, ◌==◌}
 use Rattle.std.proofs.lemmas.Option.{same_Some}
 use Rattle.std.proofs.Math.Seq.{take-append_seam, drop-append_seam}
 use Rattle.std.specs.List.{list_all, starts_with, AllByRecursion}
@@ -14,7 +14,7 @@ use Rattle.std.proofs.lemmas.Slice.Eq.{ends_is}
 use Rattle.memchr.specs.Find.{FindsNeedle, OccursAt}
 use Rattle.memchr.proofs.lemmas.MatchLemmas.{OccursAt-from_part, OccursAt-split}
 use Rattle.mail_terms.specs.Text.{HasNoLf, IsWhole}
-use Rattle.mail_store.specs.Power.{IsLonger, LeavesFronts, LeavesLonger, Outlives, KeepsBytes}
+use Rattle.mail_store.specs.Power.{IsLonger, LeavesFront, LeavesLonger, Outlives, KeepsBytes}
 use Rattle.mail_store.specs.Settling.{MayBeLeft, is_one_entry, block_size, is_lost, is_torn, begin_with, ends_empty, is_ours, is_entry, has_size, stands_whole, settled_file, LeftoversAreSettled, FrontsAreSettled, WholeEntriesCount}
 use Rattle.mail_store.specs.Mboxrd.{lines_of, from_words, begins_entry, separator, quoted_text, entry_of, text_in, IsApart}
 use Rattle.mail_store.proofs.MboxLemmas.{first_of, onto_parts, begins_with, unquotes_quoted, inner_apart, entry_bytes, entry_group, entry_lines, entry_is_group, group_ends}
@@ -35,14 +35,12 @@ pub longer_keeps : (m m' : Option (List ℕ) → Type 0) → LeavesLonger m m' �
 longer_keeps m m' longer = λ bytes held left may. let was = longer left may in begins_longer bytes was.0 left (held was.0 was.1) was.2
 
 -- bytes that outlived stay if more are appended and the file is cut back to them
-pub cut_keeps : (m m' m'' : Option (List ℕ) → Type 0) (was : List ℕ) → Outlives m was → LeavesLonger m m' → LeavesFronts (length was) m' m'' → Outlives m'' was
-cut_keeps m m' m'' was outlives longer fronts = λ left may.
-    let cut = fronts left may in
-    let begins = longer_keeps m m' longer was outlives cut.0 cut.1 in elim cut.2 [
-      | inl same ↦ begins_longer was cut.0 left begins same
-      | inr front ↦ begins_longer was (option_map (take (length was)) cut.0) left
-          ([], ap (option_map (take (length was))) begins.1 ∙ ap Some (take-append_seam was begins.0 ∙ sym (append-nil was))) front
-    ]
+pub cut_keeps : (m m' m'' : Option (List ℕ) → Type 0) (was front : List ℕ) (content : Option (List ℕ)) → Outlives m was → LeavesLonger m m' → content ≡ Some (was ++ front)
+    → LeavesFront content (length was) m' m'' → Outlives m'' was
+cut_keeps m m' m'' was front content outlives longer is fronts = λ left may. elim (fronts (was ++ front) is left may) [
+  | inl before ↦ longer_keeps m m' longer was outlives left before
+  | inr (behind, cut) ↦ (behind, cut ∙ ap (λ (l : List ℕ). Some (l ++ behind)) (take-append_seam was front))
+]
 
 -- ---- what an append may leave
 

@@ -1,5 +1,5 @@
 -- What outlives a loss of power, as each device defines it.
-use Rattle.std.specs.Prelude.{◌≡◌, ◌⊎◌, ℕ, List, ◌++◌, length, take, Option, Some, option_map, Result, Err}
+use Rattle.std.specs.Prelude.{◌≡◌, ◌⊎◌, ℕ, List, ◌++◌, length, take, Option, Some, Result, Err}
 use Rattle.mail_store.specs.declared.fault.StoreFault.{StoreFault}
 use Rattle.mail_store.specs.declared.fault.StoreFault.TheVariants.{Refused}
 use Rattle.mail_store.specs.Settling.{MayBeLeft}
@@ -20,11 +20,6 @@ abbrev pub LeavesLonger : (Option (List ℕ) → Type 0) → (Option (List ℕ) 
 LeavesLonger may_leave may_leave' =
     (left : Option (List ℕ)) → may_leave' left → (was : Option (List ℕ)) × may_leave was × IsLonger was left
 
--- the same, or of the first `len` bytes of what it could have left before
-abbrev pub LeavesFronts : ℕ → (Option (List ℕ) → Type 0) → (Option (List ℕ) → Type 0) → Type 0
-LeavesFronts len may_leave may_leave' = (left : Option (List ℕ)) → may_leave' left
-    → (was : Option (List ℕ)) × may_leave was × (IsLonger was left ⊎ IsLonger (option_map (take len) was) left)
-
 -- `append`: if all of the file was on the disk, a loss of power leaves it, and what it may leave of the new bytes
 abbrev pub LeavesPart : Option (List ℕ) → List ℕ → (Option (List ℕ) → Type 0) → Type 0
 LeavesPart content bytes may_leave = (was : List ℕ) → content ≡ Some was → (left : Option (List ℕ)) → may_leave left
@@ -34,6 +29,16 @@ LeavesPart content bytes may_leave = (was : List ℕ) → content ≡ Some was �
 abbrev pub LeavesEither : (Option (List ℕ) → Type 0) → List ℕ → (Option (List ℕ) → Type 0) → Type 0
 LeavesEither may_leave bytes may_leave' = (left : Option (List ℕ)) → may_leave' left
     → may_leave left ⊎ (left ≡ Some bytes)
+
+-- `cut_to`: what could have been left before, or the first `len` bytes, perhaps with more behind
+abbrev pub LeavesFront : Option (List ℕ) → ℕ → (Option (List ℕ) → Type 0) → (Option (List ℕ) → Type 0) → Type 0
+LeavesFront content len may_leave may_leave' = (was : List ℕ) → content ≡ Some was → (left : Option (List ℕ))
+    → may_leave' left → may_leave left ⊎ ((behind : List ℕ) × (left ≡ Some (take len was ++ behind)))
+
+-- with nothing behind
+abbrev pub LeavesCut : Option (List ℕ) → ℕ → (Option (List ℕ) → Type 0) → (Option (List ℕ) → Type 0) → Type 0
+LeavesCut content len may_leave may_leave' = (was : List ℕ) → content ≡ Some was
+    → LeavesEither may_leave (take len was) may_leave'
 
 -- the file, if there is one, is on the disk, and a loss of power leaves exactly its bytes
 abbrev pub LastsWhole : Option (List ℕ) → Type 0 → (Option (List ℕ) → Type 0) → Type 0

@@ -246,7 +246,7 @@ impl<D: FlatFile> FlatFile for Fused<D> {
     ghost use Rattle.mail_store.specs.Durable.{IsDurable, MayLeave};
     ghost use Rattle.mail_store.specs.FlatFile.{Loads, Measures, ReadsAt, Appends, Cuts, Replaces, HasBytes};
     ghost use Rattle.mail_store.specs.Devices.{FileDoes, FileFlushes, FileReads, FileWrites};
-    ghost use Rattle.mail_store.specs.Power.{LastsWhole, LeavesEither, LeavesFronts, LeavesLonger, LeavesPart};
+    ghost use Rattle.mail_store.specs.Power.{LastsWhole, LeavesCut, LeavesEither, LeavesFront, LeavesLonger, LeavesPart};
     ghost use Rattle.test_devices.specs.StoreFuse.{device_of, passes_left, effect_is_due, refusals, fused_file};
     ghost use Rattle.test_devices.specs.StoreFuse.{FusedIsSound, Burns, Fuses, AppendsBehind, ReplacesBehind};
 
@@ -340,8 +340,12 @@ impl<D: FlatFile> FlatFile for Fused<D> {
     fn cut_to(&mut self, len: u64) -> Result<(), StoreFault>
         requires { FusedIsSound D.sound self.old → HasBytes (D.stored (device_of self.old)) len }
         ensures cuts { FileDoes ⟦<Fused<D> as FlatFile>⟧ (λ old new. Cuts old len result new) self.old self.new }
-        ensures keeps { FusedIsSound D.sound self.new → LeavesFronts len (MayLeave (D.disk (device_of self.old)))
-            (MayLeave (D.disk (device_of self.new))) }
+        ensures keeps { FusedIsSound D.sound self.new
+            → LeavesFront (fused_file D.stored self.old).content len (MayLeave (D.disk (device_of self.old)))
+            (MayLeave (D.disk (device_of self.new)))
+            × (IsDurable (D.disk (device_of self.old))
+            → LeavesCut (fused_file D.stored self.old).content len (MayLeave (D.disk (device_of self.old)))
+            (MayLeave (D.disk (device_of self.new)))) }
         ensures lasts { FileWrites ⟦<Fused<D> as FlatFile>⟧ self.old result self.new }
         ensures fuse { Fuses (λ d. (D.stored d).failures) self.old result self.new }
     {

@@ -24,8 +24,8 @@ pub trait FlatFile {
     ghost use Rattle.mail_store.specs.Fault.{is_refusal, IsDeviceFault};
     ghost use Rattle.mail_store.specs.Durable.{Disk, IsDurable, MayLeave, seen_on};
     ghost use Rattle.mail_store.specs.FlatFile.{Stored, Loads, Measures, ReadsAt, Appends, Cuts, Replaces, HasBytes};
-    ghost use Rattle.mail_store.specs.Power.{LastsWhole, LeavesEither, LeavesFronts, LeavesLonger, LeavesNoMore};
-    ghost use Rattle.mail_store.specs.Power.{LeavesPart, UnlessRefused};
+    ghost use Rattle.mail_store.specs.Power.{LastsWhole, LeavesCut, LeavesEither, LeavesFront, LeavesLonger};
+    ghost use Rattle.mail_store.specs.Power.{LeavesNoMore, LeavesPart, UnlessRefused};
 
     // What calls see of the file.
     ghost stored: { Self → Stored };
@@ -119,7 +119,10 @@ pub trait FlatFile {
         ensures cuts { sound self.new → sound self.old
             × Cuts (stored self.old) len result (stored self.new) }
         ensures fault { IfErr result (λ e. e ≡ StoreFault.Refused) }
-        ensures keeps { sound self.new → LeavesFronts len (MayLeave (disk self.old)) (MayLeave (disk self.new)) }
+        ensures keeps { sound self.new
+            → LeavesFront (stored self.old).content len (MayLeave (disk self.old)) (MayLeave (disk self.new))
+            × (IsDurable (disk self.old)
+            → LeavesCut (stored self.old).content len (MayLeave (disk self.old)) (MayLeave (disk self.new))) }
         ensures lasts { sound self.new → is_sure self.old → IsDurable (disk self.old)
             → OnOk result (is_sure self.new
             × LastsWhole (stored self.new).content (IsDurable (disk self.new)) (MayLeave (disk self.new))) }

@@ -66,9 +66,9 @@ impl FlatFile for MemoryFile {
     ghost use Rattle.std.proofs.Common.{refl};
     ghost use Rattle.mail_terms.specs.FailureCount.{greatest_count};
     ghost use Rattle.mail_store.specs.Devices.{FileDoes, FileFlushes, FileReads, FileWrites};
-    ghost use Rattle.mail_store.specs.Durable.{MayLeave, all_durable, seen_on};
+    ghost use Rattle.mail_store.specs.Durable.{IsDurable, MayLeave, all_durable, seen_on};
     ghost use Rattle.mail_store.specs.FlatFile.{Measures, ReadsAt, Cuts, HasBytes};
-    ghost use Rattle.mail_store.specs.Power.{LeavesFronts};
+    ghost use Rattle.mail_store.specs.Power.{LeavesCut, LeavesFront};
 
     ghost stored = { λ f. f };
 
@@ -151,7 +151,11 @@ impl FlatFile for MemoryFile {
         requires { self.old.failures < greatest_count → HasBytes self.old len }
         ensures cuts { FileDoes ⟦<MemoryFile as FlatFile>⟧ (λ old new. Cuts old len result new) self.old self.new }
         ensures keeps { self.new.failures < greatest_count
-            → LeavesFronts len (MayLeave (all_durable self.old.content)) (MayLeave (all_durable self.new.content)) }
+            → LeavesFront self.old.content len (MayLeave (all_durable self.old.content))
+            (MayLeave (all_durable self.new.content))
+            × (IsDurable (all_durable self.old.content)
+            → LeavesCut self.old.content len (MayLeave (all_durable self.old.content))
+            (MayLeave (all_durable self.new.content))) }
         ensures lasts { FileWrites ⟦<MemoryFile as FlatFile>⟧ self.old result self.new }
         ensures answers { self.old.failures < greatest_count → IsOk result }
     {

@@ -6,7 +6,7 @@ ghost use Rattle.mail_terms.specs.FailureCount.{Tallies, refuses};
 ghost use Rattle.mail_store.specs.Durable.{IsDurable, MayLeave};
 ghost use Rattle.mail_store.specs.Fault.{is_refusal};
 ghost use Rattle.mail_store.specs.Mboxrd.{text_in};
-ghost use Rattle.mail_store.specs.Power.{LastsWhole, LeavesFronts, LeavesNoMore};
+ghost use Rattle.mail_store.specs.Power.{LastsWhole, LeavesFront, LeavesNoMore};
 ghost use Rattle.mail_store.specs.Settling.{block_size, begin_with, has_size, is_lost, is_one_entry, is_ours, is_torn};
 ghost use Rattle.mail_store.specs.Settling.{is_whole};
 ghost use Rattle.mail_store.specs.Settling.{FrontsAreSettled, IsBehind, LeftoversAreSettled, LooksBehind};
@@ -199,7 +199,8 @@ pub fn settle_file<F: FlatFile>(
     ensures settles { F.sound file.new → F.sound file.old
         × SettlesFile (F.stored file.old) start len listed result (F.stored file.new) }
     ensures fault { IfErr result (λ e. e ≢ StoreFault.NotMbox) }
-    ensures keeps { F.sound file.new → LeavesFronts start (MayLeave (F.disk file.old)) (MayLeave (F.disk file.new)) }
+    ensures keeps { F.sound file.new
+        → LeavesFront (F.stored file.old).content start (MayLeave (F.disk file.old)) (MayLeave (F.disk file.new)) }
     ensures lasts { F.sound file.new → F.is_sure file.old
         → OnOk result (F.is_sure file.new
         × LastsWhole (F.stored file.new).content (IsDurable (F.disk file.new)) (MayLeave (F.disk file.new))) }

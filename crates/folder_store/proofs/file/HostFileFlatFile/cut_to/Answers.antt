@@ -17,9 +17,10 @@ returns-in-Ok-clause-lasts g c = λ s known on.
 
 pub returns-in-Ok-clause-keeps : goal.returns-in-Ok-clause-keeps
 returns-in-Ok-clause-keeps g c = λ s.
-    (cuts_for_good (g.F.FileFolder.directory c.args.self.now.folder) _ c.args.self.now.name.now _ (Ok tt) (c.in-Ok.ensures s.0).1).fronts
+    let cuts = cuts_for_good (g.F.FileFolder.directory c.args.self.now.folder) _ c.args.self.now.name.now _ (Ok tt) (c.in-Ok.ensures s.0).1 in
+    (cuts.front, cuts.leaves)
 
 pub returns-in-Err-clause-keeps : goal.returns-in-Err-clause-keeps
 returns-in-Err-clause-keeps g c = rw c.doubt.ensures.doubted (λ s.
-    let old = g.F.FileFolder.directory c.args.self.now.folder in
-    (cuts_for_good old _ c.args.self.now.name.now _ (Err c.in-Err.field-0) (c.in-Err.ensures s.0).1).fronts)
+    let cuts = cuts_for_good (g.F.FileFolder.directory c.args.self.now.folder) _ c.args.self.now.name.now _ (Err c.in-Err.field-0) (c.in-Err.ensures s.0).1 in
+    (cuts.front, cuts.leaves))

@@ -1,4 +1,4 @@
-use Rattle.std.proofs.Common.{◌≡◌, ◌++◌, [], inl, inr, length, sym, refl, ap, ◌∙◌, arith, length-append, append-nil, take_at}
+use Rattle.std.proofs.Common.{◌≡◌, ◌++◌, ℕ, Some, List, [], inl, inr, length, sym, refl, ap, ◌∙◌, arith, length-append, append-nil, take_at}
 use Rattle.std.proofs.lemmas.Option.{same_Some}
 use Rattle.mail_store.specs.declared.file.flat_file.Edges.{Edges}
 use Rattle.mail_store.specs.Durable.{MayLeave}
@@ -55,12 +55,15 @@ kept g c = λ sound bytes is outlives.
     let cuts = c.cut_to.ensures.cuts sound in
     let appends = c.in-Err.ensures.appends cuts.0 in
     let looks = c.in_ok-edges.ensures.looks appends.0 in
-    let size : c.in_ok-edges.edges.size ≡ length bytes =
-    ap (λ (e : Edges). e.size) looks.1.0.2 ∙ ap length (same_Some looks.1.0.0 bytes (sym looks.1.0.1.0 ∙ is)) in
+    let same = same_Some looks.1.0.0 bytes (sym looks.1.0.1.0 ∙ is) in
+    let size : c.in_ok-edges.edges.size ≡ length bytes = ap (λ (e : Edges). e.size) looks.1.0.2 ∙ ap length same in
+    let left = (rw looks.1.1 at appends.1) looks.1.0.0 looks.1.0.1.0 in
     cut_keeps (MayLeave (g.F.FlatFile.disk c.look_at.new.file)) (MayLeave (g.F.FlatFile.disk c.append.new.self)) (MayLeave (g.F.FlatFile.disk c.cut_to.new.self)) bytes
+    left.0 (g.F.FlatFile.stored c.append.new.self).content
     (λ left may. outlives left (c.in_ok-edges.ensures.keeps appends.0 left may))
     (c.in-Err.ensures.keeps cuts.0).0
-    (rw size at (c.cut_to.ensures.keeps sound))
+    (ap (λ (s : Stored). s.content) left.3 ∙ ap (λ (l : List ℕ). Some (l ++ left.0)) same)
+    (rw size at (c.cut_to.ensures.keeps sound).0)
 
 pub returns-in-Ok-cut_to-clause-keeps : goal.returns-in-Ok-cut_to-clause-keeps
 returns-in-Ok-cut_to-clause-keeps g c = kept g (goal.at.returns-in-Ok-cut_to-clause-keeps g c).After-cut_to
