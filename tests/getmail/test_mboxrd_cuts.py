@@ -126,8 +126,8 @@ class RefusedSteps(Shared):
         cls.library = library.__enter__()
         cls.addClassCleanup(library.__exit__, None, None, None)
 
-    def refused_session(self, account, number, effect="none", later=False, words=()):
-        """A session with a step refused, or with none; and the lines of its steps."""
+    def refused_session(self, account, number, effect="none", later=False, words=(), growth=None):
+        """A session with a step refused, or with none, and perhaps a growth of memory; and the lines of its steps."""
         note = account.home / "note"
         note.unlink(missing_ok=True)
         changes = {"LD_PRELOAD": str(self.library), "STEP_BELOW": str(account.home), "STEP_NOTE": str(note)}
@@ -135,6 +135,8 @@ class RefusedSteps(Shared):
             changes |= {"STEP_REFUSED": str(number), "STEP_EFFECT": effect}
         if later:
             changes["STEP_LATER"] = "1"
+        if growth:
+            changes |= {**growth.environment(), "LD_PRELOAD": f"{self.library}:{growth.library}"}
         run = self.session(account, *words, **changes)
         lines = note.read_text().splitlines()
         note.unlink()
@@ -231,10 +233,10 @@ class RefusedSteps(Shared):
             self.assertEqual(len(account.content()), 149)
 
     def test_an_entry_whose_append_is_refused(self):
-        """With no effect, its intent is closed by a record that is written whole. What came unseen isn't taken back."""
+        """With no effect, its intent is cut off from the record. What came unseen isn't taken back."""
         self.server.messages = [(b"a", b"one\n"), (b"b", b"two\n"), (b"c", b"three\n")]
         number = self.number_of("write", "mbox", 2)
-        rows = rb"getmail-seen 2\na \d+ 1\nb \d+ 0\nc \d+ 0\n"
+        rows = rb"getmail-seen 2\na \d+ 0\nb \d+ 0\nc \d+ 0\n! a 0 49\n\+ 1\na \d+ 1\n"
         for effect, length, intent, fetched in (("none", 49, None, ["RETR 2"]), ("half", 73, (b"b", b"49", b"49"), ["RETR 2"]),
                                                 ("whole", 98, (b"b", b"49", b"49"), [])):
             with self.subTest(effect), MboxAccount(self.server.port) as account:
@@ -248,6 +250,22 @@ class RefusedSteps(Shared):
                 self.assertEqual(self.session(account), programs.SILENT)
                 self.assertEqual(self.server.commands[1], LOGIN + fetched + ["RETR 3", "QUIT"])
                 self.assertEqual(len(account.content()), 149)
+
+    def test_an_entry_whose_append_is_refused_and_then_memory(self):
+        """With each growth refused in turn: if memory ran out, no intent is open."""
+        self.server.messages = [(b"a", b"one\n"), (b"b", b"two\n"), (b"c", b"three\n")]
+        number = self.number_of("write", "mbox", 2)
+        ends = collections.Counter()
+        for refusal in growths.refusals():
+            with self.subTest(growth=refusal.number), MboxAccount(self.server.port) as account:
+                run, _ = self.refused_session(account, number, growth=refusal)
+                _, intent = account.known()
+                ends[run.err, intent is not None] += 1
+                self.check_completed(account, self.server.messages)
+        wants = b"getmail: out of memory\n"
+        self.assertGreater(ends[REFUSED.err, False], 0)
+        self.assertGreater(ends[wants, False], 0)
+        self.assertEqual(ends[wants, True], 0)
 
     def test_an_append_that_is_refused_and_not_taken_back(self):
         """The first entry, of 70 octets; half of it stays and is cut away."""

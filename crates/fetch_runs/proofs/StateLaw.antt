@@ -444,8 +444,7 @@ module _ (steadies : SteadyFilesKeep) (unsaved : UnsavedFilesKeep) (was : List �
   leaves_entry (StoreRefused why.NotMbox) (other, same, back) = unopened (inr back) (same_content same)
   leaves_entry SeenRefused (same, (other, is, saves)) =
       ⊎_elim (λ old. inl (same_content same ∙ there, old)) (with_nothing other is (same_content same)) (unsaved file (none_open rows) (with_open rows (intent_of other uid text)) SeenRefused file' saves steady)
-  leaves_entry NoMemory (inl (same, how)) = unopened how (same_content same)
-  leaves_entry NoMemory (inr (how, (other, is, saves))) = with_nothing other is (grind (arith, how)) (steadies file'.content (with_open rows (intent_of other uid text)) (saves.1 steady))
+  leaves_entry NoMemory (same, how) = unopened how (same_content same)
   leaves_entry other never = absurd never
 
 -- ---- the account that a session left, and what it found

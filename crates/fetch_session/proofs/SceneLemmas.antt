@@ -1,20 +1,23 @@
 -- How a record is read and what saving it leaves, how what single tasks do makes what lists of tasks do, and what a list leaves that
 -- stopped.
-use Rattle.std.proofs.Common.{◌≡◌, ◌≢◌, ◌⊎◌, inl, inr, ℕ, Bool, false, List, [], ◌∷◌, ◌++◌, Option, None, Some, Result, Ok, Err, ◌≤◌, refl, sym, ap, arith, ◌∙◌, OnOk, ◌==◌, ◌||◌, true, if◌then◌else◌, length, append-nil, subst, append_assoc, option_map}
+use Rattle.std.proofs.Common.{◌≡◌, ◌≢◌, ◌⊎◌, inl, inr, ℕ, Bool, false, List, [], ◌∷◌, ◌++◌, Option, None, Some, Result, Ok, Err, ◌≤◌, refl, sym, ap, arith, ◌∙◌, OnOk, ◌==◌, ◌||◌, true, if◌then◌else◌, length, append-nil, subst, append_assoc, option_map, take, length-append}
 use Rattle.std.proofs.lemmas.Bool.{true≢false, or_parts}
+use Rattle.std.proofs.lemmas.Bool.Decides.{nat_tests}
 use Rattle.fetch_rules.specs.Record.{Row, Intent, RecordState, Loaded, none_open, IsIntent, has_row, marked, marked_all}
 use Rattle.fetch_rules.specs.RecordFile.{Version, One, Two, header, file_of, intent_line}
 use Rattle.fetch_rules.specs.RecordMeaning.{Rows, Means, has_bytes, taken, Fault as Faulty}
 use Rattle.fetch_rules.specs.RecordGrowth.{Updates, Grows, AppendedCounts, CutIsIgnored, taken_all}
 use Rattle.fetch_rules.specs.Intents.{has_intent, is_older, closed_rows}
-use Rattle.mail_store.specs.FlatFile.{Stored, Appends, Replaces}
+use Rattle.mail_store.specs.FlatFile.{Stored, Appends, Cuts, Denies, counted}
 use Rattle.mail_store.specs.declared.fault.StoreFault.{StoreFault}
+use Rattle.mail_store.specs.declared.fault.StoreFault.TheVariants.{Missing, Refused}
 use Rattle.fetch_session.specs.declared.fault.Fault.{Fault}
 use Rattle.fetch_session.specs.declared.fault.Fault.TheVariants.{SeenRefused, NoMemory, BadSeen}
-use Rattle.fetch_session.specs.Record.{bytes_in, record_state, Keeps, Steady, ReadAs, Writes, Saves, Merges, TakesBack, record_state_in, LineOf, Reads, IsLineFault}
+use Rattle.fetch_session.specs.Record.{bytes_in, record_state, Keeps, Steady, ReadAs, StandsTill, TellsSize, Writes, Saves, Merges, TakesBack, record_state_in, LineOf, Reads, IsLineFault}
 use Rattle.fetch_rules.specs.declared.seen.SeenFault.{SeenFault}
 use Rattle.fetch_rules.specs.declared.seen.SeenFault.TheVariants.{NoMemory as WantsMemory}
 use Rattle.std.proofs.lemmas.List.{append-nil, map-append}
+use Rattle.std.proofs.Math.Seq.{take-append_seam}
 use Rattle.std.proofs.lemmas.Grind.{flat_map-append}
 use Rattle.std.proofs.lemmas.Iterator.Adapters.{option_map_id}
 use Rattle.std.specs.List.{flat_map, AllByRecursion}
@@ -78,6 +81,10 @@ pub not_whole : (rows : List Row) (intent : Option Intent) → closed_rows false
 not_whole rows None = refl
 not_whole rows (Some intent) = refl
 
+pub is_there : (content : Option (List ℕ)) → bytes_in content ≢ [] → content ≡ Some (bytes_in content)
+is_there None some = absurd (some refl)
+is_there (Some bytes) some = refl
+
 -- ---- the whole record written
 
 pub writes_merges : (old new : Stored) (was now : RecordState) (r : Result (Unit {0}) Fault) → Keeps old.content was → Means (file_of now.rows now.intent) (Rows Two now.rows now.intent false) → Writes old now r new → Merges old was now r new
@@ -87,12 +94,46 @@ writes_merges old new was now (Err SeenRefused) kept stands (inr is) = rw is (re
 writes_merges old new was now (Err NoMemory) kept stands is = is
 writes_merges old new was now (Err _) kept stands never = absurd never
 
+-- what stands for the rows at the front of a file is cut off from the rest
+pub till_front : (stored : Stored) (size : ℕ) (rows : List Row) (bytes : List ℕ) → StandsTill stored size rows → stored.content ≡ Some bytes → Steady (Some (take size bytes)) (none_open rows)
+till_front stored size rows bytes till is = subst (λ (o : Option (List ℕ)). Steady (Some (take size (bytes_in o))) (none_open rows)) is till.1
+
 -- an open intent was closed in this way
-pub taken_back : (old new : Stored) (was : RecordState) (r : Result (Unit {0}) StoreFault) → Means (file_of was.rows None) (Rows Two was.rows None false)
-    → Replaces old (file_of was.rows None) r new → TakesBack old was (Ok tt) new
-taken_back old new was (Ok done) stands is = inl (rw is (refl, λ stood. stands))
-taken_back old new was (Err fault) stands (inl is) = inr (rw is (refl, λ stood. inl (steady_keeps old.content was stood)))
-taken_back old new was (Err fault) stands (inr is) = inr (rw is (refl, λ stood. inr (Two, false, stands)))
+pub taken_back : (old new : Stored) (size : ℕ) (was : RecordState) (r : Result (Unit {0}) StoreFault) → StandsTill old size was.rows
+    → Cuts old size r new → TakesBack old was new
+taken_back old new size was (Ok done) till cuts =
+    let stands = till_front old size was.rows till.0.0 till till.0.1 in
+    inl (rw (cuts till.0.0 till.0.1) (refl, λ stood. stands))
+taken_back old new size was (Err fault) till cuts =
+    let stands = till_front old size was.rows till.0.0 till till.0.1 in
+    elim (cuts till.0.0 till.0.1) [
+      | inl is ↦ inr (rw is (refl, λ stood. inl (steady_keeps old.content was stood)))
+      | inr is ↦ inr (rw is (refl, λ stood. inr (Two, false, stands)))
+    ]
+
+-- the size of a file, and what was appended to it
+pub not_there : (old new : Stored) (why : StoreFault) → bytes_in old.content ≢ [] → Denies old why new → new ≡ counted old
+not_there old new Missing some (none, same) = absurd (some (ap bytes_in none))
+not_there old new Refused some is = is
+not_there old new _ some never = absurd never
+
+pub same_bytes : (old new : Stored) (r : Result ℕ Fault) → TellsSize old r new → new.content ≡ old.content
+same_bytes old new (Ok size) is = ap (λ (s : Stored). s.content) is.1
+same_bytes old new (Err SeenRefused) is = ap (λ (s : Stored). s.content) is
+same_bytes old new (Err _) never = absurd never
+
+pub size_untold : (old new : Stored) (was now : RecordState) (fault : Fault) → TellsSize old (Err fault) new → Saves old was now (Err fault) new
+size_untold old new was now SeenRefused is = rw is (refl, λ stood. inl (steady_keeps old.content was stood))
+size_untold old new was now _ never = absurd never
+
+pub stands_till : (old new : Stored) (size : ℕ) (line : List ℕ) (rows : List Row) → bytes_in new.content ≢ [] → size ≡ length (bytes_in old.content)
+    → bytes_in new.content ≡ bytes_in old.content ++ line → Steady old.content (none_open rows) → StandsTill new size rows
+stands_till old new size line rows some long is stood =
+    let was = bytes_in old.content in
+    let cut : take size (bytes_in new.content) ≡ was = ap (take size) is ∙ ap (λ (n : ℕ). take n (was ++ line)) long ∙ take-append_seam was line in (
+      (bytes_in new.content, is_there new.content some, omega (arith, long, ap length is, length-append was line)),
+      subst (λ (bytes : List ℕ). Means bytes (Rows Two rows None false)) (sym cut) stood,
+    )
 
 pub saves_merges : (old new : Stored) (was now : RecordState) (r : Result (Unit {0}) Fault) → Steady old.content was → Saves old was now r new → Merges old was now r new
 saves_merges old new was now (Ok done) stood is = (is.0, is.1 stood)
@@ -105,9 +146,9 @@ saves_merges old new was now (Err _) stood never = absurd never
 pub not_empty : (bytes : List ℕ) (b : Bool) → b ≡ false → b ≡ (length bytes == 0) → bytes ≢ []
 not_empty bytes b isnt is none = true≢false (sym (ap (λ (l : List ℕ). length l == 0) none) ∙ sym is ∙ isnt)
 
-pub is_there : (content : Option (List ℕ)) → bytes_in content ≢ [] → content ≡ Some (bytes_in content)
-is_there None some = absurd (some refl)
-is_there (Some bytes) some = refl
+pub all_empty : (bytes : List ℕ) (b : Bool) → b ≡ true → b ≡ (length bytes == 0) → bytes ≡ []
+all_empty [] b hit is = refl
+all_empty (byte ∷ bytes) b hit is = let none = sym is ∙ hit in absurd (grind (arith, nat_tests, none))
 
 -- the record becomes another by what is appended
 abbrev pub GrowsBy : List ℕ → RecordState → RecordState → Type 0

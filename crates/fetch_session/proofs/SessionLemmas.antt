@@ -1,5 +1,5 @@
 -- How the parts of a session make the whole, also of one that changes nothing, and what of it outlives a loss of power.
-use Rattle.std.proofs.Common.{◌≡◌, ◌≢◌, ◌⊎◌, ℕ, List, [], ◌∷◌, ◌++◌, Option, None, Some, Result, Ok, Err, refl, sym, ap, subst, ◌∙◌, inl, inr, append_assoc, length, ⊎_elim, rules, Bool, false, append-nil, All, IfErr, arith, Vec}
+use Rattle.std.proofs.Common.{◌≡◌, ◌≢◌, ◌⊎◌, ℕ, List, [], ◌∷◌, ◌++◌, Option, None, Some, Result, Ok, Err, refl, sym, ap, subst, ◌∙◌, inl, inr, append_assoc, length, ⊎_elim, rules, Bool, false, append-nil, All, IfErr, arith, Vec, take}
 use Rattle.std.proofs.lemmas.List.{append-nil, append_cancel_left}
 use Rattle.std.proofs.lemmas.Grind.{flat_map-append}
 use Rattle.std.proofs.lemmas.Option.{none-some, same_Some}
@@ -13,19 +13,19 @@ use Rattle.mail_store.specs.declared.maildir.disk.MaildirDisk.{Ghosts as DiskGho
 use Rattle.mail_store.specs.declared.file.flat_file.FlatFile.{Ghosts as FileGhosts}
 use Rattle.mail_store.specs.Maildir.{Maildir, File, IsWithout, WereTaken}
 use Rattle.mail_store.specs.Mboxrd.{entry_of}
-use Rattle.mail_store.specs.Power.{IsLonger, KeepsWhole, LastsWhole, LeavesEither, LeavesLonger, LeavesNoMore, LeavesPart, Outlives}
+use Rattle.mail_store.specs.Power.{IsLonger, KeepsWhole, LastsWhole, LeavesCut, LeavesEither, LeavesFront, LeavesLonger, LeavesNoMore, LeavesPart, Outlives}
 use Rattle.pop3_client.specs.Conversation.{TurnsJoin, Talks}
 use Rattle.fetch_session.specs.declared.account.Store.{Store}
 use Rattle.fetch_session.specs.declared.account.Store.TheVariants.{Maildir as InMaildir, Mboxrd as InMbox}
 use Rattle.fetch_session.specs.declared.fault.Cut.{Cut}
 use Rattle.fetch_session.specs.declared.work.Work.{Work}
-use Rattle.fetch_session.specs.Record.{Steady, bytes_in, record_state, ReadAs, Reads, record_state_in}
+use Rattle.fetch_session.specs.Record.{StandsTill, Steady, bytes_in, record_state, ReadAs, Reads, record_state_in}
 use Rattle.fetch_session.specs.Scene.{Scene, scene, Went, AllWent}
 use Rattle.fetch_session.specs.Store.{Brings}
 use Rattle.fetch_session.specs.Lasting.{AreLeft, AreSure, CarriedLasts, CarriesLast, CutLasts, DoesAndLasts, DonesLast, IsLeft, IsSafe, IsSafeStore, IsSafeWork, IsUntouched, KeepsWork, KeptLasts, Lasts, Leaves, LeavesLeft, LeavesMerged, ProceedsLast, RowsLast, RowsStillLast, SessionLasts, ShowsRows, TextsLast, UnlessQuiet, may_leave_in}
 use Rattle.fetch_session.specs.Target.{Target, AsFiles, AsEntries, Stores, kind_of, stores_of, target_of, AfterTakingIn, IsSoundMaildir, IsSoundMbox, in_maildir, in_mbox, is_sound, no_maildir, with_maildir, maildir_of, mbox_of, flags_in, closed_file, none_held, rows_in}
 use Rattle.fetch_session.specs.Task.{Task, Done, ids_in, ids_of, texts_of, ids_ahead, says, tasks_planned, files_of}
-use Rattle.fetch_session.proofs.SceneLemmas.{is_there, not_whole, read_keeps, all_on, fell_before, fell_on, marked_on, all_append, all_weaker}
+use Rattle.fetch_session.proofs.SceneLemmas.{is_there, not_whole, till_front, read_keeps, all_on, fell_before, fell_on, marked_on, all_append, all_weaker}
 use Rattle.fetch_session.proofs.TextLemmas.{settled}
 use Rattle.pop3_wire.specs.Link.{Link}
 use Rattle.mail_terms.specs.Listing.{Item}
@@ -63,6 +63,10 @@ no_more_keeps content no_more bytes is front left may = front left (no_more left
 
 pub safe_store : {F : Type 0} (files : FileGhosts F) (f : F) → IsSafe files f → files.is_sure f × LastsWhole (files.stored f).content (Unit {0}) (MayLeave (files.disk f))
 safe_store files f safe = (safe.0, λ bytes is. (tt, (safe.1 bytes is).1))
+
+pub no_more_left : {F : Type 0} (file : FileGhosts F) (f f' : F) → (file.stored f').content ≡ (file.stored f).content → LeavesNoMore (MayLeave (file.disk f)) (MayLeave (file.disk f'))
+    → (Is : Option (List ℕ) → Type 0) → Leaves file f Is → Leaves file f' Is
+no_more_left file f f' same no_more Is leaves bytes is left may = leaves bytes (sym same ∙ is) left (no_more left may)
 
 -- ---- what it may leave of the record's file
 
@@ -184,19 +188,18 @@ whole_left rows others bytes left stands all = record {
   file = record { bytes = bytes; behind = []; is = all ∙ ap (λ (l : List ℕ). Some l) (sym (append-nil bytes)); stands = stands; part = tt; begun = inl refl };
 }
 
--- the file was replaced, or may have been, by bytes that stand for the rows
-module _ {F : Type 0} (file : FileGhosts F) (f f' : F) (rows : List Row) (bytes : List ℕ) (stands : Steady (Some bytes) (none_open rows))
-    (either : LeavesEither (MayLeave (file.disk f)) bytes (MayLeave (file.disk f'))) where
-  pub either_rows : RowsStillLast file rows f f'
-  either_rows last left may = elim (either left may) [
+-- the file was cut to bytes that stand for the rows, or may have been
+module _ {F : Type 0} (file : FileGhosts F) (f f' : F) (rows : List Row) (size : ℕ) (till : StandsTill (file.stored f) size rows) where
+  pub front_rows : LeavesFront (file.stored f).content size (MayLeave (file.disk f)) (MayLeave (file.disk f')) → RowsStillLast file rows f f'
+  front_rows front last left may = elim (front till.0.0 till.0.1 left may) [
     | inl before ↦ last left before
-    | inr is ↦ (bytes, [], inr (is ∙ ap (λ (l : List ℕ). Some l) (sym (append-nil bytes))), stands)
+    | inr (behind, is) ↦ (take size till.0.0, behind, inr is, till_front (file.stored f) size rows till.0.0 till till.0.1)
   ]
 
-  pub either_left : (content : List ℕ) → (file.stored f).content ≡ Some content → (others : List Row) → Leaves file f (AreLeft rows others) → Leaves file f' (AreLeft rows others)
-  either_left content is others leaves now is_now left may = elim (either left may) [
-    | inl before ↦ leaves content is left before
-    | inr all ↦ whole_left rows others bytes left stands all
+  pub cut_left : LeavesCut (file.stored f).content size (MayLeave (file.disk f)) (MayLeave (file.disk f')) → (others : List Row) → Leaves file f (AreLeft rows others) → Leaves file f' (AreLeft rows others)
+  cut_left cut others leaves now is_now left may = elim (cut till.0.0 till.0.1 left may) [
+    | inl before ↦ leaves till.0.0 till.0.1 left before
+    | inr all ↦ whole_left rows others (take size till.0.0) left (till_front (file.stored f) size rows till.0.0 till till.0.1) all
   ]
 
 -- ---- a record that is merged

@@ -18,7 +18,7 @@ use Rattle.pop3_client.specs.Conversation.{Talked, Broke}
 use Rattle.fetch_session.specs.declared.report.ReportLine.{ReportLine}
 use Rattle.fetch_session.specs.declared.report.ReportLine.TheVariants.{Delivered}
 use Rattle.fetch_session.specs.Task.{Task, Done, IsAnswered, stores, turns_in, turns_of, texts_in, ids_in, replies_of, lines_of, file_from, files_in}
-use Rattle.fetch_session.specs.Record.{Saves, TakesBack, record_state_in, intent_at, with_open}
+use Rattle.fetch_session.specs.Record.{Saves, record_state_in, intent_at, with_open}
 use Rattle.fetch_session.specs.Scene.{scene, Stops, TakesTask}
 use Rattle.fetch_session.proofs.SceneLemmas.{brings_same}
 use Rattle.fetch_session.specs.Target.{Target, AsFiles, Stores, in_maildir, AsEntries, closed_file, in_mbox, is_stored, none_held}
@@ -35,7 +35,7 @@ use Rattle.mail_store.specs.declared.file.flat_file.Edges.{Edges}
 use Rattle.pop3_client.specs.Texts.{Fetched, body_text}
 use Rattle.fetch_session.specs.declared.fault.Fault.TheVariants.{SeenRefused, NoMemory}
 use Rattle.fetch_session.specs.declared.readiness.Found.{Found}
-use Rattle.fetch_session.specs.Mbox.{AppendsText, AsksMbox, HoldsText, IsIntended, IsSettledAtMost, IsStoreFault, IsTakenBack, MarksEntry, RefusesEntry, SettlesIntent, intent_of}
+use Rattle.fetch_session.specs.Mbox.{AppendsText, AsksMbox, HoldsText, IsSettledAtMost, IsStoreFault, IsTakenBack, MarksEntry, RefusesEntry, SettlesIntent, intent_of}
 
 -- ---- what storing a text leaves
 
@@ -226,7 +226,7 @@ not_measured mbox mbox' file rows uid text _ fault never fault_is = absurd never
 pub not_intended : (mbox mid file file' : Stored) (rows : List Row) (uid text : List ℕ) (edges : Edges) (len : ℕ) (fault : Fault) → Measures mbox (Ok edges) mid → len ≡ length (entry_of text)
     → Saves file (none_open rows) (with_open rows (intent_at uid edges.size len)) (Err fault) file' → RefusesEntry mbox file rows uid text fault mid file'
 not_intended mbox mid file file' rows uid text edges len SeenRefused ((was, some, edges_are), same) len_is saves = (same, (was, some, rw (edges_are, len_is) at saves))
-not_intended mbox mid file file' rows uid text edges len NoMemory ((was, some, edges_are), same) len_is saves = inl (same, inl saves)
+not_intended mbox mid file file' rows uid text edges len NoMemory ((was, some, edges_are), same) len_is saves = (same, inl saves)
 not_intended mbox mid file file' rows uid text edges len _ measures len_is never = absurd never
 
 -- it was refused, none of it is there, and its intent was closed
@@ -239,20 +239,7 @@ entry_refused mbox mid mbox' file file' rows uid text edges why fault measures b
     by refused.Missing (none, same) f = none_some mbox.content back.0 none back.1
     by refused.Refused same f = rw f (inl (same, inr back))
     by refused.NotMbox (other, same) f = rw f (other, same, back)
-    by refused.NoMemory same f = rw f (inl (same, inr back))
-
--- and memory ran out for closing it
-pub entry_left_open : (mbox mid mbox' file opened file' : Stored) (was : RecordState) (rows : List Row) (uid text : List ℕ) (edges : Edges) (why : StoreFault) (fault : Fault) → Measures mbox (Ok edges) mid
-    → IsIntended mbox file rows uid text opened → AppendsEntry {T = Unit {0}} mid text (Err (Nothing why)) mbox' → TakesBack opened was (Err fault) file' → RefusesEntry mbox file rows uid text fault mbox' file'
-entry_left_open mbox mid mbox' file opened file' was rows uid text edges why NoMemory measures is appends kept =
-    inr (by why (subst (λ (m : Stored). AppendsEntry {T = Unit {0}} m text (Err (Nothing why)) mbox') measures.1 appends), rw kept is)
-  where
-    by : (w : StoreFault) → AppendsEntry {T = Unit {0}} mbox text (Err (Nothing w)) mbox' → (mbox' ≡ mbox) ⊎ (mbox' ≡ counted mbox)
-    by refused.Missing (none, same) = inl same
-    by refused.Refused same = inr same
-    by refused.NotMbox (other, same) = inl same
-    by refused.NoMemory same = inl same
-entry_left_open mbox mid mbox' file opened file' was rows uid text edges why _ measures is appends never = absurd never
+    by refused.NoMemory same f = rw f (same, inr back)
 
 -- ---- one text is taken
 

@@ -88,12 +88,11 @@ IsIntended mbox file rows uid text file' = (was : List ℕ) × (mbox.content ≡
 abbrev pub IsTakenBack : Stored → Stored → List Row → List ℕ → List ℕ → Stored → Type 0
 IsTakenBack mbox file rows uid text file' = (was : List ℕ) × (mbox.content ≡ Some was) × (mid : Stored)
     × Saves file (none_open rows) (with_open rows (intent_of was uid text)) (Ok tt) mid
-    × TakesBack mid (with_open rows (intent_of was uid text)) (Ok tt) file'
+    × TakesBack mid (with_open rows (intent_of was uid text)) file'
 
 -- the mboxrd file and the record's after a text wasn't appended: the file isn't there; a call was refused, before the
 -- intent was saved, or after it, and the intent was closed again, unless a front of the entry may be there; no entry
--- may follow; the record's file was refused; or memory ran out, for the intent, for the entry, or for closing the
--- intent
+-- may follow; the record's file was refused; or memory ran out, for the intent or for the entry
 abbrev pub RefusesEntry : Stored → Stored → List Row → List ℕ → List ℕ → Fault → Stored → Stored → Type 0
 RefusesEntry mbox file rows uid text (StoreRefused Missing) mbox' file' = (mbox.content ≡ None) × (mbox' ≡ mbox)
     × (file' ≡ file)
@@ -107,9 +106,8 @@ RefusesEntry mbox file rows uid text (StoreRefused NotMbox) mbox' file' = IsOthe
 RefusesEntry mbox file rows uid text SeenRefused mbox' file' = (mbox' ≡ mbox)
     × ((was : List ℕ) × (mbox.content ≡ Some was)
     × Saves file (none_open rows) (with_open rows (intent_of was uid text)) (Err SeenRefused) file')
-RefusesEntry mbox file rows uid text NoMemory mbox' file' =
-    ((mbox' ≡ mbox) × ((file' ≡ file) ⊎ IsTakenBack mbox file rows uid text file'))
-    ⊎ (((mbox' ≡ mbox) ⊎ (mbox' ≡ counted mbox)) × IsIntended mbox file rows uid text file')
+RefusesEntry mbox file rows uid text NoMemory mbox' file' = (mbox' ≡ mbox)
+    × ((file' ≡ file) ⊎ IsTakenBack mbox file rows uid text file')
 RefusesEntry mbox file rows uid text _ mbox' file' = ⊥
 
 -- the entry of a text was appended to the mboxrd file, and the record has its intent; or it was refused

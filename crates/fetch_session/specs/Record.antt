@@ -1,5 +1,6 @@
 -- What is done to the record and its file.
 use Rattle.std.specs.Prelude.{◌≡◌, ◌≢◌, ◌⊎◌, ◌+◌, ℕ, Bool, false, List, [], Option, None, Some, Result, Ok, Err, Vec}
+use Rattle.std.specs.Prelude.{length, take}
 use Rattle.fetch_rules.specs.Record.{Row, Intent, RecordState, Loaded, none_open}
 use Rattle.fetch_rules.specs.RecordFile.{Two, file_of}
 use Rattle.fetch_rules.specs.RecordMeaning.{Means, Rows, Fault as Faulty, FileStandsFor}
@@ -7,7 +8,7 @@ use Rattle.fetch_rules.specs.Intents.{ReadAs as BytesReadAs}
 use Rattle.fetch_rules.specs.declared.seen.SeenFault.{SeenFault}
 use Rattle.fetch_rules.specs.declared.seen.SeenFault.TheVariants.{BadHeader, BadRow, RepeatedId}
 use Rattle.fetch_rules.specs.declared.seen.SeenFault.TheVariants.{NoMemory as WantsMemory}
-use Rattle.mail_store.specs.FlatFile.{Stored, holding, counted}
+use Rattle.mail_store.specs.FlatFile.{Stored, HasBytes, holding, counted}
 use Rattle.fetch_session.specs.declared.fault.Fault.{Fault}
 use Rattle.fetch_session.specs.declared.fault.Fault.TheVariants.{SeenRefused, BadSeen, NoMemory}
 
@@ -64,13 +65,20 @@ Saves old was now (Err SeenRefused) new = (new.failures ≡ old.failures + 1)
 Saves old was now (Err NoMemory) new = new ≡ old
 Saves old was now (Err _) new = ⊥
 
--- an open intent was closed, as none of its entry is there; or that was refused, and it may be open; or memory ran out,
--- and nothing was done
-abbrev pub TakesBack : Stored → RecordState → Result (Unit {0}) Fault → Stored → Type 0
-TakesBack old was (Ok done) new = Saves old was (none_open was.rows) (Ok tt) new
+-- an open intent was closed, as none of its entry is there; or that was refused, and it may be open
+abbrev pub TakesBack : Stored → RecordState → Stored → Type 0
+TakesBack old was new = Saves old was (none_open was.rows) (Ok tt) new
     ⊎ Saves old was (none_open was.rows) (Err SeenRefused) new
-TakesBack old was (Err NoMemory) new = new ≡ old
-TakesBack old was (Err _) new = ⊥
+
+-- the size of a file that has bytes; or the call was refused
+abbrev pub TellsSize : Stored → Result ℕ Fault → Stored → Type 0
+TellsSize old (Ok size) new = (size ≡ length (bytes_in old.content)) × (new ≡ old)
+TellsSize old (Err SeenRefused) new = new ≡ counted old
+TellsSize old (Err _) new = ⊥
+
+-- the first bytes of a file stand for these rows, with no intent open
+abbrev pub StandsTill : Stored → ℕ → List Row → Type 0
+StandsTill stored size rows = HasBytes stored size × Steady (Some (take size (bytes_in stored.content))) (none_open rows)
 
 -- a record read from the file was merged and saved; or, refused, the file stands for the old or the
 -- new one; or memory ran out, and nothing was done

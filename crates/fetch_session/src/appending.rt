@@ -87,12 +87,12 @@ fn append_text<F: FlatFile, H: BuildHasher>(
 {
     let edges = mbox.edges()?;
     let len = entry_len(&text);
-    intend(&mut ledger.file, &mut ledger.seen, uid, edges.size, len)?;
+    let size = intend(&mut ledger.file, &mut ledger.seen, uid, edges.size, len)?;
     match append_entry(mbox, text) {
         Ok(()) => Ok(()),
         Err(EntryFault::Front) => Err(Fault::from(StoreFault::Refused)),
         Err(EntryFault::Nothing(fault)) => {
-            take_back(&mut ledger.file, &mut ledger.seen)?;
+            take_back(&mut ledger.file, size);
             Err(Fault::from(fault))
         }
     }

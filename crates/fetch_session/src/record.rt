@@ -1,16 +1,18 @@
 //! The record and its file.
-ghost use Rattle.std.specs.Prelude.{◌≡◌, ◌≢◌, List, [], false, true, None, Some, OnOk};
+ghost use Rattle.std.specs.Prelude.{◌≡◌, ◌≢◌, ◌++◌, List, [], false, true, None, Some, OnOk, IfOk};
 ghost use Rattle.mail_terms.specs.UniqueId.{IsLegalId};
 ghost use Rattle.fetch_rules.specs.Intents.{IsNoneOrOf};
 ghost use Rattle.fetch_rules.specs.Record.{RecordState, Row, has_row, none_open, marked};
 ghost use Rattle.fetch_rules.specs.RecordFile.{Two, file_of};
 ghost use Rattle.fetch_rules.specs.RecordMeaning.{Means, Rows};
 ghost use Rattle.fetch_rules.specs.RecordGrowth.{Grows};
-ghost use Rattle.fetch_session.specs.Record.{Writes, Saves, Steady, TakesBack, bytes_in, record_state_in, intent_at};
-ghost use Rattle.fetch_session.specs.Record.{with_open};
+ghost use Rattle.fetch_session.specs.Record.{Writes, Saves, StandsTill, Steady, TakesBack, TellsSize, bytes_in};
+ghost use Rattle.fetch_session.specs.Record.{intent_at, record_state_in, with_open};
+ghost use Rattle.fetch_session.specs.Mbox.{went};
 ghost use Rattle.fetch_session.specs.Lasting.{AreLeft, IsLeft, IsSafe, RowsStillLast, Leaves, LeavesLeft};
 ghost use Rattle.mail_store.specs.Durable.{MayLeave};
-ghost use Rattle.mail_store.specs.Power.{LeavesEither};
+ghost use Rattle.mail_store.specs.FlatFile.{HasBytes};
+ghost use Rattle.mail_store.specs.Power.{LeavesEither, LeavesNoMore};
 
 use crate::fault::Fault;
 use fetch_rules::{Seen, appended_counts, bytes_stand, cut_is_ignored};
@@ -38,6 +40,8 @@ pub(crate) fn grow<F: FlatFile>(file: &mut F, group: &[u8]) -> Result<(), Fault>
     ensures saves { F.sound file.new → F.sound file.old
         × ((was now : RecordState) → Grows was.rows was.intent group.now now.rows now.intent
         → Saves (F.stored file.old) was now result (F.stored file.new)) }
+    ensures appends { F.sound file.new → OnOk result
+        (bytes_in (F.stored file.new).content ≡ bytes_in (F.stored file.old).content ++ group.now) }
     ensures keeps { F.sound file.new → ((rows : List Row) → RowsStillLast F.FlatFile rows file.old file.new) }
     ensures lasts { F.sound file.new → IsSafe F.FlatFile file.old → OnOk result (IsSafe F.FlatFile file.new) }
     ensures leaves { F.sound file.new → IsSafe F.FlatFile file.old
@@ -56,15 +60,29 @@ pub(crate) fn grow<F: FlatFile>(file: &mut F, group: &[u8]) -> Result<(), Fault>
     }
 }
 
+/// The size of the file, which has bytes.
+fn measure<F: FlatFile>(file: &mut F) -> Result<u64, Fault>
+    requires begun { F.sound file.old → bytes_in (F.stored file.old).content ≢ [] }
+    ensures size { F.sound file.new → F.sound file.old × TellsSize (F.stored file.old) result (F.stored file.new) }
+    ensures keeps { F.sound file.new → LeavesNoMore (MayLeave (F.disk file.old)) (MayLeave (F.disk file.new)) }
+    ensures lasts { F.sound file.new → F.is_sure file.old → OnOk result (IsSafe F.FlatFile file.new) }
+{
+    match file.edges() {
+        Ok(edges) => Ok(edges.size),
+        Err(_) => Err(Fault::SeenRefused),
+    }
+}
+
 /// Writes down that the entry of an id's text is about to be appended to an mboxrd file: at which size
-/// of the file, and how long the entry is.
+/// of the file, and how long the entry is. Returns the size that the record's file had, to which
+/// `take_back` cuts it.
 pub(crate) fn intend<F: FlatFile, H: BuildHasher>(
     file: &mut F,
     seen: &mut Seen<H>,
     uid: &[u8],
     start: u64,
     len: u64,
-) -> Result<(), Fault>
+) -> Result<u64, Fault>
     requires legal { IsLegalId uid.now }
     requires row { has_row seen.old.rows uid.now ≡ true }
     requires closed { seen.old.intent ≡ None }
@@ -72,10 +90,11 @@ pub(crate) fn intend<F: FlatFile, H: BuildHasher>(
     ensures rows { seen.new.rows ≡ seen.old.rows }
     ensures opened { OnOk result (seen.new.intent ≡ Some (intent_at uid.now start len)) }
     ensures steady { F.sound file.new → F.sound file.old
-        × OnOk result (Steady (F.stored file.new).content (with_open seen.old.rows (intent_at uid.now start len))) }
+        × IfOk result (λ size. Steady (F.stored file.new).content (with_open seen.old.rows (intent_at uid.now start len))
+        × StandsTill (F.stored file.new) size seen.old.rows) }
     ensures saves { F.sound file.new → F.sound file.old
         × Saves (F.stored file.old) (none_open seen.old.rows)
-        (with_open seen.old.rows (intent_at uid.now start len)) result
+        (with_open seen.old.rows (intent_at uid.now start len)) (went result)
         (F.stored file.new) }
     ensures keeps { F.sound file.new → ((rows : List Row) → RowsStillLast F.FlatFile rows file.old file.new)
         × (IsSafe F.FlatFile file.old
@@ -83,29 +102,25 @@ pub(crate) fn intend<F: FlatFile, H: BuildHasher>(
     ensures lasts { F.sound file.new → IsSafe F.FlatFile file.old → OnOk result (IsSafe F.FlatFile file.new) }
 {
     let line = seen.intend(uid, start, len)?;
-    grow(file, &line)
+    let size = measure(file)?;
+    grow(file, &line)?;
+    Ok(size)
 }
 
-/// Closes the open intent again, since nothing of its entry is in the mboxrd file: the record is written
-/// whole, without it. If the device refuses that, it may stay open; if memory runs out, it does.
-pub(crate) fn take_back<F: FlatFile, H: BuildHasher>(
-    file: &mut F,
-    seen: &mut Seen<H>,
-) -> Result<(), Fault>
-    requires begun { F.sound file.old → bytes_in (F.stored file.old).content ≢ [] }
-    ensures rows { seen.new.rows ≡ seen.old.rows }
+/// Closes the open intent again, since nothing of its entry is in the mboxrd file: the record's file is
+/// cut to the size that it had before. If the device refuses that, the intent may stay open.
+pub(crate) fn take_back<F: FlatFile>(file: &mut F, size: u64)
+    requires there { F.sound file.old → HasBytes (F.stored file.old) size }
     ensures closes { F.sound file.new → F.sound file.old
-        × TakesBack (F.stored file.old) (record_state_in seen.old) result (F.stored file.new) }
-    ensures keeps { F.sound file.new → RowsStillLast F.FlatFile seen.old.rows file.old file.new }
-    ensures leaves { F.sound file.new → ((others : List Row)
-        → Leaves F.FlatFile file.old (AreLeft seen.old.rows others)
-        → Leaves F.FlatFile file.new (AreLeft seen.old.rows others)) }
+        × ((was : RecordState) → StandsTill (F.stored file.old) size was.rows
+        → TakesBack (F.stored file.old) was (F.stored file.new)) }
+    ensures keeps { F.sound file.new → ((rows : List Row) → StandsTill (F.stored file.old) size rows
+        → RowsStillLast F.FlatFile rows file.old file.new) }
+    ensures leaves { F.sound file.new → IsSafe F.FlatFile file.old
+        → ((rows others : List Row) → StandsTill (F.stored file.old) size rows
+        → Leaves F.FlatFile file.old (AreLeft rows others) → Leaves F.FlatFile file.new (AreLeft rows others)) }
 {
-    bytes_stand();
-    seen.close(false);
-    let bytes = seen.bytes()?;
-    let _ = file.replace(&bytes);
-    Ok(())
+    let _ = file.cut_to(size);
 }
 
 /// Marks an id as delivered, and appends the row to the file if that changed it. That ends the

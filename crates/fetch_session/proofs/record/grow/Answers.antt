@@ -1,6 +1,8 @@
-use Rattle.std.proofs.Common.{inl, inr}
+use Rattle.std.proofs.Common.{inl, inr, List, ℕ, sym, ap, ◌++◌, ◌∙◌, append-nil}
+use Rattle.mail_store.specs.FlatFile.{Stored}
+use Rattle.fetch_session.specs.Record.{bytes_in}
 use Rattle.fetch_session.proofs.SessionLemmas.{longer_rows, part_left, safe_left}
-use Rattle.fetch_session.proofs.SceneLemmas.{not_empty, grown, cut_short, and_so}
+use Rattle.fetch_session.proofs.SceneLemmas.{all_empty, is_there, not_empty, grown, cut_short, and_so}
 use Rattle.fetch_session.proofs.record.grow.Goals as goal
 
 pub returns-in-Ok-clause-saves : goal.returns-in-Ok-clause-saves
@@ -10,6 +12,18 @@ returns-in-Ok-clause-saves g c = λ kept. and_so (c.in-Ok.ensures.appends kept) 
 pub returns-in-Err-clause-saves : goal.returns-in-Err-clause-saves
 returns-in-Err-clause-saves g c = λ kept. and_so (c.in-Err.ensures.appends kept) (λ sound appends was now grows. cut_short c.appended_counts.ensures c.cut_is_ignored.ensures _ _ c.args.group.now was now c.in-Err.field-0
     (c.requires.begun sound (not_empty c.args.group.now c.is_empty.result c.if-is_empty.false c.is_empty.ensures)) grows appends)
+
+pub returns-then-is_empty-clause-appends : goal.returns-then-is_empty-clause-appends
+returns-then-is_empty-clause-appends g c = λ kept.
+    let was = bytes_in (g.F.FlatFile.stored c.args.file.now).content in
+    sym (ap (λ (l : List ℕ). was ++ l) (all_empty c.args.group.now c.is_empty.result c.if-is_empty.true c.is_empty.ensures) ∙ append-nil was)
+
+pub returns-in-Ok-clause-appends : goal.returns-in-Ok-clause-appends
+returns-in-Ok-clause-appends g c = λ kept.
+    let appends = c.in-Ok.ensures.appends kept in
+    let content = (g.F.FlatFile.stored c.args.file.now).content in
+    ap (λ (s : Stored). bytes_in s.content) (appends.1 (bytes_in content)
+    (is_there content (c.requires.begun appends.0 (not_empty c.args.group.now c.is_empty.result c.if-is_empty.false c.is_empty.ensures))))
 
 pub returns-then-is_empty-clause-leaves : goal.returns-then-is_empty-clause-leaves
 returns-then-is_empty-clause-leaves g c = λ kept safe was stood. (safe_left g.F.FlatFile c.args.file.now was c.args.group.now safe stood, λ left may. inl may)

@@ -1,0 +1,12 @@
+use Rattle.std.proofs.Common.{List, ℕ, Option, length, ap, sym, ◌∙◌}
+use Rattle.mail_store.specs.declared.file.flat_file.Edges.{Edges}
+use Rattle.fetch_session.specs.Record.{bytes_in}
+use Rattle.fetch_session.proofs.SceneLemmas.{not_there, and_so}
+use Rattle.fetch_session.proofs.record.measure.Goals as goal
+
+pub returns-in-Ok-clause-size : goal.returns-in-Ok-clause-size
+returns-in-Ok-clause-size g c = λ kept. and_so (c.in-Ok.ensures.measures kept) (λ sound measures.
+    (ap (λ (e : Edges). e.size) measures.0.2 ∙ ap (λ (o : Option (List ℕ)). length (bytes_in o)) (sym measures.0.1), measures.1))
+
+pub returns-in-Err-clause-size : goal.returns-in-Err-clause-size
+returns-in-Err-clause-size g c = λ kept. and_so (c.in-Err.ensures.measures kept) (λ sound denies. not_there _ _ c.in-Err.field-0 (c.requires.begun sound) denies)
