@@ -1,5 +1,6 @@
 mod CutLemmas
 mod DurableLemmas
+mod HearingLemmas
 mod MessagePreviewLemmas
 mod PartLemmas
 mod ReadyLemmas

@@ -23,3 +23,4 @@ pub mod MessagePreview
 pub mod Pretend
 pub mod Telling
 pub mod Reasons
+pub mod Hearing

@@ -1,12 +1,15 @@
 //! Who is told of a session's lines while it runs.
+ghost use Rattle.std.specs.Prelude.{List, [], ◌∷◌, ◌++◌};
+ghost use Rattle.fetch_session.specs.declared.message_preview.MessagePreview.{MessagePreview};
+
 use crate::message_preview::MessagePreview;
 use crate::report::ReportLine;
 use std::vec::Vec;
 
 /// One that is told of the lines of a session as they are noted.
 pub trait Listener {
-    // A relation that each call keeps, whatever it is told.
-    ghost goes_on: { Self → Self → Type 0 };
+    // By calls it was told to expect these plans, in order, whatever lines it heard.
+    ghost hears: { Self → List (List MessagePreview) → Self → Type 0 };
 
     /// Whether it asks why messages are passed over.
     fn asks_why(&self) -> bool;
@@ -14,16 +17,17 @@ pub trait Listener {
     /// Takes what is planned for each message, before there are lines. The record is asked for it, and not the
     /// store.
     fn expect(&mut self, plan: Vec<MessagePreview>)
-        ensures { goes_on self.old self.new };
+        ensures { hears self.old (plan.items ∷ []) self.new };
 
     /// Takes the lines that a session with this many messages has noted so far.
     fn hear(&mut self, total: u32, lines: &[ReportLine])
-        ensures { goes_on self.old self.new };
+        ensures { hears self.old [] self.new };
 
-    // `goes_on` is reflexive and transitive.
-    ghost goes_same: { (a : Self) → goes_on a a };
+    // `hears` joins.
+    ghost hears_none: { (a : Self) → hears a [] a };
 
-    ghost goes_further: { (a b c : Self) → goes_on a b → goes_on b c → goes_on a c };
+    ghost hears_on: { (a b c : Self) (ps qs : List (List MessagePreview)) → hears a ps b → hears b qs c
+        → hears a (ps ++ qs) c };
 }
 
 /// One that does nothing with what it is told.
@@ -31,7 +35,7 @@ pub trait Listener {
 pub struct Silent;
 
 impl Listener for Silent {
-    ghost goes_on = { λ a b. Unit {0} };
+    ghost hears = { λ a plans b. Unit {0} };
 
     fn asks_why(&self) -> bool {
         false
@@ -41,7 +45,7 @@ impl Listener for Silent {
 
     fn hear(&mut self, _total: u32, _lines: &[ReportLine]) {}
 
-    ghost goes_same = { λ a. tt };
+    ghost hears_none = { λ a. tt };
 
-    ghost goes_further = { λ a b c p q. tt };
+    ghost hears_on = { λ a b c ps qs p q. tt };
 }

@@ -1,16 +1,18 @@
 //! One session, from its greeting to its end.
-ghost use Rattle.std.specs.Prelude.{◌≡◌, ◌≤◌, ◌+◌, ◌*◌, [], None, length};
-ghost use Rattle.pop3_client.specs.Client.{HasSameLink, link_of};
+ghost use Rattle.std.specs.Prelude.{◌≡◌, ◌≤◌, ◌+◌, ◌*◌, [], None, Ok, length};
+ghost use Rattle.pop3_wire.specs.Place.{Place};
+ghost use Rattle.pop3_client.specs.Client.{HasSameLink, link_of, place_of};
 ghost use Rattle.std.specs.Vec.{vec_len};
 ghost use Rattle.rc_file.specs.Settings.{IsValid};
 ghost use Rattle.mail_store.specs.FileName.{IsAccountText};
 ghost use Rattle.fetch_session.specs.Account.{IsSameAccount};
 ghost use Rattle.fetch_session.specs.Refusal.{IsWithinLimits, RefusesByOutcome, GotAtMost, session_limit, TookWithTail};
 ghost use Rattle.fetch_session.specs.Refusal.{opening_limit, step_limit, tail_limit};
+ghost use Rattle.fetch_session.specs.Hearing.{AreMerged, HearsOne, IsPlanOf, IsPlanned};
 ghost use Rattle.fetch_session.specs.Lasting.{ProceedsLast, RunsSession};
 ghost use Rattle.fetch_session.specs.Parts.{KeepsLink, KeepsStore, WhereWorkSound};
 ghost use Rattle.fetch_session.specs.Report.{most_lines, none_skipped};
-ghost use Rattle.fetch_session.specs.Session.{Proceeds, keeping, noted};
+ghost use Rattle.fetch_session.specs.Session.{Enters_with, Proceeds, keeping, noted};
 ghost use Rattle.fetch_session.specs.Target.{AfterTakingIn, NoneBegun, target_of};
 
 use crate::account::Account;
@@ -59,7 +61,12 @@ fn proceed<W: Wire, D: MaildirDisk, F: FlatFile, H: BuildHasher, L: Listener>(
         new.place (keeping new.store new.file) (noted counts.new.total counts.new.skipped new.lines))
         × ProceedsLast F.FlatFile work.old.store work.old.ledger.file _ _ _ _ _ _ _ _ _ is
         work.new.store work.new.ledger.file)) }
-    ensures heard { L.goes_on listener.old listener.new }
+    ensures heard { HearsOne L.hears (IsPlanned terms.entry.settings.now terms.entry.now counts.new.total
+        counts.new.skipped (λ items rows. (W.sound client.new.wire.now → (mid : Place)
+        × Enters_with terms.entry.settings.now (place_of W.Wire client.old) (Ok items) mid
+        × TookWithTail (counts.new.total * step_limit + tail_limit) mid result (place_of W.Wire client.new))
+        × AreMerged D.MaildirDisk F.FlatFile terms.entry.account.now terms.entry.now work.old.store
+        work.old.ledger.file work.new.store work.new.ledger.file items rows)) listener.old listener.new }
 {
     conversations_are_paced();
     let listing = enter(work.ledger.alloc, terms.settings, client)?;
@@ -83,7 +90,8 @@ fn session_over<W: Wire, D: MaildirDisk, F: FlatFile, H: BuildHasher, L: Listene
         account.new client.new.wire.now }
     ensures bounded { W.sound client.new.wire.now
         → GotAtMost (session_limit result.total) (link_of W.Wire client.old) (link_of W.Wire client.new) }
-    ensures heard { L.goes_on listener.old listener.new }
+    ensures heard { HearsOne L.hears (IsPlanOf W.Wire D.MaildirDisk F.FlatFile now account.old client.old.wire.now
+        account.new client.new.wire.now result) listener.old listener.new }
 {
     conversations_are_paced();
     let mut counts = Counts {
@@ -144,7 +152,8 @@ pub fn session_told<W: Wire, D: MaildirDisk, F: FlatFile, H: BuildHasher, L: Lis
     ensures limits { IsWithinLimits W.Wire wire.old result wire.new }
     ensures same { IsSameAccount account.old account.new }
     ensures session { RunsSession W.Wire D.MaildirDisk F.FlatFile now account.old wire.old result account.new wire.new }
-    ensures heard { L.goes_on listener.old listener.new }
+    ensures heard { HearsOne L.hears (IsPlanOf W.Wire D.MaildirDisk F.FlatFile now account.old wire.old account.new
+        wire.new result) listener.old listener.new }
 {
     let mut client = Client::new(wire);
     session_over(account, &mut client, now, listener)

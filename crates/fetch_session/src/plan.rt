@@ -6,6 +6,7 @@ ghost use Rattle.mail_terms.specs.UniqueId.{IsLegalId};
 ghost use Rattle.mail_store.specs.FileName.{IsAccountText};
 ghost use Rattle.fetch_session.specs.Target.{AfterTakingIn, NoneBegun, target_of};
 ghost use Rattle.fetch_session.specs.Refusal.{TookWithTail, step_limit, tail_limit};
+ghost use Rattle.fetch_session.specs.Hearing.{AreMerged, HearsOne, IsPlanned};
 ghost use Rattle.fetch_session.specs.Lasting.{CarriesLast};
 ghost use Rattle.fetch_session.specs.Parts.{KeepsLink, KeepsStore, WhereWorkSound};
 ghost use Rattle.fetch_session.specs.Plan.{Carries};
@@ -53,7 +54,10 @@ pub fn carry_out<W: Wire, D: MaildirDisk, F: FlatFile, H: BuildHasher, L: Listen
         new.place new.store new.file new.lines skipped.new)
         × CarriesLast F.FlatFile work.old.store work.old.ledger.file _ _ _ _ _ _ _ _ _ _ _ _ _ _ is
         work.new.store work.new.ledger.file)) }
-    ensures heard { L.goes_on listener.old listener.new }
+    ensures heard { HearsOne L.hears (IsPlanned terms.entry.settings.now terms.entry.now (length listing.now)
+        skipped.new (λ items rows. (items ≡ listing.now) × AreMerged D.MaildirDisk F.FlatFile terms.entry.account.now
+        terms.entry.now work.old.store work.old.ledger.file work.new.store work.new.ledger.file items rows))
+        listener.old listener.new }
 {
     turns_join();
     firsts_are_fetched();

@@ -3,6 +3,9 @@ ghost use Rattle.std.specs.Prelude.{◌≡◌, ◌-◌, ◌++◌, IfOk, length, 
 ghost use Rattle.std.specs.String.{string_bytes};
 ghost use Rattle.fetch_session.specs.Reasons.{explained_line, explained_report, fate_at, skip_text, skipped_text};
 ghost use Rattle.fetch_session.specs.Reasons.{told_report};
+ghost use Rattle.fetch_session.specs.Hearing.{HearsOne};
+ghost use Rattle.fetch_session.specs.MessagePreview.{message_previews};
+ghost use Rattle.fetch_session.specs.Target.{none_held};
 
 use crate::listener::Listener;
 use crate::message_preview::{Fate, MessagePreview, message_previews};
@@ -10,13 +13,29 @@ use crate::report::{Report, ReportLine};
 use crate::step::Planned;
 use crate::terms::Terms;
 use crate::text::{heading, line_text, report_text, summary};
-use fetch_rules::{Seen, Settings};
+use fetch_rules::{Listing, Seen, Settings, Step};
 use std::alloc::{AllocError, Global};
 use std::hash::BuildHasher;
 use std::vec::Vec;
 
-/// Tells a listener that asks for it what is planned for each message, by the record once the listing is
-/// merged into it. Without memory it isn't told.
+/// What is planned for each message, by the record once the listing is merged into it, which has each message that
+/// the store holds as delivered.
+fn plan_by<H: BuildHasher>(
+    alloc: Global,
+    terms: Terms<'_>,
+    seen: &Seen<H>,
+    listing: &Listing,
+    steps: &[Step],
+) -> Result<Vec<MessagePreview>, AllocError>
+    requires all_steps { length steps.now ≡ length listing.now }
+    ensures { IfOk result (λ told. told.items ≡ message_previews terms.entry.settings.now seen.now.rows terms.entry.now 0
+        steps.now listing.now (none_held listing.now)) }
+{
+    let held = vec![in alloc; false; listing.len() as usize]?;
+    message_previews(alloc, terms, seen, listing, &held, steps)
+}
+
+/// Tells a listener that asks for it of the plan. Without memory it isn't told.
 pub(crate) fn tell_plan<H: BuildHasher, L: Listener>(
     alloc: Global,
     terms: Terms<'_>,
@@ -25,16 +44,13 @@ pub(crate) fn tell_plan<H: BuildHasher, L: Listener>(
     listener: &mut L,
 )
     requires all_steps { length plan.steps.now ≡ length plan.listing.now }
-    ensures { L.goes_on listener.old listener.new }
+    ensures { HearsOne L.hears (λ told. told ≡ message_previews terms.entry.settings.now seen.now.rows terms.entry.now 0
+        plan.entry.steps.now plan.entry.listing.now (none_held plan.entry.listing.now)) listener.old listener.new }
 {
-    let Planned { listing, steps, .. } = plan;
     if !listener.asks_why() {
         return;
     }
-    let Ok(held) = vec![in alloc; false; listing.len() as usize] else {
-        return;
-    };
-    if let Ok(told) = message_previews(alloc, terms, seen, listing, &held, steps) {
+    if let Ok(told) = plan_by(alloc, terms, seen, plan.listing, plan.steps) {
         listener.expect(told);
     }
 }

@@ -178,7 +178,7 @@ pub fn do_steps<W: Wire, D: MaildirDisk, F: FlatFile, H: BuildHasher, L: Listene
     ensures runs { RunsTasks W.Wire D.MaildirDisk F.FlatFile account.now
         (tasks_planned plan.entry.steps.now plan.entry.listing.now plan.entry.held.now) client.old work.old result
         client.new work.new }
-    ensures heard { L.goes_on listener.old listener.new }
+    ensures heard { L.hears listener.old [] listener.new }
 {
     turns_join();
     let listing = plan.listing;

@@ -1,5 +1,5 @@
 -- What is written of a report while its session runs: its first line, and lines of messages, but no line of a deletion.
-use Rattle.std.specs.Prelude.{◌≡◌, ◌⊎◌, ℕ, List, [], ◌++◌, Option, flat_map, false}
+use Rattle.std.specs.Prelude.{◌≡◌, ◌⊎◌, ℕ, List, [], ◌∷◌, ◌++◌, Option, flat_map, if◌then◌else◌}
 use Rattle.std.proofs.Common.{refl, sym, ap, ◌∙◌, append_assoc, append-nil, subst}
 use Rattle.std.proofs.KnownBytes.{Appends-nil, Appends-trans}
 use Rattle.std.proofs.lemmas.Grind.{flat_map-append}
@@ -13,21 +13,30 @@ use Rattle.getmail_program.specs.declared.teller.Teller.{Teller}
 use Rattle.getmail_setup.specs.declared.output.Output.{Output}
 use Rattle.getmail_setup.specs.Output.{Puts}
 
--- a line of a report that tells no deletion, of a session with this many messages and this plan
+-- a line of a report, of a session with this many messages and this plan
 pub record EarlyLine : Type 0 where
   pub total : ℕ
   pub plan : List MessagePreview
   pub line : ReportLine
-  pub no_deletion : is_deletion line ≡ false
 
+-- what is written of it: nothing if it tells a deletion
 abbrev pub text_of : ℕ → EarlyLine → List ℕ
-text_of verbose told = explained_line verbose told.total told.plan told.line
+text_of verbose told = if is_deletion told.line then [] else explained_line verbose told.total told.plan told.line
 
 -- it has the same output, keeps what it wrote in the same place, and tells as much
 abbrev pub HasSameLinks : {O : Type 0} → Teller O → Teller O → Type 0
 HasSameLinks old new =
     (new.out.ghost_name ≡ old.out.ghost_name) × (new.notes.ghost_name ≡ old.notes.ghost_name)
     × (new.verbose ≡ old.verbose)
+
+-- the last of these plans, or else this one
+abbrev pub last_plan : List MessagePreview → List (List MessagePreview) → List MessagePreview
+last_plan kept [] = kept
+last_plan kept (plan ∷ plans) = last_plan plan plans
+
+-- it keeps the last of the plans that it was told of, or else the one that it had
+abbrev pub HasLast : {O : Type 0} → List (List MessagePreview) → Teller O → Teller O → Type 0
+HasLast plans old new = new.notes.now.plan.items ≡ last_plan old.notes.now.plan.items plans
 
 -- these octets were written to the output, and are kept
 pub record Wrote {O : Type 0} (contents : O → Option (List ℕ)) (more : List ℕ) (old new : Teller O) : Type 0 where
@@ -43,7 +52,7 @@ pub record WroteMore {O : Type 0} (contents : O → Option (List ℕ)) (old new 
   pub lines : List EarlyLine
   pub wrote : Wrote contents (flat_map (text_of old.verbose) lines) old new
 
--- of a report that was written before its session's end: its first line, and lines that tell no deletion
+-- of a report that was written before its session's end: its first line, and lines of messages
 pub record TellsEarly {O : Type 0} (contents : O → Option (List ℕ)) (settings : Settings) (out : Output O)
     (text : List ℕ)
     (out' : Output O) : Type 0 where
@@ -52,6 +61,15 @@ pub record TellsEarly {O : Type 0} (contents : O → Option (List ℕ)) (setting
   pub lines : List EarlyLine
   pub is_text : text ≡ first ++ flat_map (text_of settings.verbose) lines
   pub puts : Puts contents out text out'
+
+last_on : (kept : List MessagePreview) (ps qs : List (List MessagePreview))
+    → last_plan kept (ps ++ qs) ≡ last_plan (last_plan kept ps) qs
+last_on kept [] qs = refl
+last_on kept (p ∷ ps) qs = last_on p ps qs
+
+pub has_last : {O : Type 0} (a b c : Teller O) (ps qs : List (List MessagePreview)) → HasLast ps a b → HasLast qs b c
+    → HasLast (ps ++ qs) a c
+has_last a b c ps qs p q = q ∙ ap (λ kept. last_plan kept qs) p ∙ sym (last_on a.notes.now.plan.items ps qs)
 
 pub wrote_none : {O : Type 0} (contents : O → Option (List ℕ)) (a : Teller O) → Wrote contents [] a a
 wrote_none contents a = record {

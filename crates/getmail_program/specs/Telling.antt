@@ -1,5 +1,5 @@
 -- What is told at a session's end.
-use Rattle.std.specs.Prelude.{◌≡◌, ℕ, Bool, true, false, ◌==◌, List, [], ◌++◌, Option, None, Some, codes, length}
+use Rattle.std.specs.Prelude.{◌≡◌, ◌⊎◌, ℕ, Bool, true, false, ◌==◌, List, [], ◌++◌, Option, None, Some, codes, length}
 use Rattle.std.specs.Prelude.{if◌then◌else◌}
 use Rattle.std.specs.Fmt.{decimal}
 use Rattle.rc_file.specs.declared.settings.Settings.{Settings}
@@ -8,6 +8,7 @@ use Rattle.fetch_session.specs.declared.report.LeftOut.{LeftOut}
 use Rattle.fetch_session.specs.declared.report.Outcome.{Outcome}
 use Rattle.fetch_session.specs.declared.report.Outcome.TheVariants.{Ended, Cut}
 use Rattle.fetch_session.specs.declared.message_preview.MessagePreview.{MessagePreview}
+use Rattle.fetch_session.specs.declared.report.Report.{Report}
 use Rattle.fetch_session.specs.Reasons.{told_report}
 use Rattle.fetch_session.specs.Telling.{preview_text}
 use Rattle.fetch_session.specs.Text.{fault_text, outcome_number}
@@ -33,11 +34,17 @@ abbrev pub text_of : Settings → List MessagePreview → Told → List ℕ
 text_of settings plan (Done report) = told_report plan report settings
 text_of settings plan (Ahead preview) = preview_text preview settings
 
+-- a report's plan is none, or the session's own
+abbrev pub IsOwnPlan : (Report → List MessagePreview → Type 0) → Told → List MessagePreview → Type 0
+IsOwnPlan IsPlan (Done report) plan = (plan ≡ []) ⊎ IsPlan report plan
+IsOwnPlan IsPlan (Ahead preview) plan = Unit {0}
+
 -- what a session said was written to `out`, and nothing else; there are reasons only if they are asked for
-pub record Reported {O : Type 0} (contents : O → Option (List ℕ)) (explains : Bool) (settings : Settings) (told : Told)
-    (out out' : Output O)
+pub record Reported {O : Type 0} (contents : O → Option (List ℕ)) (explains : Bool) (settings : Settings)
+    (IsPlan : Report → List MessagePreview → Type 0) (told : Told) (out out' : Output O)
     : Type 0 where
   pub plan : List MessagePreview
+  pub own : IsOwnPlan IsPlan told plan
   pub asked : explains ≡ false → plan ≡ []
   pub puts : Puts contents out (text_of settings plan told) out'
 
@@ -123,9 +130,8 @@ pub record TellsErrors {E : Type 0} (contents : E → Option (List ℕ)) (settin
 
 -- what a session said was written to `out`, and nothing else; and the rest to `err`
 pub record TellsAll {O E : Type 0} (out_contents : O → Option (List ℕ)) (err_contents : E → Option (List ℕ))
-    (explains : Bool)
-    (settings : Settings) (told : Told) (out : Output O) (old : Errors E) (fetched : Fetched) (out' : Output O)
-    (new : Errors E)
+    (explains : Bool) (settings : Settings) (IsPlan : Report → List MessagePreview → Type 0) (told : Told)
+    (out : Output O) (old : Errors E) (fetched : Fetched) (out' : Output O) (new : Errors E)
     : Type 0 where
-  pub reported : Reported out_contents explains settings told out out'
+  pub reported : Reported out_contents explains settings IsPlan told out out'
   pub errors : TellsErrors err_contents settings told out'.refusal old fetched new

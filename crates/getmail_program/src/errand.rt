@@ -1,7 +1,9 @@
 //! A run over devices that are made for it.
 ghost use Rattle.std.specs.Prelude.{◌≤◌, ℕ};
 ghost use Rattle.rc_file.specs.Settings.{IsValid};
+ghost use Rattle.fetch_session.specs.Hearing.{IsPlanOf};
 ghost use Rattle.getmail_program.specs.Fetching.{FetchesAt, TellsOf};
+ghost use Rattle.getmail_program.specs.Holding.{holding_of};
 ghost use Rattle.getmail_program.specs.declared.told.Told.{Told};
 
 use crate::devices::{Devices, seconds_now};
@@ -100,10 +102,13 @@ where
     O: Write,
     requires { IsValid errand.settings }
     ensures within { result ≤ 1 }
-    ensures fetches { (now : ℕ) × (told : Told)
-        × FetchesAt W.Wire M.Maildir.MaildirDisk M.File.FlatFile (M.made_store devices.now) (M.made_record devices.now)
-        errand.entry.settings errand.entry.paths.now errand.entry.pretends now link.0 told
-        × TellsOf O.contents E.contents errand.entry.settings told out.old errors.entry result out.new }
+    ensures fetches { (now : ℕ) × (told : Told) × (fetched : FetchesAt W.Wire M.Maildir.MaildirDisk M.File.FlatFile
+        (M.made_store devices.now) (M.made_record devices.now)
+        errand.entry.settings errand.entry.paths.now errand.entry.pretends now link.0 told)
+        × TellsOf O.contents E.contents errand.entry.settings
+        (IsPlanOf W.Wire M.Maildir.MaildirDisk M.File.FlatFile now
+        (holding_of errand.entry.settings fetched.store fetched.seen_file) link.0 fetched.left fetched.wire')
+        told out.old errors.entry result out.new }
 {
     let Errand {
         settings,

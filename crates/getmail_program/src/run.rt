@@ -1,5 +1,6 @@
 //! A run: one session over a link, or only what it would do.
 ghost use Rattle.std.specs.Prelude.{◌≡◌, ◌≤◌};
+ghost use Rattle.fetch_session.specs.Hearing.{IsPlanOf};
 ghost use Rattle.fetch_session.specs.Target.{NoneBegun, kind_of};
 ghost use Rattle.rc_file.specs.Settings.{IsValid};
 ghost use Rattle.getmail_program.specs.Holding.{HoldsSession, holding_of};
@@ -44,9 +45,9 @@ pub fn fetch_over<
         × HoldsSession W.Wire D.MaildirDisk F.FlatFile manner.entry.pretends manner.entry.now account.old
         wire.old.wire told
         account.new wire.new.wire
-        × TellsAll O.contents E.contents manner.entry.explains account.old.settings told out.old errors.old
-        result out.new
-        errors.new }
+        × TellsAll O.contents E.contents manner.entry.explains account.old.settings
+        (IsPlanOf W.Wire D.MaildirDisk F.FlatFile manner.entry.now account.old wire.old.wire account.new wire.new.wire)
+        told out.old errors.old result out.new errors.new }
 {
     let reasons = errors.reasons;
     let system = System::new(rt, &reasons.store);
@@ -108,9 +109,11 @@ pub fn fetch_with<
         × HoldsSession W.Wire D.MaildirDisk F.FlatFile manner.entry.pretends manner.entry.now
         (holding_of parts.settings parts.store parts.seen_file) wire.old.wire told
         (holding_of result.settings result.store result.seen_file) wire.new.wire
-        × TellsAll O.contents E.contents manner.entry.explains parts.settings told out.old errors.old
-        result.fetched out.new
-        errors.new }
+        × TellsAll O.contents E.contents manner.entry.explains parts.settings
+        (IsPlanOf W.Wire D.MaildirDisk F.FlatFile manner.entry.now
+        (holding_of parts.settings parts.store parts.seen_file) wire.old.wire
+        (holding_of result.settings result.store result.seen_file) wire.new.wire)
+        told out.old errors.old result.fetched out.new errors.new }
 {
     let Parts {
         settings,

@@ -2,7 +2,8 @@
 ghost use Rattle.std.specs.Prelude.{◌≡◌, ℕ, List, [], IfOk};
 ghost use Rattle.std.specs.String.{string_bytes};
 ghost use Rattle.std.proofs.Common.{refl, ◌∙◌};
-ghost use Rattle.getmail_program.specs.Teller.{HasSameLinks, WroteMore, WroteText, wrote_nothing, wrote_both};
+ghost use Rattle.getmail_program.specs.Teller.{HasLast, HasSameLinks, WroteMore, WroteText, has_last, text_of};
+ghost use Rattle.getmail_program.specs.Teller.{wrote_both, wrote_nothing};
 
 use fetch_session::{Listener, MessagePreview, ReportLine, explained_line};
 use getmail_setup::Output;
@@ -22,7 +23,7 @@ pub struct Notes {
 impl Notes {
     /// Nothing yet.
     pub fn new(alloc: Global) -> Notes
-        ensures { result.written.items ≡ [] }
+        ensures { (result.written.items ≡ []) × (result.plan.items ≡ []) }
     {
         Notes {
             written: Vec::new(alloc),
@@ -56,7 +57,7 @@ impl<'a, O: Write> Teller<'a, O> {
     ) -> Teller<'a, O>
         ensures links { (result.out.ghost_name ≡ out.entry.ghost_name)
             × (result.notes.ghost_name ≡ notes.entry.ghost_name) }
-        ensures start { (result.out.now ≡ out.old) × (result.notes.now.written.items ≡ notes.old.written.items) }
+        ensures start { (result.out.now ≡ out.old) × (result.notes.now ≡ notes.old) }
         ensures verbose { result.verbose ≡ verbose }
     {
         Teller {
@@ -73,6 +74,7 @@ impl<'a, O: Write> Teller<'a, O> {
     /// Writes a text, unless there is no memory for it or nothing more is to be written.
     pub fn put(&mut self, text: Result<String, AllocError>)
         ensures links { HasSameLinks self.old self.new }
+        ensures plan { HasLast [] self.old self.new }
         ensures wrote { (words : List ℕ) → IfOk text (λ made. string_bytes made ≡ words)
             → WroteText O.contents words self.old self.new }
     {
@@ -90,7 +92,12 @@ impl<'a, O: Write> Teller<'a, O> {
     /// Writes a line, unless it tells a deletion: then nothing more is written.
     fn tell(&mut self, total: u32, line: &ReportLine)
         ensures links { HasSameLinks self.old self.new }
-        ensures wrote { WroteMore O.contents self.old self.new }
+        ensures plan { HasLast [] self.old self.new }
+        ensures wrote { WroteText O.contents (text_of self.old.verbose (record {
+          total = total;
+          plan = self.old.notes.now.plan.items;
+          line = line.now;
+        })) self.old self.new }
     {
         if let ReportLine::Deleted { .. } = line {
             self.is_open = false;
@@ -102,7 +109,7 @@ impl<'a, O: Write> Teller<'a, O> {
 }
 
 impl<'a, O: Write> Listener for Teller<'a, O> {
-    ghost goes_on = { λ a b. HasSameLinks a b × WroteMore O.contents a b };
+    ghost hears = { λ a plans b. HasSameLinks a b × WroteMore O.contents a b × HasLast plans a b };
 
     fn asks_why(&self) -> bool {
         self.explains && self.verbose == 2
@@ -119,8 +126,11 @@ impl<'a, O: Write> Listener for Teller<'a, O> {
         self.heard = lines.len();
     }
 
-    ghost goes_same = { λ a. ((refl, refl, refl), wrote_nothing O.contents a) };
+    ghost hears_none = { λ a. ((refl, refl, refl), wrote_nothing O.contents a, refl) };
 
-    ghost goes_further = { λ a b c p q.
-        ((q.0.0 ∙ p.0.0, q.0.1 ∙ p.0.1, q.0.2 ∙ p.0.2), wrote_both O.contents a b c p.0.2 p.1 q.1) };
+    ghost hears_on = { λ a b c ps qs p q. (
+      (q.0.0 ∙ p.0.0, q.0.1 ∙ p.0.1, q.0.2 ∙ p.0.2),
+      wrote_both O.contents a b c p.0.2 p.1 q.1,
+      has_last a b c ps qs p.2 q.2,
+    ) };
 }

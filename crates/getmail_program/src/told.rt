@@ -1,5 +1,6 @@
 //! What a session says at its end.
-ghost use Rattle.std.specs.Prelude.{◌≡◌, [], false, true};
+ghost use Rattle.std.specs.Prelude.{◌≡◌, ◌⊎◌, [], false, true, if◌then◌else◌};
+ghost use Rattle.fetch_session.specs.Hearing.{IsPlanOf};
 ghost use Rattle.fetch_session.specs.Reasons.{told_report};
 ghost use Rattle.fetch_session.specs.Target.{kind_of};
 ghost use Rattle.fetch_session.specs.Telling.{preview_text};
@@ -114,6 +115,9 @@ fn hold_over<W: Wire, S: Write, D: MaildirDisk, F: FlatFile, H: BuildHasher, O: 
         wire.new.wire }
     ensures links { HasSameLinks teller.old teller.new }
     ensures wrote { WroteMore O.contents teller.old teller.new }
+    ensures plan { (teller.new.notes.now.plan.items ≡ teller.old.notes.now.plan.items)
+        ⊎ IsPlanOf W.Wire D.MaildirDisk F.FlatFile now account.old wire.old.wire account.new wire.new.wire result
+        teller.new.notes.now.plan.items }
 {
     session_told(account, wire, now, teller)
 }
@@ -134,6 +138,9 @@ fn hold_telling<W: Wire, S: Write, D: MaildirDisk, F: FlatFile, H: BuildHasher, 
     ensures runs { RunsSession W.Wire D.MaildirDisk F.FlatFile manner.entry.now account.old wire.old.wire result.0
         account.new wire.new.wire }
     ensures told { TellsEarly O.contents account.old.settings out.old result.1.written.items out.new }
+    ensures plan { (result.1.plan.items ≡ [])
+        ⊎ IsPlanOf W.Wire D.MaildirDisk F.FlatFile manner.entry.now account.old wire.old.wire account.new wire.new.wire
+        result.0 result.1.plan.items }
 {
     let mut notes = Notes::new(alloc);
     let verbose = account.settings().verbose;
@@ -145,7 +152,7 @@ fn hold_telling<W: Wire, S: Write, D: MaildirDisk, F: FlatFile, H: BuildHasher, 
 
 /// The plan, if reasons are asked for.
 fn asked_for(explains: bool, plan: &[MessagePreview]) -> &[MessagePreview]
-    ensures { explains ≡ false → result.now ≡ [] }
+    ensures { result.now ≡ (if explains then plan.entry.now else []) }
 {
     if explains { plan } else { &[] }
 }
@@ -162,7 +169,9 @@ fn hold_run<W: Wire, S: Write, D: MaildirDisk, F: FlatFile, H: BuildHasher, O: W
     ensures kind { kind_of account.new.store ≡ kind_of account.old.store }
     ensures held { HoldsSession W.Wire D.MaildirDisk F.FlatFile false manner.entry.now account.old wire.old.wire result
         account.new wire.new.wire }
-    ensures reported { Reported O.contents manner.entry.explains account.old.settings result out.old out.new }
+    ensures reported { Reported O.contents manner.entry.explains account.old.settings
+        (IsPlanOf W.Wire D.MaildirDisk F.FlatFile manner.entry.now account.old wire.old.wire account.new wire.new.wire)
+        result out.old out.new }
 {
     let (report, notes) = hold_telling(alloc, account, wire, manner, out);
     wire.wipe();
@@ -198,7 +207,9 @@ fn hold_preview<
     ensures kind { kind_of account.new.store ≡ kind_of account.old.store }
     ensures held { HoldsSession W.Wire D.MaildirDisk F.FlatFile true manner.entry.now account.old wire.old.wire result
         account.new wire.new.wire }
-    ensures reported { Reported O.contents manner.entry.explains account.old.settings result out.old out.new }
+    ensures reported { Reported O.contents manner.entry.explains account.old.settings
+        (IsPlanOf W.Wire D.MaildirDisk F.FlatFile manner.entry.now account.old wire.old.wire account.new wire.new.wire)
+        result out.old out.new }
 {
     let preview = pretend(account, wire, manner.now);
     wire.wipe();
@@ -230,7 +241,9 @@ pub fn hold<
     ensures held { HoldsSession W.Wire D.MaildirDisk F.FlatFile manner.entry.pretends manner.entry.now account.old
         wire.old.wire result
         account.new wire.new.wire }
-    ensures reported { Reported O.contents manner.entry.explains account.old.settings result out.old out.new }
+    ensures reported { Reported O.contents manner.entry.explains account.old.settings
+        (IsPlanOf W.Wire D.MaildirDisk F.FlatFile manner.entry.now account.old wire.old.wire account.new wire.new.wire)
+        result out.old out.new }
 {
     if manner.pretends {
         return hold_preview(system, account, wire, manner, out);

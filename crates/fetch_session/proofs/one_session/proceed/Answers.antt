@@ -8,6 +8,8 @@ use Rattle.fetch_session.proofs.one_session.proceed.Goals.{In_ok-listing}
 use Rattle.fetch_session.specs.Target.{target_of}
 use Rattle.fetch_session.proofs.ReadyLemmas.{followed, untaken}
 use Rattle.fetch_session.proofs.SessionLemmas.{dealt, untouched}
+use Rattle.pop3_client.specs.Client.{place_of}
+use Rattle.fetch_session.proofs.HearingLemmas.{heard_as}
 use Rattle.fetch_session.proofs.one_session.proceed.Goals as goal
 
 pub returns-clause-proceeds : goal.returns-clause-proceeds
@@ -41,3 +43,18 @@ returns-in_err-reserve-clause-link g c = rw (err_is c.from_residual-in_err-reser
 
 pub returns-clause-link : goal.returns-clause-link
 returns-clause-link g c = link_on_tail (omega (arith, c.len-counts.ensures.count)) (entered g (goal.at.returns-clause-link g c).In_ok-listing) c.carry_out.ensures.link
+
+pub returns-clause-heard : goal.returns-clause-heard
+returns-clause-heard g c = heard_as g.L.Listener.hears _ _ _ _ (λ plan is. record {
+  items = is.items;
+  rows = is.rows;
+  known = (
+    λ w.
+        let took = c.carry_out.ensures.link.took w in
+        (place_of g.W.Wire c.enter.new.client, rw is.known.0 (c.in_ok-listing.ensures.enters took.0).2, rw c.len-counts.ensures.count took.1),
+    is.known.1,
+  );
+  total_is = c.len-counts.ensures.count ∙ is.total_is;
+  skips = is.skips;
+  is = is.is;
+}) c.carry_out.ensures.heard

@@ -1,10 +1,11 @@
-use Rattle.std.proofs.Common.{ℕ, List, Ok, Err, refl, ap}
+use Rattle.std.proofs.Common.{ℕ, List, Ok, Err, refl, ap, ◌∙◌}
 use Rattle.pop3_client.specs.Client.{place_of}
 use Rattle.fetch_session.specs.Session.{noted}
 use Rattle.fetch_session.specs.Target.{target_of}
 use Rattle.fetch_session.proofs.TalkLemmas.{ended_within, left_alone, took_leaving, took_less}
 use Rattle.fetch_session.proofs.ReadyLemmas.{followed}
 use Rattle.fetch_session.proofs.SessionLemmas.{left_session}
+use Rattle.fetch_session.proofs.HearingLemmas.{heard_as}
 use Rattle.fetch_session.proofs.one_session.session_over.Goals as goal
 
 pub returns-in-Err-clause-session : goal.returns-in-Err-clause-session
@@ -40,3 +41,35 @@ returns-clause-bounded g c = λ w.
 pub returns-in-Err-clause-counted : goal.returns-in-Err-clause-counted
 returns-in-Err-clause-counted g c =
     left_alone c.in-Err.cut (g.W.Wire.history c.args.client.now.wire.now) (g.W.Wire.history c.proceed.new.client.wire.now) (g.W.Wire.history c.leave.new.client.wire.now) c.report_of.result.outcome c.report_of.ensures.outcome_is c.in-Err.ensures.link.counted c.leave.ensures.counted c.leave.ensures.silent
+
+pub returns-in-Err-clause-heard : goal.returns-in-Err-clause-heard
+returns-in-Err-clause-heard g c = rw (← c.account.view_is) (heard_as g.L.Listener.hears _ _ _ _ (λ plan is. record {
+  items = is.items;
+  rows = is.rows;
+  known = (
+    λ w.
+        let says = c.leave.ensures.leaves w in
+        let (mid, enters, (before, took, small)) = is.known.0 says.0 in
+        let all = took_leaving c.conversations_are_paced.ensures before c.in-Err.cut.fault c.in-Err.cut.rest _ _ _ took says.2 in
+        (mid, rw c.requires at enters, (all.gained, all.got)),
+    rw c.account.invariant.1 at is.known.1,
+  );
+  total_is = c.report_of.ensures.total_is ∙ is.total_is;
+  skips = rw (c.report_of.ensures.skipped_is, c.report_of.ensures.left_out_is) is.skips;
+  is = is.is;
+}) c.in-Err.ensures.heard)
+
+pub returns-clause-heard : goal.returns-clause-heard
+returns-clause-heard g c = rw (← c.account.view_is) (heard_as g.L.Listener.hears _ _ _ _ (λ plan is. record {
+  items = is.items;
+  rows = is.rows;
+  known = (
+    λ w.
+        let (mid, enters, took) = is.known.0 w in
+        (mid, rw c.requires at enters, (took.gained, took.got)),
+    rw c.account.invariant.1 at is.known.1,
+  );
+  total_is = c.report_of-2.ensures.total_is ∙ is.total_is;
+  skips = rw (c.report_of-2.ensures.skipped_is, c.report_of-2.ensures.left_out_is) is.skips;
+  is = is.is;
+}) c.in_default.ensures.heard)

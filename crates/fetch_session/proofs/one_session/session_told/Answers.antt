@@ -5,3 +5,8 @@ pub returns-clause-session : goal.returns-clause-session
 returns-clause-session g c =
     let same : c.session_over.new.client.wire.now ≡ c.wire-1.given.0 = search rules in
     rw same at (rw c.new-client.ensures.place.0 at c.session_over.ensures.session)
+
+pub returns-clause-heard : goal.returns-clause-heard
+returns-clause-heard g c =
+    let same : c.session_over.new.client.wire.now ≡ c.wire-1.given.0 = search rules in
+    rw same at (rw c.new-client.ensures.place.0 at c.session_over.ensures.heard)

@@ -6,10 +6,14 @@ use Rattle.fetch_rules.specs.Record.{has_row}
 use Rattle.fetch_rules.specs.declared.steps.Step.{Step}
 use Rattle.pop3_client.specs.Turns.{quit}
 use Rattle.fetch_session.proofs.TalkLemmas.{err_is}
-use Rattle.fetch_session.specs.Target.{AfterTakingIn, stores_of, target_of}
+use Rattle.fetch_session.specs.Target.{AfterTakingIn, is_sound, none_held, stores_of, target_of}
+use Rattle.fetch_session.specs.Hearing.{AreMerged, HearsOne, IsPlanned}
+use Rattle.fetch_session.specs.MessagePreview.{message_previews}
+use Rattle.fetch_session.proofs.HearingLemmas.{heard_as, heard_then}
 use Rattle.fetch_session.specs.Lasting.{CarriesLast}
 use Rattle.fetch_session.specs.Plan.{Carries}
 use Rattle.fetch_session.specs.declared.fault.Cut.{Cut}
+use Rattle.fetch_session.specs.declared.account.Store.{Store}
 use Rattle.fetch_session.specs.declared.work.Work.{Work}
 use Rattle.pop3_client.specs.declared.client.Client.{Client}
 use Rattle.fetch_session.specs.Task.{Task, says, tasks_planned}
@@ -103,6 +107,34 @@ stood g c =
       none_begun = λ d. ((c.prepare.ensures.store.begun (kept.none_begun d).0).0, (kept.none_begun d).1);
     }
 
+-- the listener was told of the plan, and then of lines
+told : (g : _) (c : After-do_steps g) (store : Store g.row.D.Denot g.row.F.Denot) (file : g.row.F.Denot)
+    → (is_sound g.D.MaildirDisk g.F.FlatFile store → g.F.FlatFile.sound file
+    → is_sound g.D.MaildirDisk g.F.FlatFile c.prepare.new.work.store × g.F.FlatFile.sound c.prepare.new.work.ledger.file)
+    → HearsOne g.L.Listener.hears (IsPlanned c.args.terms.settings.now c.args.terms.now (length c.args.listing.now) c.skips_of.result
+    (λ items rows. (items ≡ c.args.listing.now) × AreMerged g.D.MaildirDisk g.F.FlatFile c.args.terms.account.now c.args.terms.now
+    c.args.work.now.store c.args.work.now.ledger.file store file items rows)) c.args.listener.now c.do_steps.new.listener
+told g c store file back =
+    let settings = c.args.terms.settings.now in
+    let items = c.args.listing.now in
+    let now = c.args.terms.now in
+    let rows = c.prepare.new.work.ledger.seen.rows in
+    heard_then g.L.Listener.hears g.met.L.Listener.hears_on _ _ _ _
+    (heard_as g.L.Listener.hears _ _ _ _ (λ plan is. record {
+      items = items;
+      rows = rows;
+      known = (
+        refl,
+        λ d f.
+            let before = back d f in
+            let ready = (c.in_ok-ready.ensures.readies before.0 before.1).2 in
+            (ready.0, ready.1, (ready.2.readies.was, ready.2.readies.stood, ready.2.readies.rows)),
+      );
+      total_is = refl;
+      skips = c.skips_of.ensures ∙ ap (skips_of settings rows items now) (c.deref.ensures.value ∙ c.in_ok-ready.ensures.plans.steps);
+      is = is ∙ ap (λ (steps : List Step). message_previews settings rows now 0 steps items (none_held items)) (c.deref-2.ensures.value ∙ c.in_ok-ready.ensures.plans.steps);
+    }) c.tell_plan.ensures) c.do_steps.ensures.heard
+
 pub returns-in_err-do_steps : goal.returns-in_err-do_steps
 returns-in_err-do_steps g c =
     let here = goal.at.returns-in_err-do_steps g c in
@@ -111,7 +143,7 @@ returns-in_err-do_steps g c =
       link = link_with_tail (link_less (length c.args.listing.now * step_limit) (most_planned c.deref-2.result.now c.args.listing.now c.deref-3.result.now).0 done.runs.0.talk);
       store = stood g here.After-do_steps;
       carries = carries g here.After-deref-3 (Err c.in_err-do_steps.field-0.0) (runs_before _ _ done.runs);
-      heard = g.met.L.Listener.goes_further _ _ _ c.tell_plan.ensures c.do_steps.ensures.heard;
+      heard = told g here.After-do_steps c.do_steps.new.work.store c.do_steps.new.work.ledger.file (λ d f. ((done.runs.0.store.none_begun d).0, (done.runs.0.lasts d f).0));
     })
 
 pub returns : goal.returns
@@ -119,11 +151,12 @@ returns g c =
     let here = goal.at.returns g c in
     let first = c.in_ok-do_steps.ensures in
     let last = c.in_ok-end.ensures in
+    let all = goes_on c.turns_join.ensures g.met.W.Wire.leads_on _ _ (Ok tt) first.runs (last.runs _) in
     record {
       link = link_on_tail (omega arith) (did g here.In_ok-do_steps) last.link;
       store = store_on (omega arith) (stood g here.After-do_steps) c.end.ensures.store;
-      carries = carries g here.After-deref-3 (Ok tt) (goes_on c.turns_join.ensures g.met.W.Wire.leads_on _ _ (Ok tt) first.runs (last.runs _));
-      heard = g.met.L.Listener.goes_further _ _ _ c.tell_plan.ensures c.do_steps.ensures.heard;
+      carries = carries g here.After-deref-3 (Ok tt) all;
+      heard = told g here.After-do_steps c.end.new.work.store c.end.new.work.ledger.file (λ d f. ((all.0.store.none_begun d).0, (all.0.lasts d f).0));
     }
 
 pub returns-in_err-end : goal.returns-in_err-end
@@ -131,11 +164,12 @@ returns-in_err-end g c =
     let here = goal.at.returns-in_err-end g c in
     let first = c.in_ok-do_steps.ensures in
     let last = c.in_err-end.ensures in
+    let all = goes_on c.turns_join.ensures g.met.W.Wire.leads_on _ _ (Err c.in_err-end.field-0.0) first.runs (last.runs _) in
     rw (err_is c.from_residual-in_err-end.ensures.1) (record {
       link = link_on_tail (omega arith) (did g here.In_ok-do_steps) last.link;
       store = store_on (omega arith) (stood g here.After-do_steps) c.end.ensures.store;
-      carries = carries g here.After-deref-3 (Err c.in_err-end.field-0.0) (goes_on c.turns_join.ensures g.met.W.Wire.leads_on _ _ (Err c.in_err-end.field-0.0) first.runs (last.runs _));
-      heard = g.met.L.Listener.goes_further _ _ _ c.tell_plan.ensures c.do_steps.ensures.heard;
+      carries = carries g here.After-deref-3 (Err c.in_err-end.field-0.0) all;
+      heard = told g here.After-do_steps c.end.new.work.store c.end.new.work.ledger.file (λ d f. ((all.0.store.none_begun d).0, (all.0.lasts d f).0));
     })
 
 pub returns-in_err-ready-clause-link : goal.returns-in_err-ready-clause-link

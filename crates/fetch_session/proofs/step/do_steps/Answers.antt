@@ -10,7 +10,7 @@ use Rattle.fetch_session.proofs.step.do_steps.Goals.{After-first_task-first, Aft
 use Rattle.fetch_session.proofs.step.do_steps.Goals as goal
 
 pub loop-i-init : goal.loop-i-init
-loop-i-init g c = ([], refl, runs_nothing g.met.W.Wire.leads_same c.requires.ready.ready, g.met.L.Listener.goes_same c.args.listener.now)
+loop-i-init g c = ([], refl, runs_nothing g.met.W.Wire.leads_same c.requires.ready.ready, g.met.L.Listener.hears_none c.args.listener.now)
 
 -- what is done for the i-th message, and after it
 abbrev now : (g : _) → After-first_task-first g → List Task
@@ -36,7 +36,7 @@ pub loop-i-preserved : goal.loop-i-preserved
 loop-i-preserved g c =
     let d = (goal.at.loop-i-preserved g c).After-first_task-first in
     let inv = c.loop-i.invariant in
-    (inv.0 ++ now g d, split g d, goes_on c.turns_join.ensures g.met.W.Wire.leads_on inv.0 (now g d) (Ok tt) inv.2 c.in_ok-do_step.ensures, g.met.L.Listener.goes_further _ _ _ inv.3 c.hear.ensures)
+    (inv.0 ++ now g d, split g d, goes_on c.turns_join.ensures g.met.W.Wire.leads_on inv.0 (now g d) (Ok tt) inv.2 c.in_ok-do_step.ensures, g.met.L.Listener.hears_on _ _ _ [] [] inv.3 c.hear.ensures)
 
 pub returns-in_err-do_step : goal.returns-in_err-do_step
 returns-in_err-do_step g c =

@@ -19,7 +19,7 @@ returns-clause-fetches g c =
       record {
         fetched = left.fetched;
         errors' = c.fetch_with-left.new.errors;
-        tells = fetched.2;
+        tells = rw c.new-wire.ensures at fetched.2;
         status_is = c.into_status.ensures;
       },
     )

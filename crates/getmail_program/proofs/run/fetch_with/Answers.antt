@@ -8,5 +8,5 @@ returns-clause-fetched g c =
     let parts = c.into_parts-settings.ensures.parts in (
       fetched.0,
       rw (parts.0, parts.1, parts.2, ← c.new-account.ensures) fetched.1,
-      rw (← ap (λ (h : Holding _ _). h.settings) c.new-account.ensures) fetched.2,
+      rw (parts.0, parts.1, parts.2, ← c.new-account.ensures, ← ap (λ (h : Holding _ _). h.settings) c.new-account.ensures) fetched.2,
     )

@@ -8,6 +8,7 @@ returns-clause-held g c =
 pub returns-clause-reported : goal.returns-clause-reported
 returns-clause-reported g c = record {
   plan = [];
+  own = tt;
   asked = λ _. refl;
   puts = rw (c.settings-settings.ensures.value, c.pretend-preview.ensures.settings) at c.put_preview.ensures;
 }

@@ -1,15 +1,32 @@
-use Rattle.std.proofs.Common.{refl, subst, sym}
+use Rattle.std.proofs.Common.{refl, subst, sym, inl, ◌≡◌, ◌⊎◌, ◌∙◌, ap, Bool, true, false, List, [], if◌then◌else◌}
+use Rattle.fetch_session.specs.Hearing.{IsPlanOf}
+use Rattle.fetch_session.specs.declared.message_preview.MessagePreview.{MessagePreview}
+use Rattle.fetch_session.specs.declared.report.Report.{Report}
 use Rattle.fetch_session.specs.Lasting.{RunsSession}
 use Rattle.fetch_session.specs.Refusal.{IsWithinLimits}
+use Rattle.getmail_program.specs.Telling.{IsOwnPlan}
+use Rattle.getmail_program.specs.declared.told.Told.TheVariants.{Done}
 use Rattle.getmail_program.proofs.told.hold_run.Goals as goal
 
+-- the plan that is told, if reasons are asked for
+told_plan : (IsPlan : Report → List MessagePreview → Type 0) (report : Report) (explains : Bool) (plan kept : List MessagePreview)
+    → plan ≡ (if explains then kept else []) → (kept ≡ []) ⊎ IsPlan report kept → IsOwnPlan IsPlan (Done report) plan
+told_plan IsPlan report true plan kept is own = rw is own
+told_plan IsPlan report false plan kept is own = inl is
+
 pub returns-clause-reported : goal.returns-clause-reported
-returns-clause-reported g c = record {
-  plan = c.asked_for-plan.result.now;
-  asked = c.asked_for-plan.ensures;
-  puts = rw (c.settings.ensures.value, c.hold_telling-report.ensures.settings) at
-      (c.put_report.ensures c.args.out.now (rw c.deref-2.ensures.value c.hold_telling-report.ensures.told.puts));
-}
+returns-clause-reported g c =
+    let said = c.hold_telling-report in
+    let asked = c.asked_for-plan.ensures ∙ ap (λ (kept : List MessagePreview). if c.args.manner.explains then kept else []) c.deref.ensures.value in
+    record {
+      plan = c.asked_for-plan.result.now;
+      own = told_plan (IsPlanOf g.W.Wire g.D.MaildirDisk g.F.FlatFile c.args.manner.now c.args.account.now c.args.wire.now.wire said.new.account c.wipe.new.self.wire) said.result.0 c.args.manner.explains _ _ asked
+          (subst (λ w. (said.result.1.plan.items ≡ []) ⊎ IsPlanOf g.W.Wire g.D.MaildirDisk g.F.FlatFile c.args.manner.now c.args.account.now c.args.wire.now.wire said.new.account w said.result.0 said.result.1.plan.items)
+          (sym c.wipe.ensures) said.ensures.plan);
+      asked = λ no. rw no at c.asked_for-plan.ensures;
+      puts = rw (c.settings.ensures.value, c.hold_telling-report.ensures.settings) at
+          (c.put_report.ensures c.args.out.now (rw c.deref-2.ensures.value c.hold_telling-report.ensures.told.puts));
+    }
 
 pub returns-clause-held : goal.returns-clause-held
 returns-clause-held g c =

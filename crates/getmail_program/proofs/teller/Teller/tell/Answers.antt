@@ -1,15 +1,6 @@
-use Rattle.getmail_program.proofs.EarlyLemmas.{no_deletion, one_line}
+use Rattle.getmail_program.proofs.EarlyLemmas.{no_deletion}
 use Rattle.getmail_program.proofs.teller.Teller.tell.Goals as goal
 
-pub returns : goal.returns
-returns g c = record {
-  links = c.put.ensures.links;
-  wrote = one_line g.O.Write.contents c.args.self.now c.put.new.self
-      (record {
-        total = c.args.total;
-        plan = c.deref.result.now;
-        line = c.args.line.now;
-        no_deletion = no_deletion c.args.line.now c.in_default.not-Deleted;
-      })
-      (c.put.ensures.wrote _ c.explained_line-text.ensures);
-}
+pub returns-clause-wrote : goal.returns-clause-wrote
+returns-clause-wrote g c = rw (no_deletion c.args.line.now c.in_default.not-Deleted)
+    (c.put.ensures.wrote _ (rw c.deref.ensures.value at c.explained_line-text.ensures))

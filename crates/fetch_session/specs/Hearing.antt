@@ -1,0 +1,65 @@
+-- What a listener is told of a session's plan.
+use Rattle.std.specs.Prelude.{◌≡◌, ◌⊎◌, ℕ, List, [], ◌∷◌, ◌++◌, length, Ok}
+use Rattle.mail_terms.specs.Listing.{Item}
+use Rattle.mail_store.specs.declared.file.flat_file.FlatFile.{Ghosts as FileGhosts}
+use Rattle.mail_store.specs.declared.maildir.disk.MaildirDisk.{Ghosts as DiskGhosts}
+use Rattle.pop3_wire.specs.declared.wire.Wire.{Ghosts as WireGhosts}
+use Rattle.pop3_wire.specs.Link.{Link}
+use Rattle.pop3_wire.specs.Place.{Place, at}
+use Rattle.rc_file.specs.declared.settings.Settings.{Settings}
+use Rattle.fetch_rules.specs.Plan.{planned}
+use Rattle.fetch_rules.specs.Record.{Row, RecordState}
+use Rattle.fetch_session.specs.Account.{Holding, digits_of}
+use Rattle.fetch_session.specs.MessagePreview.{message_previews}
+use Rattle.fetch_session.specs.Readiness.{merged_in}
+use Rattle.fetch_session.specs.Record.{Keeps}
+use Rattle.fetch_session.specs.Report.{skips_planned}
+use Rattle.fetch_session.specs.Session.{Enters_with}
+use Rattle.fetch_session.specs.Target.{AfterTakingIn, is_sound, none_held, stores_of, target_of}
+use Rattle.fetch_session.specs.declared.account.Store.{Store}
+use Rattle.fetch_session.specs.declared.message_preview.MessagePreview.{MessagePreview}
+use Rattle.fetch_session.specs.declared.report.Report.{Report}
+use Rattle.fetch_session.specs.declared.report.Skips.{Skips}
+
+-- what a report says of messages that were passed over
+abbrev pub passed_over : Report → Skips
+passed_over report = record { all = report.skipped; left_out = report.left_out }
+
+-- it is what is planned for each message of a listing, by rows of the record, of which this holds; so many are listed,
+-- and these are passed over
+pub record IsPlanned (settings : Settings) (now total : ℕ) (skipped : Skips) (Known : List Item → List Row → Type 0)
+    (plan : List MessagePreview) : Type 0 where
+  pub items : List Item
+  pub rows : List Row
+  pub known : Known items rows
+  pub total_is : total ≡ length items
+  pub skips : skipped ≡ skips_planned settings rows items now
+  pub is : plan ≡ message_previews settings rows now 0 (planned settings rows items now) items (none_held items)
+
+-- if the store and the record's file are sound, these rows are those of the record that was read, once the listing was
+-- merged into it
+abbrev pub AreMerged : {D F : Type 0} → DiskGhosts D → FileGhosts F → List ℕ → ℕ → Store D F → F → Store D F → F
+    → List Item → List Row → Type 0
+AreMerged disk files account now store file store' file' items rows =
+    is_sound disk files store' → files.sound file' → AfterTakingIn (stores_of disk files store) (λ left.
+    (was : RecordState) × Keeps (files.stored file).content was
+    × (rows ≡ merged_in (target_of store account) left was items now))
+
+-- it is the listing that the server gave
+abbrev pub IsListed : Settings → Link → Link → List Item → Type 0
+IsListed settings link link' items = (mid : Place) × Enters_with settings (at link []) (Ok items) mid
+    × ((more : List ℕ) × (link'.got ≡ mid.link.got ++ more))
+
+-- it is the plan of a session of an account over these devices, with this report
+abbrev pub IsPlanOf : {W D F : Type 0} → WireGhosts W → DiskGhosts D → FileGhosts F → ℕ → Holding D F → W → Holding D F
+    → W → Report → List MessagePreview → Type 0
+IsPlanOf link disk files now old wire new wire' report plan =
+    IsPlanned old.settings now report.total (passed_over report) (λ items rows.
+    (link.sound wire' → IsListed old.settings (link.history wire) (link.history wire') items)
+    × AreMerged disk files (digits_of old.settings) now old.store old.file new.store new.file items rows) plan
+
+-- a listener was told of no plan, or of one of which this holds
+abbrev pub HearsOne : {L : Type 0} → (L → List (List MessagePreview) → L → Type 0) → (List MessagePreview → Type 0) → L
+    → L → Type 0
+HearsOne hears Is old new = hears old [] new
+    ⊎ ((plan : List MessagePreview) × Is plan × hears old (plan ∷ []) new)
