@@ -1,10 +1,9 @@
 -- Loops over a listing, ids that occur once in it, and the plan: item by item, with a count, it is the plan by the wanted messages.
 use Rattle.std.proofs.Common.{Bool, List, [], ap, append_assoc, arith, cond, count_by, false, filter, get_or, inl, inr, length, length-append, map, nat_lt, ne_eqb, refl, subst, suc, sym, take, take_all, take_at, true, zero, zip, ℕ, ◌&&◌, ◌++◌, ◌+◌, ◌-◌, ◌<◌, ◌==◌, ◌||◌, ◌∙◌, ◌∷◌, ◌≡◌, ◌≤◌, ◌⊎◌, Less, All, Bor, bytes_eq, drop, is_eq, length-set, nat_cmp, not, replicate, set, ◌≢◌}
-use Rattle.mail_terms.specs.Listing.{Item, has_item, is_first, numbered, HasDistinctIds, Joins, ids_of, is_last}
+use Rattle.mail_terms.specs.Listing.{Item, has_item, is_first, numbered, HasDistinctIds, Joins, ids_of, is_last, UidRow}
 use Rattle.mail_terms.specs.Numbering.{IsNumbering}
 use Rattle.mail_terms.specs.UniqueId.{has_id}
 use Rattle.mail_terms.specs.declared.listing.ScanRow.{ScanRow}
-use Rattle.mail_terms.specs.declared.listing.UidRow.{UidRow}
 use Rattle.rc_file.specs.declared.settings.Settings.{Settings}
 use Rattle.std.proofs.Math.Bool.{or_comm}
 use Rattle.std.proofs.Math.Seq.{get_or-append_seam}
@@ -406,7 +405,7 @@ same_at number value rows n k f g is inside p q =
 pub joined_once : (n : ℕ) (uids : List UidRow) (sizes : List ScanRow) (a b : List Item) → Joins n uids sizes a → Joins n uids sizes b → a ≡ b
 joined_once n uids sizes a b p q = ext_get_or nobody a b (p.count ∙ sym q.count) (λ k inside.
     let within : k < n = omega (arith, inside, p.count) in
-    let ids = same_at (λ (row : UidRow). row.number) (λ row. row.uid.items) uids n k (uid_at a) (uid_at b) p.agree.0 within (λ j row below. p.ids j row below nobody) (λ j row below. q.ids j row below nobody) in
+    let ids = same_at (λ (row : UidRow). row.number) (λ row. row.uid) uids n k (uid_at a) (uid_at b) p.agree.0 within (λ j row below. p.ids j row below nobody) (λ j row below. q.ids j row below nobody) in
     let sizes' = same_at (λ (row : ScanRow). row.number) (λ row. row.size) sizes n k (λ j. (get_or a j nobody).size) (λ j. (get_or b j nobody).size) p.agree.1 within (λ j row below. p.octets j row below nobody) (λ j row below. q.octets j row below nobody) in
     λ i. record { uid = ids i; size = sizes' i })
 

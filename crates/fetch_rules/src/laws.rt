@@ -3,7 +3,7 @@
 #![tactic(auto, using(crate::proofs::PlanLemmas::plan_laws, crate::proofs::MergeLemmas::merge_laws, crate::proofs::MeaningLemmas::file_laws))]
 
 ghost use Rattle.std.specs.Prelude.{◌≡◌, ℕ, ◌&&◌, ◌||◌, Bool, false, true, List, [], All, bytes_eq};
-ghost use Rattle.mail_terms.specs.Listing.{Item, Joins, has_item, is_flagged};
+ghost use Rattle.mail_terms.specs.Listing.{Item, Joins, UidRow, has_item, is_flagged};
 ghost use Rattle.fetch_rules.specs.Laws.{FetchesAsked, FetchesFirsts, PassesOver};
 ghost use Rattle.fetch_rules.specs.Plan.{planned, retrieved};
 ghost use Rattle.fetch_rules.specs.Record.{Row, IsRecord, has_row, is_delivered, marked, merged};
@@ -12,7 +12,7 @@ ghost use Rattle.fetch_rules.specs.RecordGrowth.{OneRecord, OpenHasRow};
 ghost use Rattle.fetch_rules.specs.RecordTorn.{TornIsIgnoredOrSeen};
 ghost use Rattle.fetch_rules.specs.Wanted.{DistinctAreFiltered, wanted};
 
-use mail_terms::{ScanRow, UidRow};
+use mail_terms::ScanRow;
 use rc_file::Settings;
 
 /// A plan fetches only messages whose id no earlier message has, so no id twice.

@@ -18,9 +18,7 @@ pub use laws::{
     plans_fetch_wanted, plans_fetch_what_is_asked_for, plans_pass_over, rows_join_in_one_way,
     torn_is_ignored_or_seen,
 };
-pub use mail_terms::{
-    Listing, ListingFault, MESSAGE_LIMIT, ScanRow, UidRow, have_legal_ids, is_legal_id,
-};
+pub use mail_terms::{Listing, ListingFault, MESSAGE_LIMIT, ScanRow, UidRows, is_legal_id};
 pub use rc_file::{
     Dest, Flags, Key, RcFault, Section, Settings, Warning, full_path, override_with, rc_text,
     read_rc, warning_text,

@@ -7,7 +7,7 @@ use Rattle.pop3_wire.specs.Reading.{WholeReply, body_bytes, has_body, IsBodyIf, 
 use Rattle.pop3_wire.specs.declared.command.Command.{Command}
 use Rattle.pop3_wire.specs.declared.command.Command.TheVariants.{Retr, Dele, User, Pass, Stat, UidlAll, ListAll}
 use Rattle.pop3_client.specs.Texts.{body_text}
-use Rattle.mail_terms.specs.Listing.{Item, Joins}
+use Rattle.mail_terms.specs.Listing.{Item, Joins, UidRow}
 use Rattle.rc_file.specs.declared.settings.Settings.{Settings}
 use Rattle.mail_store.specs.FileName.{stem_of}
 use Rattle.mail_store.specs.FlatFile.{Stored}
@@ -46,7 +46,6 @@ use Rattle.pop3_wire.specs.declared.reply.Status.TheVariants.{Positive}
 use Rattle.pop3_wire.specs.Fields.{number_and_size}
 use Rattle.pop3_wire.specs.Reply.{indicator, without_space}
 use Rattle.mail_terms.specs.Credential.{is_credential}
-use Rattle.mail_terms.specs.declared.listing.UidRow.{UidRow}
 use Rattle.mail_terms.specs.declared.listing.ScanRow.{ScanRow}
 use Rattle.fetch_session.specs.Opening.{opening, Opened, Enters}
 use Rattle.pop3_client.specs.declared.fault.Asked.TheVariants.{Greeting as ByGreeting}

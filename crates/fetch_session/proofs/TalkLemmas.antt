@@ -9,8 +9,7 @@ use Rattle.pop3_wire.specs.Reading.{WholeReply, GivesCount}
 use Rattle.pop3_client.specs.Turns.{Turn, stat, uidl, list, turn_bytes, asking, retr, Names, line_limit, text_limit, quit}
 use Rattle.pop3_client.specs.Conversation.{Talked, Broke, Stopped, Completes, Talks, TurnsJoin, login, ConversationsArePaced, is_refusal, most_of}
 use Rattle.pop3_client.specs.declared.fault.ClientFault.{ClientFault}
-use Rattle.mail_terms.specs.Listing.{Item}
-use Rattle.mail_terms.specs.declared.listing.UidRow.{UidRow}
+use Rattle.mail_terms.specs.Listing.{Item, UidRow}
 use Rattle.mail_terms.specs.declared.listing.ScanRow.{ScanRow}
 use Rattle.pop3_client.specs.Listing.{Listed, GetsListing}
 use Rattle.fetch_session.specs.Opening.{Opened, Enters, opening}

@@ -1,8 +1,7 @@
 -- Why a session didn't end: what its server, its link, its store, its record's file or its memory did.
 use Rattle.std.specs.Prelude.{◌≡◌, ◌⊎◌, ◌<◌, ℕ, false, List, [], None, Err}
 use Rattle.std.specs.String.{string_bytes}
-use Rattle.mail_terms.specs.Listing.{Agree}
-use Rattle.mail_terms.specs.declared.listing.UidRow.{UidRow}
+use Rattle.mail_terms.specs.Listing.{Agree, UidRow}
 use Rattle.mail_terms.specs.declared.listing.ScanRow.{ScanRow}
 use Rattle.mail_store.specs.MboxCalls.{IsOther}
 use Rattle.rc_file.specs.declared.settings.Settings.{Settings}

@@ -2,8 +2,7 @@
 use Rattle.std.specs.Prelude.{◌≡◌, ◌⊎◌, ℕ, List, [], ◌∷◌, ◌++◌, Result, Ok, Err}
 use Rattle.pop3_wire.specs.Place.{Place}
 use Rattle.pop3_wire.specs.Reading.{WholeReply, HasListing, IsUidLine, IsScanLine, GivesCount}
-use Rattle.mail_terms.specs.Listing.{Item, Agree, Joins}
-use Rattle.mail_terms.specs.declared.listing.UidRow.{UidRow}
+use Rattle.mail_terms.specs.Listing.{Item, Agree, Joins, UidRow}
 use Rattle.mail_terms.specs.declared.listing.ScanRow.{ScanRow}
 use Rattle.pop3_client.specs.declared.fault.ClientFault.{ClientFault}
 use Rattle.pop3_client.specs.declared.fault.ClientFault.TheVariants.{ListingsDisagree, NoMemory}

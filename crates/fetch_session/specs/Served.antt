@@ -2,8 +2,7 @@
 use Rattle.std.specs.Prelude.{◌≡◌, ◌≢◌, ◌⊎◌, ℕ, true, List, [], ◌∷◌, ◌++◌, Contains, Some, Ok, Err, zip}
 use Rattle.std.specs.List.{AllByRecursion, flat_map}
 use Rattle.std.specs.String.{string_bytes}
-use Rattle.mail_terms.specs.Listing.{Agree, Item}
-use Rattle.mail_terms.specs.declared.listing.UidRow.{UidRow}
+use Rattle.mail_terms.specs.Listing.{Agree, Item, UidRow}
 use Rattle.mail_terms.specs.declared.listing.ScanRow.{ScanRow}
 use Rattle.mail_store.specs.Mboxrd.{MayGoOn, entry_of}
 use Rattle.rc_file.specs.declared.settings.Settings.{Settings}

@@ -1,6 +1,7 @@
 pub mod Credential
 pub mod Distinct
 pub mod FailureCount
+pub mod IdPlaces
 pub mod Listing
 pub mod MaildirName
 pub mod Numbering

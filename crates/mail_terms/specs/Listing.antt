@@ -1,11 +1,10 @@
 -- The listing of a maildrop: the rows of UIDL and of LIST, joined by their numbers (RFC 1939,
 -- sections 5 and 7).
-use Rattle.std.specs.Prelude.{◌≡◌, ℕ, ◌<◌, ◌-◌, Bool, not, ◌&&◌, List, length, map, take}
-use Rattle.std.specs.Prelude.{drop, zip, bytes_eq, slice_index, slice_index_or, All, HoldsAt}
+use Rattle.std.specs.Prelude.{◌≡◌, ℕ, ◌-◌, Bool, not, ◌&&◌, List, length, map, take}
+use Rattle.std.specs.Prelude.{drop, zip, bytes_eq, All, HoldsAt}
 use Rattle.std.specs.List.{list_any, enumerate_from}
 use Rattle.mail_terms.specs.Distinct.{AreDistinct}
 use Rattle.mail_terms.specs.Numbering.{IsNumbering}
-use Rattle.mail_terms.specs.declared.listing.UidRow.{UidRow}
 use Rattle.mail_terms.specs.declared.listing.ScanRow.{ScanRow}
 
 -- how many messages a listing may hold
@@ -45,6 +44,11 @@ is_last listing message = not (has_item (drop message.0 listing) message.1.uid)
 abbrev pub is_flagged : List Item → List Bool → List ℕ → Bool
 is_flagged listing flags uid = list_any (λ flagged. flagged.1 && bytes_eq flagged.0.uid uid) (zip listing flags)
 
+-- a row of UIDL's answer
+pub record UidRow : Type 0 where
+  pub number : ℕ
+  pub uid : List ℕ
+
 -- the rows of UIDL and of LIST can be joined: both number the messages from 1 to n
 abbrev pub Agree : ℕ → List UidRow → List ScanRow → Type 0
 Agree n uids sizes = IsNumbering n (map (λ row. row.number) uids) × IsNumbering n (map (λ row. row.number) sizes)
@@ -53,13 +57,5 @@ Agree n uids sizes = IsNumbering n (map (λ row. row.number) uids) × IsNumberin
 pub record Joins (n : ℕ) (uids : List UidRow) (sizes : List ScanRow) (items : List Item) : Type 0 where
   pub agree : Agree n uids sizes
   pub count : length items ≡ n
-  pub ids : All (λ row. HoldsAt (λ item. item.uid ≡ row.uid.items) items (row.number - 1)) uids
+  pub ids : All (λ row. HoldsAt (λ item. item.uid ≡ row.uid) items (row.number - 1)) uids
   pub octets : All (λ row. HoldsAt (λ item. item.size ≡ row.size) items (row.number - 1)) sizes
-
--- each item has the id of the row of UIDL, and the size of the row of LIST, at its place
-pub record AreAt (uids : List UidRow) (uid_places : List ℕ) (sizes : List ScanRow) (size_places : List ℕ)
-    (items : List Item) : Type 0 where
-  pub ids : (k : ℕ) (item : Item) (row : UidRow) → k < length items
-      → (slice_index_or items k item).uid ≡ (slice_index_or uids (slice_index uid_places k) row).uid.items
-  pub octets : (k : ℕ) (item : Item) (row : ScanRow) → k < length items
-      → (slice_index_or items k item).size ≡ (slice_index_or sizes (slice_index size_places k) row).size

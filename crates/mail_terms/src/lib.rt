@@ -16,7 +16,7 @@ mod unique_id;
 pub use bytes::Bytes;
 pub use credential::is_credential;
 pub use failure_count::FailureCount;
-pub use listing::{Listing, ListingFault, MESSAGE_LIMIT, ScanRow, UidRow, have_legal_ids};
+pub use listing::{Listing, ListingFault, MESSAGE_LIMIT, ScanRow, UidRows};
 pub use maildir_name::base;
 pub use numeral::read_numeral;
 pub use text::cut_text;

@@ -1,25 +1,19 @@
 //! The listing of a maildrop: what UIDL and LIST answer, joined by message number (RFC 1939,
 //! sections 5 and 7).
 
-ghost use Rattle.std.specs.Prelude.{◌≡◌, ◌↔◌, ◌<◌, ◌≤◌, [], length, map, All, HoldsAt, IfOk, IsTrue};
+ghost use Rattle.std.specs.Prelude.{◌≡◌, ◌↔◌, ◌<◌, ◌≤◌, [], ◌∷◌, ◌++◌, length, map, All, HoldsAt, IfOk, IsTrue};
+ghost use Rattle.std.specs.Prelude.{OnOk, OnErr};
 ghost use Rattle.mail_terms.specs.UniqueId.{IsLegalId};
-ghost use Rattle.mail_terms.specs.Listing.{AreAt, message_limit};
+ghost use Rattle.mail_terms.specs.Listing.{message_limit};
+ghost use Rattle.mail_terms.specs.IdPlaces.{AreAt};
 
 use crate::numbering::places_in_order;
-use crate::unique_id::is_legal_id;
 use std::alloc::{AllocError, AllocFailed, Global};
 use std::marker::Model;
 use thiserror::Error;
 
 /// How many messages a listing may hold.
 pub const MESSAGE_LIMIT: u32 = 100_000;
-
-/// A row of UIDL's answer.
-#[derive(Drop)]
-pub struct UidRow {
-    pub number: u32,
-    pub uid: Vec<u8>,
-}
 
 /// A row of LIST's answer. The size is in octets.
 #[derive(Clone, Copy)]
@@ -61,50 +55,104 @@ impl<T: Drop> From<AllocFailed<T>> for ListingFault {
     }
 }
 
-/// One message: a legal unique-id and the listed size in octets.
+/// Where a unique-id begins and ends in a buffer.
+#[derive(Clone, Copy)]
+struct Span {
+    start: u32,
+    end: u32,
+}
+
+/// A row of UIDL's answer: its number, and where its id is.
+#[derive(Clone, Copy)]
+struct UidPlace {
+    number: u32,
+    span: Span,
+}
+
+/// The rows of UIDL's answer, each with a legal unique-id. There are at most `MESSAGE_LIMIT`. All ids are in
+/// one buffer.
 #[derive(Drop)]
-struct Item {
-    uid: Vec<u8>,
+pub struct UidRows {
+    ids: Vec<u8>,
+    places: Vec<UidPlace>,
+}
+
+impl Model for UidRows {
+    ghost use Rattle.std.specs.Prelude.{List, map};
+    ghost use Rattle.mail_terms.specs.Listing.{UidRow};
+    ghost use Rattle.mail_terms.specs.IdPlaces.{row_at, HoldRows};
+
+    ghost Value = { List UidRow };
+
+    ghost view = { λ rows. map (row_at rows.ids.items) rows.places.items };
+
+    ghost invariant = { λ rows. HoldRows rows.ids.items rows.places.items };
+}
+
+impl UidRows {
+    /// No rows.
+    pub fn new(alloc: Global) -> UidRows
+        ensures { result ≡ [] }
+    {
+        UidRows {
+            ids: Vec::new(alloc),
+            places: Vec::new(alloc),
+        }
+    }
+
+    /// How many rows there are.
+    pub fn len(&self) -> usize
+        ensures { result ≡ length self.now }
+    {
+        self.places.len()
+    }
+
+    /// Adds a row.
+    pub fn push(&mut self, number: u32, uid: &[u8]) -> Result<(), AllocError>
+        requires few { length self.old < message_limit }
+        requires legal { IsLegalId uid.now }
+        ensures ok { OnOk result (self.new ≡ self.old ++ record { number = number; uid = uid.now } ∷ []) }
+        ensures err { OnErr result (self.new ≡ self.old) }
+    {
+        self.places.reserve(1)?;
+        let start = self.ids.len() as u32;
+        self.ids.extend_from_slice(uid)?;
+        let end = self.ids.len() as u32;
+        let span = Span { start, end };
+        self.places.push_reserved(UidPlace { number, span });
+        Ok(())
+    }
+}
+
+/// A message: where its id is, and the listed size in octets.
+#[derive(Clone, Copy)]
+struct ItemPlace {
+    span: Span,
     size: u64,
 }
 
-impl Model for Item {
-    ghost use Rattle.mail_terms.specs.UniqueId.{IsLegalId};
-    ghost use Rattle.mail_terms.specs.Listing.{Item as ListedItem};
-
-    ghost Value = { ListedItem };
-
-    ghost view = { λ item. record { uid = item.uid.items; size = item.size } };
-
-    ghost invariant = { λ item. IsLegalId item.uid.items };
-}
-
 /// The messages of a maildrop, numbered from 1: each has a legal unique-id and its listed size.
-/// There are at most `MESSAGE_LIMIT`.
+/// There are at most `MESSAGE_LIMIT`. All ids are in one buffer, in the order in which UIDL gave them.
 #[derive(Drop)]
 pub struct Listing {
-    items: Vec<Item>,
+    ids: Vec<u8>,
+    items: Vec<ItemPlace>,
 }
 
 impl Model for Listing {
-    ghost use Rattle.std.specs.Prelude.{List, length, ◌≤◌};
-    ghost use Rattle.mail_terms.specs.Listing.{Item as ListedItem, message_limit};
+    ghost use Rattle.std.specs.Prelude.{List, length, map, All, ◌≤◌};
+    ghost use Rattle.mail_terms.specs.Listing.{Item, message_limit};
+    ghost use Rattle.mail_terms.specs.IdPlaces.{item_at, IsIdAt};
 
-    ghost Value = { List ListedItem };
+    ghost Value = { List Item };
 
-    ghost view = { λ listing. listing.items.items };
+    ghost view = { λ listing. map (item_at listing.ids.items) listing.items.items };
 
-    ghost invariant = { λ listing. length listing.items.items ≤ message_limit };
+    ghost invariant = { λ listing. (length listing.items.items ≤ message_limit)
+        × All (λ item. IsIdAt listing.ids.items item.span) listing.items.items };
 }
 
-/// Whether each row has a legal unique-id, as `Listing::join` requires.
-pub fn have_legal_ids(rows: &[UidRow]) -> bool
-    ensures { IsTrue result ↔ All (λ row. IsLegalId row.uid.items) rows.now }
-{
-    rows.iter().all(|row| is_legal_id(&row.uid))
-}
-
-fn uid_numbers(alloc: Global, rows: &[UidRow]) -> Result<Vec<u32>, AllocError>
+fn uid_numbers(alloc: Global, rows: &[UidPlace]) -> Result<Vec<u32>, AllocError>
     ensures { IfOk result (λ numbers. numbers.items ≡ map (λ row. row.number) rows.now) }
 {
     rows.iter().map(|row| row.number).collect(alloc)
@@ -119,25 +167,25 @@ fn size_numbers(alloc: Global, rows: &[ScanRow]) -> Result<Vec<u32>, AllocError>
 /// The messages whose rows are at these places.
 fn items_at(
     alloc: Global,
-    uids: &[UidRow],
+    uids: &[UidPlace],
     uid_places: &[usize],
     sizes: &[ScanRow],
     size_places: &[usize],
-) -> Result<Vec<Item>, AllocError>
+) -> Result<Vec<ItemPlace>, AllocError>
     requires same_count { length uid_places.now ≡ length size_places.now }
-    requires legal { All (λ row. IsLegalId row.uid.items) uids.now }
     requires uids_within { All (λ place. place < length uids.now) uid_places.now }
     requires sizes_within { All (λ place. place < length sizes.now) size_places.now }
     ensures count { IfOk result (λ items. length items.items ≡ length uid_places.now) }
     ensures rows { IfOk result (λ items. AreAt uids.now uid_places.now sizes.now size_places.now items.items) }
-    ensures ids { IfOk result (λ items. All (λ item. IsLegalId item.uid) items.items) }
 {
     let mut items = Vec::with_capacity(alloc, uid_places.len())?;
     for index in 0..uid_places.len() {
-        let row = &uids[uid_places[index]];
-        let uid = Vec::from_slice(alloc, &row.uid)?;
+        let row = uids[uid_places[index]];
         let size = sizes[size_places[index]].size;
-        items.push(Item { uid, size })?;
+        items.push(ItemPlace {
+            span: row.span,
+            size,
+        })?;
     }
     Ok(items)
 }
@@ -149,26 +197,25 @@ impl Listing {
     /// TooMany if `n` is above `MESSAGE_LIMIT`, which is tested first; Disagree if either list isn't
     /// the numbers 1 to `n`, each once. Time and memory grow in proportion to the rows and to `n`,
     /// since each list's places go into a table of `n` slots.
-    #[tactic(auto, using(crate::proofs::ListingLemmas::joins_from_places))]
     pub fn join(
         alloc: Global,
         n: u32,
-        uids: &[UidRow],
+        uids: UidRows,
         sizes: &[ScanRow],
     ) -> Result<Listing, ListingFault>
-        requires { All (λ row. IsLegalId row.uid.items) uids.now }
-        ensures joined { IfOk result (Joins n uids.now sizes.now) }
+        ensures joined { IfOk result (Joins n uids sizes.now) }
         ensures legal { IfOk result (λ listing. All (λ item. IsLegalId item.uid) listing) }
-        ensures disagree { result ≡ Err ListingFault.Disagree → ¬ Agree n uids.now sizes.now }
+        ensures disagree { result ≡ Err ListingFault.Disagree → ¬ Agree n uids sizes.now }
         ensures too_many { (result ≡ Err ListingFault.TooMany) ↔ (message_limit < n) }
     {
         if n > MESSAGE_LIMIT {
             return Err(ListingFault::TooMany);
         }
-        let uid_places = places_in_order(alloc, n, &uid_numbers(alloc, uids)?)?;
+        let UidRows { ids, places } = uids;
+        let uid_places = places_in_order(alloc, n, &uid_numbers(alloc, &places)?)?;
         let size_places = places_in_order(alloc, n, &size_numbers(alloc, sizes)?)?;
-        let items = items_at(alloc, uids, &uid_places, sizes, &size_places)?;
-        Ok(Listing { items })
+        let items = items_at(alloc, &places, &uid_places, sizes, &size_places)?;
+        Ok(Listing { ids, items })
     }
 
     /// How many messages there are.
@@ -192,8 +239,8 @@ impl Listing {
         ensures value { HoldsAt (λ item. result.now ≡ item.uid) self.now i }
         ensures legal { IsLegalId result.now }
     {
-        let item = &self.items[i as usize];
-        &item.uid
+        let span = self.items[i as usize].span;
+        &self.ids[span.start as usize..span.end as usize]
     }
 
     /// The listed size, in octets, of the message of number `i + 1`.
@@ -201,7 +248,6 @@ impl Listing {
         requires { i < length self.now }
         ensures { HoldsAt (λ item. result ≡ item.size) self.now i }
     {
-        let listed = &self.items[i as usize];
-        listed.size
+        self.items[i as usize].size
     }
 }

@@ -21,8 +21,7 @@ use Rattle.pop3_client.specs.Conversation.{NoLineCause, Opened, Talked, TakesRef
 use Rattle.pop3_wire.specs.declared.command.Command.TheVariants.{UidlAll, ListAll, Retr}
 use Rattle.std.proofs.lemmas.List.Elements.{All-push, All-from_recursion, recursion_from_All}
 use Rattle.std.proofs.lemmas.Slice.Zip.{AllZip-long, all_zipped_more}
-use Rattle.mail_terms.specs.Listing.{Item, Agree, Joins, message_limit}
-use Rattle.mail_terms.specs.declared.listing.UidRow.{UidRow}
+use Rattle.mail_terms.specs.Listing.{Item, Agree, Joins, message_limit, UidRow}
 use Rattle.mail_terms.specs.declared.listing.ScanRow.{ScanRow}
 use Rattle.pop3_wire.specs.Body.{dot, IsContent, Body}
 use Rattle.pop3_client.specs.Listing.{Listed, GetsListing, ListsRows, RowsCause, NotTaken, TakesRows}

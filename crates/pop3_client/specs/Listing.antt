@@ -6,8 +6,7 @@ use Rattle.pop3_wire.specs.Reading.{WholeReply, IsUidLine, IsScanLine, HasListin
 use Rattle.pop3_wire.specs.Link.{Link}
 use Rattle.pop3_wire.specs.Place.{Place, GoesOn}
 use Rattle.pop3_wire.specs.Bodies.{Drew}
-use Rattle.mail_terms.specs.Listing.{Item, Agree, Joins, message_limit}
-use Rattle.mail_terms.specs.declared.listing.UidRow.{UidRow}
+use Rattle.mail_terms.specs.Listing.{Item, Agree, Joins, message_limit, UidRow}
 use Rattle.mail_terms.specs.declared.listing.ScanRow.{ScanRow}
 use Rattle.pop3_client.specs.declared.fault.ClientFault.{ClientFault}
 use Rattle.pop3_client.specs.declared.fault.ClientFault.TheVariants.{ConnectionEnded, ReadFailed, ReplyTooLong}
@@ -35,6 +34,11 @@ GetsListing count old (Err fault) new = Stopped (uidl ∷ list ∷ []) old new f
     ⊎ ((fault ≡ NoMemory) × ((uids : List UidRow) × (sizes : List ScanRow) × Listed old new uids sizes))
 
 -- ---- the parts of a listing
+
+-- the rows that a call returned
+abbrev pub rows_in : {S R E : Type 0} → (S → List R) → Result S E → Result (List R) E
+rows_in rows (Ok taken) = Ok (rows taken)
+rows_in rows (Err fault) = Err fault
 
 -- why a listing isn't good, given the octets after its first line
 abbrev pub RowsCause : ClientFault → Turn → Link → Link → List ℕ → Type 0

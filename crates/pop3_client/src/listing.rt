@@ -1,16 +1,14 @@
 //! The listings of unique-ids and of sizes (RFC 1939, sections 5 and 7).
-ghost use Rattle.std.specs.Prelude.{◌≡◌, ◌≤◌, ◌⊎◌, ℕ, List, All, IfOk, IfErr};
+ghost use Rattle.std.specs.Prelude.{◌≡◌, ◌≤◌, ◌⊎◌, All, IfOk, IfErr};
 ghost use Rattle.mail_terms.specs.Listing.{Agree, Joins, message_limit};
 ghost use Rattle.mail_terms.specs.UniqueId.{IsLegalId};
-ghost use Rattle.pop3_wire.specs.Bodies.{items_of};
-ghost use Rattle.pop3_wire.specs.Reading.{IsUidLine, IsScanLine};
 ghost use Rattle.pop3_client.specs.Client.{HasSameLink, CountsRefusals, WhereLinkSound};
-ghost use Rattle.pop3_client.specs.Listing.{TakesRows, ListsRows, GetsListing};
+ghost use Rattle.pop3_client.specs.Listing.{rows_in, TakesRows, ListsRows, GetsListing};
 
 use crate::client::Client;
 use crate::fault::ClientFault;
-use crate::row::ListedRow;
-use mail_terms::{Listing, ListingFault, MESSAGE_LIMIT, ScanRow, UidRow};
+use crate::row::ListedRows;
+use mail_terms::{Listing, ListingFault, MESSAGE_LIMIT, ScanRow, UidRows};
 use pop3_wire::{Wire, is_end_mark};
 use std::alloc::Global;
 use std::vec::Vec;
@@ -19,14 +17,13 @@ use std::vec::Vec;
 fn joined(
     alloc: Global,
     count: u32,
-    uids: &[UidRow],
+    uids: UidRows,
     sizes: &[ScanRow],
 ) -> Result<Listing, ClientFault>
     requires few { count ≤ message_limit }
-    requires legal { All (λ row. IsLegalId row.uid.items) uids.now }
     ensures legal { IfOk result (λ listing. All (λ item. IsLegalId item.uid) listing) }
-    ensures ok { IfOk result (Joins count uids.now sizes.now) }
-    ensures err { IfErr result (λ fault. ((fault ≡ ClientFault.ListingsDisagree) × (Agree count uids.now sizes.now → ⊥))
+    ensures ok { IfOk result (Joins count uids sizes.now) }
+    ensures err { IfErr result (λ fault. ((fault ≡ ClientFault.ListingsDisagree) × (Agree count uids sizes.now → ⊥))
         ⊎ (fault ≡ ClientFault.NoMemory)) }
 {
     match Listing::join(alloc, count, uids, sizes) {
@@ -40,36 +37,33 @@ fn joined(
 impl<'a, W: Wire> Client<'a, W> {
     /// Takes the rows of a listing and its end mark, and checks each row when it is whole. TooMany for
     /// a row after the 100,000th.
-    fn rows<R: ListedRow>(&mut self, alloc: Global) -> Result<Vec<R>, ClientFault>
+    fn rows<R: ListedRows>(&mut self, alloc: Global) -> Result<R, ClientFault>
         ensures link { HasSameLink self.old self.new }
         ensures counted { CountsRefusals W.Wire self.old result self.new }
-        ensures fit { IfOk result (λ rows. All R.is_fit rows.items) }
         ensures takes { WhereLinkSound W.Wire self.old self.new
-            (λ old new. TakesRows R.turn R.stands_for old (items_of result) new) }
+            (λ old new. TakesRows R.turn R.stands_for old (rows_in R.rows result) new) }
     {
-        let mut rows = Vec::new(alloc);
+        let mut rows = R::no_rows(alloc);
         'rows: loop {
             let length = self.next_line(false)?;
             if is_end_mark(&self.reader.waiting()[..length]) {
                 self.reader.skip(length + 2);
                 return Ok(rows);
             }
-            if rows.len() >= MESSAGE_LIMIT as usize {
+            if rows.count() >= MESSAGE_LIMIT as usize {
                 return Err(ClientFault::TooMany);
             }
-            let row = R::read(alloc, &self.reader.waiting()[..length])?;
-            rows.push(row)?;
+            rows.add(&self.reader.waiting()[..length])?;
             self.reader.skip(length + 2);
         }
     }
 
     /// Asks for a listing, and takes it.
-    fn listing<R: ListedRow>(&mut self, alloc: Global) -> Result<Vec<R>, ClientFault>
+    fn listing<R: ListedRows>(&mut self, alloc: Global) -> Result<R, ClientFault>
         ensures link { HasSameLink self.old self.new }
         ensures counted { CountsRefusals W.Wire self.old result self.new }
-        ensures fit { IfOk result (λ rows. All R.is_fit rows.items) }
         ensures lists { WhereLinkSound W.Wire self.old self.new
-            (λ old new. ListsRows R.turn R.stands_for old (items_of result) new) }
+            (λ old new. ListsRows R.turn R.stands_for old (rows_in R.rows result) new) }
     {
         self.ask(R::asked(), R::command())?;
         self.rows(alloc)
@@ -85,8 +79,8 @@ impl<'a, W: Wire> Client<'a, W> {
         ensures legal { IfOk result (λ listing. All (λ item. IsLegalId item.uid) listing) }
         ensures lists { WhereLinkSound W.Wire self.old self.new (λ old new. GetsListing count old result new) }
     {
-        let uids = self.listing::<UidRow>(alloc)?;
-        let sizes = self.listing::<ScanRow>(alloc)?;
-        joined(alloc, count, &uids, &sizes)
+        let uids = self.listing::<UidRows>(alloc)?;
+        let sizes = self.listing::<Vec<ScanRow>>(alloc)?;
+        joined(alloc, count, uids, &sizes)
     }
 }

@@ -1,26 +1,30 @@
-//! A row of a listing: UIDL's gives a unique-id, LIST's a size (RFC 1939, sections 5 and 7).
-ghost use Rattle.std.specs.Prelude.{◌≡◌, ◌⊎◌, ℕ, List, IfOk, IfErr};
+//! The rows of a listing: UIDL's give unique-ids, LIST's sizes (RFC 1939, sections 5 and 7).
+ghost use Rattle.std.specs.Prelude.{◌≡◌, ◌⊎◌, ◌<◌, ◌++◌, [], ◌∷◌, ℕ, List, length, IfOk, IfErr};
 ghost use Rattle.std.proofs.Common.{inl, inr, refl, ap, is_ok};
-ghost use Rattle.mail_terms.specs.UniqueId.{IsLegalId};
+ghost use Rattle.mail_terms.specs.Listing.{UidRow, message_limit};
+ghost use Rattle.mail_terms.specs.declared.listing.ScanRow.{ScanRow as SizeRow};
 ghost use Rattle.pop3_wire.specs.Reading.{IsScanLine, IsUidLine};
 ghost use Rattle.pop3_client.specs.Turns.{Turn, IsListing, IsRow, Names, list, turn_bytes, uidl};
 
 use crate::fault::{Asked, ClientFault};
-use mail_terms::{ScanRow, UidRow};
+use mail_terms::{ScanRow, UidRows};
 use pop3_wire::{read_scan, read_uid, without_dot};
 use std::alloc::Global;
 use std::vec::Vec;
 
-/// A row of a listing, which a line of the reply's body stands for.
-pub(crate) trait ListedRow: Drop {
+/// Rows of a listing, for each of which a line of the reply's body stands.
+pub(crate) trait ListedRows: Drop {
+    // One row.
+    ghost Row: { Type 0 };
+
+    // The rows, in the order of their lines.
+    ghost rows: { Self → List Row };
+
     // The turn that asks for the listing.
     ghost turn: { Turn };
 
     // A line of the body stands for a row.
-    ghost stands_for: { List ℕ → Self → Type 0 };
-
-    // What every row that is read has to be.
-    ghost is_fit: { Self → Type 0 };
+    ghost stands_for: { List ℕ → Row → Type 0 };
 
     /// The name of the listing in a fault, if it is refused.
     fn asked() -> Asked
@@ -30,25 +34,36 @@ pub(crate) trait ListedRow: Drop {
     fn command() -> &'static [u8]
         ensures { result.now ≡ turn_bytes turn };
 
-    /// The row that a line of the body stands for.
-    fn read(alloc: Global, line: &[u8]) -> Result<Self, ClientFault>
-        ensures ok { IfOk result (λ row. stands_for line.now row) }
-        ensures fit { IfOk result (λ row. is_fit row) }
+    /// No rows.
+    fn no_rows(alloc: Global) -> Self
+        ensures { rows result ≡ [] };
+
+    /// How many rows there are.
+    fn count(&self) -> usize
+        ensures { result ≡ length (rows self.now) };
+
+    /// Adds the row that a line of the body stands for.
+    fn add(&mut self, line: &[u8]) -> Result<(), ClientFault>
+        requires { length (rows self.old) < message_limit }
+        ensures ok { IfOk result
+            (λ _. (row : Row) × stands_for line.now row × (rows self.new ≡ rows self.old ++ row ∷ [])) }
         ensures err { IfErr result (λ fault. ((fault ≡ ClientFault.NoMemory) × IsRow turn line.now)
             ⊎ ((fault ≡ ClientFault.BadListing) × (IsRow turn line.now → ⊥))) };
 
     // The turn asks for a listing, and a line that stands for a row is one of its rows.
     ghost is_listing: { IsListing turn };
 
-    ghost is_row: { (line : List ℕ) (row : Self) → stands_for line row → IsRow turn line };
+    ghost is_row: { (line : List ℕ) (row : Row) → stands_for line row → IsRow turn line };
 }
 
-impl ListedRow for UidRow {
+impl ListedRows for UidRows {
+    ghost Row = { UidRow };
+
+    ghost rows = { λ rows. rows };
+
     ghost turn = { uidl };
 
     ghost stands_for = { IsUidLine };
-
-    ghost is_fit = { λ row. IsLegalId row.uid.items };
 
     fn asked() -> Asked {
         Asked::Uidl
@@ -59,12 +74,17 @@ impl ListedRow for UidRow {
         b"UIDL\r\n"
     }
 
-    fn read(alloc: Global, line: &[u8]) -> Result<UidRow, ClientFault> {
+    fn no_rows(alloc: Global) -> UidRows {
+        UidRows::new(alloc)
+    }
+
+    fn count(&self) -> usize {
+        self.len()
+    }
+
+    fn add(&mut self, line: &[u8]) -> Result<(), ClientFault> {
         match read_uid(without_dot(line)) {
-            Ok((number, uid)) => Ok(UidRow {
-                number,
-                uid: Vec::from_slice(alloc, uid)?,
-            }),
+            Ok((number, uid)) => Ok(self.push(number, uid)?),
             Err(_) => Err(ClientFault::BadListing),
         }
     }
@@ -74,12 +94,14 @@ impl ListedRow for UidRow {
     ghost is_row = { λ line row e. ap is_ok e };
 }
 
-impl ListedRow for ScanRow {
+impl ListedRows for Vec<ScanRow> {
+    ghost Row = { SizeRow };
+
+    ghost rows = { λ rows. rows.items };
+
     ghost turn = { list };
 
     ghost stands_for = { IsScanLine };
-
-    ghost is_fit = { λ row. Unit {0} };
 
     fn asked() -> Asked {
         Asked::List
@@ -90,9 +112,17 @@ impl ListedRow for ScanRow {
         b"LIST\r\n"
     }
 
-    fn read(_alloc: Global, line: &[u8]) -> Result<ScanRow, ClientFault> {
+    fn no_rows(alloc: Global) -> Vec<ScanRow> {
+        Vec::new(alloc)
+    }
+
+    fn count(&self) -> usize {
+        self.len()
+    }
+
+    fn add(&mut self, line: &[u8]) -> Result<(), ClientFault> {
         match read_scan(without_dot(line)) {
-            Ok((number, size)) => Ok(ScanRow { number, size }),
+            Ok((number, size)) => Ok(self.push(ScanRow { number, size })?),
             Err(_) => Err(ClientFault::BadListing),
         }
     }

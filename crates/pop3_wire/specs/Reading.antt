@@ -6,7 +6,7 @@ use Rattle.pop3_wire.specs.Line.{IsLine, ended}
 use Rattle.pop3_wire.specs.Body.{IsContent, body_of, unstuffed}
 use Rattle.pop3_wire.specs.Fields.{number_and_size, number_and_id}
 use Rattle.pop3_wire.specs.Reply.{IsFirstLine}
-use Rattle.mail_terms.specs.declared.listing.UidRow.{UidRow}
+use Rattle.mail_terms.specs.Listing.{UidRow}
 use Rattle.mail_terms.specs.declared.listing.ScanRow.{ScanRow}
 use Rattle.pop3_wire.specs.declared.reply.Status.TheVariants.{Positive, Negative}
 use Rattle.pop3_wire.specs.declared.command.Command.{Command}
@@ -66,7 +66,7 @@ OneListOfLines = (lines others : List (List ℕ)) (rest more : List ℕ) → All
 
 -- the row that a line of UIDL's body stands for, and that of LIST's
 abbrev pub IsUidLine : List ℕ → UidRow → Type 0
-IsUidLine line row = number_and_id (unstuffed line) ≡ Ok (row.number, row.uid.items)
+IsUidLine line row = number_and_id (unstuffed line) ≡ Ok (row.number, row.uid)
 
 abbrev pub IsScanLine : List ℕ → ScanRow → Type 0
 IsScanLine line row = number_and_size (unstuffed line) ≡ Ok (row.number, row.size)

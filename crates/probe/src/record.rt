@@ -1,7 +1,9 @@
 //! The calls of `fetch_rules` that a session makes over its record and its listing.
 
 use crate::trouble::{Result, Trouble};
-use fetch_rules::{Dest, Listing, ScanRow, Seen, Settings, UidRow, have_legal_ids, plan};
+use fetch_rules::{
+    Dest, Listing, MESSAGE_LIMIT, ScanRow, Seen, Settings, UidRows, is_legal_id, plan,
+};
 use std::alloc::Global;
 use std::hash::RandomState;
 use std::time::{CpuClock, Duration};
@@ -41,12 +43,24 @@ fn file_of(alloc: Global, count: u32) -> Result<Vec<u8>> {
     Ok(file)
 }
 
+/// Adds a row of UIDL.
+pub fn add_row(rows: &mut UidRows, number: u32, uid: &[u8]) -> Result<()> {
+    if rows.len() >= MESSAGE_LIMIT as usize || !is_legal_id(uid) {
+        return Err(Trouble::Other);
+    }
+    rows.push(number, uid)?;
+    Ok(())
+}
+
 /// UIDL's rows of `count` messages, whose ids are those of the numbers above `known`.
-fn uid_rows(alloc: Global, known: u32, count: u32) -> Result<Vec<UidRow>> {
-    let mut rows = Vec::with_capacity(alloc, count as usize)?;
+fn uid_rows(alloc: Global, known: u32, count: u32) -> Result<UidRows> {
+    let mut rows = UidRows::new(alloc);
     for number in 1..=count {
-        let uid = id_of(alloc, known.saturating_add(number))?;
-        rows.push(UidRow { number, uid })?;
+        add_row(
+            &mut rows,
+            number,
+            &id_of(alloc, known.saturating_add(number))?,
+        )?;
     }
     Ok(rows)
 }
@@ -71,11 +85,8 @@ fn tell(rt: &HostRuntime, call: &str, start: Duration) -> Result<()> {
 fn time_join(rt: &HostRuntime, count: u32) -> Result<Listing> {
     let uids = uid_rows(rt.alloc(), count / 2, count)?;
     let sizes = scan_rows(rt.alloc(), count)?;
-    if !have_legal_ids(&uids) {
-        return Err(Trouble::Other);
-    }
     let start = rt.process_cpu_time()?;
-    let listing = Listing::join(rt.alloc(), count, &uids, &sizes)?;
+    let listing = Listing::join(rt.alloc(), count, uids, &sizes)?;
     tell(rt, "join", start)?;
     Ok(listing)
 }

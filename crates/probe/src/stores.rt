@@ -1,12 +1,12 @@
 //! Calls of `mail_store` on a Maildir in a folder and on a file.
 
 use crate::mbox;
-use crate::record::scan_rows;
+use crate::record::{add_row, scan_rows};
 use crate::stopwatch::Stopwatch;
 use crate::trouble::{Result, Trouble};
 use folder_store::{FolderMaildir, HostFile, HostFolder, ProcessMark};
 use mail_store::{FlatFile, MaildirDisk, account_id, deliver, file_stem, held};
-use mail_terms::{Listing, UidRow, have_legal_ids, is_legal_id};
+use mail_terms::{Listing, UidRows, is_legal_id};
 use std::alloc::Global;
 use trace::{Refusals, System};
 
@@ -22,15 +22,11 @@ pub fn mark_of(rt: &HostRuntime) -> Result<ProcessMark> {
 
 /// The listing of messages 1 to `count`.
 fn listing_of(alloc: Global, count: u32) -> Result<Listing> {
-    let mut uids = Vec::new(alloc);
+    let mut uids = UidRows::new(alloc);
     for number in 1..=count {
-        let uid = id_of(alloc, number)?.into_bytes();
-        uids.push(UidRow { number, uid })?;
+        add_row(&mut uids, number, id_of(alloc, number)?.as_bytes())?;
     }
-    if !have_legal_ids(&uids) {
-        return Err(Trouble::Other);
-    }
-    Ok(Listing::join(alloc, count, &uids, &scan_rows(alloc, count)?)?)
+    Ok(Listing::join(alloc, count, uids, &scan_rows(alloc, count)?)?)
 }
 
 // The types of real stores are large: they are made, and then moved into functions over any store, where they

@@ -15,14 +15,13 @@ use Rattle.pop3_wire.specs.declared.fault.WireFault.{WireFault}
 use Rattle.pop3_wire.specs.declared.reply.Status.TheVariants.{Positive, Negative}
 use Rattle.pop3_wire.specs.Line.{IsLine, ended, OneLine}
 use Rattle.pop3_wire.specs.Body.{IsContent, unstuffed, body_of}
-use Rattle.mail_terms.specs.declared.listing.UidRow.{UidRow}
 use Rattle.mail_terms.specs.declared.listing.ScanRow.{ScanRow}
 use Rattle.pop3_wire.specs.Reply.{IsFirstLine, without_space, indicator}
 use Rattle.pop3_wire.specs.Fields.{is_space, number_and_size, number_and_id}
 use Rattle.pop3_wire.specs.World.{Message}
 use Rattle.pop3_wire.specs.Honest.{SaysAnything, fields, IsUidRow, IsScanRow, UidRowsHaveFields, ScanRowsHaveFields, ListsAll, Grants, no_marks, Reply, Replies, OneListOfCommands}
 use Rattle.pop3_wire.specs.Stuffed.{OneBody}
-use Rattle.mail_terms.specs.Listing.{Item}
+use Rattle.mail_terms.specs.Listing.{Item, UidRow}
 use Rattle.run_law.specs.Mails.{item_of, listing_of}
 use Rattle.pop3_wire.specs.Reading.{WholeReply, body_bytes, reply_bytes, HasListing, OneListOfLines, GivesCount, has_body, IsBodyIf, IsReplyTo, OneReading}
 use Rattle.run_law.specs.Readings.{IsGood, TextsAreMessages, ListingIsMaildrop, AreGood, AreGranted, HonestIsGranted}
@@ -47,10 +46,10 @@ texts_are_messages one bodies drop marks (other ∷ commands) (reply ∷ replies
 -- ---- rows
 
 -- what an honest server says in a row is what is read of it
-uid_agrees : UidRowsHaveFields → (row : List ℕ) (q : ℕ × Message) (uid : UidRow) → IsUidRow q row → number_and_id row ≡ Ok (uid.number, uid.uid.items) → (uid.number ≡ q.0) × (uid.uid.items ≡ q.1.uid)
+uid_agrees : UidRowsHaveFields → (row : List ℕ) (q : ℕ × Message) (uid : UidRow) → IsUidRow q row → number_and_id row ≡ Ok (uid.number, uid.uid) → (uid.number ≡ q.0) × (uid.uid ≡ q.1.uid)
 uid_agrees law row (n, m) uid (word, are, value) e =
-    let (word', are', value') = law row uid.number (record { uid = uid.uid.items; size = 0; text = [] }) e in
-    let same : word' ∷ uid.uid.items ∷ [] ≡ word ∷ m.uid ∷ [] = sym are' ∙ are in
+    let (word', are', value') = law row uid.number (record { uid = uid.uid; size = 0; text = [] }) e in
+    let same : word' ∷ uid.uid ∷ [] ≡ word ∷ m.uid ∷ [] = sym are' ∙ are in
     let first : word' ≡ word = cc in
     (sym value' ∙ ap (digits_value 10) first ∙ value, cc)
 
@@ -135,7 +134,7 @@ listing_is_maildrop one lists uids scans drop name word commands user pass stat 
     ext_get_or (item_of nobody) items (listing_of drop) (total ∙ sym (length-map drop item_of)) (λ k l.
     let inside : k < length drop = omega (arith, l, total) in
     same_item (get_or items k (item_of nobody)) (get_or drop k nobody)
-    (value_at number_and_id (λ row. row.number) (λ row. row.uid.items) (λ m. m.uid) (λ i. i.uid) IsUidRow (uid_agrees uids) items one lists drop are.2.2.0 uidl listed.uids stays good.1.1.1.0.line
+    (value_at number_and_id (λ row. row.number) (λ row. row.uid) (λ m. m.uid) (λ i. i.uid) IsUidRow (uid_agrees uids) items one lists drop are.2.2.0 uidl listed.uids stays good.1.1.1.0.line
     listed.named (rw listed.named.1 at good.1.1.1.0.body) g.0 listed.joined.ids k inside)
     (value_at number_and_size (λ row. row.number) (λ row. row.size) (λ m. m.size) (λ i. i.size) IsScanRow (scan_agrees scans) items one lists drop are.2.2.2.0 list listed.sizes (g.1 ∙ stays) good.1.1.1.1.0.line
     listed.sized (rw listed.sized.1 at good.1.1.1.1.0.body) h.0 listed.joined.octets k inside)

@@ -11,8 +11,7 @@ use Rattle.pop3_wire.specs.Reading.{WholeReply, body_bytes, reply_bytes, has_bod
 use Rattle.pop3_wire.specs.Reading.{HasListing, GivesCount}
 use Rattle.pop3_wire.specs.Honest.{Grants, Asked, Honest, no_marks}
 use Rattle.pop3_wire.specs.World.{Message}
-use Rattle.mail_terms.specs.Listing.{Item, Joins}
-use Rattle.mail_terms.specs.declared.listing.UidRow.{UidRow}
+use Rattle.mail_terms.specs.Listing.{Item, Joins, UidRow}
 use Rattle.mail_terms.specs.declared.listing.ScanRow.{ScanRow}
 use Rattle.run_law.specs.Mails.{listing_of}
 

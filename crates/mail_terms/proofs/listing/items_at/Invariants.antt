@@ -1,8 +1,6 @@
-use Rattle.std.proofs.Common.{◌≡◌, length, All}
-use Rattle.mail_terms.specs.UniqueId.{IsLegalId}
-use Rattle.mail_terms.specs.Listing.{AreAt}
+use Rattle.std.proofs.Common.{◌≡◌, length}
+use Rattle.mail_terms.specs.IdPlaces.{AreAt}
 use Rattle.mail_terms.proofs.listing.items_at.Given as goal
 
 abbrev pub invariant-loop-index : goal.invariant-loop-index
 invariant-loop-index l = (length l.items.items ≡ l.index) × AreAt l.uids l.uid_places l.sizes l.size_places l.items.items
-    × All (λ item. IsLegalId item.uid) l.items.items

@@ -1,4 +1,4 @@
-use Rattle.std.proofs.Common.{◌≡◌, ◌-◌, length, All}
+use Rattle.std.proofs.Common.{◌≡◌, ◌-◌, length}
 use Rattle.pop3_client.specs.Client.{HasSameLink, WhereLinkSound}
 use Rattle.mail_terms.specs.Listing.{message_limit}
 use Rattle.pop3_client.proofs.TalkLemmas.{TookRows}
@@ -8,8 +8,7 @@ abbrev pub invariant-rows : goal.invariant-rows
 invariant-rows g l =
     HasSameLink l.fn.self l.self
     × ((g.W.Wire.history l.self.wire.now).failures ≡ (g.W.Wire.history l.fn.self.wire.now).failures)
-    × All g.R.ListedRow.is_fit l.rows.items
-    × WhereLinkSound g.W.Wire l.fn.self l.self (λ old new. TookRows g.R.ListedRow.turn g.R.ListedRow.stands_for old new l.rows.items)
+    × WhereLinkSound g.W.Wire l.fn.self l.self (λ old new. TookRows g.R.ListedRows.turn g.R.ListedRows.stands_for old new (g.R.ListedRows.rows l.rows))
 
 abbrev pub decreases-rows : goal.decreases-rows
-decreases-rows g l = message_limit - length l.rows.items
+decreases-rows g l = message_limit - length (g.R.ListedRows.rows l.rows)
