@@ -1,4 +1,5 @@
 pub mod Answer
+pub mod FaultLine
 pub mod FileRows
 pub mod Flags
 pub mod JudgedLine
