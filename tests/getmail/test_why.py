@@ -172,36 +172,36 @@ class BeforeSessions(unittest.TestCase):
             self.check_told(2, "opposite flags", told, words=(words,))
 
     def test_values_of_an_rc_file(self):
-        own_line = "; a comment has a line of its own"
+        """Each line is named by its number and its key, and no value is shown."""
+        number = "1 to 65535"
+        path = "a Maildir's path ends in / and an mboxrd file's doesn't; it is one line with no $, and ~ only as ~/ in front"
         for old, new, fault, told in (
-                (b"port = 1", b"port = 0x1 # plain", "retriever.port has a bad value",
-                 "line 4: port = 0x1 # plain: 1 to 65535" + own_line),
-                (b"port = 1", b"port = 0;plain", "retriever.port has a bad value", "line 4: port = 0;plain: 1 to 65535" + own_line),
+                (b"port = 1", b"port = 0x1 # plain", "retriever.port has a bad value", f"line 4: port: {number}"),
                 (b"password = p", b"password = " + b"q" * 501, "retriever.password has a bad value",
                  "line 6: password: one line of 1 to 500 octets, with no CR and no NUL"),
-                (b"path = ~/Maildir/", b"path = ~/Mail\x1bdir", "destination.path has a bad form",
-                 "line 10: path = ~/Mail\\x1bdir: a Maildir's path ends in / and an mboxrd file's doesn't; it is one line with "
-                 "no $, and ~ only as ~/ at its front"),
+                (b"path = ~/Maildir/", b"path = ~/Mail\x1bdir", "destination.path has a bad form", f"line 10: path: {path}"),
                 (b"password = p\n", b"password = p\nport = 110\nport = 7x\n", "retriever.port has a bad value",
-                 "line 8: port = 7x: 1 to 65535"),
-                (b"port = 1", b"port = 1\nport = 0\nport = 110\nport = 0x", "retriever.port has a bad value",
-                 "line 7: port = 0x: 1 to 65535"),
-                (b"type = Maildir", b"TYPE: Mbox", "destination.type unknown", "line 9: type = Mbox: Maildir or Mboxrd"),
+                 f"line 8: port: {number}"),
+                (b"port = 1", b"port = 1\nport = 0\nport = 110\nPORT : 0x", "retriever.port has a bad value",
+                 f"line 7: port: {number}"),
+                (b"port = 1", b"port = 1\n# port = 2\n[else]\nport = 3\n[retriever]\n\nport = 0\n[else]\nport = 4\n[retriever]",
+                 "retriever.port has a bad value", f"line 10: port: {number}"),
+                (b"type = Maildir", b"TYPE: Mbox", "destination.type unknown", "line 9: type: Maildir or Mboxrd"),
+                (b"port = 1", b"port = 1\nuse_apop = yes", "retriever.use_apop unsupported", "line 5: use_apop: must be false"),
                 (b"SimplePOP3R", b"SimplePOP3SSLR", "retriever.type unknown",
-                 "line 2: type = SimplePOP3SSLRetriever: SimplePOP3Retriever; TLS needs a tunnel")):
+                 "line 2: type: SimplePOP3Retriever; TLS needs a tunnel")):
             with self.subTest(new), Account(1) as self.account:
                 self.put(old, new)
-                self.check_told(2, fault, told)
+                self.check_told(2, fault, told + "; a comment has a line of its own")
 
     def test_keys_that_are_missing(self):
-        """A key of one letter more, less or other is named; else the file is."""
-        warning = f"{self.account.rcfile}"
-        for new, told in (("pasword", "line 6: pasword: is password meant?"), ("Passwords", "line 6: Passwords: is password meant?"),
-                          ("pass-word", "line 6: pass-word: is password meant?"), ("passwort", "line 6: passwort: is password meant?"),
-                          ("secret", warning), ("passwrd1", warning)):
+        """The line of a key of one letter more, less or other is named; else the file is."""
+        meant = "line 6: is password meant?"
+        for new, told in (("pasword", meant), ("Passwords", meant), ("pass-word", meant), ("passwort", meant),
+                          ("xpassword", meant), ("asswort", None), ("secret", None), ("passwrd1", None), ("passwordxy", None)):
             with self.subTest(new), Account(1) as self.account:
                 self.put(b"password", new.encode())
-                self.check_told(2, "retriever.password missing", told.replace(warning, str(self.account.rcfile)))
+                self.check_told(2, "retriever.password missing", told or str(self.account.rcfile))
 
     def test_a_section_that_is_missing(self):
         self.put(b"[destination]", b"[Destination]")
@@ -219,12 +219,12 @@ class BeforeSessions(unittest.TestCase):
     def test_no_line_of_a_password_is_shown(self):
         self.put(b"port = 1", b"port = 0")
         self.put(b"password = p\n", b"password = p\n  port = hidden\n\tport = hidden\n")
-        self.check_told(2, "retriever.port has a bad value", "line 4: port = 0: 1 to 65535")
+        self.check_told(2, "retriever.port has a bad value", "line 4: port: 1 to 65535; a comment has a line of its own")
 
     def test_lines_of_an_rc_file(self):
         self.put(b"password = p", b"password p")
         self.check_told(2, "rc file line 6 not understood", "a line is empty, a comment, a [section], or KEY = VALUE in one; "
-                        "one that begins with a blank goes on with a value")
+                        "after a blank a value goes on")
         self.account.rcfile.write_bytes(b"\xef\xbb\xbf[retriever]\n")
         self.check_told(2, "rc file line 1 not understood", "the file begins with a byte order mark: save it without one")
 

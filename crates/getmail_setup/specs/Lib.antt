@@ -5,3 +5,4 @@ pub mod NoSetup
 pub mod Output
 pub mod Places
 pub mod Progress
+pub mod RcReason

@@ -106,7 +106,7 @@ impl Key {
     }
 
     /// The key's name in its section.
-    pub(crate) fn name(self) -> &'static str
+    pub fn name(self) -> &'static str
         ensures { result.now ≡ (rule self).name }
     {
         match self {
