@@ -29,7 +29,8 @@ use Rattle.fetch_session.specs.Session.{AccountFiles, Keeping, Noted, Proceeds, 
 use Rattle.fetch_session.specs.Store.{RefusesText}
 use Rattle.fetch_session.specs.Target.{AsFiles, Stores, in_maildir}
 use Rattle.fetch_session.specs.Task.{Done, IsAnswered, Task, file_from, files_in, files_of, ids_in, ids_of, stores}
-use Rattle.fetch_session.proofs.SceneLemmas.{all_append, marked_on, steady_keeps, unsaved_keeps}
+use Rattle.mail_terms.proofs.ListLemmas.{all_append}
+use Rattle.fetch_session.proofs.SceneLemmas.{marked_on, steady_keeps, unsaved_keeps}
 use Rattle.fetch_session.proofs.TakenLemmas.{unready_same}
 
 -- the laws that are used

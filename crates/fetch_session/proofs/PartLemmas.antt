@@ -38,7 +38,8 @@ use Rattle.fetch_session.specs.Task.{Task, stores, ids_in, ids_ahead, turns_in, 
 use Rattle.fetch_session.proofs.ReadyLemmas.{fetched_all, OneMore, ahead, fresh_grows}
 use Rattle.fetch_session.proofs.TalkLemmas.{most_tail, takes_on, took_broke, took_less, took_nothing, with_tail_on, cut_by, till_cut}
 use Rattle.fetch_session.proofs.SessionLemmas.{good_before, good_more, in_kind, keeps_same, none_lasts, nothing_cut, rows_last, same_left, scene_at, texts_ok}
-use Rattle.fetch_session.proofs.SceneLemmas.{did_then, all_append, all_sound, all_none, all_weaker, fell_first, on_any}
+use Rattle.mail_terms.proofs.ListLemmas.{all_append}
+use Rattle.fetch_session.proofs.SceneLemmas.{did_then, all_sound, all_none, all_weaker, fell_first, on_any}
 use Rattle.mail_store.specs.FlatFile.{Stored}
 use Rattle.mail_store.specs.declared.file.flat_file.Edges.{Edges}
 use Rattle.fetch_session.specs.declared.account.Store.{Store}

@@ -1,5 +1,5 @@
 -- What is planned and which ids stay fresh, what a session has ready, or why it isn't ready, and what of it outlives a loss of power.
-use Rattle.std.proofs.Common.{◌≡◌, ◌≢◌, ◌&&◌, Some, inl, inr, ◌<◌, ◌+◌, ℕ, suc, Bool, true, false, List, [], ◌∷◌, ◌++◌, drop, get_or, length, refl, sym, ap, ◌∙◌, arith, append_assoc, ◌⊎◌, ◌||◌, bytes_eq, drop-cons, not, map, take, Option, Ok, subst, HoldsAt, Result, Err, All, IfOk, ⊎_elim, None, append-nil}
+use Rattle.std.proofs.Common.{◌≡◌, ◌≢◌, ◌&&◌, Some, inl, inr, ◌<◌, ◌+◌, ℕ, suc, Bool, true, false, List, [], ◌∷◌, ◌++◌, drop, get_or, length, refl, sym, ap, ◌∙◌, arith, append_assoc, ◌⊎◌, ◌||◌, bytes_eq, drop-cons, map, take, Option, Ok, subst, HoldsAt, Result, Err, All, IfOk, ⊎_elim, None}
 use Rattle.std.specs.List.{AllByRecursion}
 use Rattle.std.proofs.lemmas.Bool.{cases_Bool, false_from_ne_true, not-true, true≢false, or_parts}
 use Rattle.std.proofs.lemmas.Grind.{flat_map-append}
@@ -7,8 +7,9 @@ use Rattle.std.proofs.lemmas.Slice.Eq.{bytes_eq-Decides}
 use Rattle.mail_terms.specs.UniqueId.{IsLegalId}
 use Rattle.mail_terms.specs.Listing.{Item, has_item, is_flagged, numbered}
 use Rattle.fetch_rules.specs.declared.steps.Step.{Step}
+use Rattle.mail_store.proofs.MaildirLemmas.{none_taken}
 use Rattle.mail_store.specs.Durable.{MayLeave}
-use Rattle.mail_store.specs.Maildir.{AreReached, File, Maildir, WereTaken, with_file}
+use Rattle.mail_store.specs.Maildir.{File, Maildir, WereTaken, with_file}
 use Rattle.mail_store.specs.FileName.{mail_file, sized_file, stem_of, is_held, IsAccountText}
 use Rattle.fetch_session.specs.Task.{Task, ids_ahead, AreFresh, fetching, deleting, tasks_in, tasks_planned}
 use Rattle.fetch_session.specs.Store.{MayGain}
@@ -20,7 +21,8 @@ use Rattle.fetch_session.specs.declared.account.Store.TheVariants.{Maildir as In
 use Rattle.fetch_session.specs.Target.{flags_in, stores_of, target_of, Stores, in_maildir, kind_of, with_maildir, AfterTakingIn, AsFiles, Target, AsEntries, closed_file, rows_in, Kind, Files, Entries, in_mbox}
 use Rattle.mail_store.specs.Held.{flags_asked, flags_of, flags_sought}
 use Rattle.fetch_rules.specs.Laws.{FetchesAsked, FetchesFirsts}
-use Rattle.fetch_session.proofs.SceneLemmas.{all_append, all_weaker, read_keeps, steady_keeps, not_whole}
+use Rattle.mail_terms.proofs.ListLemmas.{all_append}
+use Rattle.fetch_session.proofs.SceneLemmas.{all_weaker, read_keeps, steady_keeps, not_whole}
 use Rattle.std.proofs.lemmas.List.{map-append, take_more, length-map}
 use Rattle.fetch_rules.specs.Record.{Loaded, Row, is_delivered, Intent, RecordState, has_row, marked, none_open, merged, IsRecord}
 use Rattle.fetch_session.specs.declared.readiness.Found.{Found}
@@ -159,14 +161,6 @@ flags_more f items i flags new uid flag before inside at is pushed =
     ∙ sym (map-append test (take i items) (item ∷ [])) ∙ ap (map test) (sym (take_more items i no_item inside))
 
 -- ---- what outlives a loss of power once a record was made ready, or wasn't
-
-reached_same : (files : List File) → AreReached files files
-reached_same [] = tt
-reached_same (f ∷ files) = (record { name = refl; content = refl; named = λ is. is; flushed = λ is. is }, reached_same files)
-
--- no file was taken away
-pub none_taken : (maildir : Maildir) → WereTaken maildir maildir
-none_taken maildir = record { gone = []; files = reached_same maildir.files; is = rw append-nil refl }
 
 pub untaken : {Q : Maildir → Type 0} (maildir : Maildir) → Q maildir → (left : Maildir) × WereTaken maildir left × Q left
 untaken maildir is = (maildir, none_taken maildir, is)

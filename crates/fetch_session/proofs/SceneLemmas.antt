@@ -8,6 +8,7 @@ use Rattle.fetch_rules.specs.RecordFile.{Version, One, Two, header, file_of, int
 use Rattle.fetch_rules.specs.RecordMeaning.{Rows, Means, has_bytes, taken, Fault as Faulty}
 use Rattle.fetch_rules.specs.RecordGrowth.{Updates, Grows, AppendedCounts, CutIsIgnored, taken_all}
 use Rattle.fetch_rules.specs.Intents.{has_intent, is_older, closed_rows}
+use Rattle.mail_terms.proofs.ListLemmas.{all_append}
 use Rattle.mail_store.specs.FlatFile.{Stored, Appends, Cuts, Denies, counted}
 use Rattle.mail_store.specs.declared.fault.StoreFault.{StoreFault}
 use Rattle.mail_store.specs.declared.fault.StoreFault.TheVariants.{Missing, Refused}
@@ -226,10 +227,6 @@ gained_none m = record { came = sym (append-nil m.files); taken = refl; there = 
 pub marked_on : (rows : List Row) (xs ys : List (List ℕ)) → marked_all rows (xs ++ ys) ≡ marked_all (marked_all rows xs) ys
 marked_on rows [] ys = refl
 marked_on rows (x ∷ xs) ys = marked_on (marked rows x) xs ys
-
-pub all_append : {A : Type 0} (P : A → Type 0) (xs ys : List A) → AllByRecursion P xs → AllByRecursion P ys → AllByRecursion P (xs ++ ys)
-all_append P [] ys first second = second
-all_append P (x ∷ xs) ys first second = (first.0, all_append P xs ys first.1 second)
 
 pub all_weaker : {A : Type 0} (P Q : A → Type 0) (xs : List A) → ((x : A) → P x → Q x) → AllByRecursion P xs → AllByRecursion Q xs
 all_weaker P Q [] weaker all = tt

@@ -16,6 +16,7 @@ use Rattle.fetch_rules.specs.RecordGrowth.{OneMeaning}
 use Rattle.fetch_rules.specs.RecordMeaning.{Meaning, Rows, Fault as Faulty}
 use Rattle.fetch_rules.specs.Wanted.{wanted}
 use Rattle.fetch_rules.specs.declared.steps.Step.{Step}
+use Rattle.pop3_wire.proofs.BodyLemmas.{IsLine-dot, IsLine-front}
 use Rattle.pop3_wire.specs.Body.{IsContent, body_of, dot, text_of}
 use Rattle.pop3_wire.specs.Line.{crlf, IsLine, OneLine, ended}
 use Rattle.pop3_wire.specs.Link.{Link}
@@ -59,14 +60,6 @@ all_back P [] ys all = all
 all_back P (x ∷ xs) ys all = all_back P xs ys all.1
 
 -- ---- a turn whose good reply came didn't break
-
-IsLine-front : (a b : List ℕ) → IsLine (a ++ b) → IsLine a
-IsLine-front a b line front rest e = line front (rest ++ b) (ap (λ (l : List ℕ). l ++ b) e ∙ append_assoc front (crlf ++ rest) b)
-
-IsLine-dot : IsLine dot
-IsLine-dot [] rest e = cc
-IsLine-dot (b ∷ []) rest e = cc
-IsLine-dot (b ∷ d ∷ front) rest e = cc
 
 -- no line has both a positive and a negative status
 two_statuses : {line rest more : List ℕ} → IsFirstLine line Positive rest → IsFirstLine line Negative more → ⊥

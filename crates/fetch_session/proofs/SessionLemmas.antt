@@ -1,6 +1,6 @@
 -- How the parts of a session make the whole, also of one that changes nothing, and what of it outlives a loss of power.
-use Rattle.std.proofs.Common.{◌≡◌, ◌≢◌, ◌⊎◌, ℕ, List, [], ◌∷◌, ◌++◌, Option, None, Some, Result, Ok, Err, refl, sym, ap, subst, ◌∙◌, inl, inr, append_assoc, length, ⊎_elim, rules, Bool, false, append-nil, All, IfErr, arith, Vec, take}
-use Rattle.std.proofs.lemmas.List.{append-nil, append_cancel_left}
+use Rattle.std.proofs.Common.{◌≡◌, ◌≢◌, ◌⊎◌, ℕ, List, [], ◌∷◌, ◌++◌, Option, None, Some, Result, Ok, Err, refl, sym, ap, subst, ◌∙◌, inl, inr, append_assoc, length, ⊎_elim, Bool, false, append-nil, All, take}
+use Rattle.std.proofs.lemmas.List.{append-nil}
 use Rattle.std.proofs.lemmas.Grind.{flat_map-append}
 use Rattle.std.proofs.lemmas.Option.{none-some, same_Some}
 use Rattle.std.specs.List.{flat_map, AllByRecursion}
@@ -24,9 +24,8 @@ use Rattle.fetch_session.specs.Scene.{Scene, scene, Went, AllWent}
 use Rattle.fetch_session.specs.Store.{Brings}
 use Rattle.fetch_session.specs.Lasting.{AreLeft, AreSure, CarriedLasts, CarriesLast, CutLasts, DoesAndLasts, DonesLast, IsLeft, IsSafe, IsSafeStore, IsSafeWork, IsUntouched, KeepsWork, KeptLasts, Lasts, Leaves, LeavesLeft, LeavesMerged, ProceedsLast, RowsLast, RowsStillLast, SessionLasts, ShowsRows, TextsLast, UnlessQuiet, may_leave_in}
 use Rattle.fetch_session.specs.Target.{Target, AsFiles, AsEntries, Stores, kind_of, stores_of, target_of, AfterTakingIn, IsSoundMaildir, IsSoundMbox, in_maildir, in_mbox, is_sound, no_maildir, with_maildir, maildir_of, mbox_of, flags_in, closed_file, none_held, rows_in}
-use Rattle.fetch_session.specs.Task.{Task, Done, ids_in, ids_of, texts_of, ids_ahead, says, tasks_planned, files_of}
-use Rattle.fetch_session.proofs.SceneLemmas.{is_there, not_whole, till_front, read_keeps, all_on, fell_before, fell_on, marked_on, all_append, all_weaker}
-use Rattle.fetch_session.proofs.TextLemmas.{settled}
+use Rattle.fetch_session.specs.Task.{Task, Done, ids_in, ids_of, texts_of, ids_ahead, says, tasks_planned}
+use Rattle.fetch_session.proofs.SceneLemmas.{is_there, not_whole, till_front, read_keeps, all_on, fell_before, fell_on, marked_on}
 use Rattle.pop3_wire.specs.Link.{Link}
 use Rattle.mail_terms.specs.Listing.{Item}
 use Rattle.rc_file.specs.declared.settings.Settings.{Settings}

@@ -39,18 +39,6 @@ err_is {r = Ok done} never = absurd never
 err_is {r = Err fault} is = ap Err is
 
 module _ {W : Type 0} (link : Ghosts W) where
-  -- what follows from what a call did
-  pub in_words : {a b : W} {P Q : Type 0} → WhereSound link.sound link.leads_to a b P → (P → Q) → WhereSound link.sound link.leads_to a b Q
-  in_words did words sound = let all = did sound in (all.0, all.1, words all.2)
-
-  -- a call and then another
-  pub and_then : {a b c : W} {P Q R : Type 0} → ((u v w : W) → link.leads_to u v → link.leads_to v w → link.leads_to u w)
-      → WhereSound link.sound link.leads_to a b P → WhereSound link.sound link.leads_to b c Q → (P → Q → R) → WhereSound link.sound link.leads_to a c R
-  and_then on first second both sound =
-      let then = second sound in
-      let all = first then.0 in
-      (all.0, on _ _ _ all.1 then.1, both all.2 then.2)
-
   -- what a call did, leaving out what the link leads to
   pub did_so : {a b : W} {P Q : Type 0} → WhereSound link.sound link.leads_to a b P → (P → Q) → link.sound b → link.sound a × Q
   did_so did words sound = let all = did sound in (all.0, words all.2)

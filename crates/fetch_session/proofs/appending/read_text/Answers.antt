@@ -1,5 +1,6 @@
 use Rattle.std.proofs.Common.{refl, inl, inr, ◌++◌, take, sym, ◌∙◌}
-use Rattle.fetch_session.proofs.TalkLemmas.{err_is, and_then, before_cut, cut_by}
+use Rattle.pop3_wire.proofs.LinkLemmas.{and_then}
+use Rattle.fetch_session.proofs.TalkLemmas.{err_is, before_cut, cut_by}
 use Rattle.std.proofs.lemmas.Bool.{false≢true}
 use Rattle.fetch_session.proofs.appending.read_text.Goals as goal
 

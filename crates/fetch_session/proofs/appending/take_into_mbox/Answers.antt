@@ -9,7 +9,8 @@ use Rattle.fetch_session.specs.Refusal.{TookTillCut}
 use Rattle.fetch_session.specs.declared.report.ReportLine.{ReportLine}
 use Rattle.fetch_session.specs.declared.report.ReportLine.TheVariants.{Delivered}
 use Rattle.fetch_session.proofs.TextLemmas.{text_broken, body_whole, entry_not_saved, entry_stored, not_held, text_refused}
-use Rattle.fetch_session.proofs.TalkLemmas.{took_talked, takes_held, before_cut, err_is, and_then, did_both, did_so, in_words}
+use Rattle.pop3_wire.proofs.LinkLemmas.{and_then, in_words}
+use Rattle.fetch_session.proofs.TalkLemmas.{took_talked, takes_held, before_cut, err_is, did_both, did_so}
 use Rattle.fetch_session.proofs.PartLemmas.{link_broke, link_then_cut, marked_ledger, same_ledger}
 use Rattle.fetch_session.specs.Parts.{KeepsLink}
 use Rattle.fetch_session.specs.Report.{Adds}

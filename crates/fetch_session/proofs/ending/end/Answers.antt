@@ -1,7 +1,8 @@
 use Rattle.std.proofs.Common.{[], ◌∷◌, Ok, refl, sym, append-nil, arith}
 use Rattle.pop3_client.specs.Client.{link_of}
 use Rattle.pop3_client.specs.Turns.{quit}
-use Rattle.fetch_session.proofs.TalkLemmas.{err_is, did_so, in_words, quit_broke, took_completing, took_less, cut_by}
+use Rattle.pop3_wire.proofs.LinkLemmas.{in_words}
+use Rattle.fetch_session.proofs.TalkLemmas.{err_is, did_so, quit_broke, took_completing, took_less, cut_by}
 use Rattle.fetch_session.specs.Task.{says}
 use Rattle.fetch_session.specs.Target.{kind_of, target_of}
 use Rattle.fetch_session.proofs.PartLemmas.{Looked, runs_quitting, look_maildir, look_told, not_left, quitting_store, link_broke, link_idle, link_on_tail, link_still, link_with_tail}

@@ -1,7 +1,8 @@
 use Rattle.std.proofs.Common.{refl, rules, Ok, Err, arith, ◌∙◌, inl, inr}
 use Rattle.fetch_session.specs.Refusal.{TookTillCut, opening_limit}
 use Rattle.fetch_session.specs.Parts.{KeepsLink}
-use Rattle.fetch_session.proofs.TalkLemmas.{err_is, did_so, in_words, took_entering}
+use Rattle.pop3_wire.proofs.LinkLemmas.{in_words}
+use Rattle.fetch_session.proofs.TalkLemmas.{err_is, did_so, took_entering}
 use Rattle.fetch_session.proofs.SceneLemmas.{link_alone}
 use Rattle.fetch_session.proofs.PartLemmas.{link_cut, link_on_tail, link_still, link_then_cut, link_with_tail}
 use Rattle.fetch_session.proofs.one_session.proceed.Goals.{In_ok-listing}

@@ -1,6 +1,7 @@
 use Rattle.std.proofs.Common.{[], ◌∷◌, inl}
 use Rattle.pop3_client.specs.Turns.{list, stat, uidl}
-use Rattle.fetch_session.proofs.TalkLemmas.{err_is, in_words, and_then, listed_too, not_entered, stopped_behind, stopped_first}
+use Rattle.pop3_wire.proofs.LinkLemmas.{in_words, and_then}
+use Rattle.fetch_session.proofs.TalkLemmas.{err_is, listed_too, not_entered, stopped_behind, stopped_first}
 use Rattle.fetch_session.proofs.opening.enter.Goals as goal
 
 pub returns-in_err-log_in-clause-enters : goal.returns-in_err-log_in-clause-enters

@@ -1,5 +1,5 @@
 use Rattle.fetch_session.specs.Target.{no_maildir}
-use Rattle.fetch_session.proofs.ReadyLemmas.{none_taken}
+use Rattle.mail_store.proofs.MaildirLemmas.{none_taken}
 use Rattle.fetch_session.proofs.preview.look.Goals as goal
 
 pub returns-in-Mboxrd-clause-looks : goal.returns-in-Mboxrd-clause-looks

@@ -1,7 +1,8 @@
 use Rattle.std.proofs.Common.{refl, rules, inl, Err}
 use Rattle.fetch_session.proofs.ReadyLemmas.{followed, untaken}
 use Rattle.pop3_client.specs.Turns.{quit}
-use Rattle.fetch_session.proofs.TalkLemmas.{completes_talks, err_is, in_words}
+use Rattle.pop3_wire.proofs.LinkLemmas.{in_words}
+use Rattle.fetch_session.proofs.TalkLemmas.{completes_talks, err_is}
 use Rattle.fetch_session.specs.Target.{target_of}
 use Rattle.fetch_session.proofs.SessionLemmas.{not_ended}
 use Rattle.fetch_session.proofs.SceneLemmas.{link_alone}

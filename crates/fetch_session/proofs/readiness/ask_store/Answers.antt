@@ -1,7 +1,7 @@
 use Rattle.std.proofs.Common.{subst}
 use Rattle.fetch_session.specs.Lasting.{is_sure}
 use Rattle.fetch_session.specs.Target.{no_maildir}
-use Rattle.fetch_session.proofs.ReadyLemmas.{none_taken}
+use Rattle.mail_store.proofs.MaildirLemmas.{none_taken}
 use Rattle.fetch_session.proofs.SessionLemmas.{safe_store}
 use Rattle.std.proofs.lemmas.Result.{on_ok_weaker}
 use Rattle.fetch_session.proofs.readiness.ask_store.Goals as goal

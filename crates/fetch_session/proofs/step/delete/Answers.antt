@@ -1,6 +1,7 @@
 use Rattle.std.proofs.Common.{◌∷◌, [], Ok, refl}
 use Rattle.pop3_client.specs.Turns.{dele}
-use Rattle.fetch_session.proofs.TalkLemmas.{err_is, in_words, did_so, took_completing}
+use Rattle.pop3_wire.proofs.LinkLemmas.{in_words}
+use Rattle.fetch_session.proofs.TalkLemmas.{err_is, did_so, took_completing}
 use Rattle.fetch_session.specs.Task.{deletes}
 use Rattle.fetch_session.proofs.PartLemmas.{link_broke}
 use Rattle.fetch_session.proofs.TextLemmas.{taken_idle, text_broken}

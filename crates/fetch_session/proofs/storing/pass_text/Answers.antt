@@ -1,5 +1,6 @@
 use Rattle.std.proofs.Common.{◌≡◌, inl, inr, ◌<◌, ◌++◌, length, take, arith, sym, ◌∙◌, ap}
-use Rattle.fetch_session.proofs.TalkLemmas.{err_is, and_then}
+use Rattle.pop3_wire.proofs.LinkLemmas.{and_then}
+use Rattle.fetch_session.proofs.TalkLemmas.{err_is}
 use Rattle.std.proofs.lemmas.Bool.{false≢true}
 use Rattle.fetch_session.proofs.TextLemmas.{longer}
 use Rattle.fetch_session.proofs.storing.pass_text.Goals as goal

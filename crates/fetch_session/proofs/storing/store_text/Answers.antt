@@ -4,7 +4,8 @@ use Rattle.mail_store.specs.Maildir.{Maildir, counted, draft, dropped}
 use Rattle.pop3_wire.specs.declared.unstuffer.Spot.TheVariants.{Done}
 use Rattle.fetch_session.specs.Store.{Puts, begun_with}
 use Rattle.fetch_session.proofs.TextLemmas.{dropped_none_begun, settled, longer}
-use Rattle.fetch_session.proofs.TalkLemmas.{and_then, before_cut, cut_by}
+use Rattle.pop3_wire.proofs.LinkLemmas.{and_then}
+use Rattle.fetch_session.proofs.TalkLemmas.{before_cut, cut_by}
 use Rattle.fetch_session.proofs.storing.store_text.Goals.{After-put_piece}
 use Rattle.fetch_session.proofs.storing.store_text.Goals as goal
 

@@ -1,4 +1,4 @@
-use Rattle.std.proofs.Common.{rules, [], ◌∷◌, List, ℕ, Ok, Err, inl, inr, arith, refl, sym, subst, ◌∙◌, string_bytes, ap}
+use Rattle.std.proofs.Common.{rules, [], ◌∷◌, List, ℕ, Ok, Err, inl, inr, arith, refl, sym, subst, ◌∙◌, string_bytes}
 use Rattle.fetch_rules.specs.Record.{RecordState, none_open, marked}
 use Rattle.fetch_session.specs.Record.{Saves}
 use Rattle.fetch_session.proofs.SceneLemmas.{held_is, all_sound, link_alone}
@@ -11,7 +11,8 @@ use Rattle.fetch_session.specs.Store.{MayGain}
 use Rattle.fetch_session.specs.Target.{AsFiles}
 use Rattle.fetch_session.proofs.SessionLemmas.{same_left}
 use Rattle.fetch_session.proofs.TextLemmas.{named_more, stores_grows, text_broken, text_stops, text_stored, text_not_saved}
-use Rattle.fetch_session.proofs.TalkLemmas.{took_talked, takes_stopped, before_cut, err_is, and_then, did_both, in_words}
+use Rattle.pop3_wire.proofs.LinkLemmas.{and_then, in_words}
+use Rattle.fetch_session.proofs.TalkLemmas.{took_talked, takes_stopped, before_cut, err_is, did_both}
 use Rattle.fetch_session.proofs.PartLemmas.{link_broke, link_idle, link_then_cut, marked_ledger, same_ledger}
 use Rattle.fetch_session.specs.Refusal.{TookTillCut}
 use Rattle.fetch_session.specs.Parts.{KeepsLink}

@@ -1,4 +1,5 @@
-use Rattle.fetch_session.proofs.TalkLemmas.{and_then, in_words, left_dropped, left_broken}
+use Rattle.pop3_wire.proofs.LinkLemmas.{and_then, in_words}
+use Rattle.fetch_session.proofs.TalkLemmas.{left_dropped, left_broken}
 use Rattle.fetch_session.proofs.tail.leave.Goals as goal
 
 pub returns-in-Err-clause-leaves : goal.returns-in-Err-clause-leaves

@@ -1,5 +1,6 @@
 use Rattle.pop3_client.specs.Turns.{quit}
-use Rattle.fetch_session.proofs.TalkLemmas.{completes_talks, in_words}
+use Rattle.pop3_wire.proofs.LinkLemmas.{in_words}
+use Rattle.fetch_session.proofs.TalkLemmas.{completes_talks}
 use Rattle.fetch_session.proofs.tail.say_tail.Goals as goal
 
 pub returns-in-Leave-clause-talks : goal.returns-in-Leave-clause-talks
