@@ -232,7 +232,7 @@ class Install(Copied):
 
     def test_programs_of_other_sources_are_refused(self):
         """Those that were proved from other files, or of which nothing says so; wrong bodies and other crates don't count."""
-        for left in ("mail_store/must-fail/x.edit", "mail_store/out/x", "run_law/src/more.rt"):
+        for left in ("mail_store/must-fail/x.edit", "mail_store/out/x", "fetch_runs/src/more.rt"):
             (self.top / "crates" / left).parent.mkdir(exist_ok=True)
             (self.top / "crates" / left).touch()
         self.make("install", "dist", f"DESTDIR={self.place}")
@@ -467,7 +467,7 @@ class Demo(Copied):
         self.assertRegex(told, rf"(?m)^ +0:1\d  {crates - 3} of {crates} crates proved; 1 being proved: getmail$")
         self.assertEqual({what for _, *content in begun for what in content}, {"src"})
         self.assertLessEqual({"mail_store", "getmail", "popd"}, {crate for crate, *_ in begun})
-        self.assertNotIn("run_law", {crate for crate, *_ in begun})
+        self.assertNotIn("fetch_runs", {crate for crate, *_ in begun})
         for name in ("getmail", "popd"):
             self.assertTrue(os.access(self.top / "bin" / name, os.X_OK))
         self.make("install", f"DESTDIR={self.place}")

@@ -1,29 +1,31 @@
+-- Each id that a record's file delivers is legal.
 -- What a session leaves of a record's file, and what a loss of power may leave of that, shows as delivered only what it showed or
 -- could show before, and messages of which a file is there whose name is durable.
-use Rattle.std.proofs.Common.{◌≡◌, ◌⊎◌, inl, inr, ℕ, suc, List, [], ◌∷◌, ◌++◌, true, false, length, Option, subst, arith, bytes_eq, sym, ⊎_elim, Bool, ap, ◌∙◌, Contains, ◌+◌, None, Some, ◌||◌, length-append, Result, Ok, Err, refl, All, ◌-◌, ◌%◌, ◌==◌, take, ◌&&◌}
+use Rattle.std.proofs.Common.{◌≡◌, inl, inr, ℕ, suc, List, [], ◌∷◌, ◌++◌, true, Option, arith, Bool, zero, not, ◌+◌, None, Some, ◌⊎◌, false, length, subst, bytes_eq, sym, ⊎_elim, ap, ◌∙◌, Contains, length-append, Result, Ok, Err, refl, All, ◌-◌, ◌%◌, ◌==◌, take, ◌&&◌}
+use Rattle.std.specs.List.{AllByRecursion, list_all, list_any}
+use Rattle.std.proofs.lemmas.Bool.{cond_both, both_ways, cases_Bool, and_parts, or_cases}
+use Rattle.fetch_rules.specs.Record.{Row, is_delivered, Intent, has_row, marked, marked_all, merged, none_open}
+use Rattle.fetch_session.specs.Record.{KeepsRows}
+use Rattle.mail_terms.specs.UniqueId.{is_legal_id}
+use Rattle.std.proofs.lemmas.List.Elements.{recursion_from_All, Contains-push}
+use Rattle.fetch_rules.specs.RecordFile.{Version, Two, Line, RowLine, IsLine, GroupLine, file_of}
+use Rattle.fetch_rules.specs.RecordMeaning.{Ends, Fails, Judged, InBase, InGroup, Means, Progress, Rows, Stands, after_intent, after_line, counted, judged, may_take, taken, BetweenGroups, Fault, FileStandsFor}
 use Rattle.mail_store.specs.Durable.{MayLeave}
 use mathlib.Core.Logic.{⊎_map}
-use Rattle.std.specs.List.{AllByRecursion, list_all, list_any}
-use Rattle.std.proofs.lemmas.Bool.{both_ways, cases_Bool, and_parts, or_cases}
 use Rattle.std.proofs.lemmas.Bool.Decides.{nat_tests}
 use Rattle.std.proofs.lemmas.List.{append-nil, append_cancel_left}
 use Rattle.std.proofs.lemmas.List.Concat.{flat_map-append}
-use Rattle.std.proofs.lemmas.List.Elements.{Contains-push, recursion_from_All}
 use Rattle.std.proofs.lemmas.List.Folds.{list_any_at}
 use Rattle.std.proofs.lemmas.Slice.Eq.{bytes_eq-Decides}
 use Rattle.fetch_rules.specs.Plan.{IsQuiet, planned}
-use Rattle.fetch_rules.specs.Record.{Row, has_row, is_delivered, marked, marked_all, merged, none_open}
-use Rattle.fetch_rules.specs.RecordFile.{Two, file_of}
 use Rattle.fetch_rules.specs.RecordGrowth.{AppendedCounts, OneMeaning, OneRecord}
-use Rattle.fetch_rules.specs.RecordMeaning.{Fault, FileStandsFor, Rows}
 use Rattle.fetch_rules.specs.RecordTorn.{IsPartOf, TornIsIgnoredOrSeen, ends_at_zero}
 use Rattle.fetch_rules.specs.declared.steps.Step.{Step}
 use Rattle.fetch_rules.specs.declared.seen.SeenFault.TheVariants.{BadRow}
 use Rattle.fetch_session.specs.Lasting.{AreLeft, CarriedLasts, CarriesLast, IsUntouched, Lasts, Leaves, LeavesMerged, ProceedsLast, SessionLasts, UnlessQuiet, UnreadyLasts, IsSafe}
-use Rattle.fetch_session.specs.Laws.{LeavesDurable, SessionsAreDurable, SteadyFilesKeep, UnsavedFilesKeep}
+use Rattle.fetch_session.specs.Laws.{LeavesDurable}
 use Rattle.fetch_session.specs.Plan.{Carried, Carries, tasks_ahead}
 use Rattle.fetch_session.specs.Readiness.{AreDurable, IsMerged, IsMergedAtMost, IsAnew, IsFileKept}
-use Rattle.fetch_session.specs.Record.{KeepsRows}
 use Rattle.fetch_session.specs.Scene.{Does, FileNotSaved, NoFile, Scene, Stops, Went, scene}
 use Rattle.fetch_session.specs.Session.{Keeping, Proceeds, Session, account_files, keeps_files}
 use Rattle.fetch_session.specs.Store.{RefusesText}
@@ -33,7 +35,7 @@ use Rattle.fetch_session.specs.declared.account.Store.TheVariants.{Maildir as In
 use Rattle.fetch_session.specs.declared.fault.Cut.{Cut}
 use Rattle.fetch_session.specs.declared.report.Report.{Report}
 use Rattle.fetch_session.specs.declared.report.Skips.{Skips}
-use Rattle.mail_store.specs.FileName.{IsAccountText, NamesAreBases, NamesHaveStems, is_held, names_id, sized_file, stem, stem_of}
+use Rattle.mail_store.specs.FileName.{IsAccountText, is_held, names_id, sized_file, stem, stem_of}
 use Rattle.mail_store.specs.FlatFile.{Stored}
 use Rattle.mail_store.specs.Held.{HasDurable, flags_of}
 use Rattle.mail_store.specs.Maildir.{AllNamed, File, IsNamed, Maildir}
@@ -43,12 +45,81 @@ use Rattle.mail_terms.specs.Listing.{Item, is_flagged}
 use Rattle.pop3_wire.specs.Link.{Link}
 use Rattle.pop3_wire.specs.Place.{Place, at}
 use Rattle.rc_file.specs.declared.settings.Settings.{Settings}
-use Rattle.run_law.specs.Accounts.{has_named}
-use Rattle.fetch_runs.specs.Losses.{RecordIsSure, LeavesDurably}
+use Rattle.fetch_runs.specs.Accounts.{has_named, AccountMail}
+use Rattle.fetch_runs.specs.Losses.{RecordIsSure}
 use Rattle.fetch_runs.specs.Steps.{holds}
-use Rattle.fetch_runs.proofs.Lists.{bytes_same, same_rows}
-use Rattle.fetch_runs.proofs.StateLaw.{unready_files}
+use Rattle.fetch_runs.proofs.State.{unready_files}
 use Rattle.fetch_runs.proofs.Talk.{both_none}
+use Rattle.fetch_runs.proofs.Lists.{bytes_same, all_append, same_rows}
+use Rattle.fetch_runs.specs.Below.{Below}
+
+abbrev AreLegal : List Row → Type 0
+AreLegal rows = AllByRecursion (λ (row : Row). is_legal_id row.uid ≡ true) rows
+
+marked_legal : (rows : List Row) (uid : List ℕ) → AreLegal rows → AreLegal (marked rows uid)
+marked_legal [] uid all = tt
+marked_legal (r ∷ rows) uid all = (all.0, marked_legal rows uid all.1)
+
+taken_legal : (rows : List Row) (row : Row) → AreLegal rows → is_legal_id row.uid ≡ true → AreLegal (taken rows row)
+taken_legal rows row all one = cond_both (has_row rows row.uid) (marked rows row.uid) (rows ++ row ∷ []) AreLegal
+    (λ there. marked_legal rows row.uid all) (λ absent. all_append _ rows (row ∷ []) all (one, tt))
+
+abbrev Legal : Judged → Type 0
+Legal (Stands (InGroup before intent rows more)) = AreLegal before × AreLegal rows
+Legal (Stands progress) = AreLegal (counted progress)
+Legal (Fails fault) = Unit {0}
+
+intent_legal : (version : Version) (n : ℕ) (rows : List Row) (before : Option Intent) (intent : Intent) → AreLegal rows → Legal (after_intent version n rows before intent)
+intent_legal Two n rows None intent all = cond_both (has_row rows intent.uid) _ _ Legal (λ there. all) (λ absent. tt)
+intent_legal version n rows before intent all = tt
+
+line_legal : (version : Version) (n : ℕ) (progress : Progress) (line : Line) → Legal (Stands progress) → IsLine line → Legal (after_line version n progress line)
+line_legal version n (InBase rows) (RowLine row) all is = cond_both (has_row rows row.uid) _ _ Legal (λ there. tt) (λ absent. all_append _ rows (row ∷ []) all (is.legal, tt))
+line_legal version n (InGroup old before rows zero) (RowLine row) all is = cond_both (may_take version rows row) _ _ Legal (λ may. taken_legal rows row all.1 is.legal) (λ not. tt)
+line_legal version n (InGroup old before rows (suc more)) (RowLine row) all is = cond_both (may_take version rows row) _ _ Legal (λ may. (all.0, taken_legal rows row all.1 is.legal)) (λ not. tt)
+line_legal version n (BetweenGroups rows before) (GroupLine count) all is = (all, all)
+line_legal version n progress line all is = search intent_legal
+
+lines_legal : (version : Version) (n : ℕ) (so_far : Judged) (lines : List Line) → Legal so_far → AllByRecursion IsLine lines → Legal (judged version n so_far lines)
+lines_legal version n so_far [] legal each = legal
+lines_legal version n (Fails fault) (line ∷ lines) legal each = tt
+lines_legal version n (Stands progress) (line ∷ lines) legal each =
+    lines_legal version (n + 1) (after_line version n progress line) lines (line_legal version n progress line legal each.0) each.1
+
+counted_legal : (progress : Progress) → Legal (Stands progress) → AreLegal (counted progress)
+counted_legal (InGroup before intent rows more) all = all.0
+counted_legal progress all = all
+
+ends_legal : (version : Version) (rows : List Row) (intent : Option Intent) (torn : Bool) (of : Version) (n : ℕ) (end : Judged) (rest : List ℕ) → Legal end
+    → Ends of n end rest (Rows version rows intent torn) → AreLegal rows
+ends_legal version rows intent torn of n (Fails fault) rest legal never = absurd cc
+ends_legal version rows intent torn of n (Stands progress) rest legal (none, is) =
+    let same : rows ≡ counted progress = grind (arith, is) in rw same (counted_legal progress legal)
+
+means_legal : (bytes : List ℕ) (version : Version) (rows : List Row) (intent : Option Intent) (torn : Bool) → Means bytes (Rows version rows intent torn) → AreLegal rows
+means_legal bytes version rows intent torn (inl (none, is)) = let same : rows ≡ [] = cc in rw same tt
+means_legal bytes version rows intent torn (inr (inl (some, other, never))) = absurd cc
+means_legal bytes version rows intent torn (inr (inr by_lines)) =
+    ends_legal version rows intent torn by_lines.version _ (judged by_lines.version 0 (Stands (InBase [])) by_lines.lines) by_lines.rest
+    (lines_legal by_lines.version 0 (Stands (InBase [])) by_lines.lines tt (recursion_from_All IsLine by_lines.lines by_lines.cut.each)) by_lines.ends
+
+delivered_legal : (rows : List Row) (id : List ℕ) → AreLegal rows → is_delivered rows id ≡ true → is_legal_id id ≡ true
+delivered_legal [] id all never = absurd cc
+delivered_legal (row ∷ rows) id all delivered = grind (arith, delivered, all.0, bytes_same id row.uid, delivered_legal rows id all.1)
+
+pub kept_legal : (content : Option (List ℕ)) (rows : List Row) → KeepsRows content rows → (id : List ℕ) → is_delivered rows id ≡ true → is_legal_id id ≡ true
+kept_legal None rows (intent, stands) id delivered = absurd (let never = rw stands.0 at delivered in cc)
+kept_legal (Some bytes) rows keeps id delivered = delivered_legal rows id (means_legal bytes keeps.1.0 rows keeps.0 keeps.1.1 keeps.1.2) delivered
+
+-- what a call leaves. No file came, or each name was durable before; and what the record shows as delivered, or may show after a loss of power, it showed or could show
+-- before, or it has a file whose name is durable
+pub record LeavesDurably {F : Type 0} (file : FileGhosts F) (account : List ℕ) (from f : F) (before after : AccountMail) : Type 0 where
+  pub is : LeavesDurable account (account_files before.maildir (file.stored from)) (account_files after.maildir (file.stored f))
+  pub open is use {came, last, files, durable, flushed, at_most_one}
+  pub named : (came ++ last ≡ []) ⊎ AllNamed before.maildir.files
+  pub shown : (id : List ℕ) → is_delivered after.rows id ≡ true → (is_delivered before.rows id ≡ true) ⊎ (has_named account after.maildir id ≡ true)
+  pub left : RecordIsSure file from f → (bytes : Option (List ℕ)) (rows : List Row) (intent : Option Intent) → MayLeave (file.disk f) bytes → FileStandsFor bytes rows intent → (id : List ℕ)
+      → is_delivered rows id ≡ true → (is_delivered before.rows id ≡ true) ⊎ ((has_named account after.maildir id ≡ true) ⊎ MayLeave (file.disk from) bytes)
 
 -- ---- what is left of an append
 
@@ -151,22 +222,7 @@ module _ (account : List ℕ) (settings : Settings) (items : List Item) (now : �
 
 -- ---- a session
 
--- the laws that are used
-pub record LeftLaws : Type 0 where
-  pub one : OneRecord
-  pub meaning : OneMeaning
-  pub counts : AppendedCounts
-  pub torn : TornIsIgnoredOrSeen
-  pub marks : (rows : List Row) (uid other : List ℕ) → is_delivered (marked rows uid) other ≡ is_delivered rows other || (has_row rows other && bytes_eq uid other)
-  pub flagged : (rows : List Row) (listing : List Item) (held : List Bool) (now : ℕ) (uid : List ℕ)
-      → is_delivered (merged rows listing held now) uid ≡ is_delivered rows uid || is_flagged listing held uid
-  pub stems : NamesHaveStems
-  pub bases : NamesAreBases
-  pub steady : SteadyFilesKeep
-  pub unsaved : UnsavedFilesKeep
-  pub durable : SessionsAreDurable
-
-module _ (laws : LeftLaws) {D F : Type 0} (files : FileGhosts F) (device device' : D) (settings : Settings) (account : List ℕ) (text : IsAccountText account) (now : ℕ) (link : Link) (left : Maildir) (from f : F)
+module _ (laws : Below) {D F : Type 0} (files : FileGhosts F) (device device' : D) (settings : Settings) (account : List ℕ) (text : IsAccountText account) (now : ℕ) (link : Link) (left : Maildir) (from f : F)
     (report : Report) (link' : Link) (maildir : Maildir) (session : Session settings account now link (account_files left (files.stored from)) report link' (account_files maildir (files.stored f)))
     (was rows : List Row) (stood : KeepsRows (files.stored from).content was) (keeps : KeepsRows (files.stored f).content rows) where
   pub durable : LeavesDurable account (account_files left (files.stored from)) (account_files maildir (files.stored f))
@@ -231,7 +287,7 @@ module _ (laws : LeftLaws) {D F : Type 0} (files : FileGhosts F) (device device'
         of_merged could id delivered = elim m.durable [
           | inl same_merged ↦ of_was could id (subst (λ (some : List Row). is_delivered some id ≡ true) same_merged delivered)
           | inr durable ↦ ⊎_elim (of_was could id) (λ flagged. inr (inl (rw same (all_named account left.files id durable.0 (flag_held account left items id flagged)))))
-              (or_cases _ _ (sym (laws.flagged m.was.rows items (flags_of account left items) now id) ∙ delivered))
+              (or_cases _ _ (sym (laws.merges m.was.rows items (flags_of account left items) now id) ∙ delivered))
         ]
 
         merged_left : LeavesMerged files m.was.rows here from f → Answered
@@ -381,12 +437,7 @@ module _ (laws : LeftLaws) {D F : Type 0} (files : FileGhosts F) (device device'
   -- what it leaves, over what its devices show
   pub leaves_durably : SessionLasts files (InMaildir device) from session (InMaildir device') f → LeavesDurably files account from f (holds was left) (holds rows maildir)
   leaves_durably lasts = record {
-    came = durable.came;
-    last = durable.last;
-    files = durable.files;
-    durable = durable.durable;
-    flushed = durable.flushed;
-    at_most_one = durable.at_most_one;
+    is = durable;
     named = none_or_named;
     shown = shown;
     left = λ sure could then opened may stands id d. records_left sure lasts could then may (opened, stands) id d;

@@ -1,12 +1,13 @@
-mod Bridge
-mod Calls
-mod Copies
-mod Headlines
-mod LeftRecords
-mod LegalRows
-mod Lists
-mod Losses
-mod StateDone
-mod StateLaw
-mod Talk
-mod TalkConversation
+pub mod Calls
+pub mod Core
+pub mod Headlines
+pub mod LeftRecords
+pub mod Listed
+pub mod Lists
+pub mod Losses
+pub mod MboxPromised
+pub mod Promised
+pub mod State
+pub mod Steps
+pub mod Talk
+pub mod TalkConversation

@@ -13,19 +13,16 @@ use Rattle.mail_store.specs.Loss.{AreLeftAs, LosesPower}
 use Rattle.mail_store.specs.Maildir.{AllNamed, AreReached, File, IsDurable, IsWithout, Maildir, WereTaken, file}
 use Rattle.mail_store.specs.declared.file.flat_file.FlatFile.{Ghosts as FileGhosts}
 use Rattle.fetch_rules.specs.Record.{Intent, is_delivered}
-use Rattle.fetch_rules.specs.RecordGrowth.{OneRecord}
 use Rattle.fetch_rules.specs.RecordMeaning.{FileStandsFor}
-use Rattle.run_law.specs.Accounts.{AccountMail, copies, has_named, without_flags}
-use Rattle.run_law.specs.Events.{IsBetween, IsSafe, IsSession, Mail, Occasion, State, after_session, is_safe, state_with}
-use Rattle.run_law.specs.Mails.{ids_of}
-use Rattle.run_law.specs.Promises.{IsFront, Kept, Promises, ShowsNext}
-use Rattle.run_law.specs.Sessions.{SessionsAreServed}
-use Rattle.run_law.specs.Steps.{IsHonest, Leaves, Stores, wanted_at}
-use Rattle.fetch_runs.specs.Losses.{DurableAccountsAreSafe, DurableFrontsBegin, IsCrashSafe, IsDurableFront, IsDurableFor, IsFlushedFor, RecordIsSure, KeepsDurable, LeavesDurably, lasts}
-use Rattle.fetch_runs.proofs.Copies.{fewer_copies, held_some, part_copies, reached_copies, some_held}
-use Rattle.fetch_runs.proofs.LeftRecords.{all_named}
-use Rattle.fetch_runs.proofs.Lists.{all_append, all_both, all_filter, all_front, all_ids_at, all_map, bytes_same, bytes_self, same_rows}
-use Rattle.fetch_runs.proofs.LegalRows.{kept_legal}
+use Rattle.fetch_runs.specs.Accounts.{AccountMail, copies, has_named, without_flags, ids_of}
+use Rattle.fetch_runs.specs.Promises.{IsBetween, Mail, State, after_session, is_safe, state_with, IsFront, Kept, Promises, ShowsNext, Call}
+use Rattle.fetch_runs.proofs.Promised.{IsSession}
+use Rattle.fetch_runs.specs.Sessions.{IsHonest, Leaves, Stores, wanted_at}
+use Rattle.fetch_runs.specs.Losses.{DurableAccountsAreSafe, DurableFrontsBegin, IsCrashSafe, IsDurableFront, IsDurableFor, IsFlushedFor, RecordIsSure, KeepsDurable, lasts}
+use Rattle.fetch_runs.proofs.LeftRecords.{LeavesDurably, all_named, kept_legal}
+use Rattle.fetch_runs.proofs.Lists.{fewer_copies, held_some, part_copies, reached_copies, some_held, all_append, all_both, all_filter, all_front, all_ids_at, all_map, bytes_same, same_rows, all_at, ids_both, members}
+use Rattle.fetch_runs.specs.Below.{Below}
+use Rattle.fetch_runs.proofs.Steps.{served_session}
 
 -- ---- files whose names are durable
 
@@ -155,19 +152,19 @@ lasts_on mail state after id stays = lasts_bits (has_named mail.account state.ac
 
 -- ---- others, and readers
 
-pub others_keep_safe : OneRecord → {F : Type 0} (file : FileGhosts F) (from f : F) (mail : Mail) (state : State) (after : AccountMail) (intent : Option Intent) → Kept mail state
+pub others_keep_safe : Below → {F : Type 0} (file : FileGhosts F) (from f : F) (mail : Mail) (state : State) (after : AccountMail) (intent : Option Intent) → Kept mail state
     → FileStandsFor (file.stored f).content after.rows intent → IsBetween mail state.account after → KeepsDurable file mail.account state.account from f after
     → IsCrashSafe (MayLeave (file.disk from)) mail state → IsCrashSafe (MayLeave (file.disk f)) mail (state_with mail state after)
-others_keep_safe one file from f mail state after intent kept stands between keeps safe = record {
+others_keep_safe laws file from f mail state after intent kept stands between keeps safe = record {
   flushed = keeps.flushed;
   recorded = shown;
   left = λ left rows opened may is id d. elim (keeps.record_is left may) [
     | inl same ↦
-        let d' = rw (same_rows one (file.stored f).content rows after.rows (opened, rw same at is) (intent, stands)) at d in
+        let d' = rw (same_rows laws.one (file.stored f).content rows after.rows (opened, rw same at is) (intent, stands)) at d in
         ((kept.recorded id (between.shows_no_more id d')).0, shown id d')
     | inr before ↦ let was = safe.left left rows opened before is id d in (was.0, on id was.0 was.1)
   ];
-  gone = all_both (IsSafe mail state) (λ id. lasts mail state id ≡ true) (λ id. lasts mail (state_with mail state after) id ≡ true) (λ id is. on id is.0) state.gone kept.gone safe.gone;
+  gone = all_both state.gone kept.gone safe.gone (λ id is. on id is.0);
 }
   where
     on : (id : List ℕ) → is_legal_id id ≡ true → lasts mail state id ≡ true → lasts mail (state_with mail state after) id ≡ true
@@ -204,7 +201,7 @@ left_keeps_safe may_leave mail state left kept taken safe = record {
   flushed = flushed_stays mail.account taken.gone state.account.maildir.files left.files taken.files safe.flushed;
   recorded = λ id d. on id (kept.recorded id d).0 (safe.recorded id d);
   left = λ bytes rows opened may is id d. let was = safe.left bytes rows opened may is id d in (was.0, on id was.0 was.1);
-  gone = all_both (IsSafe mail state) (λ id. lasts mail state id ≡ true) (λ id. lasts mail next id ≡ true) (λ id is. on id is.0) state.gone kept.gone safe.gone;
+  gone = all_both state.gone kept.gone safe.gone (λ id is. on id is.0);
 }
   where
     next : State
@@ -215,25 +212,25 @@ left_keeps_safe may_leave mail state left kept taken safe = record {
 
 -- ---- a call
 
-module _ {F : Type 0} (file : FileGhosts F) (from f : F) (mail : Mail) (state : State) (occasion : Occasion AccountMail) (leaves : LeavesDurably file mail.account from f state.account occasion.after) where
-  stays : (id : List ℕ) → has_named mail.account state.account.maildir id ≡ true → has_named mail.account occasion.after.maildir id ≡ true
+module _ {F : Type 0} (file : FileGhosts F) (from f : F) (mail : Mail) (state : State) (vanished : List (List ℕ)) (after : AccountMail) (leaves : LeavesDurably file mail.account from f state.account after) where
+  stays : (id : List ℕ) → has_named mail.account state.account.maildir id ≡ true → has_named mail.account after.maildir id ≡ true
   stays id named = rw (leaves.files, list_any-append (λ (g : File). names_id mail.account id g.name && g.is_named) state.account.maildir.files (leaves.came ++ leaves.last)) (or_left _ _ named)
 
   -- a file that came is there
-  came_there : (id : List ℕ) → any_named (names_id mail.account id) leaves.came ≡ true → has_named mail.account occasion.after.maildir id ≡ true
+  came_there : (id : List ℕ) → any_named (names_id mail.account id) leaves.came ≡ true → has_named mail.account after.maildir id ≡ true
   came_there id named = rw (
     leaves.files,
     list_any-append (λ (g : File). names_id mail.account id g.name && g.is_named) state.account.maildir.files (leaves.came ++ leaves.last),
     list_any-append (λ (g : File). names_id mail.account id g.name && g.is_named) leaves.came leaves.last,
   ) (or_right _ _ (or_left _ _ named))
 
-  lasts_call : (id : List ℕ) → lasts mail state id ≡ true → lasts mail (after_session mail state occasion) id ≡ true
-  lasts_call id = lasts_on mail state occasion.after id (λ named held. stays id named)
+  lasts_call : (id : List ℕ) → lasts mail state id ≡ true → lasts mail (after_session mail state vanished after) id ≡ true
+  lasts_call id = lasts_on mail state after id (λ named held. stays id named)
 
-pub calls_keep_safe : SessionsAreServed → {F : Type 0} (file : FileGhosts F) (from f : F) (mail : Mail) (state : State) (occasion : Occasion AccountMail) → Kept mail state
-    → IsSession mail state.account occasion → LeavesDurably file mail.account from f state.account occasion.after → RecordIsSure file from f
-    → IsCrashSafe (MayLeave (file.disk from)) mail state → IsCrashSafe (MayLeave (file.disk f)) mail (after_session mail state occasion)
-calls_keep_safe served file from f mail state occasion kept is leaves sure safe = record {
+pub calls_keep_safe : Below → {W S F G : Type 0} (file : FileGhosts F) (from f : F) (mail : Mail) (state : State) (call : Call W S G) (sent : List ℕ) (now : AccountMail) → Kept mail state
+    → IsSession mail state.account call sent now → LeavesDurably file mail.account from f state.account now → RecordIsSure file from f
+    → IsCrashSafe (MayLeave (file.disk from)) mail state → IsCrashSafe (MayLeave (file.disk f)) mail (after_session mail state call.vanished now)
+calls_keep_safe laws file from f mail state call sent now kept is leaves sure safe = record {
   flushed = flushed_after;
   recorded = shown;
   left = λ left rows opened may stands id d. (
@@ -244,33 +241,32 @@ calls_keep_safe served file from f mail state occasion kept is leaves sure safe 
       | inr (inr could) ↦ on id (safe.left left rows opened could stands id d).1
     ],
   );
-  gone = all_append (λ id. lasts mail after id ≡ true) state.gone occasion.vanished (all_map (λ id. lasts mail state id ≡ true) (λ id. lasts mail after id ≡ true) on state.gone safe.gone)
-      (all_map (λ id. has_id is.effect.begun id ≡ true) (λ id. lasts mail after id ≡ true) (λ id begun. shown id (marked id begun)) occasion.vanished went.1);
+  gone = all_append (λ id. lasts mail after id ≡ true) state.gone call.vanished (all_map state.gone safe.gone on)
+      (all_map call.vanished went.1 (λ id begun. shown id (marked id begun)));
 }
   where
     after : State
-    after = after_session mail state occasion
+    after = after_session mail state call.vanished now
 
-    went : (Leaves state.account is.effect occasion.after
-        ⊎ (Stores occasion.settings mail.account state.account is.effect occasion.after × IsHonest (wanted_at occasion.settings mail.account state.account is.effect) occasion.maildrop is.effect))
-        × AllByRecursion (λ id. has_id is.effect.begun id ≡ true) occasion.vanished
-    went = served occasion.settings mail.account state.account occasion.sent occasion.got is.effect occasion.after occasion.maildrop occasion.vanished is.session is.served
+    went : (Leaves state.account is.effect now ⊎ (Stores call.settings mail.account state.account is.effect now call.report is.session.sends.commands is.session.sends.asked.part
+        × IsHonest (wanted_at call.settings mail.account state.account is.effect) call.maildrop is.effect)) × AllByRecursion (λ id. has_id is.effect.begun id ≡ true) call.vanished
+    went = served_session laws call.settings mail.account state.account is.effect is.session is.served
 
-    flushed_after : AllByRecursion (IsFlushedFor mail.account) occasion.after.maildir.files
+    flushed_after : AllByRecursion (IsFlushedFor mail.account) now.maildir.files
     flushed_after = rw leaves.files (all_append (IsFlushedFor mail.account) state.account.maildir.files (leaves.came ++ leaves.last) safe.flushed (all_append (IsFlushedFor mail.account) leaves.came leaves.last
-        (all_map IsDurable (IsFlushedFor mail.account) (λ g durable id legal names. durable.1) leaves.came leaves.durable)
-        (all_map (λ (g : File). g.is_flushed ≡ true) (IsFlushedFor mail.account) (λ g flushed id legal names. flushed) leaves.last leaves.flushed)))
+        (all_map leaves.came leaves.durable (λ g durable id legal names. durable.1))
+        (all_map leaves.last leaves.flushed (λ g flushed id legal names. flushed))))
 
-    marked : (id : List ℕ) → has_id is.effect.begun id ≡ true → is_delivered occasion.after.rows id ≡ true
+    marked : (id : List ℕ) → has_id is.effect.begun id ≡ true → is_delivered now.rows id ≡ true
     marked id begun = elim went.0 [
       | inl left ↦ absurd (let never = rw left.begun at begun in cc)
-      | inr stored ↦ all_ids_at (λ (x : List ℕ). is_delivered occasion.after.rows x ≡ true) is.effect.begun id stored.0.begun begun
+      | inr stored ↦ all_ids_at (λ (x : List ℕ). is_delivered now.rows x ≡ true) is.effect.begun stored.0.begun begun
     ]
 
     on : (id : List ℕ) → lasts mail state id ≡ true → lasts mail after id ≡ true
-    on = lasts_call file from f mail state occasion leaves
+    on = lasts_call file from f mail state call.vanished now leaves
 
-    shown : (id : List ℕ) → is_delivered occasion.after.rows id ≡ true → lasts mail after id ≡ true
+    shown : (id : List ℕ) → is_delivered now.rows id ≡ true → lasts mail after id ≡ true
     shown id d = ⊎_elim (λ was. on id (safe.recorded id was)) (or_left _ _) (leaves.shown id d)
 
 -- ---- a loss of power
@@ -279,9 +275,9 @@ pub losses_leave_kept : (may_leave : Option (List ℕ) → Type 0) (mail : Mail)
     → IsCrashSafe may_leave mail state → LosesPower state.account.maildir after.maildir → may_leave left → FileStandsFor left after.rows intent → Kept mail (record state { account = after })
 losses_leave_kept may_leave mail state after left intent kept safe loses may stands = record {
   holds = λ id legal. same_or_none (kept.holds id legal) (left_copies (stem_of mail.account id) state.account.maildir.files after.maildir.files loses.files
-      (all_map (IsFlushedFor mail.account) (λ (f : File). bytes_eq (stem_of mail.account id) (stem f.name) ≡ true → f.is_flushed ≡ true) (λ f flushed. flushed id legal) state.account.maildir.files safe.flushed));
+      (all_map state.account.maildir.files safe.flushed (λ f flushed. flushed id legal)));
   recorded = λ id d. let was = safe.left left after.rows intent may stands id d in (was.0, still id was.1);
-  gone = all_both (IsSafe mail state) (λ id. lasts mail state id ≡ true) (IsSafe mail (record state { account = after })) (λ id is last. (is.0, still id last)) state.gone kept.gone safe.gone;
+  gone = all_both state.gone kept.gone safe.gone (λ id is last. (is.0, still id last));
 }
   where
     same_or_none : {was now : List (List ℕ)} {text : List ℕ} → (was ≡ []) ⊎ (was ≡ text ∷ []) → (now ≡ was) ⊎ (length now < length was) → (now ≡ []) ⊎ (now ≡ text ∷ [])
@@ -290,20 +286,20 @@ losses_leave_kept may_leave mail state after left intent kept safe loses may sta
     still : (id : List ℕ) → lasts mail state id ≡ true → is_safe mail (record state { account = after }) id ≡ true
     still id last = ⊎_elim (λ named. or_left _ _ (any_left (names_id mail.account id) state.account.maildir.files after.maildir.files loses.files named)) (or_right _ _) (or_cases _ _ last)
 
-pub durable_is_safe : OneRecord → {F : Type 0} (file : FileGhosts F) → DurableAccountsAreSafe file
-durable_is_safe one file f mail state intent kept stands durable same = record {
-  flushed = all_map (IsDurableFor mail.account) (IsFlushedFor mail.account) (λ g is id legal names. (is id legal names).1) state.account.maildir.files durable;
+pub durable_is_safe : Below → {F : Type 0} (file : FileGhosts F) → DurableAccountsAreSafe file
+durable_is_safe laws file f mail state intent kept stands durable same = record {
+  flushed = all_map state.account.maildir.files durable (λ g is id legal names. (is id legal names).1);
   recorded = λ id d. let is = kept.recorded id d in on id is.0 is.1;
   left = λ left rows opened may is id d.
-      let here = kept.recorded id (rw (same_rows one (file.stored f).content rows state.account.rows (opened, rw (same left may) at is) (intent, stands)) at d) in (here.0, on id here.0 here.1);
-  gone = all_map (IsSafe mail state) (λ id. lasts mail state id ≡ true) (λ id is. on id is.0 is.1) state.gone kept.gone;
+      let here = kept.recorded id (rw (same_rows laws.one (file.stored f).content rows state.account.rows (opened, rw (same left may) at is) (intent, stands)) at d) in (here.0, on id here.0 here.1);
+  gone = all_map state.gone kept.gone (λ id is. on id is.0 is.1);
 }
   where
     on : (id : List ℕ) → is_legal_id id ≡ true → is_safe mail state id ≡ true → lasts mail state id ≡ true
     on id legal safe = ⊎_elim (λ held. or_left _ _ (durable_named mail.account state.account.maildir.files id legal durable held)) (or_right _ _) (or_cases _ _ safe)
 
 pub all_left_durable : (account : List ℕ) (old new : Maildir) → LosesPower old new → AllByRecursion (IsDurableFor account) new.files
-all_left_durable account old new loses = all_map IsDurable (IsDurableFor account) (λ g is id legal names. is) new.files (left_durable old.files new.files loses.files)
+all_left_durable account old new loses = all_map new.files (left_durable old.files new.files loses.files) (λ g is id legal names. is)
 
 -- ---- in order
 
@@ -312,19 +308,6 @@ safe_bits held taken held' named back = grind (arith, back)
 
 same_bits : (a b : Bool) → (a ≡ true → b ≡ true) → (b ≡ true → a ≡ true) → a ≡ b
 same_bits a b f g = grind (arith, f, g)
-
-members : (ms : List Message) → AllByRecursion (λ (m : Message). has_id (ids_of ms) m.uid ≡ true) ms
-members [] = tt
-members (m ∷ ms) = (or_left _ _ (bytes_self m.uid), all_map (λ (x : Message). has_id (ids_of ms) x.uid ≡ true) (λ (x : Message). has_id (ids_of (m ∷ ms)) x.uid ≡ true) (λ x there. or_right _ _ there) ms (members ms))
-
--- what holds of these holds of each of their ids
-of_id : (P : List ℕ → Type 0) (ms : List Message) (id : List ℕ) → AllByRecursion (λ (m : Message). P m.uid) ms → has_id (ids_of ms) id ≡ true → P id
-of_id P [] id all never = absurd (both_ways false refl never)
-of_id P (m ∷ ms) id all there = ⊎_elim (λ same. subst P (sym (bytes_same id m.uid same)) all.0) (of_id P ms id all.1) (or_cases _ _ there)
-
-pub has_append : (a b : List Message) (id : List ℕ) → has_id (ids_of (a ++ b)) id ≡ (has_id (ids_of a) id || has_id (ids_of b) id)
-has_append [] b id = refl
-has_append (m ∷ a) b id = grind (arith, has_append a b id)
 
 abbrev AreLegal : List Message → Type 0
 AreLegal ms = AllByRecursion (λ (m : Message). is_legal_id m.uid ≡ true) ms
@@ -338,9 +321,7 @@ durable_fronts_begin mail state all legal front durable = record {
   last = [];
   done = sym (append-nil front.done);
   at_most_one = omega arith;
-  named = all_both (λ (m : Message). is_legal_id m.uid ≡ true) (λ (m : Message). has_id (ids_of front.done) m.uid ≡ true) (λ (m : Message). lasts mail state m.uid ≡ true)
-      (λ m l there. on m.uid l (sym (front.is_done m.uid l) ∙ there)) front.done
-      (all_front (λ (m : Message). is_legal_id m.uid ≡ true) front.done front.rest (rw front.prefix at legal)) (members front.done);
+  named = all_both front.done (all_front (λ (m : Message). is_legal_id m.uid ≡ true) front.done front.rest (rw front.prefix at legal)) (members front.done) (λ m l there. on m.uid l (sym (front.is_done m.uid l) ∙ there));
 }
   where
     on : (id : List ℕ) → is_legal_id id ≡ true → is_safe mail state id ≡ true → lasts mail state id ≡ true
@@ -379,8 +360,7 @@ module _ (mail : Mail) (state : State) (after : AccountMail) (all : List Message
     last = front.last;
     done = front.done;
     at_most_one = front.at_most_one;
-    named = all_both (λ (m : Message). is_legal_id m.uid ≡ true) (λ (m : Message). lasts mail state m.uid ≡ true) (λ (m : Message). lasts mail (state_with mail state after) m.uid ≡ true)
-        (λ m l last. on m.uid l last) front.first legal_first front.named;
+    named = all_both front.first legal_first front.named (λ m l last. on m.uid l last);
   }
 
 abbrev pub left_keeps_front : (mail : Mail) (state : State) (left : Maildir) (kept : Kept mail state) (taken : WereTaken state.account.maildir left) (all : List Message) → AreLegal all
@@ -438,13 +418,13 @@ module _ (mail : Mail) (own : (m : Message) → names_id mail.account m.uid (mai
       let (head, tail) = same_cons (its_file m) (file g.name g.content) (map its_file ms) (without_flags came) e in
       let name : names_id mail.account m.uid g.name ≡ true = subst (λ (h : File). names_id mail.account m.uid h.name ≡ true) head (own m) in (
         or_left _ _ (both_true name all.0.0),
-        all_map (λ (x : Message). any_named (names_id mail.account x.uid) came ≡ true) (λ (x : Message). any_named (names_id mail.account x.uid) (g ∷ came) ≡ true) (λ x there. or_right _ _ there) ms (has_come came ms tail all.1),
+        all_map ms (has_come came ms tail all.1) (λ x there. or_right _ _ there),
       )
 
-  module _ {F : Type 0} (store : FileGhosts F) (from f : F) (state : State) (occasion : Occasion AccountMail) (promises : Promises mail state occasion) (leaves : LeavesDurably store mail.account from f state.account occasion.after)
-      (all : List Message) (legal : AreLegal all) (front : IsDurableFront mail state all) (next : ShowsNext occasion.settings occasion.maildrop front.is.done front.is.rest) where
+  module _ {W S F G : Type 0} (store : FileGhosts F) (from f : F) (state : State) (call : Call W S G) (sent : List ℕ) (now : AccountMail) (promises : Promises mail state call sent now) (leaves : LeavesDurably store mail.account from f state.account now)
+      (all : List Message) (legal : AreLegal all) (front : IsDurableFront mail state all) (next : ShowsNext call.settings call.maildrop front.is.done front.is.rest) where
     abbrev after : State
-    after = after_session mail state occasion
+    after = after_session mail state call.vanished now
 
     abbrev new : Message → Bool
     new m = not (has_id (ids_of front.is.done) m.uid)
@@ -453,7 +433,7 @@ module _ (mail : Mail) (own : (m : Message) → names_id mail.account m.uid (mai
     later = promises.in_order all legal front.is next
 
     on : (id : List ℕ) → lasts mail state id ≡ true → lasts mail after id ≡ true
-    on = lasts_call store from f mail state occasion leaves
+    on = lasts_call store from f mail state call.vanished now leaves
 
     came_are : map its_file promises.came ≡ without_flags leaves.came ++ without_flags leaves.last
     came_are = append_cancel_left (without_flags state.account.maildir.files) (map its_file promises.came) (without_flags leaves.came ++ without_flags leaves.last)
@@ -474,7 +454,7 @@ module _ (mail : Mail) (own : (m : Message) → names_id mail.account m.uid (mai
       last = front.last;
       done = later.1 ∙ ap (λ (ms : List Message). front.is.done ++ filter new ms) (none_came none) ∙ append-nil front.is.done ∙ front.done;
       at_most_one = front.at_most_one;
-      named = all_map (λ (m : Message). lasts mail state m.uid ≡ true) (λ (m : Message). lasts mail after m.uid ≡ true) (λ m. on m.uid) front.first front.named;
+      named = all_map front.first front.named (λ m. on m.uid);
     }
 
     by_named : AllNamed state.account.maildir.files → IsDurableFront mail after all
@@ -488,11 +468,8 @@ module _ (mail : Mail) (own : (m : Message) → names_id mail.account m.uid (mai
               ∙ sym (append_assoc front.is.done (filter new first) (filter new last));
           at_most_one = let short = shorter new last in let same = same_length last leaves.last ended in let most = leaves.at_most_one in omega (arith, short, same, most);
           named = all_append (λ (m : Message). lasts mail after m.uid ≡ true) front.is.done (filter new first)
-              (all_both (λ (m : Message). is_legal_id m.uid ≡ true) (λ (m : Message). has_id (ids_of front.is.done) m.uid ≡ true) (λ (m : Message). lasts mail after m.uid ≡ true)
-              (λ m l there. on m.uid (safe_lasts m.uid (sym (front.is.is_done m.uid l) ∙ there))) front.is.done
-              (all_front (λ (m : Message). is_legal_id m.uid ≡ true) front.is.done front.is.rest (rw front.is.prefix at legal)) (members front.is.done))
-              (all_filter (λ (m : Message). lasts mail after m.uid ≡ true) new first (all_map (λ (m : Message). any_named (names_id mail.account m.uid) leaves.came ≡ true) (λ (m : Message). lasts mail after m.uid ≡ true)
-              (λ m there. or_left _ _ (came_there store from f mail state occasion leaves m.uid there)) first (has_come leaves.came first came leaves.durable)));
+              (all_both front.is.done (all_front (λ (m : Message). is_legal_id m.uid ≡ true) front.is.done front.is.rest (rw front.is.prefix at legal)) (members front.is.done) (λ m l there. on m.uid (safe_lasts m.uid (sym (front.is.is_done m.uid l) ∙ there))))
+              (all_filter (λ (m : Message). lasts mail after m.uid ≡ true) new first (all_map first (has_come leaves.came first came leaves.durable) (λ m there. or_left _ _ (came_there store from f mail state call.vanished now leaves m.uid there))));
         }
       where
         safe_lasts : (id : List ℕ) → is_safe mail state id ≡ true → lasts mail state id ≡ true
@@ -526,15 +503,14 @@ module _ (mail : Mail) (state : State) (after : AccountMail) (all : List Message
     last = [];
     done = sym (append-nil done);
     at_most_one = omega arith;
-    named = all_both (λ (m : Message). is_legal_id m.uid ≡ true) (λ (m : Message). has_id (ids_of done) m.uid ≡ true) (λ (m : Message). lasts mail next_state m.uid ≡ true)
-        (λ m l there. now_lasts m.uid l (sym (is_done m.uid l) ∙ there)) done (all_front (λ (m : Message). is_legal_id m.uid ≡ true) done rest (rw prefix at legal)) (members done);
+    named = all_both done (all_front (λ (m : Message). is_legal_id m.uid ≡ true) done rest (rw prefix at legal)) (members done) (λ m l there. now_lasts m.uid l (sym (is_done m.uid l) ∙ there));
   }
 
   in_first : (id : List ℕ) → has_id (ids_of front.first) id ≡ true → safe_next id ≡ true
-  in_first id there = still_safe id (of_id (λ x. lasts mail state x ≡ true) front.first id front.named there)
+  in_first id there = still_safe id (all_at (λ x. lasts mail state x ≡ true) front.first front.named there)
 
   in_done : (id : List ℕ) → is_legal_id id ≡ true → safe_next id ≡ true → (has_id (ids_of front.first) id || has_id (ids_of front.last) id) ≡ true
-  in_done id l safe = sym (has_append front.first front.last id) ∙ ap (λ ms. has_id (ids_of ms) id) (sym front.done) ∙ front.is.is_done id l ∙ safe_before id l safe
+  in_done id l safe = sym (ids_both front.first front.last id) ∙ ap (λ ms. has_id (ids_of ms) id) (sym front.done) ∙ front.is.is_done id l ∙ safe_before id l safe
 
   prefix_is : all ≡ front.first ++ (front.last ++ front.is.rest)
   prefix_is = front.is.prefix ∙ ap (λ l. l ++ front.is.rest) front.done ∙ append_assoc front.first front.last front.is.rest
@@ -550,7 +526,7 @@ module _ (mail : Mail) (state : State) (after : AccountMail) (all : List Message
       by [] is = without [] is (λ id never. absurd (both_ways false refl never))
       by (m ∷ []) is = elim (cases_Bool (safe_next m.uid)) [
         | inl safe ↦ made front.is.done front.is.rest front.is.prefix (λ id l. same_bits (has_id (ids_of front.is.done) id) (safe_next id)
-            (λ there. ⊎_elim (in_first id) (λ at_last. subst (λ x. safe_next x ≡ true) (sym (its_id id m (rw is at at_last))) safe) (or_cases _ _ (sym (has_append front.first front.last id) ∙ ap (λ ms. has_id (ids_of ms) id) (sym front.done) ∙ there)))
+            (λ there. ⊎_elim (in_first id) (λ at_last. subst (λ x. safe_next x ≡ true) (sym (its_id id m (rw is at at_last))) safe) (or_cases _ _ (sym (ids_both front.first front.last id) ∙ ap (λ ms. has_id (ids_of ms) id) (sym front.done) ∙ there)))
             (λ safe. front.is.is_done id l ∙ safe_before id l safe))
         | inr lost ↦ without (m ∷ []) is (λ id there. subst (λ x. safe_next x ≡ false) (sym (its_id id m there)) lost)
       ]

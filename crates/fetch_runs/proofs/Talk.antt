@@ -1,6 +1,6 @@
 -- How far a session came after its listing; what it sent and read then, as commands and replies; its opening, and the tail.
-use Rattle.std.proofs.Common.{◌≡◌, inl, inr, ℕ, List, [], ◌∷◌, ◌++◌, map, Result, Ok, Err, ◌⊎◌, true, None, Some, refl, sym, ap, ◌∙◌, append_assoc, ◌<◌, ◌^◌, Bool, Option, ◌≤◌, ◌+◌, length, arith, rules, take, ap₂, ⊎_elim, map-id, subst}
-use Rattle.std.specs.List.{flat_map, AllByRecursion, AllZip, enumerate_from}
+use Rattle.std.proofs.Common.{◌≡◌, inl, inr, ℕ, List, [], ◌∷◌, ◌++◌, map, Result, Ok, Err, ◌⊎◌, true, None, Some, refl, sym, ap, ◌∙◌, append_assoc, ◌<◌, ◌^◌, Bool, Option, ◌≤◌, ◌+◌, length, arith, rules, take, ap₂, ⊎_elim, map-id, subst, cond}
+use Rattle.std.specs.List.{flat_map, count_by, AllByRecursion, AllZip, enumerate_from}
 use Rattle.pop3_wire.specs.Link.{Link}
 use Rattle.pop3_wire.specs.Place.{Place}
 use Rattle.pop3_wire.specs.Reading.{WholeReply, body_bytes, has_body, IsBodyIf, reply_bytes}
@@ -26,19 +26,17 @@ use Rattle.std.proofs.lemmas.List.Concat.{flat_map-append, flat_map_single}
 use Rattle.pop3_wire.specs.Line.{ended}
 use Rattle.pop3_wire.specs.Commands.{line_of, can_be_sent, octets_of}
 use Rattle.pop3_wire.specs.CommandLine.{HasNumbers}
-use Rattle.pop3_wire.specs.Honest.{Asked, BeginsNext, FrontsAreAsked}
+use Rattle.pop3_wire.specs.Honest.{Asked, BeginsNext}
 use Rattle.pop3_client.specs.Turns.{Turn, asking, retr, dele, quit, IsBody, IsGood, turn_bytes, greeting, rset}
-use Rattle.run_law.specs.Sessions.{BeginsOne, Reads}
-use Rattle.fetch_runs.proofs.Lists.{all_append, all_back, all_front}
-use Rattle.fetch_runs.specs.Conversations.{SentBehind, Conversation, plan_turns, Converses, tail_behind}
+use Rattle.fetch_runs.specs.Sessions.{BeginsOne, Reads, AreGood, Retrieves, IsListed, Talked as IsTalked, Effect, tail_behind, SaysOnly, is_retr}
+use Rattle.fetch_runs.specs.Conversations.{SentBehind, Conversation, plan_turns, Converses, plan_commands, IsTail as IsTailOf, IsFrontOfPlan}
 use Rattle.std.proofs.lemmas.Bool.{true≢false}
 use Rattle.pop3_wire.specs.Body.{Body}
-use Rattle.run_law.specs.Readings.{AreGood, Retrieves, IsListed, Talked as IsTalked}
 use Rattle.fetch_rules.specs.Record.{Row}
 use Rattle.fetch_rules.specs.Plan.{planned, step_of}
 use Rattle.fetch_rules.specs.declared.steps.Step.{Step}
 use Rattle.pop3_client.specs.declared.fault.ClientFault.{ClientFault}
-use Rattle.pop3_client.specs.Conversation.{Talked, Talks, Broke, IsFrontOfNext, ConversationsArePaced, TurnsJoin}
+use Rattle.pop3_client.specs.Conversation.{Talked, Talks, Broke, IsFrontOfNext}
 use Rattle.fetch_session.specs.Fault.{fault_of}
 use Rattle.fetch_session.specs.Tail.{tail, turns_in as tail_turns, LeftBy, Left, WentOn}
 use Rattle.std.proofs.lemmas.List.Folds.{flat_map-map}
@@ -51,11 +49,11 @@ use Rattle.fetch_session.specs.Opening.{opening, Opened, Enters}
 use Rattle.pop3_client.specs.declared.fault.Asked.TheVariants.{Greeting as ByGreeting}
 use Rattle.fetch_session.specs.declared.fault.Fault.{Fault}
 use Rattle.fetch_session.specs.declared.fault.Fault.TheVariants.{Refused, StoreRefused}
-use Rattle.fetch_runs.specs.Steps.{SaysOnly}
-use Rattle.run_law.specs.Plans.{plan_commands, IsTail as IsTailOf, IsFrontOfPlan}
 use Rattle.std.specs.Prelude.{◌-◌, slice_get, option_to_list}
-use Rattle.run_law.specs.Steps.{Effect}
 use Rattle.fetch_session.specs.declared.report.Outcome.TheVariants.{Ended, Cut as WasCut}
+use Rattle.fetch_runs.proofs.Lists.{all_append, all_back, all_front}
+use Rattle.fetch_runs.specs.Below.{Below}
+use Rattle.std.proofs.lemmas.List.Sums.{sum_by-append}
 use Rattle.fetch_session.specs.declared.fault.Why.TheVariants as why
 
 -- the joined listing; the tasks that were completed, whatever happened to the record's file; the task that
@@ -243,17 +241,17 @@ spoken_behind turns more next octets can (asked, begins) =
     search (whole, asked.no_line, all_append (λ (command : Command). can_be_sent command ≡ true) (commands_in turns) more (can_in turns can).0 asked.sendable, all_append HasNumbers (commands_in turns) more (can_in turns can).1 asked.numbers) in
     (now, begins)
 
-pub commanded : FrontsAreAsked → {done begun tail : List Turn} {replies : List WholeReply} {sent got : List ℕ} → AllByRecursion CanBeSaid done
+pub commanded : Below → {done begun tail : List Turn} {replies : List WholeReply} {sent got : List ℕ} → AllByRecursion CanBeSaid done
     → AllByRecursion CanBeSaid begun → AllByRecursion CanBeSaid tail → Conversation done replies begun tail sent got → Commanded done begun tail sent
-commanded law {done} {begun} {tail} d b t said = rw said.said (by said.sent_behind)
+commanded laws {done} {begun} {tail} d b t said = rw said.said (by said.sent_behind)
   where
     by : SentBehind begun tail said.behind → Commanded done begun tail (asking done ++ said.behind)
     by (inl (later, front)) =
-        let some = law (commands_in begun) said.behind later (can_in begun b).0 (can_in begun b).1 (sym (octets_same begun) ∙ front) in
+        let some = laws.asked (commands_in begun) said.behind later (can_in begun b).0 (can_in begun b).1 (sym (octets_same begun) ∙ front) in
         let all = spoken_behind done (some.0 ++ []) some.1 said.behind d (rw append-nil (some.3, some.4)) in
         record { ahead = some.0; unsaid = some.1; ends = []; unended = commands_in tail; of_begun = some.2; of_tail = refl; asked = all.0; begins = inl all.1 }
     by (inr (part, later, front, whole)) =
-        let some = law (commands_in tail) part later (can_in tail t).0 (can_in tail t).1 (sym (octets_same tail) ∙ front) in
+        let some = laws.asked (commands_in tail) part later (can_in tail t).0 (can_in tail t).1 (sym (octets_same tail) ∙ front) in
         let all = spoken_behind done (commands_in begun ++ some.0) some.1 said.behind d (rw whole (spoken_behind begun some.0 some.1 part b (some.3, some.4))) in
         record { ahead = commands_in begun; unsaid = []; ends = some.0; unended = some.1; of_begun = sym (append-nil _); of_tail = some.2; asked = all.0; begins = inr all.1 }
 
@@ -275,6 +273,16 @@ replies_read [] [] more all good = tt
 replies_read (Some command ∷ turns) (reply ∷ replies) more all good =
     (record { rest = good.0.rest; line = good.0.line; positive = good.0.positive; body = body_read command reply.body good.0.body }, replies_read turns replies more all.1 good.1)
 replies_read turns replies more all good = search rules
+
+-- each RETR was answered
+each_found : (turns : List Turn) (replies : List WholeReply) (found : List (ℕ × List ℕ)) → AllByRecursion IsCommand turns → AllZip IsGood turns replies → Retrieves (commands_in turns) replies found
+    → length found ≡ count_by is_retr (commands_in turns)
+each_found [] [] found all good none = rw none refl
+each_found (Some (Retr number) ∷ turns) (reply ∷ replies) found all good (text, more, body, is, later) =
+    let one : count_by is_retr (commands_in (Some (Retr number) ∷ turns)) ≡ 1 + count_by is_retr (commands_in turns) =
+    sum_by-append (λ (c : Command). cond (is_retr c) 1 0) (Retr number ∷ []) (commands_in turns) in rw is (omega (arith, one, each_found turns replies more all.1 good.1 later))
+each_found (Some other ∷ turns) (reply ∷ replies) found all good later = omega (arith, each_found turns replies found all.1 good.1 later)
+each_found turns replies found all good later = search rules
 
 -- ---- texts
 
@@ -362,9 +370,9 @@ of_tasks front (task ∷ tasks) plain =
     rw (flat_map-append said_in (turns_in task) (flat_map turns_in tasks))
     (of_first front tasks task (commands_in (flat_map turns_in tasks)) plain.0 (rw append_assoc at (of_tasks (front ++ task ∷ []) tasks plain.1)))
 
-pub fronted : ConversationsArePaced → (turns : List Turn) (old new : Place) (result : Result (Unit {0}) ClientFault) → Talks turns old result new → WentOn turns old new
-fronted paced turns old new result talks =
-    let p = paced turns old new result talks in
+pub fronted : Below → (turns : List Turn) (old new : Place) (result : Result (Unit {0}) ClientFault) → Talks turns old result new → WentOn turns old new
+fronted laws turns old new result talks =
+    let p = laws.paced turns old new result talks in
     search p
 
 -- what came after turns that were completed
@@ -468,10 +476,10 @@ pub ahead_cut : {target : Target} {items : List Item} {tasks : List Task} {lines
     → ((account : List ℕ) (reply : WholeReply) → target ≡ AsFiles account → spare ≡ reply ∷ [] → WasCut cut.fault ≡ WasCut (StoreRefused why.Refused)) → Ahead target items tasks lines lines' (Err cut) (course items taken spare under) start link
 ahead_cut later took split told spare = record { took = took; later = later; same_items = refl; split = split; told = told; spare = spare; whole = λ ended. absurd cc }
 
-module _ (joining : TurnsJoin) (paced : ConversationsArePaced) (items : List Item) where
+module _ (laws : Below) (items : List Item) where
   -- the tail after a cut with no reply under way
   pub tailed : (cut : Cut) (there last : Place) → cut.rest ≡ None → Left cut there last → WentOn (tail_turns (tail cut.fault)) there last
-  tailed cut there last none left = let said = rw none at left in fronted paced (tail_turns (tail cut.fault)) there last said.0 said.1
+  tailed cut there last none left = let said = rw none at left in fronted laws (tail_turns (tail cut.fault)) there last said.0 said.1
 
   -- the turns of these tasks were completed, and perhaps that of one more was begun
   after_dones : (dones : List Done) (under : List Task) {begun tail : List Turn} {first there : Place} {link : Link} → flat_map turns_in under ≡ begun
@@ -502,7 +510,7 @@ module _ (joining : TurnsJoin) (paced : ConversationsArePaced) (items : List Ite
       replies = replies_of dones ++ reply ∷ [];
       begun = [];
       there = there;
-      talked = joining.on (turns_of dones) (retr number ∷ []) (replies_of dones) (reply ∷ []) first mid.place there talked fetched;
+      talked = laws.joins.on (turns_of dones) (retr number ∷ []) (replies_of dones) (reply ∷ []) first mid.place there talked fetched;
       goes = goes;
       all = rw is (simp (flat_map-append, flat_map-map, append-nil));
       one = inl refl;
@@ -533,7 +541,7 @@ module _ (joining : TurnsJoin) (paced : ConversationsArePaced) (items : List Ite
         took_under : Took (course items dones [] (next ∷ [])) first ends last.link
         took_under =
             let said = rest_left.1 refused.number mid.place refused.text refused.fetching in
-            let p = paced (retr refused.number ∷ ends) mid.place last said.0 said.1 in
+            let p = laws.paced (retr refused.number ∷ ends) mid.place last said.0 said.1 in
             begun_next (ap turns_in refused.is)
             (search (p, under_way (retr refused.number) ends p.done p.rest p.part p.split p.begun p.front.0 p.front.1))
 
@@ -544,7 +552,7 @@ module _ (joining : TurnsJoin) (paced : ConversationsArePaced) (items : List Ite
         ahead_refused (inr (is, inr (done, (is_named, there)))) =
             let said = rest_left.0 done in
             let whole = refused.whole done in
-            passed (with_spare refused.number refused.uid whole.0 refused.is whole.1 (goes_tail (fronted paced ends new.place last said.0 said.1))) refused.lines (λ other reply files e. ap WasCut is)
+            passed (with_spare refused.number refused.uid whole.0 refused.is whole.1 (goes_tail (fronted laws ends new.place last said.0 said.1))) refused.lines (λ other reply files e. ap WasCut is)
 
       -- the text was stored, and its id wasn't saved
       ahead_unsaved : {to : Target} (number : ℕ) (uid : List ℕ) (reply : WholeReply) → cut.rest ≡ None → next ≡ stores number uid → Talked (retr number ∷ []) (reply ∷ []) mid.place new.place → IsPlain next
@@ -553,7 +561,7 @@ module _ (joining : TurnsJoin) (paced : ConversationsArePaced) (items : List Ite
           let one = stored_done number uid reply in
           ahead_cut later (all_done (dones ++ one ∷ []) {there = new.place}
           (rw (flat_map-append (λ (d : Done). turns_in d.task) dones (one ∷ []), flat_map-append (λ (d : Done). d.replies) dones (one ∷ []))
-          (joining.on (turns_of dones) (retr number ∷ []) (replies_of dones) (reply ∷ []) first mid.place new.place talked fetched))
+          (laws.joins.on (turns_of dones) (retr number ∷ []) (replies_of dones) (reply ∷ []) first mid.place new.place talked fetched))
           (rw (map-append task_in dones (one ∷ [])) (all_append IsPlain (tasks_of dones) (stores number uid ∷ []) plain (rw is at small, tt)))
           (all_append IsAnswered dones (one ∷ []) each (fetched.good, tt)) (goes_tail (tailed cut new.place last none left)))
           (begun ∙ rw is (simp (map-append, append-nil))) (told ∙ rw went (simp (flat_map-append, append_assoc))) (λ account other files e. absurd cc)
@@ -625,6 +633,8 @@ pub record Speaks (c : Course) (name word : List ℕ) (turns : List Turn) (sent 
       → Reads messages (User name ∷ Pass word ∷ Stat ∷ UidlAll ∷ ListAll ∷ more) sent got (effect_of now ends c)
   pub deletes : AllByRecursion (IsOfTask (begun_of c)) (User name ∷ Pass word ∷ Stat ∷ UidlAll ∷ ListAll ∷ more)
   pub next : BeginsOne (IsOfTask (begun_of c)) asked.part
+  -- all that was asked for came, if each task was completed and no tail follows
+  pub all : c.under ≡ [] → turns ≡ [] → length (found_of c) ≡ count_by is_retr (User name ∷ Pass word ∷ Stat ∷ UidlAll ∷ ListAll ∷ more)
   -- if no task was begun, no more was sent than the tail
   pub stops : begun_of c ≡ [] → SaysOnly turns more asked.part
 
@@ -675,9 +685,9 @@ pub record Said (c : Course) {name word : List ℕ} {start mid : Place} {count :
   pub is : Conversation (opening name word ++ took.done) (replies_to opened ++ took.replies) took.begun turns sent got
   pub whole : Commanded (opening name word ++ took.done) took.begun turns sent
 
-pub spoken : TurnsJoin → FrontsAreAsked → {name word : List ℕ} {count : ℕ} {uids : List UidRow} {sizes : List ScanRow} {start mid : Place} {turns : List Turn} {link : Link} → is_credential name ≡ true → is_credential word ≡ true
+pub spoken : Below → {name word : List ℕ} {count : ℕ} {uids : List UidRow} {sizes : List ScanRow} {start mid : Place} {turns : List Turn} {link : Link} → is_credential name ≡ true → is_credential word ≡ true
     → (c : Course) → IsTail turns → start.waiting ≡ [] → (opened : Opened name word start mid count uids sizes) → Joins count uids sizes c.items → AllByRecursion IsPlain (begun_of c) → (took : Took c mid turns link) → Said c opened took
-spoken joining law {name} {word} {start = start} {mid} {turns} {link} named' worded c kind none opened joins plain took =
+spoken laws {name} {word} {start = start} {mid} {turns} {link} named' worded c kind none opened joins plain took =
     let speaks : Speaks c name word turns is.0 is.1 = record {
       more = commands_in took.done ++ (whole.ahead ++ whole.ends);
       asked = whole.asked;
@@ -698,6 +708,12 @@ spoken joining law {name} {word} {start = start} {mid} {turns} {link} named' wor
           search (talked, listed opened joins, read, numbers);
       deletes = said_of_tasks (begun_of c) kind whole (tt, (tt, (tt, (tt, (tt, tasked)))));
       next = next_of_tasks (begun_of c) kind whole (tt, (tt, (tt, (tt, (tt, tasked)))));
+      all = λ taken silent.
+          let ahead = both_none whole.ahead whole.unsaid (sym whole.of_begun ∙ ap commands_in (took.whole taken)) in
+          let ends = both_none whole.ends whole.unended (sym whole.of_tail ∙ ap commands_in silent) in
+          let asks = all_front IsCommand took.done took.begun (rw took.all at (commands_tasks (begun_of c) plain)) in
+          let number = each_found took.done took.replies (found_of c) asks took.talked.good (rw append-nil at (took.read [])) in
+          rw (ahead.0, ends.0, append-nil) (omega (arith, number));
       stops = λ none.
           let turns' = both_none took.done took.begun (sym took.all ∙ ap (flat_map turns_in) none) in
           let none' = both_none whole.ahead whole.unsaid (sym whole.of_begun ∙ ap commands_in turns'.1) in
@@ -711,7 +727,7 @@ spoken joining law {name} {word} {start = start} {mid} {turns} {link} named' wor
   where
     is : (sent got : List ℕ) × (link.sent ≡ start.link.sent ++ sent) × (link.got ≡ start.link.got ++ got)
         × Conversation (opening name word ++ took.done) (replies_to opened ++ took.replies) took.begun turns sent got
-    is = conversation none (joining.on (opening name word) took.done (replies_to opened) took.replies start mid took.there opened.talked took.talked) took.goes
+    is = conversation none (laws.joins.on (opening name word) took.done (replies_to opened) took.replies start mid took.there opened.talked took.talked) took.goes
 
     r : Replied name word opened.welcome opened.counted opened.named opened.sized
     r = replied opened.welcome opened.talked.good
@@ -719,7 +735,7 @@ spoken joining law {name} {word} {start = start} {mid} {turns} {link} named' wor
     whole : Commanded (opening name word ++ took.done) took.begun turns is.0
     whole =
         let can = rw took.all at (said_tasks (begun_of c) plain) in
-        commanded law (all_append CanBeSaid (opening name word) took.done (said_opening name word named' worded) (all_front CanBeSaid took.done took.begun can)) (all_back CanBeSaid took.done took.begun can) (of_tail [] kind).0 is.4
+        commanded laws (all_append CanBeSaid (opening name word) took.done (said_opening name word named' worded) (all_front CanBeSaid took.done took.begun can)) (all_back CanBeSaid took.done took.begun can) (of_tail [] kind).0 is.4
 
     tasked : AllByRecursion (IsOfTask (begun_of c)) (commands_in took.done ++ commands_in took.begun)
     tasked = subst (AllByRecursion (IsOfTask (begun_of c))) (ap commands_in took.all ∙ flat_map-append said_in took.done took.begun) (of_tasks [] (begun_of c) plain)
@@ -749,7 +765,7 @@ pub record OpensAlone (name word : List ℕ) (turns : List Turn) (old new : Link
   pub got_is : new.got ≡ old.got ++ got
   pub said : Converses (opening name word) turns sent got
 
-module _ (paced : ConversationsArePaced) (name word : List ℕ) (start new last : Place) (none : start.waiting ≡ []) where
+module _ (laws : Below) (name word : List ℕ) (start new last : Place) (none : start.waiting ≡ []) where
   opens_by : {done begun turns : List Turn} {replies : List WholeReply} {mid : Place} (later : List Turn) → opening name word ≡ done ++ (begun ++ later) → (begun ≡ []) ⊎ ((turn : Turn) × (begun ≡ turn ∷ []))
       → Talked done replies start mid → Goes begun turns mid.link last.link → OpensAlone name word turns start.link last.link
   opens_by later split one talked goes =
@@ -758,34 +774,34 @@ module _ (paced : ConversationsArePaced) (name word : List ℕ) (start new last 
 
   pub opens_all : {count : ℕ} {uids : List UidRow} {sizes : List ScanRow} (turns : List Turn) → Opened name word start new count uids sizes → (result : Result (Unit {0}) ClientFault)
       → Talks turns new result last → OpensAlone name word turns start.link last.link
-  opens_all turns opened result talks = opens_by [] (sym (append-nil (opening name word))) (inl refl) opened.talked (goes_tail (fronted paced turns new last result talks))
+  opens_all turns opened result talks = opens_by [] (sym (append-nil (opening name word))) (inl refl) opened.talked (goes_tail (fronted laws turns new last result talks))
 
   -- no listing was joined
   pub opens_cut : (why : ClientFault) → Enters name word start (Err why) new → (result : Result (Unit {0}) ClientFault) → Talks (tail_turns (tail (fault_of why))) new result last
       → OpensAlone name word (tail_turns (tail (fault_of why))) start.link last.link
   opens_cut why (inl s) result talks =
-      opens_by s.later s.split (inr (s.next, refl)) s.talked (goes_broke s.next s.mid new last why s.broke (fronted paced (tail_turns (tail (fault_of why))) new last result talks))
+      opens_by s.later s.split (inr (s.next, refl)) s.talked (goes_broke s.next s.mid new last why s.broke (fronted laws (tail_turns (tail (fault_of why))) new last result talks))
   opens_cut why (inr (inl (is, (count, uids, sizes, opened, never)))) result talks = opens_all (tail_turns (tail (fault_of why))) opened result talks
   opens_cut why (inr (inr (is, (count, uids, sizes, opened)))) result talks = opens_all (tail_turns (tail (fault_of why))) opened result talks
 
 -- the commands of a conversation of the opening
-pub commanded_opening : FrontsAreAsked → (name word : List ℕ) → is_credential name ≡ true → is_credential word ≡ true → {turns : List Turn} {sent got : List ℕ} → IsTail turns
+pub commanded_opening : Below → (name word : List ℕ) → is_credential name ≡ true → is_credential word ≡ true → {turns : List Turn} {sent got : List ℕ} → IsTail turns
     → (said : Converses (opening name word) turns sent got) → Commanded said.done said.begun turns sent
-commanded_opening law name word named worded {turns} kind said =
-    commanded law (all_front CanBeSaid said.done (said.begun ++ said.later) can)
+commanded_opening laws name word named worded {turns} kind said =
+    commanded laws (all_front CanBeSaid said.done (said.begun ++ said.later) can)
     (all_front CanBeSaid said.begun said.later (all_back CanBeSaid said.done (said.begun ++ said.later) can)) (of_tail [] kind).0 said.is
   where
     can : AllByRecursion CanBeSaid (said.done ++ (said.begun ++ said.later))
     can = subst (AllByRecursion CanBeSaid) said.split (said_opening name word named worded)
 
 -- none of them is a RETR or a DELE
-pub idle_said : FrontsAreAsked → (name word : List ℕ) → is_credential name ≡ true → is_credential word ≡ true → (turns : List Turn) → IsTail turns → (sent got : List ℕ)
+pub idle_said : Below → (name word : List ℕ) → is_credential name ≡ true → is_credential word ≡ true → (turns : List Turn) → IsTail turns → (sent got : List ℕ)
     → Converses (opening name word) turns sent got → (commands : List Command) × (asked : Asked commands sent) × AllByRecursion (IsOfTask []) commands × BeginsOne (IsOfTask []) asked.part
-idle_said law name word named worded turns kind sent got said =
+idle_said laws name word named worded turns kind sent got said =
     (commands_in said.done ++ (whole.ahead ++ whole.ends), whole.asked, said_of_tasks [] kind whole none, next_of_tasks [] kind whole none)
   where
     whole : Commanded said.done said.begun turns sent
-    whole = commanded_opening law name word named worded kind said
+    whole = commanded_opening laws name word named worded kind said
 
     parts : commands_in (opening name word) ≡ (commands_in said.done ++ commands_in said.begun) ++ commands_in said.later
     parts = ap commands_in said.split ∙ simp (flat_map-append, append_assoc)

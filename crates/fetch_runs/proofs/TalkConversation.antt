@@ -8,7 +8,7 @@ use Rattle.pop3_wire.specs.Link.{Link}
 use Rattle.pop3_wire.specs.Place.{Place, at}
 use Rattle.pop3_wire.specs.Reading.{WholeReply, reply_bytes}
 use Rattle.pop3_client.specs.Turns.{Turn, quit, IsGood, asking, list, pass, stat, turn_bytes, uidl, user, retr, rset}
-use Rattle.pop3_client.specs.Conversation.{ConversationsArePaced, TurnsJoin, SentInPart, Talked}
+use Rattle.pop3_client.specs.Conversation.{SentInPart, Talked}
 use Rattle.mail_terms.specs.Listing.{Item}
 use Rattle.fetch_rules.specs.Record.{Row, marked, marked_all, none_open}
 use Rattle.rc_file.specs.declared.settings.Settings.{Settings}
@@ -22,18 +22,17 @@ use Rattle.fetch_session.specs.Plan.{tasks_ahead, Prepared, Carried, Carries}
 use Rattle.fetch_session.specs.Scene.{Scene, scene, Does, Stops, Went}
 use Rattle.fetch_session.specs.Target.{Target, AsFiles, AsEntries, Stores, in_maildir}
 use Rattle.fetch_session.specs.Session.{LeavesLink, Enters_with, Keeping, Dealt, Proceeds, SessionIn, keeps_entries, keeps_files, AccountFiles, Session, account_files, noted, outcome_of}
-use Rattle.fetch_runs.proofs.Lists.{all_back, all_front, all_append}
-use Rattle.fetch_runs.specs.Conversations.{tail_behind, is_retrieval, retrieved_by, plan_turns, Conversation, Converses, FollowsPlan, MboxSessionsFollowPlans, Opens, SpeaksByPlan, SessionsAreConversations}
+use Rattle.fetch_runs.specs.Sessions.{tail_behind, AreGranted, Talked as IsTalked, Served}
+use Rattle.fetch_runs.specs.Conversations.{is_retrieval, retrieved_by, plan_turns, Conversation, Converses, FollowsPlan, MboxSessionsFollowPlans, Opens, SpeaksByPlan, SessionsAreConversations, step_commands, IsFrontOfPlan}
 use Rattle.fetch_runs.proofs.Talk.{Course, course_does, course_carried, course_carries, begun_of, SessionCourse, Idle, Deals, course_dealt, course_proceeded, IsPlain, plain_ahead, both_none, all_done, goes_tail, tailed, IsTail, front_of_plan, OpensAlone, opens_all, opens_cut, commanded_opening, few_items, spoken, Said, replied, replies_to, listed, Ahead, ahead_cut, ahead_stopped, tail_for, is_tail_for, CanBeSaid, IsCommand, can_in, commands_in, octets_same, replies_read, said_in, commands_tasks, one_reply, said_tasks, no_body, said_opening}
 use Rattle.std.proofs.lemmas.List.Sums.{sum_by-append}
 use Rattle.pop3_wire.specs.declared.command.Command.{Command}
 use Rattle.pop3_wire.specs.declared.command.Command.TheVariants.{Quit}
 use Rattle.fetch_rules.specs.Plan.{planned, step_of}
 use Rattle.fetch_rules.specs.declared.steps.Step.{Step}
-use Rattle.run_law.specs.Plans.{step_commands, IsFrontOfPlan}
 use Rattle.fetch_session.specs.Report.{is_taken, Reports, skips_planned}
 use Rattle.std.specs.String.{string_bytes}
-use Rattle.pop3_wire.specs.Honest.{Asked, FrontsAreAsked, Honest, Replies, no_marks}
+use Rattle.pop3_wire.specs.Honest.{Asked, Honest, Replies, no_marks}
 use Rattle.rc_file.specs.Settings.{IsValid}
 use Rattle.fetch_session.specs.Opening.{opening, Opened}
 use Rattle.fetch_session.specs.declared.report.Report.{Report}
@@ -41,17 +40,17 @@ use Rattle.mail_terms.specs.Credential.{is_credential}
 use Rattle.pop3_wire.specs.declared.reply.Status.TheVariants.{Positive}
 use Rattle.pop3_wire.specs.Line.{IsLine, ended}
 use Rattle.pop3_wire.specs.World.{Message}
-use Rattle.run_law.specs.Readings.{AreGranted, HonestIsGranted, Talked as IsTalked}
-use Rattle.run_law.specs.Sessions.{Served}
 use Rattle.std.proofs.lemmas.List.Folds.{flat_map-map}
 use Rattle.mail_store.specs.Maildir.{File, Maildir}
 use Rattle.fetch_session.specs.Fault.{cut_of}
-use Rattle.fetch_session.specs.Laws.{SteadyFilesKeep}
 use Rattle.fetch_session.specs.Record.{Saves, Steady}
 use Rattle.fetch_session.specs.Store.{Brings, Gained}
 use Rattle.fetch_session.specs.declared.fault.Fault.TheVariants.{SeenRefused, WriteFailed}
 use Rattle.fetch_session.specs.declared.report.Outcome.TheVariants.{Ended, Cut as WasCut}
 use Rattle.fetch_runs.specs.Fronts.{FrontsAreSessions, IsCutThere, IsLeftBetween, IsLeftWithin, Uncut, UncutSessionsDoTasks}
+use Rattle.fetch_runs.proofs.Lists.{all_back, all_front, all_append}
+use Rattle.fetch_runs.specs.Below.{Below}
+use Rattle.fetch_runs.proofs.Listed.{honest_is_granted}
 use Rattle.pop3_client.specs.declared.fault.ClientFault.TheVariants as talk
 
 -- ---- What each session sent and read, as the law over accounts takes it.
@@ -63,11 +62,11 @@ pub record Dealing (settings : Settings) (target : Target) (items : List Item) (
   pub open ahead use *
   pub found : ((mid : Scene) × Prepared settings target items now start store file lines mid × (mid.rows ≡ rows)) ⊎ (begun_of c ≡ [])
 
-module _ (joining : TurnsJoin) (paced : ConversationsArePaced) where
+module _ (laws : Below) where
   ahead_does : (target : Target) (items : List Item) (tasks : List Task) (old new : Scene) (result : Result (Unit {0}) Cut) (link : Link) → (does : Does target tasks old result new)
       → AllByRecursion IsPlain tasks → LeavesLink result new.place link → Ahead target items tasks old.lines new.lines result (course_does target items tasks old new result does) old.place link
   ahead_does target items tasks old new (Ok done) link went plain leaves = record {
-    took = rw leaves (all_done joining paced items went.dones went.went.talked (rw went.all at plain) went.went.each
+    took = rw leaves (all_done laws items went.dones went.went.talked (rw went.all at plain) went.went.each
         (record { gained = []; got = sym (append-nil new.place.link.got); behind = []; sent = sym (append-nil new.place.link.sent); sent_behind = inl ([], refl) }));
     later = [];
     same_items = refl;
@@ -79,7 +78,7 @@ module _ (joining : TurnsJoin) (paced : ConversationsArePaced) where
   ahead_does target items tasks old new (Err cut) link fell plain leaves =
       let front = all_front IsPlain (tasks_of fell.dones) (fell.next ∷ fell.later) (rw fell.split at plain) in
       let back = all_back IsPlain (tasks_of fell.dones) (fell.next ∷ fell.later) (rw fell.split at plain) in
-      rw leaves.2 (ahead_stopped joining paced items fell.dones fell.next old.place fell.mid fell.went.talked front fell.went.each new cut leaves.0 leaves.1
+      rw leaves.2 (ahead_stopped laws items fell.dones fell.next old.place fell.mid fell.went.talked front fell.went.each new cut leaves.0 leaves.1
       tasks fell.later fell.split old.lines fell.went.lines target back.0 fell.stops)
 
   module _ (settings : Settings) (target : Target) (items : List Item) (now : ℕ) (place : Place) (store : Stores) (file : Stored) (lines : List ReportLine) (few : length items ≤ 100000) where
@@ -100,7 +99,7 @@ module _ (joining : TurnsJoin) (paced : ConversationsArePaced) where
     dealing (Err cut) place' store' file' lines' skipped link (rows, inl (none, is)) leaves = record {
       rows = [];
       ahead = rw leaves.2 (ahead_cut (tasks_ahead settings target items now store [])
-          (all_done joining paced items [] (joining.none place) tt tt (goes_tail (tailed joining paced items cut place leaves.0 is.none (rw is.place_is at leaves.1))))
+          (all_done laws items [] (laws.joins.none place) tt tt (goes_tail (tailed laws items cut place leaves.0 is.none (rw is.place_is at leaves.1))))
           refl (is.lines_are ∙ sym (append-nil lines)) (λ account reply files e. absurd cc));
       found = inr refl;
     }
@@ -173,19 +172,19 @@ abbrev pub Spoke : Settings → Target → ℕ → Keeping → Link → Link →
 Spoke settings target now before link link' result lines Idle = OpensAlone (name_of settings) (word_of settings) (tail_for result) link link'
 Spoke settings target now before link link' result lines (Deals c) = Planned settings target now before link link' result lines c
 
-pub session_spoke : TurnsJoin → ConversationsArePaced → FrontsAreAsked → (settings : Settings) → IsValid settings → (target : Target) (now : ℕ) (link : Link) (before : Keeping) (report : Report) (link' : Link) (after : Keeping)
+pub session_spoke : Below → (settings : Settings) → IsValid settings → (target : Target) (now : ℕ) (link : Link) (before : Keeping) (report : Report) (link' : Link) (after : Keeping)
     → (session : SessionIn settings target now link before report link' after)
     → Spoke settings target now before link link' session.result session.notes.lines (course_proceeded settings target now (at link []) before session.result session.mid after session.notes session.proceeds)
-session_spoke joining paced law settings valid target now link before report link' after session = spoke session.result session.proceeds session.leaves
+session_spoke laws settings valid target now link before report link' after session = spoke session.result session.proceeds session.leaves
   where
     planned_talk : (result : Result (Unit {0}) Cut) → (is : Dealt settings target now (at link []) before result session.mid after session.notes) → LeavesLink result session.mid link'
         → Planned settings target now before link link' result session.notes.lines (course_dealt settings target now (at link []) before result session.mid after session.notes is)
     planned_talk result is leaves =
         let c = course_dealt settings target now (at link []) before result session.mid after session.notes is in
         let few = few_items is.enters.3 is.enters.4 in
-        let by = dealing joining paced settings target is.items now is.mid before.store before.file [] few result session.mid after.store after.file session.notes.lines session.notes.skipped link' is.carries leaves in
+        let by = dealing laws settings target is.items now is.mid before.store before.file [] few result session.mid after.store after.file session.notes.lines session.notes.skipped link' is.carries leaves in
         let plain = all_front IsPlain (begun_of c) by.ahead.later (rw by.ahead.split at (plain_ahead settings target is.items now before.store by.rows few)) in
-        let said = spoken joining law valid.valid_username valid.valid_password c (is_tail_for result) refl is.enters.3 (rw (← by.ahead.same_items) at is.enters.4) plain by.took in
+        let said = spoken laws valid.valid_username valid.valid_password c (is_tail_for result) refl is.enters.3 (rw (← by.ahead.same_items) at is.enters.4) plain by.took in
         let split : plan_turns (name_of settings) (word_of settings) (planned settings by.rows is.items now) ≡ (opening_of settings ++ by.took.done) ++ (by.took.begun ++ flat_map turns_in by.ahead.later) =
         ap (λ (ts : List Turn). opening_of settings ++ ts) (sym (turns_ahead settings target is.items now before.store by.rows)
         ∙ ap (flat_map turns_in) by.ahead.split ∙ flat_map-append turns_in (begun_of c) by.ahead.later ∙ ap (λ (ts : List Turn). ts ++ flat_map turns_in by.ahead.later) by.took.all) ∙ simp append_assoc in
@@ -207,33 +206,33 @@ session_spoke joining paced law settings valid target now link before report lin
     spoke (Ok done) is leaves = planned_talk (Ok done) is leaves
     spoke (Err cut) (inl is) leaves =
         let talks = rw is.is at leaves.1 in
-        rw (leaves.2, is.is) (opens_cut paced (name_of settings) (word_of settings) (at link []) session.mid leaves.0 refl is.why is.enters talks.0 talks.1)
+        rw (leaves.2, is.is) (opens_cut laws (name_of settings) (word_of settings) (at link []) session.mid leaves.0 refl is.why is.enters talks.0 talks.1)
     spoke (Err cut) (inr (inl is)) leaves =
         let talks = rw is.is at leaves.1 in
-        rw (leaves.2, is.is) (opens_all paced (name_of settings) (word_of settings) (at link []) session.mid leaves.0 refl [] is.enters.3 talks.0 talks.1)
+        rw (leaves.2, is.is) (opens_all laws (name_of settings) (word_of settings) (at link []) session.mid leaves.0 refl [] is.enters.3 talks.0 talks.1)
     spoke (Err cut) (inr (inr is)) leaves = planned_talk (Err cut) is leaves
 
 -- its commands are the first of a plan without steps
-follows_none : FrontsAreAsked → (settings : Settings) → IsValid settings → {turns : List Turn} {link link' : Link} → IsTail turns → (it : OpensAlone (name_of settings) (word_of settings) turns link link') → Follows settings [] it.sent
-follows_none law settings valid kind it =
-    let whole = commanded_opening law (name_of settings) (word_of settings) valid.valid_username valid.valid_password kind it.said in
+follows_none : Below → (settings : Settings) → IsValid settings → {turns : List Turn} {link link' : Link} → IsTail turns → (it : OpensAlone (name_of settings) (word_of settings) turns link link') → Follows settings [] it.sent
+follows_none laws settings valid kind it =
+    let whole = commanded_opening laws (name_of settings) (word_of settings) valid.valid_username valid.valid_password kind it.said in
     search (whole.asked, front_of_plan {steps = []} (it.said.later ++ quit ∷ []) (ap (λ (ts : List Turn). ts ++ quit ∷ []) it.said.split ∙ simp append_assoc) kind whole)
 
 -- ---- What a session with an mboxrd file sends follows a plan.
 
-pub mbox_sessions_follow_plans : TurnsJoin → ConversationsArePaced → FrontsAreAsked → MboxSessionsFollowPlans
-mbox_sessions_follow_plans joining paced law settings now link before report link' after valid session =
+pub mbox_sessions_follow_plans : Below → MboxSessionsFollowPlans
+mbox_sessions_follow_plans laws settings now link before report link' after valid session =
     by (course_proceeded settings AsEntries now (at link []) (keeps_entries before) session.result session.mid (keeps_entries after) session.notes session.proceeds)
-    (session_spoke joining paced law settings valid AsEntries now link (keeps_entries before) report link' (keeps_entries after) session)
+    (session_spoke laws settings valid AsEntries now link (keeps_entries before) report link' (keeps_entries after) session)
   where
     by : (session_course : SessionCourse) → Spoke settings AsEntries now (keeps_entries before) link link' session.result session.notes.lines session_course → (sent : List ℕ) × (link'.sent ≡ link.sent ++ sent) × FollowsPlan settings sent
-    by Idle it = let follows = follows_none law settings valid (is_tail_for session.result) it in (it.sent, it.sent_is, search follows)
+    by Idle it = let follows = follows_none laws settings valid (is_tail_for session.result) it in (it.sent, it.sent_is, search follows)
     by (Deals c) p = (p.sent, p.sent_is, search p.follows)
 
-pub sessions_are_conversations : TurnsJoin → ConversationsArePaced → FrontsAreAsked → SessionsAreConversations
-sessions_are_conversations joining paced law settings account now link before report link' after valid session =
+pub sessions_are_conversations : Below → SessionsAreConversations
+sessions_are_conversations laws settings account now link before report link' after valid session =
     by (course_proceeded settings (AsFiles account) now (at link []) (keeps_files before) session.result session.mid (keeps_files after) session.notes session.proceeds)
-    (session_spoke joining paced law settings valid (AsFiles account) now link (keeps_files before) report link' (keeps_files after) session)
+    (session_spoke laws settings valid (AsFiles account) now link (keeps_files before) report link' (keeps_files after) session)
   where
     -- if the listing was joined
     by_plan : (c : Course) → (p : Planned settings (AsFiles account) now (keeps_files before) link link' session.result session.notes.lines c) → SpeaksByPlan settings account now before report p.sent p.got
@@ -263,7 +262,7 @@ sessions_are_conversations joining paced law settings account now link before re
     by : (session_course : SessionCourse) → Spoke settings (AsFiles account) now (keeps_files before) link link' session.result session.notes.lines session_course
         → (sent got : List ℕ) × (link'.sent ≡ link.sent ++ sent) × (link'.got ≡ link.got ++ got) × (Opens settings report sent got ⊎ SpeaksByPlan settings account now before report sent got)
     by Idle it =
-        let follows = follows_none law settings valid (is_tail_for session.result) it in
+        let follows = follows_none laws settings valid (is_tail_for session.result) it in
         let said : Converses (opening_of settings) (tail_behind report.outcome) it.sent it.got = rw session.reports.outcome_is it.said in
         (it.sent, it.got, it.sent_is, it.got_is, inl (search (said, follows)))
     by (Deals c) p = (p.sent, p.got, p.sent_is, p.got_is, inr (by_plan c p))
@@ -293,15 +292,15 @@ abbrev asks : List ℕ → List ℕ → List Turn
 asks name word = user name ∷ pass word ∷ stat ∷ uidl ∷ list ∷ []
 
 -- what a link that was cut there gained is served
-pub served_front : HonestIsGranted → (drop : List Message) (vanished : List (List ℕ)) (link link' cut : Link) (name word : List ℕ) → is_credential name ≡ true → is_credential word ≡ true
+pub served_front : Below → (drop : List Message) (vanished : List (List ℕ)) (link link' cut : Link) (name word : List ℕ) → is_credential name ≡ true → is_credential word ≡ true
     → (first : List WholeReply) → AllZip IsGood (opening name word) first → (ts us : List Turn) (rs : List WholeReply) → AllByRecursion IsCommand ts → AllByRecursion CanBeSaid (ts ++ us)
     → AllZip IsGood ts rs → (rest : List ℕ)
     → link'.sent ≡ ((link.sent ++ asking (opening name word)) ++ asking ts) ++ asking us → link'.got ≡ ((link.got ++ flat_map reply_bytes first) ++ flat_map reply_bytes rs) ++ rest
     → ((sent got : List ℕ) → link'.sent ≡ link.sent ++ sent → link'.got ≡ link.got ++ got → Served drop sent got vanished)
     → cut.sent ≡ (link.sent ++ asking (opening name word)) ++ asking ts → cut.got ≡ (link.got ++ flat_map reply_bytes first) ++ flat_map reply_bytes rs
     → (sent got : List ℕ) → cut.sent ≡ link.sent ++ sent → cut.got ≡ link.got ++ got → Served drop sent got []
-served_front law drop vanished link link' cut name word named worded [] opened ts us rs commands can good rest all_sent all_got served cut_sent cut_got sent got sent_is got_is = absurd opened
-served_front law drop vanished link link' cut name word named worded (hello ∷ others) opened ts us rs commands can good rest all_sent all_got served cut_sent cut_got sent got sent_is got_is = record {
+served_front laws drop vanished link link' cut name word named worded [] opened ts us rs commands can good rest all_sent all_got served cut_sent cut_got sent got sent_is got_is = absurd opened
+served_front laws drop vanished link link' cut name word named worded (hello ∷ others) opened ts us rs commands can good rest all_sent all_got served cut_sent cut_got sent got sent_is got_is = record {
   marks = granted.0;
   honest = subst₂ (λ s g. Honest drop s g granted.0) (append_cancel_left link.sent _ _ (sym (append_assoc link.sent _ _) ∙ sym cut_sent ∙ sent_is))
       (append_cancel_left link.got _ _ (sym (append_assoc link.got _ _) ∙ sym cut_got ∙ got_is)) front;
@@ -336,7 +335,7 @@ served_front law drop vanished link link' cut name word named worded (hello ∷ 
     whole = served _ _ (all_sent ∙ simp append_assoc) (all_got ∙ simp append_assoc)
 
     granted : (next : List Bool) × Replies drop (no_marks drop) (commands_in said) (flat_map reply_bytes (others ++ rs)) next
-    granted = replied_first drop (no_marks drop) said (commands_in us) (others ++ rs) all_commands all_replied (law drop _ _ whole.marks _ (others ++ rs) whole.honest talked)
+    granted = replied_first drop (no_marks drop) said (commands_in us) (others ++ rs) all_commands all_replied (honest_is_granted laws drop _ _ whole.marks _ (others ++ rs) whole.honest talked)
 
     front : Honest drop (asking (opening name word) ++ asking ts) (flat_map reply_bytes (hello ∷ others) ++ flat_map reply_bytes rs) granted.0
     front = record {
@@ -382,7 +381,7 @@ refused_at place = at (record place.link { failures = place.link.failures + 1 })
 refuses : (turn : Turn) (place : Place) → SentInPart turn place (refused_at place)
 refuses turn place = record { front = []; rest = turn_bytes turn; split = refl; sent = sym (append-nil place.link.sent); got = refl; waiting = refl; risen = omega arith }
 
-module _ (joins : TurnsJoin) (granted : HonestIsGranted) (settings : Settings) (account : List ℕ) (now : ℕ) (link : Link) (before : AccountFiles) (link' : Link) (after : AccountFiles) (u : Uncut settings account now link before link' after)
+module _ (laws : Below) (settings : Settings) (account : List ℕ) (now : ℕ) (link : Link) (before : AccountFiles) (link' : Link) (after : AccountFiles) (u : Uncut settings account now link before link' after)
     (valid : IsValid settings) (drop : List Message) (vanished : List (List ℕ)) (served : (sent got : List ℕ) → link'.sent ≡ link.sent ++ sent → link'.got ≡ link.got ++ got → Served drop sent got vanished) where
   abbrev first : List WholeReply
   first = replies_to u.enters.3
@@ -424,7 +423,7 @@ module _ (joins : TurnsJoin) (granted : HonestIsGranted) (settings : Settings) (
     served_at : (cut : Link) → cut.sent ≡ (link.sent ++ asking (opening_of settings)) ++ asking (turns_of front)
         → cut.got ≡ (link.got ++ flat_map reply_bytes first) ++ flat_map reply_bytes (replies_of front)
         → (sent got : List ℕ) → cut.sent ≡ link.sent ++ sent → cut.got ≡ link.got ++ got → Served drop sent got []
-    served_at cut = served_front granted drop vanished link link' cut (name_of settings) (word_of settings)
+    served_at cut = served_front laws drop vanished link link' cut (name_of settings) (word_of settings)
         valid.valid_username valid.valid_password first u.enters.3.talked.good
         (turns_of front) (turns_of back) (replies_of front) (all_front IsCommand (turns_of front) (turns_of back) (simp (flat_map-map, flat_map-append) at (commands_tasks (tasks_of (front ++ back)) plain)))
         (simp (flat_map-map, flat_map-append) at (said_tasks (tasks_of (front ++ back)) plain)) (all_good front answered) (flat_map reply_bytes (replies_of back) ++ waits) sent_is got_is served
@@ -494,7 +493,7 @@ module _ (joins : TurnsJoin) (granted : HonestIsGranted) (settings : Settings) (
       session = session is.file (cut_of WriteFailed None)
           (scene (refused_at there) (in_maildir (maildir (files_of account front))) (file u.ready.file.failures) rows (lines_of front)) (refused_at there).link
           (inl (record { none = refl; turn = is.turn; takes = is.takes; broke = (talk.WriteFailed, refl, inl (refl, refuses is.turn there)); store = refl; file = refl; rows = refl; lines = refl }))
-          (refused_at there, (Ok tt, ([], joins.none (refused_at there))), refl) refl;
+          (refused_at there, (Ok tt, ([], laws.joins.none (refused_at there))), refl) refl;
     }
 
     -- the turns and replies of the next task too
@@ -511,7 +510,7 @@ module _ (joins : TurnsJoin) (granted : HonestIsGranted) (settings : Settings) (
     cut_got = simp (flat_map-append, append-nil, append_assoc)
 
     -- after a text was stored, and before the record shows it
-    module _ (keeps : SteadyFilesKeep) (is : IsLeftWithin account before u.ready front next left) where
+    module _ (is : IsLeftWithin account before u.ready front next left) where
       good : AllZip IsGood (turns_in next.task) next.replies
       good = (all_back IsAnswered front (next ∷ back) (rw split at u.went.each)).0
 
@@ -541,17 +540,17 @@ module _ (joins : TurnsJoin) (granted : HonestIsGranted) (settings : Settings) (
         got = (flat_map reply_bytes (replies_of back) ++ waits, rw cut_got (got_is (front ++ next ∷ []) back split_next));
         session =
             let stored : Gained here.store.maildir stopped.store.maildir (file_from account is.uid reply ∷ []) = search (append_assoc, arith) in
-            let saves : Saves here.file (none_open rows) (none_open (marked rows is.uid)) (Err SeenRefused) stopped.file = (refl, λ steady. inl (keeps left.file.content (none_open rows) steady)) in
-            session is.file (cut_of SeenRefused None) stopped (refused_at place).link (inr (inr (search (is.is, whole.2, stored, saves)))) (refused_at place, (Err talk.WriteFailed, record { done = []; replies = []; next = rset; later = quit ∷ []; mid = place; split = refl; talked = joins.none place; broke = inl (refl, refuses rset place) }), refl) refl;
+            let saves : Saves here.file (none_open rows) (none_open (marked rows is.uid)) (Err SeenRefused) stopped.file = (refl, λ steady. inl (laws.steady left.file.content (none_open rows) steady)) in
+            session is.file (cut_of SeenRefused None) stopped (refused_at place).link (inr (inr (search (is.is, whole.2, stored, saves)))) (refused_at place, (Err talk.WriteFailed, record { done = []; replies = []; next = rset; later = quit ∷ []; mid = place; split = refl; talked = laws.joins.none place; broke = inl (refl, refuses rset place) }), refl) refl;
       }
 
     -- what is left there a session left that was cut, and what its link gained is served
-    found : SteadyFilesKeep → IsLeftBetween account before u.ready front next left ⊎ IsLeftWithin account before u.ready front next left
+    found : IsLeftBetween account before u.ready front next left ⊎ IsLeftWithin account before u.ready front next left
         → (there : IsCutThere settings account now link before link' u.items u.ready left)
         × ((sent got : List ℕ) → there.cut.sent ≡ link.sent ++ sent → there.cut.got ≡ link.got ++ got → Served drop sent got [])
-    found keeps (inl here) = (between here, served_at front (next ∷ back) split (refused_at there).link refl refl)
-    found keeps (inr here) = (within keeps here, served_at (front ++ next ∷ []) back split_next (refused_at place).link cut_sent cut_got)
+    found (inl here) = (between here, served_at front (next ∷ back) split (refused_at there).link refl refl)
+    found (inr here) = (within here, served_at (front ++ next ∷ []) back split_next (refused_at place).link cut_sent cut_got)
 
-pub fronts_are_sessions : SteadyFilesKeep → TurnsJoin → HonestIsGranted → FrontsAreSessions
-fronts_are_sessions keeps joins granted settings account now link before link' after u valid drop vanished served front back next left split here =
-    found joins granted settings account now link before link' after u valid drop vanished served front back next left split keeps here
+pub fronts_are_sessions : Below → FrontsAreSessions
+fronts_are_sessions laws settings account now link before link' after u valid drop vanished served front back next left split here =
+    found laws settings account now link before link' after u valid drop vanished served front back next left split here

@@ -1,50 +1,33 @@
--- Calls of `session` for an account with a Maildir, and what others do between them, over the account's devices: what
--- is promised of any list of these. Nobody has to know what a session does.
-use Rattle.std.specs.Prelude.{◌≡◌, ◌↔◌, ℕ, true, List, [], ◌∷◌, ◌++◌, Option}
-use Rattle.mail_store.specs.Durable.{MayLeave}
+-- Calls of `session`, and what others do between them, over the account's devices: what is promised of any list of
+-- these. Nobody has to know what a session does.
+use Rattle.std.specs.Prelude.{◌≡◌, ℕ, true, List, [], ◌∷◌, ◌++◌, Option, false, None}
+use Rattle.std.specs.List.{AllByRecursion}
 use Rattle.pop3_wire.specs.World.{Message}
 use Rattle.pop3_wire.specs.declared.wire.Wire.{Ghosts as WireGhosts}
-use Rattle.mail_store.specs.declared.maildir.disk.MaildirDisk.{Ghosts as DiskGhosts}
-use Rattle.mail_store.specs.declared.file.flat_file.FlatFile.{Ghosts as FileGhosts}
-use Rattle.mail_store.specs.FileName.{is_held, stem_of}
-use Rattle.std.specs.List.{AllByRecursion}
-use Rattle.mail_store.specs.Loss.{LosesPower}
-use Rattle.mail_store.specs.Maildir.{Maildir, WereTaken}
 use Rattle.mail_terms.specs.UniqueId.{is_legal_id}
-use Rattle.fetch_rules.specs.Record.{Intent}
-use Rattle.fetch_rules.specs.RecordMeaning.{FileStandsFor}
 use Rattle.rc_file.specs.Settings.{IsValid}
 use Rattle.rc_file.specs.declared.settings.Settings.{Settings}
-use Rattle.fetch_session.specs.declared.account.Store.{Store}
-use Rattle.fetch_session.specs.declared.account.Store.TheVariants.{Maildir as InMaildir}
-use Rattle.fetch_session.specs.declared.report.Outcome.TheVariants.{Ended}
-use Rattle.fetch_session.specs.declared.report.Report.{Report}
+use Rattle.fetch_rules.specs.Record.{Intent}
+use Rattle.fetch_rules.specs.RecordMeaning.{FileStandsFor}
+use Rattle.mail_store.specs.Durable.{MayLeave}
+use Rattle.mail_store.specs.FileName.{is_held, stem_of}
+use Rattle.mail_store.specs.Loss.{LosesPower}
+use Rattle.mail_store.specs.Maildir.{Maildir, WereTaken}
+use Rattle.mail_store.specs.declared.file.flat_file.FlatFile.{Ghosts as FileGhosts}
+use Rattle.mail_store.specs.declared.maildir.disk.MaildirDisk.{Ghosts as DiskGhosts}
 use Rattle.fetch_session.specs.Account.{Holding, IsSameAccount, digits_of}
 use Rattle.fetch_session.specs.Lasting.{RunsSession}
-use Rattle.run_law.specs.Accounts.{AccountMail, copies, files}
-use Rattle.run_law.specs.Events.{Mail, IsMaildrop, State, is_safe, state_with, Occasion, IsSession, after_session}
-use Rattle.run_law.specs.Events.{IsBetween}
-use Rattle.run_law.specs.Promises.{Kept, Promises, ShowsNext}
-use Rattle.run_law.specs.Sessions.{Served}
-use Rattle.fetch_runs.specs.Losses.{IsCrashSafe, IsDurableFront, RecordIsSure, KeepsDurable, KeepsFronts, LeavesDurably}
+use Rattle.fetch_session.specs.declared.account.Store.{Store}
+use Rattle.fetch_session.specs.declared.account.Store.TheVariants.{Maildir as InMaildir, Mboxrd as InMbox}
+use Rattle.fetch_session.specs.declared.report.Report.{Report}
+use Rattle.fetch_runs.specs.Accounts.{AccountMail, copies, files}
+use Rattle.fetch_runs.specs.Sessions.{Served, MboxMail}
+use Rattle.fetch_runs.specs.Promises.{Call, Devices, IsBetween, IsMaildrop, Kept, Mail, Promises, ShowsNext, State}
+use Rattle.fetch_runs.specs.Promises.{after_session, is_safe, state_with, AppendsMail, Base, HoldsEntries, base_from}
+use Rattle.fetch_runs.specs.Losses.{IsCrashSafe, IsDurableFront, RecordIsSure, KeepsDurable, KeepsFronts}
+use Rattle.fetch_session.specs.Target.{mail_in}
 
 -- ---- one call
-
--- the devices of an account: its store, which is a Maildir or an mboxrd file, and the record's file
-pub record Devices (S F : Type 0) : Type 0 where
-  pub store : S
-  pub file : F
-
--- one call of `session`, with the maildrop that its server showed, and the ids that its QUIT removed from the server
-pub record Call (W S F : Type 0) : Type 0 where
-  pub settings : Settings
-  pub now : ℕ
-  pub report : Report
-  pub wire : W
-  pub wire' : W
-  pub after : Devices S F
-  pub maildrop : List Message
-  pub vanished : List (List ℕ)
 
 -- what the contract of `session` says of each call: `promised_session` is such a call, and its contract says just this
 abbrev pub WasMade : {W D F : Type 0} → WireGhosts W → DiskGhosts D → FileGhosts F → ℕ → Holding D F → W → Report
@@ -56,8 +39,7 @@ WasMade link disk file now old wire report new wire' =
 abbrev pub account_over : {D F S : Type 0} → (S → Store D F) → Settings → Devices S F → Holding D F
 account_over In settings devices = record { settings = settings; store = In devices.store; file = devices.file }
 
--- a call was made with these devices, they do what their traits say, and all that the link gained came from an honest
--- server with the call's maildrop
+-- a call was made with devices that do what their traits say, and all that the link gained came from an honest server
 pub record IsCall {W D F S : Type 0} (link : WireGhosts W) (disk : DiskGhosts D) (file : FileGhosts F)
     (In : S → Store D F) (is_sound : S → Type 0) (text_of : List ℕ → List ℕ) (devices : Devices S F) (call : Call W S F)
     : Type 0 where
@@ -70,17 +52,6 @@ pub record IsCall {W D F S : Type 0} (link : WireGhosts W) (disk : DiskGhosts D)
   pub served : (sent got : List ℕ) → (link.history call.wire').sent ≡ (link.history call.wire).sent ++ sent
       → (link.history call.wire').got ≡ (link.history call.wire).got ++ got
       → Served call.maildrop sent got call.vanished
-
--- the call, as a session that left such an account
-pub record IsOccasion {W S F Account : Type 0} (link : WireGhosts W) (call : Call W S F) (Shows : Account → Type 0)
-    (occasion : Occasion Account) : Type 0 where
-  pub settings : occasion.settings ≡ call.settings
-  pub maildrop : occasion.maildrop ≡ call.maildrop
-  pub vanished : occasion.vanished ≡ call.vanished
-  pub sent : (link.history call.wire').sent ≡ (link.history call.wire).sent ++ occasion.sent
-  pub retrieved : occasion.retrieved ≡ call.report.retrieved
-  pub ended : (occasion.ended ≡ true) ↔ (call.report.outcome ≡ Ended)
-  pub after : Shows occasion.after
 
 -- ---- with a Maildir
 
@@ -95,43 +66,32 @@ pub record Shows {D F : Type 0} (disk : DiskGhosts D) (file : FileGhosts F) (dev
 abbrev pub with_left : Mail → State → Maildir → State
 with_left mail state left = state_with mail state (record state.account { maildir = left })
 
--- a law: once readers took some files away while it was under way, each call is a session, which took none away, and
--- what it shows is durable
-abbrev pub CallsAreSessions : {W D F : Type 0} → WireGhosts W → DiskGhosts D → FileGhosts F → Type 0
-CallsAreSessions {W} {D} {F} link disk file = (mail : Mail) (account : AccountMail) (devices : Devices D F)
-    (call : Call W D F) → Shows disk file devices account → digits_of call.settings ≡ mail.account
-    → IsCall link disk file InMaildir disk.sound mail.text devices call
-    → (left : Maildir) × WereTaken account.maildir left
-    × (occasion : Occasion AccountMail) × IsOccasion link call (Shows disk file call.after) occasion
-    × IsSession mail (record account { maildir = left }) occasion
-    × (occasion.after.maildir.taken ≡ left.taken)
-    × LeavesDurably file mail.account devices.file call.after.file (record account { maildir = left }) occasion.after
-
 -- readers were seen to take files away during the call, and none was besides; over what they left it was a session that
 -- kept its promises. If a loss of power could do no harm before it, none can after it
 pub record IsPromised {W D F : Type 0} (link : WireGhosts W) (disk : DiskGhosts D) (file : FileGhosts F) (mail : Mail)
     (state : State) (devices : Devices D F) (call : Call W D F) : Type 0 where
   pub left : Maildir
   pub taken : WereTaken state.account.maildir left
-  pub occasion : Occasion AccountMail
-  pub is : IsOccasion link call (Shows disk file call.after) occasion
-  pub taken_is : occasion.after.maildir.taken ≡ left.taken
-  pub promises : Promises mail (with_left mail state left) occasion
+  pub sent : List ℕ
+  pub after : AccountMail
+  pub sent_is : (link.history call.wire').sent ≡ (link.history call.wire).sent ++ sent
+  pub shows : Shows disk file call.after after
+  pub taken_is : after.maildir.taken ≡ left.taken
+  pub promises : Promises mail (with_left mail state left) call sent after
   pub safe : RecordIsSure file devices.file call.after.file → IsCrashSafe (MayLeave (file.disk devices.file)) mail state
       → IsCrashSafe (MayLeave (file.disk call.after.file)) mail
-      (after_session mail (with_left mail state left) occasion)
+      (after_session mail (with_left mail state left) call.vanished after)
   pub in_order : (all : List Message) → AllByRecursion (λ (m : Message). is_legal_id m.uid ≡ true) all
       → (front : IsDurableFront mail state all)
-      → ShowsNext occasion.settings occasion.maildrop front.is.done front.is.rest
-      → IsDurableFront mail (after_session mail (with_left mail state left) occasion) all
+      → ShowsNext call.settings call.maildrop front.is.done front.is.rest
+      → IsDurableFront mail (after_session mail (with_left mail state left) call.vanished after) all
 
 -- of the account's messages no other is held than such as were held or taken away
 abbrev pub HoldsNoMore : Mail → State → AccountMail → Type 0
 HoldsNoMore mail state after = (id : List ℕ) → is_legal_id id ≡ true
     → is_held mail.account after.maildir id ≡ true → is_safe mail state id ≡ true
 
--- a loss of power left this account, whose record can be read, and new devices over it; of what these hold all is
--- durable
+-- a loss of power left this account, whose record can be read, and new devices over it, of which all is durable
 pub record IsLeftByLoss {D F : Type 0} (disk : DiskGhosts D) (file : FileGhosts F) (from left : Devices D F)
     (account : AccountMail) : Type 0 where
   pub maildir : LosesPower (disk.maildir from.store) (disk.maildir left.store)
@@ -142,23 +102,22 @@ pub record IsLeftByLoss {D F : Type 0} (disk : DiskGhosts D) (file : FileGhosts 
 
 -- ---- any list of calls
 
--- a call; or what others leave, or a loss of power: these devices, which then show this account. Each call's maildrop
--- tells of the server
+-- a call; or others, or a loss of power, which leave these devices, which show this account
 pub data Happening (Call Devices Account : Type 0) : Type 0 where
   Called : Call → Happening Call Devices Account
   Others : Devices → Account → Happening Call Devices Account
   PowerLost : Devices → Account → Happening Call Devices Account
 
--- the devices show a kept state; if the next of these happens, a call keeps its promises, and they do so after it. If
--- a loss of power can do no harm, what it takes doesn't count as taken away: it is neither recorded then nor gone from
--- the server, so that the next calls fetch it again
+-- the devices show a kept state; if the next of these happens, a call keeps its promises, and they do so after it. What
+-- a loss of power takes, if it can do no harm, doesn't count as taken away: the next calls fetch it again
 abbrev pub ArePromised : {W D F : Type 0} → WireGhosts W → DiskGhosts D → FileGhosts F → Mail → State → Devices D F
     → List (Happening (Call W D F) (Devices D F) AccountMail) → Type 0
 ArePromised link disk file mail state devices [] = Shows disk file devices state.account × Kept mail state
 ArePromised link disk file mail state devices (Called call ∷ later) = Shows disk file devices state.account
     × Kept mail state × (digits_of call.settings ≡ mail.account → IsCall link disk file InMaildir disk.sound mail.text
     devices call → (is : IsPromised link disk file mail state devices call)
-    × ArePromised link disk file mail (after_session mail (with_left mail state is.left) is.occasion) call.after later)
+    × ArePromised link disk file mail (after_session mail (with_left mail state is.left) call.vanished is.after)
+    call.after later)
 ArePromised link disk file mail state devices (Others left account ∷ later) = Shows disk file devices state.account
     × Kept mail state × (Shows disk file left account → IsBetween mail state.account account
     → (KeepsDurable file mail.account state.account devices.file left.file account
@@ -185,3 +144,38 @@ abbrev pub EmptyAccountsAreKept : Type 0
 EmptyAccountsAreKept = (mail : Mail) (state : State) → state.account.rows ≡ [] → state.gone ≡ []
     → ((id : List ℕ) → is_legal_id id ≡ true → copies (files state.account) (stem_of mail.account id) ≡ [])
     → Kept mail state
+
+-- ---- with an mboxrd file
+
+-- the devices show this account: these rows and this intent, for which the record's file stands, and these bytes
+pub record ShowsMbox {F : Type 0} (file : FileGhosts F) (devices : Devices F F) (account : MboxMail) : Type 0 where
+  pub record_is : FileStandsFor (file.stored devices.file).content account.rows account.intent
+  pub bytes : account.file ≡ mail_in (file.stored devices.store).content
+
+-- the devices show an account whose file holds these entries; if the next of these happens, a call that reads only what
+-- is new appends entries, and they do so after it. What others or a loss of power leave is as it was, or starts anew
+abbrev pub AreMboxPromised : {W D F : Type 0} → WireGhosts W → DiskGhosts D → FileGhosts F → Base → List Message
+    → MboxMail → Devices F F → List (Happening (Call W F F) (Devices F F) MboxMail) → Type 0
+AreMboxPromised link disk file base done account devices [] =
+    ShowsMbox file devices account × HoldsEntries base done account
+AreMboxPromised link disk file base done account devices (Called call ∷ later) = ShowsMbox file devices account
+    × (holds : HoldsEntries base done account) × (call.settings.read_all ≡ false
+    → IsCall link disk file InMbox file.sound base.text devices call → (sent : List ℕ) × (after : MboxMail)
+    × ((link.history call.wire').sent ≡ (link.history call.wire).sent ++ sent) × ShowsMbox file call.after after
+    × (appends : AppendsMail base holds call sent after)
+    × AreMboxPromised link disk file base (done ++ appends.more) after call.after later)
+AreMboxPromised link disk file base done account devices (Others left now ∷ later) = ShowsMbox file devices account
+    × HoldsEntries base done account × (ShowsMbox file left now
+    → (now ≡ account → AreMboxPromised link disk file base done account left later)
+    × (now.intent ≡ None → AreMboxPromised link disk file (base_from base now) [] now left later))
+AreMboxPromised link disk file base done account devices (PowerLost left now ∷ later) = ShowsMbox file devices account
+    × HoldsEntries base done account × (ShowsMbox file left now
+    → (now ≡ account → AreMboxPromised link disk file base done account left later)
+    × (now.intent ≡ None → AreMboxPromised link disk file (base_from base now) [] now left later))
+
+-- the law: so it is of any list of calls and of what others and losses of power leave
+abbrev pub MboxCallsKeepPromises : {W D F : Type 0} → WireGhosts W → DiskGhosts D → FileGhosts F → Type 0
+MboxCallsKeepPromises {W} {D} {F} link disk file = (base : Base) (done : List Message) (account : MboxMail)
+    (devices : Devices F F) (list : List (Happening (Call W F F) (Devices F F) MboxMail))
+    → ShowsMbox file devices account → HoldsEntries base done account
+    → AreMboxPromised link disk file base done account devices list

@@ -1,9 +1,12 @@
+-- The commands of a session's plan, and which of them are sent.
 -- The conversation of one session: the turns that were completed, the one that was begun after them, and the tail.
-use Rattle.std.specs.Prelude.{◌≡◌, ◌⊎◌, ℕ, Bool, true, false, List, [], ◌∷◌, ◌++◌, map, None, Some}
-use Rattle.std.specs.String.{string_bytes}
+use Rattle.std.specs.Prelude.{◌≡◌, ◌⊎◌, ℕ, Bool, List, [], ◌∷◌, ◌++◌, if◌then◌else◌, true, false, map, None, Some}
 use Rattle.std.specs.List.{flat_map, count_by, AllZip}
 use Rattle.pop3_wire.specs.declared.command.Command.{Command}
-use Rattle.pop3_wire.specs.declared.command.Command.TheVariants.{Retr}
+use Rattle.pop3_wire.specs.declared.command.Command.TheVariants.{User, Pass, Stat, UidlAll, ListAll, Retr, Dele, Rset}
+use Rattle.pop3_wire.specs.declared.command.Command.TheVariants.{Quit}
+use Rattle.fetch_rules.specs.declared.steps.Step.{Step}
+use Rattle.std.specs.String.{string_bytes}
 use Rattle.pop3_wire.specs.Honest.{Asked}
 use Rattle.pop3_wire.specs.Link.{Link}
 use Rattle.pop3_wire.specs.Reading.{WholeReply, reply_bytes}
@@ -15,19 +18,40 @@ use Rattle.mail_store.specs.Held.{flags_of}
 use Rattle.mail_store.specs.Maildir.{Maildir}
 use Rattle.fetch_session.specs.Record.{KeepsRows}
 use Rattle.fetch_rules.specs.Plan.{planned}
-use Rattle.fetch_rules.specs.declared.steps.Step.{Step}
 use Rattle.rc_file.specs.Settings.{IsValid}
 use Rattle.rc_file.specs.declared.settings.Settings.{Settings}
-use Rattle.run_law.specs.Plans.{plan_commands, IsFrontOfPlan}
-use Rattle.run_law.specs.Readings.{IsListed}
+use Rattle.fetch_runs.specs.Sessions.{IsListed, tail_behind}
 use Rattle.fetch_session.specs.declared.fault.Fault.TheVariants.{StoreRefused}
 use Rattle.fetch_session.specs.declared.fault.Why.TheVariants.{Refused}
 use Rattle.fetch_session.specs.declared.report.Outcome.{Outcome}
 use Rattle.fetch_session.specs.declared.report.Outcome.TheVariants.{Ended, Cut}
 use Rattle.fetch_session.specs.declared.report.Report.{Report}
 use Rattle.fetch_session.specs.Opening.{opening}
-use Rattle.fetch_session.specs.Tail.{tail, turns_in}
 use Rattle.fetch_session.specs.Session.{AccountFiles, Session, MboxAccountFiles, MboxSession}
+
+abbrev pub asked_if : Bool → Command → List Command
+asked_if yes' command = if yes' then command ∷ [] else []
+
+-- RETR before DELE
+abbrev pub step_commands : Step → List Command
+step_commands step = asked_if step.retrieve (Retr step.number) ++ asked_if step.delete (Dele step.number)
+
+abbrev pub plan_commands : List ℕ → List ℕ → List Step → List Command
+plan_commands name word steps = User name ∷ Pass word ∷ Stat ∷ UidlAll ∷ ListAll ∷
+    (flat_map step_commands steps ++ Quit ∷ [])
+
+-- what is sent after a fault: nothing, QUIT, RSET, or both
+abbrev pub IsTail : List Command → Type 0
+IsTail tail = (tail ≡ []) ⊎ (tail ≡ Quit ∷ []) ⊎ (tail ≡ Rset ∷ []) ⊎ (tail ≡ Rset ∷ Quit ∷ [])
+
+-- a prefix of the plan, and a tail
+pub record IsFrontOfPlan (name word : List ℕ) (steps : List Step) (commands : List Command) : Type 0 where
+  pub front : List Command
+  pub behind : List Command
+  pub tail : List Command
+  pub plan : plan_commands name word steps ≡ front ++ behind
+  pub is_tail : IsTail tail
+  pub sent : commands ≡ front ++ tail
 
 -- what was sent after the completed turns: a prefix of the octets of the turn that was begun, if one was; or
 -- that turn whole, and a prefix of the tail's octets
@@ -59,11 +83,6 @@ pub record Converses (plan tail : List Turn) (sent got : List ℕ) : Type 0 wher
 -- the turns of a plan of these steps: the greeting, and each of the plan's commands
 abbrev pub plan_turns : List ℕ → List ℕ → List Step → List Turn
 plan_turns name word steps = greeting ∷ map Some (plan_commands name word steps)
-
--- the turns that follow an outcome
-abbrev pub tail_behind : Outcome → List Turn
-tail_behind Ended = []
-tail_behind (Cut fault) = turns_in (tail fault)
 
 abbrev pub is_retrieval : Turn → Bool
 is_retrieval None = false

@@ -19,7 +19,7 @@ use Rattle.fetch_session.specs.Scene.{Scene, Went}
 use Rattle.fetch_session.specs.Session.{Enters_with, AccountFiles, Session}
 use Rattle.fetch_session.specs.Target.{AsFiles, in_maildir}
 use Rattle.fetch_session.specs.Task.{Done, files_of, ids_of, stores, tasks_of, turns_in}
-use Rattle.run_law.specs.Sessions.{Served}
+use Rattle.fetch_runs.specs.Sessions.{Served}
 
 -- what an uncut session of an account with a Maildir had ready before its first task, and the tasks that it did
 pub record Uncut (settings : Settings) (account : List ℕ) (now : ℕ) (link : Link) (before : AccountFiles) (link' : Link)

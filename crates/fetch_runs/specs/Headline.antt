@@ -1,36 +1,95 @@
--- Where a server's unique-ids are distinct and persistent and its mail unchanged, after any list of calls of
--- `session`, each cut at any reply or refused write, the Maildir holds exactly a prefix of the selected messages in
+-- Mail in order. Where a server's unique-ids are distinct and persistent and its mail unchanged, after any list of calls
+-- of `session`, each cut at any reply or refused write, the Maildir holds exactly a prefix of the selected messages in
 -- maildrop order, each once, byte for byte with lines ended by LF; an uncut call leaves out only what its limits
 -- exclude; and DELE was sent only for messages held. What a reader took away counts as held here, and what was
 -- withdrawn from the server before it was fetched isn't part of its mail. With calls that read only what is new, an
 -- mboxrd file holds what it held before the first one, followed by the entries of exactly a prefix of the selected
 -- messages, each once, and by at most a prefix of the next one's entry, whose intent is then open.
-use Rattle.std.specs.Prelude.{◌≡◌, ℕ, true, false, List, [], ◌∷◌, ◌++◌, None}
+use Rattle.std.specs.Prelude.{◌≡◌, ◌⊎◌, ◌≤◌, ℕ, true, false, List, [], ◌∷◌, ◌++◌, map, take, length, None, Some}
+use Rattle.std.specs.Prelude.{bytes_eq}
 use Rattle.std.specs.List.{AllByRecursion}
-use Rattle.mail_terms.specs.UniqueId.{has_id}
+use Rattle.pop3_wire.specs.World.{Message, maildrop_of}
+use Rattle.pop3_wire.specs.declared.wire.Wire.{Ghosts as WireGhosts}
+use Rattle.mail_terms.specs.UniqueId.{is_legal_id, has_id}
+use Rattle.rc_file.specs.declared.settings.Settings.{Settings}
+use Rattle.fetch_rules.specs.Record.{Intent, is_delivered}
 use Rattle.mail_store.specs.Durable.{MayLeave}
+use Rattle.mail_store.specs.FileName.{IsAccountText, is_held, stem_of}
+use Rattle.mail_store.specs.Mboxrd.{MboxFile}
 use Rattle.mail_store.specs.declared.file.flat_file.FlatFile.{Ghosts as FileGhosts}
 use Rattle.mail_store.specs.declared.maildir.disk.MaildirDisk.{Ghosts as DiskGhosts}
-use Rattle.pop3_wire.specs.World.{Message}
-use Rattle.pop3_wire.specs.declared.wire.Wire.{Ghosts as WireGhosts}
-use Rattle.fetch_rules.specs.Record.{is_delivered}
 use Rattle.fetch_session.specs.Account.{digits_of}
 use Rattle.fetch_session.specs.declared.account.Store.TheVariants.{Maildir as InMaildir, Mboxrd as InMbox}
-use Rattle.run_law.specs.Accounts.{AccountMail}
-use Rattle.run_law.specs.Events.{IsBetween, IsMaildrop, IsSafe, Occasion, State, after_session, is_safe, state_with}
-use Rattle.run_law.specs.Mails.{ids_of, selected}
-use Rattle.run_law.specs.MboxEvents.{base_from, is_entered}
-use Rattle.run_law.specs.MboxOrder.{HoldsAMboxPrefix, IsUnbegun, MboxWorld, mbox_world_without}
-use Rattle.run_law.specs.MboxPromises.{Appends}
-use Rattle.run_law.specs.Mboxes.{MboxMail}
-use Rattle.run_law.specs.Order.{HoldsAPrefix, IsInOrder, IsSound, World, selected_of, world_without}
-use Rattle.run_law.specs.Promises.{IsFront, Kept}
-use Rattle.fetch_runs.specs.Calls.{Call, Called, Devices, Happening, HoldsNoMore, IsCall, IsLeftByLoss, IsOccasion}
-use Rattle.fetch_runs.specs.Calls.{IsPromised, Others, PowerLost, Shows, with_left}
+use Rattle.fetch_runs.specs.Accounts.{AccountMail, copies, files, ids_of, selected, texts_of, without}
+use Rattle.fetch_runs.specs.Sessions.{MboxMail}
+use Rattle.fetch_runs.specs.Promises.{Call, Devices, IsBetween, IsFront, IsMaildrop, IsSafe, Kept, Mail, State}
+use Rattle.fetch_runs.specs.Promises.{after_session, is_safe, state_with, AppendsMail, Base, HoldsEntries, IsMboxFront}
+use Rattle.fetch_runs.specs.Promises.{base_from, is_entered}
+use Rattle.fetch_runs.specs.Calls.{Called, Happening, HoldsNoMore, IsCall, IsLeftByLoss, IsPromised, Others, PowerLost}
+use Rattle.fetch_runs.specs.Calls.{Shows, with_left, ShowsMbox}
 use Rattle.fetch_runs.specs.Losses.{IsCrashSafe, IsDurableFront}
-use Rattle.fetch_runs.specs.MboxCalls.{ShowsMbox}
+
+-- a session's limit on sizes is this one, and its maildrop is a beginning of all mail, without messages of such ids
+pub record IsInOrder (limit : ℕ) (all : List Message) (IsDone : List ℕ → Type 0) (settings : Settings)
+    (maildrop : List Message) : Type 0 where
+  pub max_size : settings.max_size ≡ limit
+  pub come : ℕ
+  pub gone : List (List ℕ)
+  pub done : AllByRecursion IsDone gone
+  pub shown : maildrop ≡ maildrop_of all come gone
 
 -- ---- with a Maildir
+
+-- whose mail it is; the limit on sizes; and all mail that ever comes, in order of arrival, without what was withdrawn
+pub record World : Type 0 where
+  pub mail : Mail
+  pub max_size : ℕ
+  pub all : List Message
+
+-- the account's text is one; unique-ids are legal and distinct, and texts are whole, and those that their ids name
+pub record IsSound (world : World) : Type 0 where
+  pub account : IsAccountText world.mail.account
+  pub all : IsMaildrop world.mail.text world.all
+
+-- all mail goes on without the messages that are withdrawn
+abbrev pub world_without : List (List ℕ) → World → World
+world_without ids world = record world { all = without ids world.all }
+
+abbrev pub selected_of : World → List Message
+selected_of world = selected world.max_size world.all
+
+-- each of the first j of the selected messages is in one file with its text, or was taken away and is in none; and no
+-- other message is held
+pub record HoldsAPrefix (world : World) (state : State) : Type 0 where
+  pub j : ℕ
+  pub below : j ≤ length (selected_of world)
+  pub texts : (id : List ℕ) → is_legal_id id ≡ true → (copies (files state.account) (stem_of world.mail.account id)
+      ≡ texts_of (take j (selected_of world)) id)
+      ⊎ ((state.taken id ≡ true) × (copies (files state.account) (stem_of world.mail.account id) ≡ []))
+  pub ids : (id : List ℕ) → is_legal_id id ≡ true → is_held world.mail.account state.account.maildir id ≡ true
+      → has_id (ids_of (take j (selected_of world))) id ≡ true
+  pub once : (id : List ℕ) → is_legal_id id ≡ true
+      → length (copies (files state.account) (stem_of world.mail.account id)) ≤ 1
+
+-- a law: exactly the first of any messages, none of them, are held or were taken away, if nothing is
+abbrev pub EmptyFrontsBegin : Type 0
+EmptyFrontsBegin = (mail : Mail) (state : State) (all : List Message)
+    → ((id : List ℕ) → is_legal_id id ≡ true → is_safe mail state id ≡ false) → IsFront mail state all
+
+-- a law: if what is held stays so, and nothing counts as taken away, nothing does afterwards
+abbrev pub NoneTaken : Type 0
+NoneTaken = (mail : Mail) (state : State) (after : AccountMail) → ((id : List ℕ) → state.taken id ≡ false)
+    → ((id : List ℕ) → is_held mail.account state.account.maildir id ≡ true
+    → is_held mail.account after.maildir id ≡ true)
+    → (id : List ℕ) → (state_with mail state after).taken id ≡ false
+
+-- a law: a call that reads only what is new doesn't store a message again that is recorded as delivered and isn't held
+abbrev pub StaysAway : {W D F : Type 0} → WireGhosts W → DiskGhosts D → FileGhosts F → Type 0
+StaysAway {W} {D} {F} link disk file = (mail : Mail) (state : State) (devices : Devices D F) (call : Call W D F)
+    (id : List ℕ) → IsAccountText mail.account → IsMaildrop mail.text call.maildrop
+    → (is : IsPromised link disk file mail state devices call) → call.settings.read_all ≡ false
+    → is_legal_id id ≡ true → is_delivered state.account.rows id ≡ true → is_held mail.account is.left id ≡ false
+    → (is_delivered is.after.rows id ≡ true) × (is_held mail.account is.after.maildir id ≡ false)
 
 -- the devices show a state that holds a prefix. If messages that are neither held nor were taken away are withdrawn,
 -- and the next call shows a beginning of all mail but for some that are held or were taken away, it keeps its
@@ -48,9 +107,9 @@ HoldPrefixes link disk file world state devices (Called call ∷ later) = Shows 
     → IsCall link disk file InMaildir disk.sound world.mail.text devices call
     → (is : IsPromised link disk file world.mail state devices call)
     × (IsDurableFront world.mail state (selected_of world) → IsDurableFront world.mail
-    (after_session world.mail (with_left world.mail state is.left) is.occasion) (selected_of next))
-    × HoldPrefixes link disk file next (after_session world.mail (with_left world.mail state is.left) is.occasion)
-    call.after later)
+    (after_session world.mail (with_left world.mail state is.left) call.vanished is.after) (selected_of next))
+    × HoldPrefixes link disk file next
+    (after_session world.mail (with_left world.mail state is.left) call.vanished is.after) call.after later)
 HoldPrefixes link disk file world state devices (Others left account ∷ later) = Shows disk file devices state.account
     × HoldsAPrefix world state × (Shows disk file left account → IsBetween world.mail state.account account
     → HoldsNoMore world.mail state account
@@ -70,6 +129,44 @@ Headline {W} {D} {F} link disk file = (world : World) (state : State) (devices :
 
 -- ---- with an mboxrd file
 
+-- what the file began with; the limit on sizes; and all mail that ever comes, in order of arrival, without what was
+-- withdrawn
+pub record MboxWorld : Type 0 where
+  pub base : Base
+  pub max_size : ℕ
+  pub all : List Message
+
+-- all mail goes on without the messages that are withdrawn
+abbrev pub mbox_world_without : List (List ℕ) → MboxWorld → MboxWorld
+mbox_world_without ids world = record world { all = without ids world.all }
+
+-- the entries are those of exactly a prefix of the selected messages, but for those that were recorded before the first
+-- session
+pub record HoldsAMboxPrefix (world : MboxWorld) (done : List Message) (account : MboxMail) : Type 0 where
+  pub holds : HoldsEntries world.base done account
+  pub front : IsMboxFront world.base holds (selected world.max_size world.all)
+
+-- the message isn't recorded as delivered, and no intent is open for it
+abbrev pub IsUnbegun : MboxMail → List ℕ → Type 0
+IsUnbegun account id = (is_delivered account.rows id ≡ false)
+    × ((intent : Intent) → account.intent ≡ Some intent → bytes_eq intent.uid id ≡ false)
+
+-- a law: it may begin with any file, and with a record that has no open intent and shows exactly a prefix of the
+-- selected messages as delivered, as an empty one does; also after others wrote
+abbrev pub MboxStartsInOrder : Type 0
+MboxStartsInOrder = (world : MboxWorld) (account : MboxMail) (first rest : List Message) → account.intent ≡ None
+    → selected world.max_size world.all ≡ first ++ rest
+    → ((id : List ℕ) → is_delivered account.rows id ≡ has_id (ids_of first) id)
+    → HoldsAMboxPrefix (record world { base = base_from world.base account }) [] account
+
+-- a law: if the first file holds texts, the file without an open intent holds the same, and then those of these
+-- messages
+abbrev pub EntriesMeanTexts : Type 0
+EntriesMeanTexts = (base : Base) (done : List Message) (account : MboxMail) (first : List (List ℕ))
+    → HoldsEntries base done account
+    → account.intent ≡ None → MboxFile base.start first
+    → MboxFile account.file (first ++ map (λ (m : Message). m.text) done)
+
 -- the devices show an account whose file holds a prefix. If messages that weren't begun are withdrawn, and the next
 -- call shows a beginning of all mail but for some that are entered, it appends entries and keeps its promises, and a
 -- prefix is held after it; and so on. What others or a loss of power leave is the account as it was; or has no open
@@ -83,9 +180,9 @@ HoldMboxPrefixes link disk file world done account devices (Called call ∷ late
     → AllByRecursion (IsUnbegun account) withdrawn → let next = mbox_world_without withdrawn world in
     IsInOrder next.max_size next.all (λ id. is_entered world.base done id ≡ true) call.settings call.maildrop
     → call.settings.read_all ≡ false → IsCall link disk file InMbox file.sound world.base.text devices call
-    → (occasion : Occasion MboxMail) × IsOccasion link call (ShowsMbox file call.after) occasion
-    × (appends : Appends world.base is.holds occasion)
-    × HoldMboxPrefixes link disk file next (done ++ appends.more) occasion.after call.after later)
+    → (sent : List ℕ) × (after : MboxMail) × ((link.history call.wire').sent ≡ (link.history call.wire).sent ++ sent)
+    × ShowsMbox file call.after after × (appends : AppendsMail world.base is.holds call sent after)
+    × HoldMboxPrefixes link disk file next (done ++ appends.more) after call.after later)
 HoldMboxPrefixes link disk file world done account devices (Others left now ∷ later) = ShowsMbox file devices account
     × HoldsAMboxPrefix world done account × (ShowsMbox file left now
     → (now ≡ account → HoldMboxPrefixes link disk file world done account left later)

@@ -1,7 +1,10 @@
+pub mod Accounts
+pub mod Below
 pub mod Calls
 pub mod Conversations
 pub mod Fronts
 pub mod Headline
 pub mod Losses
-pub mod MboxCalls
+pub mod Promises
+pub mod Sessions
 pub mod Steps

@@ -1,28 +1,28 @@
 -- What of an account with a Maildir is durable, so that a loss of power between two calls, whatever it takes, leaves a
 -- state from which the next call goes on; and what calls and others keep of that.
-use Rattle.std.specs.Prelude.{◌≡◌, ◌⊎◌, ◌||◌, ◌≤◌, ℕ, Bool, true, List, [], ◌++◌, Option, None, length}
+use Rattle.std.specs.Prelude.{◌≡◌, ◌⊎◌, ◌||◌, ◌≤◌, ℕ, Bool, true, List, ◌++◌, Option, None, length}
 use Rattle.mail_store.specs.Durable.{MayLeave}
 use Rattle.std.specs.List.{AllByRecursion}
 use Rattle.mail_terms.specs.UniqueId.{is_legal_id}
 use Rattle.pop3_wire.specs.World.{Message}
 use Rattle.mail_store.specs.FileName.{is_held, names_id}
-use Rattle.mail_store.specs.Maildir.{AllFlushed, AllNamed, File, IsDurable}
+use Rattle.mail_store.specs.Maildir.{File, IsDurable}
 use Rattle.mail_store.specs.declared.file.flat_file.FlatFile.{Ghosts as FileGhosts}
 use Rattle.fetch_rules.specs.Record.{Intent, Row, is_delivered}
 use Rattle.fetch_rules.specs.RecordMeaning.{FileStandsFor}
-use Rattle.run_law.specs.Accounts.{AccountMail, has_named}
-use Rattle.run_law.specs.Events.{Mail, State}
-use Rattle.run_law.specs.Promises.{IsFront, Kept}
+use Rattle.fetch_runs.specs.Accounts.{AccountMail, has_named}
+use Rattle.fetch_runs.specs.Promises.{Mail, State, IsFront, Kept}
 
 -- a file of the message is there whose name is durable, or the message was taken away
 abbrev pub lasts : Mail → State → List ℕ → Bool
 lasts mail state id = has_named mail.account state.account.maildir id || state.taken id
 
--- the bytes of a file are durable, if it is one of the account; or its name too
+-- the bytes of a file are durable, if it is one of the account
 abbrev pub IsFlushedFor : List ℕ → File → Type 0
 IsFlushedFor account f = (id : List ℕ) → is_legal_id id ≡ true → names_id account id f.name ≡ true
     → f.is_flushed ≡ true
 
+-- its name too
 abbrev pub IsDurableFor : List ℕ → File → Type 0
 IsDurableFor account f = (id : List ℕ) → is_legal_id id ≡ true → names_id account id f.name ≡ true → IsDurable f
 
@@ -36,8 +36,7 @@ pub record IsCrashSafe (may_leave : Option (List ℕ) → Type 0) (mail : Mail) 
       → (id : List ℕ) → is_delivered rows id ≡ true → (is_legal_id id ≡ true) × (lasts mail state id ≡ true)
   pub gone : AllByRecursion (λ id. lasts mail state id ≡ true) state.gone
 
--- no flush of the record's file was refused before a call; and if there is no such file after it, a loss of power
--- leaves none
+-- no flush of the record's file was refused before a call, and if no such file is left, a loss of power leaves none
 abbrev pub RecordIsSure : {F : Type 0} → FileGhosts F → F → F → Type 0
 RecordIsSure file from f = file.is_sure from
     × ((file.stored f).content ≡ None → (left : Option (List ℕ)) → MayLeave (file.disk f) left → left ≡ None)
@@ -82,22 +81,3 @@ abbrev pub DurableFrontsBegin : Type 0
 DurableFrontsBegin = (mail : Mail) (state : State) (all : List Message)
     → AllByRecursion (λ (m : Message). is_legal_id m.uid ≡ true) all → IsFront mail state all
     → AllByRecursion (IsDurableFor mail.account) state.account.maildir.files → IsDurableFront mail state all
-
--- what a call leaves: files came that are durable, but perhaps the name of the last, and none, or each name was durable
--- before; and what the record shows as delivered, or may show after a loss of power, it showed or could show before, or
--- it has a file whose name is durable
-pub record LeavesDurably {F : Type 0} (file : FileGhosts F) (account : List ℕ) (from f : F)
-    (before after : AccountMail) : Type 0 where
-  pub came : List File
-  pub last : List File
-  pub files : after.maildir.files ≡ before.maildir.files ++ (came ++ last)
-  pub durable : AllByRecursion IsDurable came
-  pub flushed : AllFlushed last
-  pub at_most_one : length last ≤ 1
-  pub named : (came ++ last ≡ []) ⊎ AllNamed before.maildir.files
-  pub shown : (id : List ℕ) → is_delivered after.rows id ≡ true
-      → (is_delivered before.rows id ≡ true) ⊎ (has_named account after.maildir id ≡ true)
-  pub left : RecordIsSure file from f → (bytes : Option (List ℕ)) (rows : List Row) (intent : Option Intent)
-      → MayLeave (file.disk f) bytes → FileStandsFor bytes rows intent → (id : List ℕ) → is_delivered rows id ≡ true
-      → (is_delivered before.rows id ≡ true)
-      ⊎ ((has_named account after.maildir id ≡ true) ⊎ MayLeave (file.disk from) bytes)

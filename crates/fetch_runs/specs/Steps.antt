@@ -1,70 +1,105 @@
--- A session of the code, as the law over accounts takes it, and what holds of one session, whatever its server says or
--- if it is honest.
-use Rattle.std.specs.Prelude.{◌≡◌, ◌↔◌, ◌⊎◌, ◌+◌, ℕ, true, false, List, [], ◌∷◌, ◌++◌, map, length, Some, Bool}
+-- What holds of one session of the code, whatever its server says, and if it is honest: it loses or changes no stored
+-- text, but for the rest of an open intent's entry in an mboxrd file; it deletes no message that may not be deleted; and
+-- it stores only messages of an honest server's maildrop.
+use Rattle.std.specs.Prelude.{◌≡◌, ◌⊎◌, ◌<◌, ◌-◌, ℕ, Bool, true, List, [], ◌∷◌, ◌++◌, zip, length, Some, slice_get}
+use Rattle.std.specs.List.{AllByRecursion}
 use Rattle.pop3_wire.specs.declared.command.Command.{Command}
-use Rattle.pop3_wire.specs.declared.command.Command.TheVariants.{User, Pass, Stat, UidlAll, ListAll}
-use Rattle.pop3_wire.specs.Honest.{BeginsNext, Honest}
-use Rattle.pop3_client.specs.Turns.{Turn}
+use Rattle.pop3_wire.specs.declared.command.Command.TheVariants.{Dele}
+use Rattle.pop3_wire.specs.Honest.{Honest}
 use Rattle.pop3_wire.specs.Link.{Link}
-use Rattle.fetch_rules.specs.Record.{Row, RecordState}
-use Rattle.mail_store.specs.Maildir.{Maildir}
+use Rattle.pop3_wire.specs.World.{Message}
+use Rattle.mail_terms.specs.Listing.{Item}
 use Rattle.rc_file.specs.Settings.{IsValid}
 use Rattle.rc_file.specs.declared.settings.Settings.{Settings}
-use Rattle.fetch_session.specs.declared.report.Outcome.{Outcome}
-use Rattle.fetch_session.specs.declared.report.Outcome.TheVariants.{Ended, Cut}
-use Rattle.fetch_session.specs.declared.fault.Fault.TheVariants.{StoreRefused, SeenRefused, NoMemory}
-use Rattle.fetch_session.specs.declared.fault.Why.TheVariants.{Refused}
-use Rattle.fetch_session.specs.declared.report.Report.{Report}
-use Rattle.fetch_session.specs.Record.{KeepsRows, Keeps}
-use Rattle.fetch_session.specs.Session.{AccountFiles, Session, MboxAccountFiles, MboxSession}
-use Rattle.run_law.specs.Accounts.{AccountMail}
-use Rattle.run_law.specs.Steps.{Effect, Leaves}
-use Rattle.run_law.specs.Counted.{Counted, Records}
-use Rattle.run_law.specs.Sessions.{Session as Stepped}
-use Rattle.fetch_runs.specs.Conversations.{tail_behind}
-use Rattle.run_law.specs.Safety.{IsSafeSession}
-use Rattle.pop3_wire.specs.World.{Message}
-use Rattle.run_law.specs.HonestSession.{BringsMessages}
+use Rattle.fetch_rules.specs.Record.{RecordState, Row, is_delivered}
+use Rattle.mail_store.specs.FileName.{is_held, mail_file}
 use Rattle.mail_store.specs.FlatFile.{Stored}
-use Rattle.fetch_session.specs.Target.{mail_in}
-use Rattle.run_law.specs.Mboxes.{MboxMail, MboxLeaves, settled, mbox_wanted}
-use Rattle.run_law.specs.MboxCounted.{MboxCounted}
-use Rattle.run_law.specs.MboxSessions.{MboxSession as MboxStepped}
-use Rattle.run_law.specs.MboxSafety.{MboxIsSafe}
-use Rattle.run_law.specs.MboxHonestSession.{AppendsMessages}
-use Rattle.mail_store.specs.Mboxrd.{MboxFile}
+use Rattle.mail_store.specs.Maildir.{File, Maildir}
+use Rattle.mail_store.specs.Mboxrd.{MboxFile, entry_of}
+use Rattle.fetch_session.specs.Record.{Keeps, KeepsRows}
+use Rattle.fetch_session.specs.Session.{AccountFiles, MboxAccountFiles, SessionIn, keeps_entries, keeps_files}
+use Rattle.fetch_session.specs.Target.{AsEntries, AsFiles, mail_in}
+use Rattle.fetch_session.specs.declared.report.Outcome.TheVariants.{Ended}
+use Rattle.fetch_session.specs.declared.report.Report.{Report}
+use Rattle.fetch_runs.specs.Accounts.{AccountMail, listing_of, without_flags}
+use Rattle.fetch_runs.specs.Sessions.{Effect, Leaves, SendsOnly, Session, wanted_at, MboxLeaves, MboxMail, MboxSession}
+use Rattle.fetch_runs.specs.Sessions.{entries_of, mbox_wanted, settled}
+
+abbrev pub IsAmong : {X : Type 0} → X → List X → Type 0
+IsAmong x xs = (front behind : List _) × (xs ≡ front ++ x ∷ behind)
+
+-- the wanted message of this number has the id, and the text that the session got by that number was kept
+abbrev pub WasFetched : List (ℕ × Item) → List (List ℕ) → (List ℕ → Type 0) → ℕ → List ℕ → Type 0
+WasFetched wanted texts WasKept number id = (message : ℕ × Item) × (text : List ℕ)
+    × IsAmong (message, text) (zip wanted texts)
+    × (message.0 ≡ number) × (message.1.uid ≡ id) × WasKept text
+
+-- a DELE gives the number, counted from 1, of a message that may be deleted by this number and its id; no other command
+-- deletes
+abbrev pub DeletesAllowed : List Item → (ℕ → List ℕ → Type 0) → Command → Type 0
+DeletesAllowed listing MayBe (Dele number) =
+    (0 < number) × (item : Item) × (slice_get listing (number - 1) ≡ Some item) × MayBe number item.uid
+DeletesAllowed listing MayBe _ = Unit {0}
+
+-- the id was recorded as delivered before the session, or was held, or the text that the session got by this number is
+-- in one of the files that it added, under the name of the id
+abbrev pub MayBeDeleted : Settings → List ℕ → AccountMail → Effect → List File → ℕ → List ℕ → Type 0
+MayBeDeleted settings account before effect gained number id =
+    ((is_delivered before.rows id ≡ true) ⊎ (is_held account before.maildir id ≡ true))
+    ⊎ WasFetched (wanted_at settings account before effect) effect.texts
+    (λ text. IsAmong (mail_file account id text) gained) number id
+
+-- every file of `new` and `cur` is still there, with what it held; and each DELE that was sent, the last
+-- perhaps in part, asks for such a message
+pub record IsSafeSession (settings : Settings) (account : List ℕ) (before : AccountMail) (sent : List ℕ)
+    (effect : Effect) (after : AccountMail) : Type 0 where
+  pub gained : List File
+  pub came : without_flags after.maildir.files ≡ without_flags before.maildir.files ++ gained
+  pub sends : SendsOnly (DeletesAllowed effect.listing (MayBeDeleted settings account before effect gained)) sent
+
+-- it is one of the maildrop's messages
+abbrev pub IsIn : List Message → Message → Type 0
+IsIn drop message = (place : ℕ) × (slice_get drop place ≡ Some message)
+
+-- the joined listing is the maildrop's, and each of these files has the name of an id of one of its messages, and holds
+-- the message's text
+abbrev pub BringsMessages : List ℕ → List Message → Effect → List File → Type 0
+BringsMessages account drop effect gained = (effect.listing ≡ listing_of drop) × AllByRecursion (λ f.
+    (message : Message) × IsIn drop message × (f ≡ mail_file account message.uid message.text)) gained
+
+-- the whole entry of the text comes after what the settled file held
+abbrev pub StandsAfter : List Item → MboxMail → MboxMail → List ℕ → Type 0
+StandsAfter listing before after text =
+    (front behind : List ℕ) × (after.file ≡ (settled listing before).file ++ (front ++ (entry_of text ++ behind)))
+
+-- the settled record shows the id as delivered, or the session appended the entry of the text that it got by this
+-- number
+abbrev pub MboxMayBeDeleted : Settings → MboxMail → Effect → MboxMail → ℕ → List ℕ → Type 0
+MboxMayBeDeleted settings before effect after number id = (is_delivered (settled effect.listing before).rows id ≡ true)
+    ⊎ WasFetched (mbox_wanted settings before effect) effect.texts (StandsAfter effect.listing before after) number id
+
+-- the file is as it was, or begins with what it held after it was settled; and each DELE that was sent, the
+-- last perhaps in part, asks for such a message
+pub record MboxIsSafe (settings : Settings) (before : MboxMail) (sent : List ℕ) (effect : Effect)
+    (after : MboxMail) : Type 0 where
+  pub file : (after.file ≡ before.file)
+      ⊎ ((more : List ℕ) × (after.file ≡ (settled effect.listing before).file ++ more))
+  pub sends : SendsOnly (DeletesAllowed effect.listing (MboxMayBeDeleted settings before effect after)) sent
+
+-- the joined listing is the maildrop's; what was appended are the entries of messages of the maildrop, with their
+-- texts, and at most a beginning of one more
+pub record AppendsMessages (drop : List Message) (before : MboxMail) (effect : Effect) (after : MboxMail) : Type 0 where
+  pub listing : effect.listing ≡ listing_of drop
+  pub messages : List Message
+  pub each : AllByRecursion (IsIn drop) messages
+  pub rest : List ℕ
+  pub file : after.file ≡ (settled effect.listing before).file ++ (entries_of messages ++ rest)
+  pub at_most : (rest ≡ [])
+      ⊎ ((next : Message) × (behind : List ℕ) × IsIn drop next × (entry_of next.text ≡ rest ++ behind))
 
 -- an account whose record has these rows
 abbrev pub holds : List Row → Maildir → AccountMail
 holds rows maildir = record { rows = rows; maildir = maildir }
-
--- of these turns only the first were sent, which are these commands, and a prefix of the next one's line
-pub record SaysOnly (turns : List Turn) (commands : List Command) (part : List ℕ) : Type 0 where
-  pub later : List Command
-  pub split : turns ≡ map Some (commands ++ later)
-  pub begins : BeginsNext later part
-
--- after LIST only turns that follow the outcome were sent
-pub record StopsAtList (outcome : Outcome) (commands : List Command) (part : List ℕ) : Type 0 where
-  pub name : List ℕ
-  pub word : List ℕ
-  pub more : List Command
-  pub commands_are : commands ≡ User name ∷ Pass word ∷ Stat ∷ UidlAll ∷ ListAll ∷ more
-  pub only : SaysOnly (tail_behind outcome) more part
-
--- the account as it was left, by how many texts the report counts and how many of these are recorded: one
--- more text came whole, and its file may be there, only if the store refused it; one fewer is recorded only
--- if the record wasn't saved; and the record is the old one only if the session was cut and no command of the
--- plan after LIST was begun
-pub record IsCounted (settings : Settings) (account : List ℕ) (before : AccountMail) (effect : Effect)
-    (after : AccountMail) (report : Report) (commands : List Command) (part : List ℕ) : Type 0 where
-  pub figures : Counted settings account before effect after
-  pub retrieved_is : report.retrieved ≡ figures.k
-  pub one_more : figures.k + 1 ≡ length effect.texts → report.outcome ≡ Cut (StoreRefused Refused)
-  pub one_less : figures.j + 1 ≡ figures.k → (report.outcome ≡ Cut SeenRefused) ⊎ (report.outcome ≡ Cut NoMemory)
-  pub recorded : Records settings account before effect figures.j after
-      ⊎ ((after.rows ≡ before.rows) × (effect.texts ≡ []) × (effect.begun ≡ []) × (effect.ended ≡ false)
-      × StopsAtList report.outcome commands part)
 
 -- what the link gained, what was done to the account, and the record that its file stands for afterwards
 pub record IsStep (settings : Settings) (account : List ℕ) (now : ℕ) (link : Link) (before : AccountFiles)
@@ -76,46 +111,24 @@ pub record IsStep (settings : Settings) (account : List ℕ) (now : ℕ) (link :
   pub sent_is : link'.sent ≡ link.sent ++ sent
   pub got_is : link'.got ≡ link.got ++ got
   pub now_is : effect.now ≡ now
-  pub ended_is : (effect.ended ≡ true) ↔ (report.outcome ≡ Ended)
   pub keeps : KeepsRows after.file.content rows'
-  pub stepped : Stepped settings account (holds rows before.maildir) sent got effect (holds rows' after.maildir)
-  pub left : (Leaves (holds rows before.maildir) effect (holds rows' after.maildir) × (report.retrieved ≡ 0))
-      ⊎ IsCounted settings account (holds rows before.maildir) effect
-      (holds rows' after.maildir) report stepped.sends.commands
-      stepped.sends.asked.part
+  pub session : Session settings account (holds rows before.maildir) sent got report effect (holds rows' after.maildir)
 
--- a law: if the record's file stood for these rows, a session is a step
+-- a law: if the record's file stood for these rows, a session is a step that loses and changes no file of
+-- `new` and `cur`, and each DELE that it sent is for a message that was recorded as delivered, or was held,
+-- or whose text it stored. If all that the link gained is honest for a maildrop, it left the account as it was; or
+-- its joined listing is the maildrop's, and each file that it stored is that of one of the maildrop's
+-- messages, with the message's text
 abbrev pub SessionIsAStep : Type 0
 SessionIsAStep = (settings : Settings) (account : List ℕ) (now : ℕ) (link : Link) (before : AccountFiles)
     (rows : List Row) (report : Report) (link' : Link) (after : AccountFiles)
     → IsValid settings → KeepsRows before.file.content rows
-    → Session settings account now link before report link' after
-    → IsStep settings account now link before rows report link' after
-
--- a law: if the record's file stood for these rows, a session is a step that loses and changes no file of
--- `new` and `cur`, and each DELE that it sent is for a message that was recorded as delivered, or was held,
--- or whose text it stored
-abbrev pub AnyServer : Type 0
-AnyServer = (settings : Settings) (account : List ℕ) (now : ℕ) (link : Link) (before : AccountFiles)
-    (rows : List Row) (report : Report) (link' : Link) (after : AccountFiles)
-    → IsValid settings → KeepsRows before.file.content rows
-    → Session settings account now link before report link' after
+    → SessionIn settings (AsFiles account) now link (keeps_files before) report link' (keeps_files after)
     → (step : IsStep settings account now link before rows report link' after)
-    × IsSafeSession settings account (holds rows before.maildir) step.sent step.effect (holds step.rows' after.maildir)
-
--- a law: if all that the link gained is honest for this maildrop, a session left the account as it was; or
--- its joined listing is the maildrop's, and each file that it stored is that of one of the maildrop's
--- messages, with the message's text
-abbrev pub HonestSessions : Type 0
-HonestSessions = (settings : Settings) (account : List ℕ) (now : ℕ) (link : Link) (before : AccountFiles)
-    (rows : List Row) (report : Report) (link' : Link) (after : AccountFiles)
-    (drop : List Message) (marks : List Bool)
-    → IsValid settings → KeepsRows before.file.content rows
-    → Session settings account now link before report link' after
-    → ((sent got : List ℕ) → link'.sent ≡ link.sent ++ sent → link'.got ≡ link.got ++ got → Honest drop sent got marks)
-    → (step : IsStep settings account now link before rows report link' after)
-    × (Leaves (holds rows before.maildir) step.effect (holds step.rows' after.maildir)
-    ⊎ BringsMessages account drop (holds rows before.maildir) step.effect (holds step.rows' after.maildir))
+    × (safe : IsSafeSession settings account (holds rows before.maildir) step.sent step.effect
+    (holds step.rows' after.maildir)) × ((drop : List Message) (marks : List Bool) → Honest drop step.sent step.got marks
+    → Leaves (holds rows before.maildir) step.effect (holds step.rows' after.maildir)
+    ⊎ BringsMessages account drop step.effect safe.gained)
 
 -- ---- with an mboxrd file
 
@@ -127,69 +140,18 @@ mbox_holds record_state mbox = record {
   file = mail_in mbox.content;
 }
 
--- the account as it was left, by how many texts the report counts and how many of these are recorded: one fewer
--- only if the record wasn't saved
-pub record IsMboxCounted (settings : Settings) (before : MboxMail) (effect : Effect) (after : MboxMail)
-    (report : Report) : Type 0 where
-  pub figures : MboxCounted settings before effect after
-  pub retrieved_is : report.retrieved ≡ figures.k
-  pub one_less : figures.j + 1 ≡ figures.k → (report.outcome ≡ Cut SeenRefused) ⊎ (report.outcome ≡ Cut NoMemory)
-
--- what the link gained, what was done to the account, and the record that its file stands for afterwards: the
--- account is as it was, or settled; or it was settled, the listing merged, and texts appended and recorded
+-- the account is as it was, or settled; or it was settled, the listing merged, and texts appended and recorded
 pub record IsMboxStep (settings : Settings) (now : ℕ) (link : Link) (before : MboxAccountFiles)
-    (record_state : RecordState)
-    (report : Report) (link' : Link) (after : MboxAccountFiles) : Type 0 where
+    (held : RecordState) (report : Report) (link' : Link) (after : MboxAccountFiles) : Type 0 where
   pub sent : List ℕ
   pub got : List ℕ
   pub effect : Effect
-  pub record_state' : RecordState
+  pub held' : RecordState
   pub sent_is : link'.sent ≡ link.sent ++ sent
   pub got_is : link'.got ≡ link.got ++ got
   pub now_is : effect.now ≡ now
-  pub ended_is : (effect.ended ≡ true) ↔ (report.outcome ≡ Ended)
-  pub keeps : Keeps after.file.content record_state'
-  pub stepped : MboxStepped settings (mbox_holds record_state before.mbox) sent got effect
-      (mbox_holds record_state' after.mbox)
-  pub left : (MboxLeaves (mbox_holds record_state before.mbox) effect (mbox_holds record_state' after.mbox)
-      × (report.retrieved ≡ 0))
-      ⊎ IsMboxCounted settings (mbox_holds record_state before.mbox) effect (mbox_holds record_state' after.mbox) report
-
--- a law: if the record's file stood for this record, a session is a step
-abbrev pub MboxSessionIsAStep : Type 0
-MboxSessionIsAStep = (settings : Settings) (now : ℕ) (link : Link) (before : MboxAccountFiles)
-    (record_state : RecordState)
-    (report : Report) (link' : Link) (after : MboxAccountFiles)
-    → IsValid settings → Keeps before.file.content record_state
-    → MboxSession settings now link before report link' after
-    → IsMboxStep settings now link before record_state report link' after
-
--- a law: if the record's file stood for this record, a session is a step that keeps what the mboxrd file holds,
--- except for the rest of an open intent's entry, and each DELE that it sent is for a message that was recorded as
--- delivered, or whose entry it appended
-abbrev pub MboxAnyServer : Type 0
-MboxAnyServer = (settings : Settings) (now : ℕ) (link : Link) (before : MboxAccountFiles) (record_state : RecordState)
-    (report : Report) (link' : Link) (after : MboxAccountFiles)
-    → IsValid settings → Keeps before.file.content record_state
-    → MboxSession settings now link before report link' after
-    → (step : IsMboxStep settings now link before record_state report link' after)
-    × MboxIsSafe settings (mbox_holds record_state before.mbox) step.sent step.effect
-    (mbox_holds step.record_state' after.mbox)
-
--- a law: if all that the link gained is honest for this maildrop, a session left the account as it was, its file
--- perhaps cut back; or its joined listing is the maildrop's, and what it appended are the entries of messages of
--- the maildrop, with their texts, and at most a beginning of one more
-abbrev pub MboxHonestSessions : Type 0
-MboxHonestSessions = (settings : Settings) (now : ℕ) (link : Link) (before : MboxAccountFiles)
-    (record_state : RecordState)
-    (report : Report) (link' : Link) (after : MboxAccountFiles)
-    (drop : List Message) (marks : List Bool)
-    → IsValid settings → Keeps before.file.content record_state
-    → MboxSession settings now link before report link' after
-    → ((sent got : List ℕ) → link'.sent ≡ link.sent ++ sent → link'.got ≡ link.got ++ got → Honest drop sent got marks)
-    → (step : IsMboxStep settings now link before record_state report link' after)
-    × (MboxLeaves (mbox_holds record_state before.mbox) step.effect (mbox_holds step.record_state' after.mbox)
-    ⊎ AppendsMessages drop (mbox_holds record_state before.mbox) step.effect (mbox_holds step.record_state' after.mbox))
+  pub keeps : Keeps after.file.content held'
+  pub session : MboxSession settings (mbox_holds held before.mbox) sent got report effect (mbox_holds held' after.mbox)
 
 -- a text came for each wanted message, and the file stands for the texts of the settled file, followed by these, in
 -- order
@@ -198,13 +160,19 @@ pub record AddsTexts (settings : Settings) (before : MboxMail) (effect : Effect)
   pub texts : (first : List (List ℕ)) → MboxFile (settled effect.listing before).file first
       → MboxFile after.file (first ++ effect.texts)
 
--- a law: if the record's file stood for this record, a session is a step, and if it ended, it added these texts
-abbrev pub MboxSessionsAddTexts : Type 0
-MboxSessionsAddTexts = (settings : Settings) (now : ℕ) (link : Link) (before : MboxAccountFiles)
-    (record_state : RecordState)
-    (report : Report) (link' : Link) (after : MboxAccountFiles)
-    → IsValid settings → Keeps before.file.content record_state
-    → MboxSession settings now link before report link' after
-    → (step : IsMboxStep settings now link before record_state report link' after)
+-- a law: if the record's file stood for this record, a session is a step that keeps what the mboxrd file holds,
+-- except for the rest of an open intent's entry, and each DELE that it sent is for a message that was recorded as
+-- delivered, or whose entry it appended. If it ended, it added the texts. If all that the link gained is honest for a
+-- maildrop, it left the account as it was, its file perhaps cut back; or its joined listing is the maildrop's, and what
+-- it appended are the entries of messages of the maildrop, with their texts, and at most a beginning of one more
+abbrev pub MboxSessionIsAStep : Type 0
+MboxSessionIsAStep = (settings : Settings) (now : ℕ) (link : Link) (before : MboxAccountFiles) (held : RecordState)
+    (report : Report) (link' : Link) (after : MboxAccountFiles) → IsValid settings → Keeps before.file.content held
+    → SessionIn settings AsEntries now link (keeps_entries before) report link' (keeps_entries after)
+    → (step : IsMboxStep settings now link before held report link' after)
+    × MboxIsSafe settings (mbox_holds held before.mbox) step.sent step.effect (mbox_holds step.held' after.mbox)
     × (report.outcome ≡ Ended
-    → AddsTexts settings (mbox_holds record_state before.mbox) step.effect (mbox_holds step.record_state' after.mbox))
+    → AddsTexts settings (mbox_holds held before.mbox) step.effect (mbox_holds step.held' after.mbox))
+    × ((drop : List Message) (marks : List Bool) → Honest drop step.sent step.got marks
+    → MboxLeaves (mbox_holds held before.mbox) step.effect (mbox_holds step.held' after.mbox)
+    ⊎ AppendsMessages drop (mbox_holds held before.mbox) step.effect (mbox_holds step.held' after.mbox))

@@ -1,18 +1,20 @@
-//! Laws over what sessions sent and left, for the programs and crates above: a function here does
-//! nothing, and its contract is the law.
-ghost use Rattle.fetch_runs.specs.Calls.{CallsAreSessions, CallsKeepPromises, EmptyAccountsAreKept};
+//! Laws over what sessions sent and left, and over lists of calls, for the programs and crates above: a function here
+//! does nothing, and its contract is the law.
+ghost use Rattle.fetch_runs.specs.Below.{Below};
+ghost use Rattle.fetch_runs.specs.Calls.{CallsKeepPromises, EmptyAccountsAreKept};
 ghost use Rattle.fetch_runs.specs.Conversations.{MboxSessionsFollowPlans, SessionsAreConversations};
 ghost use Rattle.fetch_runs.specs.Fronts.{FrontsAreSessions, UncutSessionsDoTasks};
-ghost use Rattle.fetch_runs.specs.Headline.{Headline, MboxHeadline};
+ghost use Rattle.fetch_runs.specs.Headline.{EmptyFrontsBegin, EntriesMeanTexts, Headline, MboxHeadline};
+ghost use Rattle.fetch_runs.specs.Headline.{MboxStartsInOrder, NoneTaken, StaysAway};
 ghost use Rattle.fetch_runs.specs.Losses.{DurableAccountsAreSafe, DurableFrontsBegin};
-ghost use Rattle.fetch_runs.specs.MboxCalls.{MboxCallsAreSessions, MboxCallsKeepPromises};
-ghost use Rattle.fetch_runs.specs.Steps.{AnyServer, HonestSessions, MboxAnyServer, MboxHonestSessions};
-ghost use Rattle.fetch_runs.specs.Steps.{MboxSessionIsAStep, MboxSessionsAddTexts, SessionIsAStep};
+ghost use Rattle.fetch_runs.specs.Calls.{MboxCallsKeepPromises};
+ghost use Rattle.fetch_runs.specs.Promises.{MboxStarts};
+ghost use Rattle.fetch_runs.specs.Steps.{MboxSessionIsAStep, SessionIsAStep};
 
 use fetch_rules::{
-    appended_counts, bytes_have_one_meaning, files_stand_for_one_record, held_is_delivered,
-    listed_has_row, marked_is_delivered, marked_keeps_rows, plans_fetch_wanted,
-    torn_is_ignored_or_seen,
+    appended_counts, bytes_have_one_meaning, distinct_messages_are_filtered,
+    files_stand_for_one_record, held_is_delivered, listed_has_row, marked_is_delivered,
+    marked_keeps_rows, plans_fetch_wanted, torn_is_ignored_or_seen,
 };
 use fetch_session::{
     sessions_are_durable, sessions_by_store, sessions_keep_files, steady_files_keep,
@@ -20,17 +22,51 @@ use fetch_session::{
 };
 use mail_store::{
     FlatFile, MaildirDisk, account_texts_are_digits, entries_add_texts, flags_tell_what_is_held,
-    names_are_bases, names_have_stems, stems_differ,
+    fronts_of_entries_are_settled, marks_keep_the_base, names_are_bases, names_have_stems,
+    stems_differ,
 };
 use pop3_client::{conversations_are_paced, turns_join};
-use pop3_wire::{Wire, fronts_are_asked};
-use run_law::{
-    counted_stores, fronts_are_prefixes, honest_is_granted, honest_sessions_append_messages,
-    honest_sessions_bring_messages, mbox_counted_stores, mbox_sessions_append,
-    mbox_sessions_are_safe, mbox_starts, mbox_starts_in_order, order_shows_next, others_leave_kept,
-    sessions_are_safe, sessions_are_served, sessions_keep_promises, withdrawn_leave_fronts,
-    withdrawn_leave_mbox_prefixes,
+use pop3_wire::{
+    Wire, fronts_are_asked, only_one_body, only_one_line, only_one_list_of_commands,
+    only_one_list_of_lines, only_one_reading, rows_have_fields,
 };
+
+/// What is taken from the laws of the crates below.
+fn laws_below()
+    ensures { Below }
+{
+    stems_differ();
+    names_have_stems();
+    names_are_bases();
+    marks_keep_the_base();
+    account_texts_are_digits();
+    flags_tell_what_is_held();
+    distinct_messages_are_filtered();
+    plans_fetch_wanted();
+    held_is_delivered();
+    listed_has_row();
+    marked_is_delivered();
+    marked_keeps_rows();
+    files_stand_for_one_record();
+    bytes_have_one_meaning();
+    appended_counts();
+    torn_is_ignored_or_seen();
+    steady_files_keep();
+    unsaved_files_keep();
+    fronts_of_entries_are_settled();
+    entries_add_texts();
+    only_one_line();
+    only_one_reading();
+    only_one_list_of_commands();
+    only_one_body();
+    only_one_list_of_lines();
+    rows_have_fields();
+    fronts_are_asked();
+    turns_join();
+    conversations_are_paced();
+    sessions_keep_files();
+    sessions_are_durable();
+}
 
 /// What a link gains in a session is one conversation that follows the plan. What was sent is the
 /// octets of the plan's first turns and a prefix of the next one's; each turn is begun only after
@@ -42,60 +78,20 @@ use run_law::{
 pub fn sessions_are_conversations()
     ensures { SessionsAreConversations }
 {
-    turns_join();
-    conversations_are_paced();
-    fronts_are_asked();
-}
-
-// A session is a step that the law over accounts takes, with a Maildir and with an mboxrd file.
-#[tactic(auto, using(crate::proofs::Bridge::session_is_a_step, crate::proofs::Bridge::mbox_session_is_a_step))]
-fn sessions_are_steps()
-    ensures maildir { SessionIsAStep }
-    ensures mbox { MboxSessionIsAStep }
-{
-    plans_fetch_wanted();
-    held_is_delivered();
-    listed_has_row();
-    marked_is_delivered();
-    marked_keeps_rows();
-    flags_tell_what_is_held();
-    files_stand_for_one_record();
-    steady_files_keep();
-    unsaved_files_keep();
-    counted_stores();
-    mbox_counted_stores();
-    turns_join();
-    conversations_are_paced();
-    fronts_are_asked();
-}
-
-/// If the record's file stood for a record, a session is a step that the law over accounts takes: its link
-/// gained a conversation that follows the plan, and it left the account as that conversation says.
-pub fn session_is_a_step()
-    ensures { SessionIsAStep }
-{
-    sessions_are_steps();
+    laws_below();
 }
 
 /// If the record's file stood for a record, then, whatever its server says, a session loses and changes
 /// no file of `new` and `cur`, and each DELE that it sent is for a message whose unique-id was recorded
 /// as delivered before, or was held, or whose text it got by the same number and stored. What it
 /// sent of one more command begins the line of such a DELE or of another command.
-pub fn any_server()
-    ensures { AnyServer }
+///
+/// If its server is honest, whatever its maildrop, it leaves the account as it was; or its joined listing is the
+/// maildrop's, and each file that it stores is that of one of the maildrop's messages, with the message's text.
+pub fn session_is_a_step()
+    ensures { SessionIsAStep }
 {
-    session_is_a_step();
-    sessions_are_safe();
-}
-
-/// If its server is honest, whatever its maildrop, a session leaves the account as it was; or its
-/// joined listing is the maildrop's, and each file that it stores is that of one of the
-/// maildrop's messages, with the message's text.
-pub fn honest_sessions()
-    ensures { HonestSessions }
-{
-    session_is_a_step();
-    honest_sessions_bring_messages();
+    laws_below();
 }
 
 /// An uncut session of an account with a Maildir did its tasks.
@@ -110,9 +106,7 @@ pub fn uncut_sessions_do_tasks()
 pub fn fronts_are_sessions()
     ensures { FrontsAreSessions }
 {
-    steady_files_keep();
-    turns_join();
-    honest_is_granted();
+    laws_below();
 }
 
 /// With an mboxrd file: what a link sends in a session is the first commands of a plan, perhaps the
@@ -120,70 +114,22 @@ pub fn fronts_are_sessions()
 pub fn mbox_sessions_follow_plans()
     ensures { MboxSessionsFollowPlans }
 {
-    turns_join();
-    conversations_are_paced();
-    fronts_are_asked();
-}
-
-/// With an mboxrd file: if the record's file stood for a record, a session is a step that the law
-/// over runs takes: its link gained a conversation that follows the plan, and it left the mboxrd
-/// file and the record as that conversation says.
-pub fn mbox_session_is_a_step()
-    ensures { MboxSessionIsAStep }
-{
-    sessions_are_steps();
-}
-
-/// With an mboxrd file: if the record's file stood for a record, a session that ended got a text
-/// for each wanted message, and left a file that stands for the texts of the settled file, followed
-/// by these, in order.
-pub fn mbox_sessions_add_texts()
-    ensures { MboxSessionsAddTexts }
-{
-    mbox_session_is_a_step();
-    entries_add_texts();
-}
-
-/// With an mboxrd file: if its server is honest, whatever its maildrop, a session leaves the account as
-/// it was, its file perhaps cut back; or its joined listing is the maildrop's, and what it appends
-/// are the entries of messages of the maildrop, with their texts, and at most a beginning of one more.
-pub fn mbox_honest_sessions()
-    ensures { MboxHonestSessions }
-{
-    mbox_session_is_a_step();
-    honest_sessions_append_messages();
+    laws_below();
 }
 
 /// With an mboxrd file: if the record's file stood for a record, then, whatever its server says, a
 /// session keeps what the file holds, except for the rest of an entry that an open intent had begun,
 /// and each DELE that it sent is for a message that was recorded as delivered, or whose text it got
-/// by the same number and appended as an entry.
-pub fn mbox_any_server()
-    ensures { MboxAnyServer }
+/// by the same number and appended as an entry. If it ended, it got a text for each wanted message, and left a
+/// file that stands for the texts of the settled file, followed by these, in order.
+///
+/// If its server is honest, whatever its maildrop, it leaves the account as it was, its file perhaps cut back; or
+/// its joined listing is the maildrop's, and what it appends are the entries of messages of the maildrop, with
+/// their texts, and at most a beginning of one more.
+pub fn mbox_session_is_a_step()
+    ensures { MboxSessionIsAStep }
 {
-    mbox_session_is_a_step();
-    mbox_sessions_are_safe();
-}
-
-/// Each call of `session` for an account with a Maildir is a session over accounts, once readers took some
-/// files away while it was under way.
-pub fn calls_are_sessions<W: Wire, D: MaildirDisk, F: FlatFile>()
-    ensures { CallsAreSessions W.Wire D.MaildirDisk F.FlatFile }
-{
-    session_is_a_step();
-    sessions_keep_files();
-    sessions_are_durable();
-    account_texts_are_digits();
-    files_stand_for_one_record();
-    bytes_have_one_meaning();
-    appended_counts();
-    torn_is_ignored_or_seen();
-    marked_is_delivered();
-    held_is_delivered();
-    names_have_stems();
-    names_are_bases();
-    steady_files_keep();
-    unsaved_files_keep();
+    laws_below();
 }
 
 /// The statement, for a Maildir: where a unique-id always names one text, after any list of calls of
@@ -200,15 +146,22 @@ pub fn calls_are_sessions<W: Wire, D: MaildirDisk, F: FlatFile>()
 pub fn calls_keep_promises<W: Wire, D: MaildirDisk, F: FlatFile>()
     ensures { CallsKeepPromises W.Wire D.MaildirDisk F.FlatFile }
 {
-    account_texts_are_digits();
-    calls_are_sessions::<W, D, F>();
-    sessions_keep_promises();
-    others_leave_kept();
-    files_stand_for_one_record();
-    sessions_are_served();
-    names_have_stems();
-    names_are_bases();
+    laws_below();
 }
+
+/// A message that is recorded as delivered and was taken away isn't stored again by a call that reads only what
+/// is new.
+pub fn stays_away<W: Wire, D: MaildirDisk, F: FlatFile>()
+    ensures { StaysAway W.Wire D.MaildirDisk F.FlatFile }
+{
+    laws_below();
+}
+
+/// If no reader takes anything away, nothing counts as taken away.
+#[tactic(auto, using(crate::proofs::Headlines::none_taken))]
+pub fn none_taken()
+    ensures { NoneTaken }
+{}
 
 /// The headline: where a server's unique-ids are distinct and persistent and its mail unchanged, after any list
 /// of calls of `session`, each cut at any reply or refused write, the Maildir holds exactly a prefix of the
@@ -224,17 +177,20 @@ pub fn headline<W: Wire, D: MaildirDisk, F: FlatFile>()
     ensures { Headline W.Wire D.MaildirDisk F.FlatFile }
 {
     calls_keep_promises::<W, D, F>();
-    fronts_are_prefixes();
-    withdrawn_leave_fronts();
-    order_shows_next();
 }
+
+/// In order it begins, if nothing is held or was taken away.
+#[tactic(auto, using(crate::proofs::Headlines::empty_fronts_begin))]
+pub fn empty_fronts_begin()
+    ensures { EmptyFrontsBegin }
+{}
 
 /// A kept state is safe from a loss of power if the files of the account are durable, and nothing else may be
 /// left of the record's file than what it holds: so is what a new device finds after a loss of power.
 pub fn durable_accounts_are_safe<F: FlatFile>()
     ensures { DurableAccountsAreSafe F.FlatFile }
 {
-    files_stand_for_one_record();
+    laws_below();
 }
 
 /// So is a front, if the files of the account are durable: its messages have durable names or were taken away.
@@ -248,15 +204,6 @@ pub fn durable_fronts_begin()
 pub fn empty_accounts_are_kept()
     ensures { EmptyAccountsAreKept }
 {}
-
-/// Each call of `session` for an account with an mboxrd file that reads only what is new is a session over
-/// accounts.
-pub fn mbox_calls_are_sessions<W: Wire, D: MaildirDisk, F: FlatFile>()
-    ensures { MboxCallsAreSessions W.Wire D.MaildirDisk F.FlatFile }
-{
-    sessions_by_store::<W, D, F>();
-    mbox_session_is_a_step();
-}
 
 /// The statement, for an mboxrd file: where a unique-id always names one text, after any list of calls of
 /// `session` that read only what is new, each cut at any reply or refused write, over maildrops in any order
@@ -272,9 +219,21 @@ pub fn mbox_calls_are_sessions<W: Wire, D: MaildirDisk, F: FlatFile>()
 pub fn mbox_calls_keep_promises<W: Wire, D: MaildirDisk, F: FlatFile>()
     ensures { MboxCallsKeepPromises W.Wire D.MaildirDisk F.FlatFile }
 {
-    mbox_calls_are_sessions::<W, D, F>();
-    mbox_sessions_append();
-    mbox_starts();
+    laws_below();
+    sessions_by_store::<W, D, F>();
+}
+
+/// With an mboxrd file: it may begin with any account that has no open intent, also after others wrote.
+#[tactic(auto, using(crate::proofs::MboxPromised::starts))]
+pub fn mbox_starts()
+    ensures { MboxStarts }
+{}
+
+/// If the file held texts before the first call, it holds the same and then those of the entries.
+pub fn entries_mean_texts()
+    ensures { EntriesMeanTexts }
+{
+    laws_below();
 }
 
 /// The headline for an mboxrd file: with a server that keeps its order and one limit on sizes, after any list
@@ -284,9 +243,12 @@ pub fn mbox_calls_keep_promises<W: Wire, D: MaildirDisk, F: FlatFile>()
 pub fn mbox_headline<W: Wire, D: MaildirDisk, F: FlatFile>()
     ensures { MboxHeadline W.Wire D.MaildirDisk F.FlatFile }
 {
-    mbox_calls_are_sessions::<W, D, F>();
-    mbox_sessions_append();
-    withdrawn_leave_mbox_prefixes();
-    mbox_starts_in_order();
-    order_shows_next();
+    laws_below();
+    sessions_by_store::<W, D, F>();
 }
+
+/// With an mboxrd file: this may begin with any file, and with a record that has no open intent
+/// and shows exactly a prefix of the selected messages as delivered, as an empty one does.
+pub fn mbox_starts_in_order()
+    ensures { MboxStartsInOrder }
+{}

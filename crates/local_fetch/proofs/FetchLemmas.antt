@@ -10,12 +10,11 @@ use Rattle.pop3_server.specs.LoopLink.{Loop}
 use Rattle.fetch_session.specs.declared.account.Store.{Store}
 use Rattle.fetch_session.specs.declared.account.Store.TheVariants.{Maildir as InMaildir, Mboxrd as InMbox}
 use Rattle.fetch_session.specs.Target.{is_sound, mail_in}
-use Rattle.run_law.specs.Events.{IsOf, after_session, state_with}
-use Rattle.run_law.specs.Mboxes.{MboxMail}
-use Rattle.run_law.specs.MboxEvents.{base_from}
-use Rattle.run_law.specs.MboxPromises.{MboxStarts}
-use Rattle.fetch_runs.specs.Calls.{Called, CallsKeepPromises, Devices, EmptyAccountsAreKept, IsCall, Others, PowerLost, with_left}
-use Rattle.fetch_runs.specs.MboxCalls.{MboxCallsKeepPromises}
+use Rattle.fetch_runs.specs.Promises.{Devices, IsOf, after_session, state_with}
+use Rattle.fetch_runs.specs.Sessions.{MboxMail}
+use Rattle.fetch_runs.specs.Promises.{MboxStarts, base_from}
+use Rattle.fetch_runs.specs.Calls.{Called, CallsKeepPromises, EmptyAccountsAreKept, IsCall, Others, PowerLost, with_left}
+use Rattle.fetch_runs.specs.Calls.{MboxCallsKeepPromises}
 use Rattle.local_fetch.specs.Local.{loop_to}
 use Rattle.local_fetch.specs.Fetches.{Fetch, FetchesFromNothing, FetchesKeepPromises, IsFetch, MboxFetchesFromNothing}
 use Rattle.local_fetch.specs.Fetches.{MboxFetchesKeepPromises, ServerRemoves, as_call, no_entries, nothing_yet, shown_by}
@@ -56,7 +55,7 @@ module _ {M D F : Type 0} (link : WireGhosts (Loop M)) (disk : DiskGhosts D) (fi
         let (vanished, left, call) = is_call InMaildir mail.text devices fetch is in
         let (shown, held, then) = law mail state devices (Called (as_call drop fetch vanished) ∷ []) shows kept in
         let (promised, (shows', kept')) = then account_is call in
-        let after = after_session mail (with_left mail state promised.left) promised.occasion in
+        let after = after_session mail (with_left mail state promised.left) vanished promised.after in
         (vanished, left, promised, fetches_keep law mail after fetch.after later shows' kept'),
   )
   fetches_keep law mail state devices (Others left account ∷ later) shows kept = (
@@ -84,9 +83,9 @@ module _ {M D F : Type 0} (link : WireGhosts (Loop M)) (disk : DiskGhosts D) (fi
     λ only_new is.
         let (vanished, left, call) = is_call InMbox base.text devices fetch is in
         let (now, held, then) = law base done account devices (Called (as_call drop fetch vanished) ∷ []) shows holds in
-        let (occasion, is_occasion, appends, (shows', holds')) = then only_new call in
-        let on = mbox_fetches_keep law base (done ++ appends.more) occasion.after fetch.after later shows' holds' in
-        (vanished, left, held, occasion, is_occasion, appends, on),
+        let (sent, after, sent_is, shown, appends, (shows', holds')) = then only_new call in
+        let on = mbox_fetches_keep law base (done ++ appends.more) after fetch.after later shows' holds' in
+        (vanished, left, held, sent, after, sent_is, shown, appends, on),
   )
   mbox_fetches_keep law base done account devices (Others left now ∷ later) shows holds = (
     shows,

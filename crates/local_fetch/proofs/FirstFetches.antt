@@ -11,10 +11,10 @@ use Rattle.pop3_wire.specs.World.{Message}
 use Rattle.pop3_wire.specs.declared.wire.Wire.{Ghosts as WireGhosts}
 use Rattle.pop3_server.specs.declared.maildrop.Maildrop.{Ghosts as DropGhosts}
 use Rattle.pop3_server.specs.LoopLink.{Loop}
-use Rattle.run_law.specs.Accounts.{AccountMail, copies}
-use Rattle.run_law.specs.Events.{IsOf, IsSafe, Mail, Occasion, after_session}
+use Rattle.fetch_runs.specs.Accounts.{AccountMail, copies}
+use Rattle.fetch_runs.specs.Promises.{IsOf, IsSafe, Mail, after_session}
 use Rattle.fetch_runs.specs.Calls.{Called, EmptyAccountsAreKept, with_left}
-use Rattle.local_fetch.specs.Fetches.{FetchesKeepPromises, FirstFetchesKeepMail, nothing_yet}
+use Rattle.local_fetch.specs.Fetches.{FetchesKeepPromises, FirstFetchesKeepMail, nothing_yet, shown_by}
 use Rattle.local_fetch.proofs.FetchLemmas.{from_nothing}
 
 -- of no files none is left
@@ -33,9 +33,9 @@ no_copies front (f ∷ fs) none = elim (cases_Bool (bytes_eq front (stem f.name)
 ]
 
 -- none was taken away, so what is safe is held
-held : (mail : Mail) (maildir left : Maildir) (occasion : Occasion AccountMail) (id : List ℕ) → maildir.files ≡ [] → left.files ≡ []
-    → IsSafe mail (after_session mail (with_left mail (nothing_yet maildir) left) occasion) id → is_held mail.account occasion.after.maildir id ≡ true
-held mail maildir left occasion id none none' safe = elim (cases_Bool (is_held mail.account occasion.after.maildir id)) [
+held : (mail : Mail) (maildir left : Maildir) (vanished : List (List ℕ)) (after : AccountMail) (id : List ℕ) → maildir.files ≡ [] → left.files ≡ []
+    → IsSafe mail (after_session mail (with_left mail (nothing_yet maildir) left) vanished after) id → is_held mail.account after.maildir id ≡ true
+held mail maildir left vanished after id none none' safe = elim (cases_Bool (is_held mail.account after.maildir id)) [
   | inl is ↦ is
   | inr isnt ↦ absurd (let never = rw (isnt, none', none) at safe.1 in cc)
 ]
@@ -55,26 +55,22 @@ pub keep_mail : {M D F : Type 0} (link : WireGhosts (Loop M)) (disk : DiskGhosts
 keep_mail link disk file drop empty law mail devices fetch no_file no_record account_is is =
     let (shows, kept, then) = from_nothing link disk file drop empty law mail devices (Called fetch ∷ []) no_file no_record in
     let (vanished, removed, promised, (shows', kept')) = then account_is is in
-    let o = promised.occasion in
     let left_none = none_left promised.taken.gone promised.left.files (rw no_file at promised.taken.files) in
-    let safe_held : (id : List ℕ) → IsSafe mail (after_session mail (with_left mail (nothing_yet (disk.maildir devices.store)) promised.left) o) id
-    → is_held mail.account o.after.maildir id ≡ true =
-    λ id safe. held mail (disk.maildir devices.store) promised.left o id no_file left_none safe in
-    let of_each = subst (AllByRecursion (IsOf mail.text)) (sym promised.is.maildrop) is.maildrop.each in (
+    let safe_held : (id : List ℕ) → IsSafe mail (after_session mail (with_left mail (nothing_yet (disk.maildir devices.store)) promised.left) vanished promised.after) id
+    → is_held mail.account promised.after.maildir id ≡ true =
+    λ id safe. held mail (disk.maildir devices.store) promised.left vanished promised.after id no_file left_none safe in (
       vanished,
       removed,
-      rw (← shows'.maildir, ← promised.is.vanished) (all_by safe_held o.vanished kept'.gone),
+      rw (← shows'.maildir) (all_by safe_held vanished kept'.gone),
       λ ended no_size.
-          subst (AllByRecursion (λ (m : Message). (copies (disk.maildir fetch.after.store).files (stem_of mail.account m.uid) ≡ m.text ∷ [])
-          ⊎ ((0 < fetch.settings.max_count) × (fetch.report.retrieved ≡ fetch.settings.max_count)))) promised.is.maildrop
-          (each (λ m of p. elim p [
+          each (λ m of p. elim p [
             | inl safe ↦
                 let is_there = safe_held m.uid safe in
                 elim (kept'.holds m.uid of.legal) [
-                  | inl none ↦ absurd (true≢false (sym is_there ∙ no_copies (stem_of mail.account m.uid) o.after.maildir.files none))
+                  | inl none ↦ absurd (true≢false (sym is_there ∙ no_copies (stem_of mail.account m.uid) promised.after.maildir.files none))
                   | inr one ↦ inl (rw (← shows'.maildir, of.text) one)
                 ]
-            | inr (inl large) ↦ absurd (true≢false (rw (promised.is.settings, no_size) at large))
-            | inr (inr past) ↦ inr (rw promised.is.settings at past.limit, sym promised.is.retrieved ∙ rw promised.is.settings at past.full)
-          ]) o.maildrop of_each (promised.promises.left_out (promised.is.ended.1 ended))),
+            | inr (inl large) ↦ absurd (true≢false (rw no_size at large))
+            | inr (inr past) ↦ inr (past.limit, past.full)
+          ]) (shown_by drop fetch.server) is.maildrop.each (promised.promises.left_out ended),
     )

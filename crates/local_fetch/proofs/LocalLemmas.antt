@@ -11,7 +11,7 @@ use Rattle.pop3_wire.specs.Link.{Link}
 use Rattle.pop3_wire.specs.Commands.{line_of, can_be_sent}
 use Rattle.pop3_wire.specs.CommandLine.{HasNumbers}
 use Rattle.pop3_wire.specs.World.{Message, IsMessage}
-use Rattle.run_law.specs.Sessions.{IsMarked, Served}
+use Rattle.fetch_runs.specs.Sessions.{IsMarked, Served}
 use Rattle.rc_file.specs.Settings.{IsValid}
 use Rattle.rc_file.specs.declared.settings.Settings.{Settings}
 use Rattle.fetch_rules.specs.Plan.{planned}
@@ -26,13 +26,12 @@ use Rattle.fetch_session.specs.declared.report.Outcome.TheVariants.{Ended, Cut a
 use Rattle.fetch_session.specs.Refusal.{RefusesByOutcome}
 use Rattle.fetch_session.specs.declared.report.Report.{Report}
 use Rattle.fetch_session.specs.Session.{AccountFiles, MboxAccountFiles, Session, MboxSession}
-use Rattle.fetch_runs.specs.Conversations.{SessionsAreConversations, FollowsPlan, MboxSessionsFollowPlans}
+use Rattle.fetch_runs.specs.Conversations.{SessionsAreConversations, FollowsPlan, MboxSessionsFollowPlans, step_commands, plan_commands, IsFrontOfPlan}
 use Rattle.pop3_server.specs.Maildrop.{Mail, there}
 use Rattle.pop3_server.specs.ServerMachine.{Machine}
 use Rattle.pop3_server.specs.HonestLoop.{IsNew, GivesHonest}
 use Rattle.pop3_server.specs.LoopLink.{Loop, Serves}
 use Rattle.local_fetch.specs.Local.{AreWithout, IsServed, loop_to, unused}
-use Rattle.run_law.specs.Plans.{step_commands, plan_commands, IsFrontOfPlan}
 use Rattle.pop3_server.specs.HonestServer.{IsOfSession, IsAsked, AreLeft}
 
 -- what holds of a list holds of its front with another end

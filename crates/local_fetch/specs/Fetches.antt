@@ -20,16 +20,14 @@ use Rattle.fetch_session.specs.declared.report.Outcome.TheVariants.{Ended}
 use Rattle.fetch_session.specs.declared.report.Report.{Report}
 use Rattle.fetch_session.specs.Account.{digits_of}
 use Rattle.fetch_session.specs.Target.{is_sound, mail_in}
-use Rattle.run_law.specs.Accounts.{AccountMail, copies}
-use Rattle.run_law.specs.Events.{Mail, IsMaildrop, IsBetween, Occasion, State, after_session, state_with}
-use Rattle.run_law.specs.Promises.{Kept}
-use Rattle.run_law.specs.Mboxes.{MboxMail}
-use Rattle.run_law.specs.MboxEvents.{Base, HoldsEntries, base_from}
-use Rattle.run_law.specs.MboxPromises.{Appends}
-use Rattle.fetch_runs.specs.Calls.{Call, Called, Devices, Happening, IsLeftByLoss, IsOccasion, IsPromised, Others}
-use Rattle.fetch_runs.specs.Calls.{HoldsNoMore, PowerLost, Shows, account_over, with_left}
+use Rattle.fetch_runs.specs.Accounts.{AccountMail, copies}
+use Rattle.fetch_runs.specs.Promises.{Call, Devices, IsBetween, IsMaildrop, Kept, Mail, State, after_session, state_with}
+use Rattle.fetch_runs.specs.Sessions.{MboxMail}
+use Rattle.fetch_runs.specs.Promises.{AppendsMail, Base, HoldsEntries, base_from}
+use Rattle.fetch_runs.specs.Calls.{Called, Happening, HoldsNoMore, IsLeftByLoss, IsPromised, Others, PowerLost, Shows}
+use Rattle.fetch_runs.specs.Calls.{account_over, with_left}
 use Rattle.fetch_runs.specs.Losses.{IsCrashSafe, KeepsDurable, KeepsFronts}
-use Rattle.fetch_runs.specs.MboxCalls.{ShowsMbox}
+use Rattle.fetch_runs.specs.Calls.{ShowsMbox}
 use Rattle.local_fetch.specs.Local.{AreWithout, WasFetched, loop_to}
 
 -- one call of `fetch_local`, with its server before it, and with the link to it as it was returned
@@ -87,8 +85,8 @@ KeepPromises link disk file drop mail state devices (Called fetch ∷ later) = S
     → IsFetch link disk file drop InMaildir mail.text devices fetch
     → (vanished : List (List ℕ)) × ServerRemoves drop fetch vanished
     × (is : IsPromised link disk file mail state devices (as_call drop fetch vanished))
-    × KeepPromises link disk file drop mail (after_session mail (with_left mail state is.left) is.occasion) fetch.after
-    later)
+    × KeepPromises link disk file drop mail (after_session mail (with_left mail state is.left) vanished is.after)
+    fetch.after later)
 KeepPromises link disk file drop mail state devices (Others left account ∷ later) =
     Shows disk file devices state.account
     × Kept mail state × (Shows disk file left account → IsBetween mail state.account account
@@ -153,10 +151,10 @@ KeepMboxPromises link disk file drop base done account devices (Called fetch ∷
     ShowsMbox file devices account × HoldsEntries base done account × (fetch.settings.read_all ≡ false
     → IsFetch link disk file drop InMbox base.text devices fetch
     → (vanished : List (List ℕ)) × ServerRemoves drop fetch vanished
-    × (holds : HoldsEntries base done account) × (occasion : Occasion MboxMail)
-    × IsOccasion link (as_call drop fetch vanished) (ShowsMbox file fetch.after) occasion
-    × (appends : Appends base holds occasion)
-    × KeepMboxPromises link disk file drop base (done ++ appends.more) occasion.after fetch.after later)
+    × (holds : HoldsEntries base done account) × (sent : List ℕ) × (after : MboxMail)
+    × ((link.history fetch.wire).sent ≡ (link.history (loop_to fetch.server)).sent ++ sent)
+    × ShowsMbox file fetch.after after × (appends : AppendsMail base holds (as_call drop fetch vanished) sent after)
+    × KeepMboxPromises link disk file drop base (done ++ appends.more) after fetch.after later)
 KeepMboxPromises link disk file drop base done account devices (Others left now ∷ later) =
     ShowsMbox file devices account × HoldsEntries base done account × (ShowsMbox file left now
     → (now ≡ account → KeepMboxPromises link disk file drop base done account left later)

@@ -3,12 +3,13 @@ ghost use Rattle.local_fetch.specs.Fetches.{FetchesFromNothing, FetchesKeepPromi
 ghost use Rattle.local_fetch.specs.Fetches.{MboxFetchesFromNothing, MboxFetchesKeepPromises};
 
 use crate::loop_wire::LoopWire;
-use fetch_runs::{calls_keep_promises, empty_accounts_are_kept, mbox_calls_keep_promises};
+use fetch_runs::{
+    calls_keep_promises, empty_accounts_are_kept, mbox_calls_keep_promises, mbox_starts,
+};
 use folder_store::{FolderMaildir, HostFile};
 use mail_store::{FlatFile, MaildirDisk, MemoryFile, MemoryMaildir};
 use pop3_server::{Maildrop, MemoryDrop};
 use pop3_wire::Wire;
-use run_law::mbox_starts;
 use test_devices::{MemoryFolder, MemoryFolders};
 
 /// A law: all that `calls_keep_promises` promises holds of any list of calls of

@@ -2,4 +2,4 @@ use Rattle.fetch_runs.proofs.TalkConversation as lemmas
 use Rattle.fetch_runs.proofs.laws.fronts_are_sessions.Goals as goal
 
 pub returns : goal.returns
-returns c = lemmas.fronts_are_sessions c.steady_files_keep.ensures c.turns_join.ensures c.honest_is_granted.ensures
+returns c = lemmas.fronts_are_sessions c.laws_below.ensures

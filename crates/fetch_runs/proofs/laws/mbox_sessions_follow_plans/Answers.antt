@@ -2,4 +2,4 @@ use Rattle.fetch_runs.proofs.TalkConversation as lemmas
 use Rattle.fetch_runs.proofs.laws.mbox_sessions_follow_plans.Goals as goal
 
 pub returns : goal.returns
-returns c = lemmas.mbox_sessions_follow_plans c.turns_join.ensures c.conversations_are_paced.ensures c.fronts_are_asked.ensures
+returns c = lemmas.mbox_sessions_follow_plans c.laws_below.ensures

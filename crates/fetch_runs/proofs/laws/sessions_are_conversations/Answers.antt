@@ -2,4 +2,4 @@ use Rattle.fetch_runs.proofs.TalkConversation as lemmas
 use Rattle.fetch_runs.proofs.laws.sessions_are_conversations.Goals as goal
 
 pub returns : goal.returns
-returns c = lemmas.sessions_are_conversations c.turns_join.ensures c.conversations_are_paced.ensures c.fronts_are_asked.ensures
+returns c = lemmas.sessions_are_conversations c.laws_below.ensures

@@ -1,0 +1,394 @@
+-- With an mboxrd file, each session that reads only what is new appends entries and keeps its promises.
+use Rattle.std.proofs.Common.{subst, not, length, None, Some, map, ◌⊎◌, slice_get, zero, ◌≡◌, inl, inr, ℕ, List, [], ◌∷◌, ◌++◌, Bool, true, false, refl, sym, ◌∙◌, ap, suc, ◌||◌, take, arith, append_assoc}
+use Rattle.std.specs.Prelude.{bytes_eq, ◌↔◌}
+use Rattle.std.specs.List.{AllByRecursion, count_by, filter}
+use Rattle.std.proofs.lemmas.Bool.{both_ways, false_from_ne_true, or_left, or_right, or_parts}
+use Rattle.std.proofs.lemmas.List.{append-nil, map-append}
+use Rattle.std.proofs.Math.Bool.{or-false}
+use Rattle.std.proofs.Math.Logic.{⊎_elim, ⊎_map}
+use Rattle.mail_terms.specs.UniqueId.{has_id}
+use Rattle.mail_terms.specs.Listing.{Item}
+use Rattle.mail_store.specs.Mboxrd.{entry_of}
+use Rattle.mail_store.specs.Settling.{listed_size}
+use Rattle.mail_terms.specs.Text.{IsWhole}
+use Rattle.std.proofs.lemmas.Grind.{flat_map-append}
+use Rattle.std.proofs.lemmas.Option.{same_Some}
+use Rattle.fetch_runs.specs.Sessions.{AreTexts, Effect, IsHonest, SendsOnly, IsBegun, Served, is_retr, IsOpen, MboxMail, settled, mbox_rows, mbox_wanted, none_held, entries, IsBroken, MboxLeaves, MboxStores, entries_of, MboxSession}
+use Rattle.fetch_rules.specs.Record.{marked, is_delivered, Row, has_row, marked_all}
+use Rattle.pop3_wire.specs.World.{Message}
+use Rattle.fetch_runs.specs.Accounts.{ids_of}
+use Rattle.fetch_runs.specs.Below.{Below}
+use Rattle.fetch_runs.specs.Promises.{IsOf, IsMaildrop, ShowsNext, Call, Base, is_entered, IsOpenFor, Stands, HoldsEntries, IsNext, IsMboxFront, MboxPromises, MboxStarts, AppendsMail}
+use Rattle.fetch_runs.proofs.Promised.{sends_such}
+use Rattle.fetch_runs.proofs.Core.{BeginsWith, next_in, added, added_begins, prefix_after, all_added, parts_apart, IsNumbered, num_item, Fetch, all_wanted, distinct_wanted, wanted_is, taken_is, texts_are, wanted_ids, none_recorded, left_out, qs, wants, wants_placed, has_listed, mbox_fetched}
+use Rattle.fetch_runs.proofs.Lists.{all_ids_at, distinct_filter, filter_all, other_id, bytes_self, Distinct, distinct_is, are_distinct, all_map, all_take, all_append, all_back, all_mapped, members, ids_both, bytes_swap, delivered_unheld, delivered_one, delivered_all, rows_marked}
+use Rattle.fetch_session.specs.declared.report.Outcome.TheVariants.{Ended}
+use Rattle.fetch_runs.proofs.Steps.{mbox_served_session}
+use Rattle.std.proofs.lemmas.List.Folds.{flat_map-map}
+
+-- ---- distinct lists of messages
+
+absent : (ns : List Message) (id : List ℕ) → AllByRecursion (λ (n : Message). bytes_eq n.uid id ≡ false) ns → has_id (ids_of ns) id ≡ false
+absent [] id h = refl
+absent (n ∷ ns) id h = grind (arith, h.0, bytes_swap n.uid id, absent ns id h.1)
+
+distinct_both : (ms ns : List Message) → Distinct (ids_of ms) → Distinct (ids_of ns) → AllByRecursion (λ (n : Message). has_id (ids_of ms) n.uid ≡ false) ns
+    → Distinct (ids_of (ms ++ ns))
+distinct_both [] ns d e h = e
+distinct_both (m ∷ ms) ns d e h = (
+  grind (arith, d.0, ids_both ms ns m.uid, absent ns m.uid (all_map ns h (λ x k. (or_parts _ _ k).0))),
+  distinct_both ms ns d.1 e (all_map ns h (λ x k. (or_parts _ _ k).1)),
+)
+
+or_assoc : (a b c : Bool) → ((a || b) || c) ≡ (a || (b || c))
+or_assoc true b c = refl
+or_assoc false b c = refl
+
+-- ---- entries
+
+pub entries-append : (ms ns : List Message) → entries_of (ms ++ ns) ≡ entries_of ms ++ entries_of ns
+entries-append ms ns = flat_map-append (λ (m : Message). entry_of m.text) ms ns
+
+-- a front of an entry is all of it and counts, or is cut off
+pub settled_is : Below → {bytes uid text : List ℕ} {account : MboxMail} (listing : List Item) → IsWhole text → IsOpen bytes uid text account
+    → (((settled listing account).rows ≡ marked account.rows uid) × ((settled listing account).file ≡ bytes ++ entry_of text))
+    ⊎ (((settled listing account).rows ≡ account.rows) × ((settled listing account).file ≡ bytes))
+settled_is laws {bytes} {uid} {text} listing whole o = ⊎_map (λ counts. (rw (o.intent, o.file, counts.0), rw (o.intent, o.file) (counts.1 ∙ ap (λ l. bytes ++ l) counts.2)))
+    (λ cut. (rw (o.intent, o.file, cut.0), rw (o.intent, o.file) cut.1)) (laws.fronts bytes text o.front o.behind (listed_size listing uid) whole o.entry)
+
+-- the message and the text at one place
+pub at_place : (drop' : List Message) (qs : List (ℕ × Message)) (texts : List (List ℕ)) (n : ℕ) {message : ℕ × Item} {text : List ℕ} → AllByRecursion (IsNumbered drop') qs
+    → AreTexts drop' (map num_item qs) texts → slice_get (map num_item qs) n ≡ Some message → slice_get texts n ≡ Some text
+    → (q : ℕ × Message) × (message ≡ num_item q) × (text ≡ q.1.text) × (take (suc n) qs ≡ take n qs ++ q ∷ [])
+at_place drop' qs [] n h t w g = absurd cc
+at_place drop' [] (x ∷ texts) n h t w g = absurd t
+at_place drop' (q ∷ qs) (x ∷ texts) zero h t w g =
+    let same : t.0.0 ≡ q.1 = same_Some _ _ (sym t.0.1 ∙ h.0.1) in
+    (q, sym (same_Some _ _ w), sym (same_Some _ _ g) ∙ t.0.2 ∙ ap (λ (m : Message). m.text) same, refl)
+at_place drop' (q ∷ qs) (x ∷ texts) (suc n) h t w g =
+    let r = at_place drop' qs texts n h.1 t.1 w g in (r.0, r.1, r.2, ap (λ l. q ∷ l) r.3)
+
+-- ---- what is next
+
+-- all but one
+without_one : (n : Message) (ms later : List Message) → Distinct (ids_of ms) → BeginsWith ms (n ∷ later) → BeginsWith (filter (λ (m : Message). not (bytes_eq m.uid n.uid)) ms) later
+without_one n [] later d begins = (later, refl)
+without_one n (x ∷ xs) later d (more, e) =
+    let same : n ≡ x = cc in
+    let tail : later ≡ xs ++ more = cc in
+    let apart = all_map _ (members xs) (λ m there. ap not (false_from_ne_true _ (λ equal. both_ways _ (other_id x xs m.uid d.0 equal) there))) in
+    subst (λ (k : Message). BeginsWith (filter (λ (m : Message). not (bytes_eq m.uid k.uid)) (x ∷ xs)) later) (sym same)
+    (more, rw (bytes_self x.uid) (tail ∙ ap (λ l. l ++ more) (sym (filter_all (λ (m : Message). not (bytes_eq m.uid x.uid)) xs apart))))
+
+next_less : (limit : ℕ) (done : List Message) (n : Message) (ms : List Message) → next_in limit (done ++ n ∷ []) ms ≡ filter (λ (m : Message). not (bytes_eq m.uid n.uid)) (next_in limit done ms)
+next_less limit done n [] = refl
+next_less limit done n (m ∷ ms) = grind (arith, ids_both done (n ∷ []) m.uid, next_less limit done n ms)
+
+-- ---- a kept state
+
+module _ (base : Base) where
+  pub in_more : (done more : List Message) (id : List ℕ) → is_entered base (done ++ more) id ≡ (is_entered base done id || has_id (ids_of more) id)
+  in_more done more id = ap (λ b. base.had id || b) (ids_both done more id) ∙ sym (or_assoc (base.had id) (has_id (ids_of done) id) (has_id (ids_of more) id))
+
+  -- a maildrop, and none of it was recorded before the first session
+  abbrev AreEntered : List Message → Type 0
+  AreEntered done = IsMaildrop base.text done × AllByRecursion (λ (m : Message). base.had m.uid ≡ false) done
+
+  -- more messages that aren't recorded
+  grown : (done more : List Message) → AreEntered done → AllByRecursion (IsOf base.text) more → Distinct (ids_of more) → AllByRecursion (λ (m : Message). is_entered base done m.uid ≡ false) more
+      → AreEntered (done ++ more)
+  grown done more are each distinct fresh = (
+    record {
+      each = all_append _ _ _ are.0.each each;
+      distinct = are_distinct _ (distinct_both done more (distinct_is done are.0.distinct) distinct (all_map more fresh (λ m f. (or_parts _ _ f).1)));
+    },
+    all_append _ _ _ are.1 (all_map more fresh (λ m f. (or_parts _ _ f).0)),
+  )
+
+  abbrev pub bytes_of : List Message → List ℕ
+  bytes_of done = base.start ++ entries_of done
+
+  bytes_more : (done more : List Message) → bytes_of (done ++ more) ≡ bytes_of done ++ entries_of more
+  bytes_more done more = ap (λ l. base.start ++ l) (entries-append done more) ∙ sym (append_assoc base.start (entries_of done) (entries_of more))
+
+  -- nothing more, or the message whose intent was open
+  abbrev pub IsMore : (bytes : List ℕ) (account : MboxMail) → Stands base bytes account → List Message → Type 0
+  IsMore bytes account (inl closed) more = more ≡ []
+  IsMore bytes account (inr o) more = (more ≡ []) ⊎ (more ≡ o.next ∷ [])
+
+  -- without an open intent the file ends after these entries
+  pub ends_whole : (done : List Message) (account : MboxMail) → HoldsEntries base done account → account.intent ≡ None → account.file ≡ bytes_of done
+  ends_whole done account holds closed = ⊎_elim (λ c. c.1) (λ o. absurd (let never = sym closed ∙ o.opened.intent in cc)) holds.stands
+
+  -- after it was settled the next are these
+  ahead : (limit : ℕ) (done ms : List Message) → Distinct (ids_of ms) → (bytes : List ℕ) (account : MboxMail) (stands : Stands base bytes account) (rest more : List Message) → IsNext base bytes account rest stands
+      → IsMore bytes account stands more → BeginsWith (next_in limit done ms) rest
+      → (later : List Message) × (rest ≡ more ++ later) × BeginsWith (next_in limit (done ++ more) ms) later
+  ahead limit done ms d bytes account (inl closed) rest more next is begins = (rest, rw is refl, rw (is, append-nil) begins)
+  ahead limit done ms d bytes account (inr o) rest more next (inl is) begins = (rest, rw is refl, rw (is, append-nil) begins)
+  ahead limit done ms d bytes account (inr o) rest more next (inr is) begins = (
+    next.0,
+    rw is next.1,
+    rw (is, next_less limit done o.next ms) (without_one o.next (next_in limit done ms) next.0 (distinct_filter _ ms d) (rw next.1 at begins)),
+  )
+
+  -- a closed account whose file is these bytes, with some more entries perhaps
+  abbrev pub Settled : (done : List Message) (bytes : List ℕ) (before : MboxMail) → Stands base bytes before → MboxMail → Type 0
+  Settled done bytes before stands account = (more : List Message) × HoldsEntries base (done ++ more) account × (account.file ≡ bytes_of (done ++ more)) × IsMore bytes before stands more
+
+  module _ (laws : Below) {done : List Message} {before : MboxMail} (kept : HoldsEntries base done before) where
+    no_more : (listing : List Item) → (settled listing before).rows ≡ before.rows → (settled listing before).file ≡ bytes_of done
+        → HoldsEntries base (done ++ []) (settled listing before) × ((settled listing before).file ≡ bytes_of (done ++ []))
+    no_more listing rows file = (rw append-nil (record { are = kept.are; new = kept.new; recorded = rw rows kept.recorded; stands = inl (refl, file) }), rw append-nil file)
+
+    settle_by : (listing : List Item) (stands : Stands base (bytes_of done) before) → Settled done (bytes_of done) before stands (settled listing before)
+    settle_by listing (inl closed) = let same = no_more listing (rw closed.0 refl) (rw closed.0 closed.1) in ([], same.0, same.1, refl)
+    settle_by listing (inr o) = elim (settled_is laws listing o.is.whole o.opened) [
+      | inr (rows, file) ↦ let same = no_more listing rows file in ([], same.0, same.1, inl refl)
+      | inl (rows, file) ↦
+          let longer : (settled listing before).file ≡ bytes_of (done ++ o.next ∷ []) = file ∙ rw (bytes_more done (o.next ∷ [])) (simp append-nil) in (
+            o.next ∷ [],
+            let more = grown done (o.next ∷ []) (kept.are, kept.new) (o.is, tt) (refl, tt) (sym (kept.recorded o.next.uid) ∙ o.unrecorded, tt) in
+                record {
+                  are = more.0;
+                  new = more.1;
+                  recorded = λ id. ap (λ r. is_delivered r id) rows ∙ delivered_one laws before.rows o.next.uid id o.row ∙ ap (λ b. b || bytes_eq id o.next.uid) (kept.recorded id)
+                      ∙ ap (λ b. is_entered base done id || b) (sym (or-false (bytes_eq id o.next.uid))) ∙ sym (in_more done (o.next ∷ []) id);
+                  stands = inl (refl, longer);
+                },
+            longer,
+            inr refl,
+          )
+    ]
+
+    pub settle : (listing : List Item) → Settled done (bytes_of done) before kept.stands (settled listing before)
+    settle listing = settle_by listing kept.stands
+
+    -- an account that is left, its file perhaps cut back
+    module _ (now : MboxMail) (did : Effect) (h : MboxLeaves before did now) where
+      abbrev pub left_stands : Stands base (bytes_of done) before → Stands base (bytes_of done) now
+      left_stands (inl closed) = inl (h.intent ∙ closed.0, elim h.file [ inl same ↦ same ∙ closed.1 | inr cut ↦ cut ∙ rw closed.0 closed.1 ])
+      left_stands (inr o) = inr (record { next = o.next; is = o.is; unrecorded = rw h.rows o.unrecorded; row = rw h.rows o.row; opened = reopened o })
+        where
+          opened : (o : IsOpenFor base (bytes_of done) before) (front behind : List ℕ) → entry_of o.next.text ≡ front ++ behind → now.file ≡ bytes_of done ++ front → IsOpen (bytes_of done) o.next.uid o.next.text now
+          opened o front behind entry file = record { intent = h.intent ∙ o.opened.intent; front = front; behind = behind; entry = entry; file = file }
+
+          reopened : (o : IsOpenFor base (bytes_of done) before) → IsOpen (bytes_of done) o.next.uid o.next.text now
+          reopened o = elim h.file [
+            | inl same ↦ opened o o.opened.front o.opened.behind o.opened.entry (same ∙ o.opened.file)
+            | inr cut ↦ ⊎_elim (λ whole. opened o (entry_of o.next.text) [] (sym (append-nil _)) (cut ∙ whole.1))
+                (λ part. opened o [] (entry_of o.next.text) refl (cut ∙ part.1 ∙ sym (append-nil (bytes_of done))))
+                (settled_is laws did.listing o.is.whole o.opened)
+          ]
+
+      pub left_kept : HoldsEntries base done now
+      left_kept = record { are = kept.are; new = kept.new; recorded = rw h.rows kept.recorded; stands = left_stands kept.stands }
+
+    -- ---- one session that stored something
+
+    module _ {W S F : Type 0} (v : Call W S F) (now : MboxMail) (did : Effect) (is : IsMaildrop base.text v.maildrop) (only_new : v.settings.read_all ≡ false) (s : MboxStores v.settings before did now v.report)
+        (honest : IsHonest (mbox_wanted v.settings before did) v.maildrop did) where
+      abbrev pub rows : List Row
+      rows = mbox_rows before did
+
+      abbrev account : MboxMail
+      account = settled did.listing before
+
+      pub origin : Settled done (bytes_of done) before kept.stands account
+      origin = settle did.listing
+
+      abbrev pub was : List Message
+      was = done ++ origin.0
+
+      pub fetch : Fetch v.settings rows v.maildrop did
+      fetch = record { filtered = laws.filtered; distinct = distinct_is v.maildrop is.distinct; honest = honest }
+
+      abbrev pub new : ℕ → List Message
+      new n = take n (wants v.settings rows v.maildrop)
+
+      all_new : (P : Message → Type 0) (n : ℕ) → AllByRecursion P v.maildrop → AllByRecursion P (new n)
+      all_new P n h = all_take P n _ (all_wanted fetch P h)
+
+      pub known : (id : List ℕ) → is_delivered rows id ≡ is_entered base was id
+      known id = delivered_unheld laws account.rows did.listing did.now id ∙ origin.1.recorded id
+
+      entered_known : (id : List ℕ) → is_entered base done id ≡ true → is_delivered rows id ≡ true
+      entered_known id entered = known id ∙ in_more done origin.0 id ∙ or_left _ _ entered
+
+      fresh : (n : ℕ) → AllByRecursion (λ (m : Message). is_entered base was m.uid ≡ false) (new n)
+      fresh n = all_take _ n _ (all_map _ (none_recorded fetch only_new) (λ m k. sym (known m.uid) ∙ k))
+
+      has_rows : (n : ℕ) → AllByRecursion (λ (m : Message). has_row rows m.uid ≡ true) (new n)
+      has_rows n = all_new _ n (all_map _ (members v.maildrop) (λ m e.
+          laws.listed account.rows did.listing (none_held did.listing) did.now m.uid ∙ or_right _ _ (has_listed v.maildrop honest.listing m.uid ∙ e)))
+
+      rows_are : now.rows ≡ marked_all rows (ids_of (new s.stored))
+      rows_are = s.rows ∙ ap (marked_all rows) (wanted_ids fetch s.stored)
+
+      pub recorded_after : (id : List ℕ) → is_delivered now.rows id ≡ is_entered base (was ++ new s.stored) id
+      recorded_after id = ap (λ r. is_delivered r id) rows_are ∙ delivered_all laws rows (ids_of (new s.stored)) id (all_mapped (λ id. has_row rows id ≡ true) _ _ (has_rows s.stored))
+          ∙ ap (λ b. b || has_id (ids_of (new s.stored)) id) (known id) ∙ sym (in_more was (new s.stored) id)
+
+      pub bytes_are : account.file ++ entries (take s.stored did.texts) ≡ bytes_of (was ++ new s.stored)
+      bytes_are = rw (origin.2, (texts_are fetch (mbox_fetched s)).1, flat_map-map entry_of (λ (m : Message). m.text) (new s.stored)) (sym (bytes_more was (new s.stored)))
+
+      placed : (b : IsBroken v.settings before did s.stored now) → (q : ℕ × Message) × (b.message ≡ num_item q) × (b.text ≡ q.1.text) × (take (suc s.stored) (qs fetch) ≡ take s.stored (qs fetch) ++ q ∷ [])
+      placed b = at_place v.maildrop (qs fetch) did.texts s.stored (wants_placed v.settings rows v.maildrop) (rw (wanted_is fetch) at honest.texts) (rw (wanted_is fetch) at b.wanted) b.got
+
+      broken_taken : (b : IsBroken v.settings before did s.stored now) → new (suc s.stored) ≡ new s.stored ++ (placed b).0.1 ∷ []
+      broken_taken b = rw (← taken_is fetch (suc s.stored), (placed b).3, map-append, taken_is fetch s.stored)
+
+      pub broken : IsBroken v.settings before did s.stored now → IsOpenFor base (bytes_of (was ++ new s.stored)) now
+      broken b =
+          let place = placed b in
+          let next = place.0.1 in
+          let taken = broken_taken b in
+          record {
+            next = next;
+            is = (all_back _ (new s.stored) _ (rw taken at (all_new (IsOf base.text) (suc s.stored) is.each))).0;
+            unrecorded = recorded_after next.uid ∙ in_more was (new s.stored) next.uid ∙ rw (
+              (all_back _ (new s.stored) _ (rw taken at (fresh (suc s.stored)))).0,
+              (parts_apart (new s.stored) (next ∷ []) (rw taken at (distinct_wanted fetch (suc s.stored)))).1 next (members (next ∷ [])).0,
+            ) refl;
+            row = ap (λ r. has_row r next.uid) rows_are ∙ rows_marked laws rows (ids_of (new s.stored)) next.uid ∙ (all_back _ (new s.stored) _ (rw taken at (has_rows (suc s.stored)))).0;
+            opened = record {
+              intent = b.opened.intent ∙ simp (bytes_are, place.1, place.2);
+              front = b.opened.front;
+              behind = b.opened.behind;
+              entry = rw (← place.2) b.opened.entry;
+              file = b.opened.file ∙ rw bytes_are;
+            };
+          }
+
+      pub broken_more : (b : IsBroken v.settings before did s.stored now) → new (suc s.stored) ≡ new s.stored ++ (broken b).next ∷ []
+      unfolding broken
+      broken_more b = broken_taken b
+
+      holds_after : HoldsEntries base (was ++ new s.stored) now
+      holds_after = let more = grown was (new s.stored) (origin.1.are, origin.1.new) (all_new (IsOf base.text) s.stored is.each) (distinct_wanted fetch s.stored) (fresh s.stored) in record {
+        are = more.0;
+        new = more.1;
+        recorded = recorded_after;
+        stands = ⊎_elim (λ c. inl (c.0, c.1 ∙ bytes_are)) (λ b. inr (broken b)) s.ending;
+      }
+
+      -- an uncut session retrieved all that was wanted
+      all_retrieved : did.ended ≡ true → v.report.outcome ≡ Ended → v.report.retrieved ≡ length (mbox_wanted v.settings before did)
+      all_retrieved ended uncut = elim s.marks [
+        | inl same ↦ sym same ∙ sym (s.ended ended).0
+        | inr (less, unsaved, last) ↦ ⊎_elim (λ cut. absurd (let never = sym uncut ∙ cut in cc)) (λ cut. absurd (let never = sym uncut ∙ cut in cc)) unsaved
+      ]
+
+      promises_after : (did.ended ≡ true) ↔ (v.report.outcome ≡ Ended) → {sent : List ℕ} (sends : SendsOnly (IsBegun did.listing did.begun) sent) → (did.ended ≡ true → v.report.retrieved ≡ count_by is_retr sends.commands)
+          → AllByRecursion (λ id. has_id did.begun id ≡ true) v.vanished → MboxPromises base done (was ++ new s.stored) v sent now
+      promises_after ended sends retrieves vanished = record {
+        closed = λ uncut. (s.ended (ended.1 uncut)).1;
+        whole = λ uncut. ends_whole (was ++ new s.stored) now holds_after (s.ended (ended.1 uncut)).1;
+        left_out = λ uncut. all_map _ (left_out fetch (is_entered base done) (all_map _ (members v.maildrop) (λ m _. entered_known m.uid)) s.stored v.report.retrieved (let all = (s.ended (ended.1 uncut)).0 in omega (arith, all)) (all_retrieved (ended.1 uncut) uncut)) (λ m out. elim out [
+          | inl got ↦ inl (in_more was (new s.stored) m.uid ∙ or_right _ _ got)
+          | inr (inl old) ↦ inl (in_more was (new s.stored) m.uid ∙ or_left _ _ (sym (known m.uid) ∙ old))
+          | inr (inr out) ↦ inr out
+        ]);
+        deletes = sends_such (λ id. is_entered base (was ++ new s.stored) id ≡ true) v.maildrop did (inl honest.listing) begun_entered sends;
+        retrieved = λ uncut. retrieves (ended.1 uncut);
+        vanished = all_map _ vanished (λ id b. all_ids_at _ _ begun_entered b);
+      }
+        where
+          begun_entered : AllByRecursion (λ id. is_entered base (was ++ new s.stored) id ≡ true) did.begun
+          begun_entered = all_map _ s.begun (λ id e. sym (recorded_after id) ∙ e)
+
+      -- ---- in order
+
+      module _ (all : List Message) (front : IsMboxFront base kept all) (next : ShowsNext v.settings v.maildrop (front.first ++ done) front.rest) where
+        abbrev Next : Stands base (bytes_of (was ++ new s.stored)) now → Type 0
+        Next stands = (rest : List Message) × (all ≡ (front.first ++ (was ++ new s.stored)) ++ rest) × IsNext base (bytes_of (was ++ new s.stored)) now rest stands
+
+        later : (rest : List Message) × (front.rest ≡ origin.0 ++ rest) × BeginsWith (next_in v.settings.max_size (front.first ++ was) v.maildrop) rest
+        later =
+            let l = ahead v.settings.max_size (front.first ++ done) v.maildrop (distinct_is v.maildrop is.distinct) (bytes_of done) before kept.stands front.rest origin.0 front.next origin.3 next in
+            (l.0, l.1, rw (append_assoc front.first done origin.0) at l.2)
+
+        prefix_was : all ≡ (front.first ++ was) ++ later.0
+        prefix_was = front.prefix ∙ ap (λ (l : List Message). (front.first ++ done) ++ l) later.1 ∙ simp append_assoc
+
+        known_was : (id : List ℕ) → is_delivered rows id ≡ has_id (ids_of (front.first ++ was)) id
+        known_was id = known id ∙ ap (λ b. b || has_id (ids_of was) id) (front.had id) ∙ sym (ids_both front.first was id)
+
+        done_known : AllByRecursion (λ (m : Message). is_delivered rows m.uid ≡ true → has_id (ids_of (front.first ++ was)) m.uid ≡ true) v.maildrop
+        done_known = all_map _ (members v.maildrop) (λ m _ d. sym (known_was m.uid) ∙ d)
+
+        abbrev rest_after : (n : ℕ) → BeginsWith (added fetch (front.first ++ was) later.0 done_known later.2 n) later.0
+        rest_after = added_begins fetch (front.first ++ was) later.0 done_known later.2
+
+        prefix_new : (n : ℕ) → all ≡ (front.first ++ (was ++ new n)) ++ (rest_after n).0
+        prefix_new n = prefix_after fetch (front.first ++ was) later.0 done_known later.2 prefix_was n
+            ∙ ap (λ (l : List Message). l ++ (rest_after n).0) (rw (all_added fetch (front.first ++ was) later.0 done_known later.2 known_was only_new n) (append_assoc front.first was (new n)))
+
+        next_open : (b : IsBroken v.settings before did s.stored now) → Next (inr (broken b))
+        next_open b =
+            let o = broken b in
+            let taken : new (suc s.stored) ≡ new s.stored ++ o.next ∷ [] = broken_more b in
+            (o.next ∷ (rest_after (suc s.stored)).0, prefix_new (suc s.stored) ∙ rw taken (simp append_assoc), ((rest_after (suc s.stored)).0, refl))
+
+        next_after : (ending : ((now.intent ≡ None) × (now.file ≡ account.file ++ entries (take s.stored did.texts))) ⊎ IsBroken v.settings before did s.stored now)
+            → Next (⊎_elim (λ c. inl (c.0, c.1 ∙ bytes_are)) (λ b. inr (broken b)) ending)
+        next_after (inl c) = ((rest_after s.stored).0, prefix_new s.stored, tt)
+        next_after (inr b) = next_open b
+
+        front_after : IsMboxFront base holds_after all
+        unfolding holds_after
+        front_after = let next' = next_after s.ending in record { first = front.first; rest = next'.0; prefix = next'.1; had = front.had; next = next'.2 }
+
+    left_front : (now : MboxMail) (did : Effect) (h : MboxLeaves before did now) (all : List Message) → IsMboxFront base kept all → IsMboxFront base (left_kept now did h) all
+    unfolding left_kept
+    left_front now did h all front = record { first = front.first; rest = front.rest; prefix = front.prefix; had = front.had; next = go kept.stands front.next }
+      where
+        go : (stands : Stands base (bytes_of done) before) → IsNext base (bytes_of done) before front.rest stands → IsNext base (bytes_of done) now front.rest (left_stands now did h stands)
+        go (inl closed) next = tt
+        go (inr o) next = next
+
+    -- ---- one session
+
+    module _ {W S F : Type 0} (v : Call W S F) (sent : List ℕ) (after : MboxMail) where
+      -- what it leaves, with the entries of these messages
+      abbrev Leaves : List Message → Type 0
+      Leaves now = (holds : HoldsEntries base now after) × MboxPromises base done now v sent after
+          × ((all : List Message) → (front : IsMboxFront base kept all) → ShowsNext v.settings v.maildrop (front.first ++ done) front.rest → IsMboxFront base holds all)
+
+      pub appends : {got : List ℕ} (effect : Effect) → IsMaildrop base.text v.maildrop → v.settings.read_all ≡ false → Served v.maildrop sent got v.vanished
+          → MboxSession v.settings before sent got v.report effect after → AppendsMail base kept v sent after
+      appends effect maildrop only_new served session =
+          let step = mbox_served_session laws v.settings before effect session served in
+          elim step.0 [
+            | inl left ↦ by [] (subst Leaves (sym (append-nil done)) (
+              left_kept after effect left,
+              record {
+                closed = λ uncut. absurd (both_ways effect.ended left.ended (session.ended.1 uncut));
+                whole = λ uncut. absurd (both_ways effect.ended left.ended (session.ended.1 uncut));
+                left_out = λ uncut. absurd (both_ways effect.ended left.ended (session.ended.1 uncut));
+                deletes = sends_such (λ id. is_entered base done id ≡ true) v.maildrop effect (inr left.begun) (rw left.begun tt) session.sends;
+                retrieved = λ uncut. session.retrieves (session.ended.1 uncut);
+                vanished = all_map _ step.1 (λ id b. absurd (both_ways false refl (rw left.begun at b)));
+              },
+              λ all front next. left_front after effect left all front,
+            ))
+            | inr (s, honest) ↦
+                let come : List Message = (origin v after effect maildrop only_new s honest).0 in
+                let new' : List Message = new v after effect maildrop only_new s honest s.stored in
+                by (come ++ new') (subst Leaves (append_assoc done come new') (
+                  holds_after v after effect maildrop only_new s honest,
+                  promises_after v after effect maildrop only_new s honest session.ended session.sends session.retrieves step.1,
+                  front_after v after effect maildrop only_new s honest,
+                ))
+          ]
+        where
+          by : (more : List Message) → Leaves (done ++ more) → AppendsMail base kept v sent after
+          by more (holds, promises, in_order) = record { more = more; promises = promises; kept = holds; in_order = in_order }
+
+pub starts : MboxStarts
+starts base account closed = record {
+  are = record { each = tt; distinct = are_distinct [] tt };
+  new = tt;
+  recorded = λ id. sym (or-false (is_delivered account.rows id));
+  stands = inl (closed, sym (append-nil account.file));
+}

@@ -1,0 +1,68 @@
+-- What is taken from the laws of the crates below.
+use Rattle.std.specs.Prelude.{◌≡◌, ◌&&◌, ◌||◌, ℕ, Bool, List, bytes_eq}
+use Rattle.pop3_wire.specs.Honest.{FrontsAreAsked, OneListOfCommands, ScanRowsHaveFields, UidRowsHaveFields}
+use Rattle.pop3_wire.specs.Line.{OneLine}
+use Rattle.pop3_wire.specs.Reading.{OneListOfLines, OneReading}
+use Rattle.pop3_wire.specs.Stuffed.{OneBody}
+use Rattle.pop3_client.specs.Conversation.{ConversationsArePaced, TurnsJoin}
+use Rattle.mail_terms.specs.Listing.{Item, has_item, is_flagged}
+use Rattle.mail_terms.specs.MaildirName.{base}
+use Rattle.rc_file.specs.declared.settings.Settings.{Settings}
+use Rattle.fetch_rules.specs.Plan.{planned, retrieved}
+use Rattle.fetch_rules.specs.Record.{Row, has_row, is_delivered, marked, merged}
+use Rattle.fetch_rules.specs.RecordGrowth.{AppendedCounts, OneMeaning, OneRecord}
+use Rattle.fetch_rules.specs.RecordTorn.{TornIsIgnoredOrSeen}
+use Rattle.fetch_rules.specs.Wanted.{DistinctAreFiltered, wanted}
+use Rattle.mail_store.specs.FileName.{IsAccountText, NamesAreBases, NamesHaveStems, StemsDiffer, account_text, is_held}
+use Rattle.mail_store.specs.FileName.{stem}
+use Rattle.mail_store.specs.Held.{flags_of}
+use Rattle.mail_store.specs.Maildir.{Maildir}
+use Rattle.mail_store.specs.Mboxrd.{EntryAddsText}
+use Rattle.mail_store.specs.Settling.{FrontsAreSettled}
+use Rattle.fetch_session.specs.Laws.{SessionsAreDurable, SessionsKeepFiles, SteadyFilesKeep, UnsavedFilesKeep}
+
+pub record Below : Type 0 where
+  -- names of files
+  pub differ : StemsDiffer
+  pub stems : NamesHaveStems
+  pub bases : NamesAreBases
+  pub own : (name : List ℕ) → stem (base name) ≡ stem name
+  pub digits : (server : List ℕ) (port : ℕ) (username : List ℕ) → IsAccountText (account_text server port username)
+  pub flags : (account : List ℕ) (maildir : Maildir) (items : List Item) (uid : List ℕ)
+      → is_flagged items (flags_of account maildir items) uid ≡ (has_item items uid && is_held account maildir uid)
+  -- what is wanted
+  pub filtered : DistinctAreFiltered
+  pub plans : (settings : Settings) (rows : List Row) (listing : List Item) (now : ℕ)
+      → retrieved (planned settings rows listing now) listing ≡ wanted settings rows listing
+  -- a record after a merge and after a mark, and its file
+  pub merges : (rows : List Row) (listing : List Item) (held : List Bool) (now : ℕ) (uid : List ℕ)
+      → is_delivered (merged rows listing held now) uid ≡ (is_delivered rows uid || is_flagged listing held uid)
+  pub listed : (rows : List Row) (listing : List Item) (held : List Bool) (now : ℕ) (uid : List ℕ)
+      → has_row (merged rows listing held now) uid ≡ (has_row rows uid || has_item listing uid)
+  pub marks : (rows : List Row) (uid other : List ℕ)
+      → is_delivered (marked rows uid) other ≡ (is_delivered rows other || (has_row rows other && bytes_eq uid other))
+  pub keeps : (rows : List Row) (uid other : List ℕ) → has_row (marked rows uid) other ≡ has_row rows other
+  pub one : OneRecord
+  pub meaning : OneMeaning
+  pub counts : AppendedCounts
+  pub torn : TornIsIgnoredOrSeen
+  pub steady : SteadyFilesKeep
+  pub unsaved : UnsavedFilesKeep
+  -- entries
+  pub fronts : FrontsAreSettled
+  pub adds : EntryAddsText
+  -- octets
+  pub line : OneLine
+  pub reading : OneReading
+  pub commands : OneListOfCommands
+  pub body : OneBody
+  pub lines : OneListOfLines
+  pub uids : UidRowsHaveFields
+  pub scans : ScanRowsHaveFields
+  pub asked : FrontsAreAsked
+  -- turns
+  pub joins : TurnsJoin
+  pub paced : ConversationsArePaced
+  -- sessions
+  pub kept : SessionsKeepFiles
+  pub durable : SessionsAreDurable

@@ -1,0 +1,238 @@
+-- What a call of `session` promises, in what the account's files mean, and what holds before and after it. A server may
+-- show any messages, in any order, and each call may have other limits: what stays is that a unique-id names one text.
+use Rattle.std.specs.Prelude.{◌≡◌, ◌⊎◌, ◌<◌, ◌≤◌, ◌-◌, ◌&&◌, ◌||◌, ℕ, Bool, true, false, not, List, [], ◌∷◌, ◌++◌, map}
+use Rattle.std.specs.Prelude.{length, Some, slice_get, None}
+use Rattle.std.specs.List.{AllByRecursion, count_by, filter}
+use Rattle.pop3_wire.specs.World.{Message}
+use Rattle.pop3_wire.specs.declared.command.Command.{Command}
+use Rattle.pop3_wire.specs.declared.command.Command.TheVariants.{Dele}
+use Rattle.mail_terms.specs.Distinct.{AreDistinct}
+use Rattle.mail_terms.specs.Text.{IsWhole}
+use Rattle.mail_terms.specs.UniqueId.{is_legal_id, has_id}
+use Rattle.rc_file.specs.declared.settings.Settings.{Settings}
+use Rattle.fetch_rules.specs.Record.{is_delivered, has_row}
+use Rattle.fetch_rules.specs.Wanted.{is_within}
+use Rattle.mail_store.specs.FileName.{is_held, stem_of, mail_file}
+use Rattle.fetch_session.specs.declared.report.Outcome.TheVariants.{Ended}
+use Rattle.fetch_session.specs.declared.report.Report.{Report}
+use Rattle.fetch_runs.specs.Accounts.{AccountMail, copies, has_named, ids_of, without_flags}
+use Rattle.fetch_runs.specs.Sessions.{SendsOnly, is_retr, IsOpen, MboxMail, entries_of}
+use Rattle.std.proofs.Common.{inl, inr}
+
+-- the devices of an account: its store, which is a Maildir or an mboxrd file, and the record's file
+pub record Devices (S F : Type 0) : Type 0 where
+  pub store : S
+  pub file : F
+
+-- one call of `session`, with the maildrop that its server showed, and the ids that its QUIT removed from the server
+pub record Call (W S F : Type 0) : Type 0 where
+  pub settings : Settings
+  pub now : ℕ
+  pub report : Report
+  pub wire : W
+  pub wire' : W
+  pub after : Devices S F
+  pub maildrop : List Message
+  pub vanished : List (List ℕ)
+
+-- what stays throughout: the account's text, as it is in the names of its files, and the text that each id names
+pub record Mail : Type 0 where
+  pub account : List ℕ
+  pub text : List ℕ → List ℕ
+
+-- a message with a legal id, and the text that the id names; its size may be listed differently each time
+pub record IsOf (text_of : List ℕ → List ℕ) (message : Message) : Type 0 where
+  pub legal : is_legal_id message.uid ≡ true
+  pub whole : IsWhole message.text
+  pub text : message.text ≡ text_of message.uid
+
+-- a maildrop: any such messages, in any order, no two of which share an id
+pub record IsMaildrop (text_of : List ℕ → List ℕ) (maildrop : List Message) : Type 0 where
+  pub each : AllByRecursion (IsOf text_of) maildrop
+  pub distinct : AreDistinct (ids_of maildrop)
+
+-- an account; the ids that are gone from the server; and which messages were taken away: they were held and aren't, or
+-- only under a name that a loss of power may take
+pub record State : Type 0 where
+  pub account : AccountMail
+  pub gone : List (List ℕ)
+  pub taken : List ℕ → Bool
+
+-- the message is held, or was taken away
+abbrev pub is_safe : Mail → State → List ℕ → Bool
+is_safe mail state id = is_held mail.account state.account.maildir id || state.taken id
+
+abbrev pub IsSafe : Mail → State → List ℕ → Type 0
+IsSafe mail state id = (is_legal_id id ≡ true) × (is_safe mail state id ≡ true)
+
+-- each message is in one file with its text, or in none
+abbrev pub HoldsEachOnce : Mail → AccountMail → Type 0
+HoldsEachOnce mail account = (id : List ℕ) → is_legal_id id ≡ true
+    → let texts = copies account.maildir.files (stem_of mail.account id) in (texts ≡ []) ⊎ (texts ≡ mail.text id ∷ [])
+
+-- the state once this is its account: what was held or taken away, and isn't held, was taken away; and what was taken
+-- away before still counts so until a file of it is there whose name is durable
+abbrev pub state_with : Mail → State → AccountMail → State
+state_with mail state after = record {
+  account = after;
+  gone = state.gone;
+  taken = λ id. (is_safe mail state id && not (is_held mail.account after.maildir id))
+      || (state.taken id && not (has_named mail.account after.maildir id));
+}
+
+-- the same after a session, by which these ids are gone from the server
+abbrev pub after_session : Mail → State → List (List ℕ) → AccountMail → State
+after_session mail state vanished after = record (state_with mail state after) { gone = state.gone ++ vanished }
+
+-- others may move, mark, take away and put back files, and lose the record or put back an older one
+pub record IsBetween (mail : Mail) (before after : AccountMail) : Type 0 where
+  pub holds : HoldsEachOnce mail after
+  pub shows_no_more : (id : List ℕ) → is_delivered after.rows id ≡ true → is_delivered before.rows id ≡ true
+
+-- whether a session may fetch a message, if it knows those with such ids
+abbrev pub may_fetch : Settings → (List ℕ → Bool) → Message → Bool
+may_fetch settings is_known m = is_within settings.max_size m.size && (settings.read_all || not (is_known m.uid))
+
+-- the message may be fetched, and as many that may be come before it, and were retrieved, as the limit says; 0 is none
+pub record IsPastCount (settings : Settings) (is_known : List ℕ → Bool) (maildrop : List Message) (retrieved : ℕ)
+    (m : Message) : Type 0 where
+  pub may : may_fetch settings is_known m ≡ true
+  pub limit : 0 < settings.max_count
+  pub full : retrieved ≡ settings.max_count
+  pub front : List Message
+  pub behind : List Message
+  pub place : maildrop ≡ front ++ m ∷ behind
+  pub before : settings.max_count ≤ length (filter (may_fetch settings is_known) front)
+
+-- a DELE gives the number, counted from 1, of a message of the maildrop whose id is of this kind
+abbrev pub DeletesOneOf : List Message → (List ℕ → Type 0) → Command → Type 0
+DeletesOneOf maildrop Is (Dele number) = (0 < number) × (message : Message)
+    × (slice_get maildrop (number - 1) ≡ Some message) × Is message.uid
+DeletesOneOf maildrop Is _ = Unit {0}
+
+-- after an uncut session each message of the maildrop is of this kind, or too large for it, or past its count
+abbrev pub LeavesOut : {W S F : Type 0} → Call W S F → (List ℕ → Bool) → (List ℕ → Type 0) → Type 0
+LeavesOut call is_known Is = call.report.outcome ≡ Ended → AllByRecursion (λ (m : Message).
+    Is m.uid ⊎ (is_within call.settings.max_size m.size ≡ false)
+    ⊎ IsPastCount call.settings is_known call.maildrop call.report.retrieved m) call.maildrop
+
+-- what a maildrop has within the session's limit and isn't done is the first of these
+abbrev pub ShowsNext : Settings → List Message → List Message → List Message → Type 0
+ShowsNext settings maildrop done rest = (more : List Message) × (rest ≡ filter (λ (m : Message).
+    is_within settings.max_size m.size && not (has_id (ids_of done) m.uid)) maildrop ++ more)
+
+-- those that are held or were taken away are exactly the first of these messages
+pub record IsFront (mail : Mail) (state : State) (all : List Message) : Type 0 where
+  pub done : List Message
+  pub rest : List Message
+  pub prefix : all ≡ done ++ rest
+  pub is_done : (id : List ℕ) → is_legal_id id ≡ true → has_id (ids_of done) id ≡ is_safe mail state id
+
+-- what came is of the maildrop and wasn't held, nor recorded, if only what is new is read
+pub record IsNew {W S F : Type 0} (mail : Mail) (before : AccountMail) (call : Call W S F) (m : Message) : Type 0 where
+  pub shown : has_id (ids_of call.maildrop) m.uid ≡ true
+  pub unheld : is_held mail.account before.maildir m.uid ≡ false
+  pub unrecorded : call.settings.read_all ≡ false → is_delivered before.rows m.uid ≡ false
+
+-- a call that sent this, and left this account. Each DELE, the last perhaps in part, is for a message that is held when
+-- the session returns, or was taken away before it began; and an uncut one reports as many texts as it sent RETRs. No
+-- file is lost, only files of new messages come, and what is recorded stays so
+pub record Promises {W S F : Type 0} (mail : Mail) (state : State) (call : Call W S F) (sent : List ℕ)
+    (after : AccountMail) : Type 0 where
+  pub left_out : LeavesOut call (λ id. is_delivered state.account.rows id
+      || is_held mail.account state.account.maildir id) (IsSafe mail (after_session mail state call.vanished after))
+  pub deletes : SendsOnly (DeletesOneOf call.maildrop (IsSafe mail (after_session mail state call.vanished after))) sent
+  pub retrieved : call.report.outcome ≡ Ended → call.report.retrieved ≡ count_by is_retr deletes.commands
+  pub came : List Message
+  pub added : without_flags after.maildir.files ≡ without_flags state.account.maildir.files
+      ++ map (λ (m : Message). mail_file mail.account m.uid m.text) came
+  pub new : AllByRecursion (IsNew mail state.account call) came
+  pub recorded : (id : List ℕ) → is_delivered state.account.rows id ≡ true → is_delivered after.rows id ≡ true
+  pub in_order : (all : List Message) → AllByRecursion (λ (m : Message). is_legal_id m.uid ≡ true) all
+      → (front : IsFront mail state all) → ShowsNext call.settings call.maildrop front.done front.rest
+      → (later : IsFront mail (after_session mail state call.vanished after) all)
+      × (later.done ≡ front.done ++ filter (λ (m : Message). not (has_id (ids_of front.done) m.uid)) came)
+
+-- each message is held once; what is recorded, or is gone from the server, is held or was taken away
+pub record Kept (mail : Mail) (state : State) : Type 0 where
+  pub holds : HoldsEachOnce mail state.account
+  pub recorded : (id : List ℕ) → is_delivered state.account.rows id ≡ true → IsSafe mail state id
+  pub gone : AllByRecursion (IsSafe mail state) state.gone
+
+-- ---- with an mboxrd file
+
+-- the file before the first session; whether an id was recorded as delivered then; and the text that each id names
+pub record Base : Type 0 where
+  pub start : List ℕ
+  pub had : List ℕ → Bool
+  pub text : List ℕ → List ℕ
+
+-- the id is that of one of these messages, or was recorded before the first session
+abbrev pub is_entered : Base → List Message → List ℕ → Bool
+is_entered base done id = base.had id || has_id (ids_of done) id
+
+-- what others leave counts as from before the first session; no intent is open then
+abbrev pub base_from : Base → MboxMail → Base
+base_from base after = record base { start = after.file; had = λ id. is_delivered after.rows id }
+
+-- the intent to append the entry of a message that isn't recorded is open, and a prefix of it may follow these bytes
+pub record IsOpenFor (base : Base) (bytes : List ℕ) (account : MboxMail) : Type 0 where
+  pub next : Message
+  pub is : IsOf base.text next
+  pub unrecorded : is_delivered account.rows next.uid ≡ false
+  pub row : has_row account.rows next.uid ≡ true
+  pub opened : IsOpen bytes next.uid next.text account
+
+-- no intent is open, and the file is these bytes; or one is
+abbrev pub Stands : Base → List ℕ → MboxMail → Type 0
+Stands base bytes account = ((account.intent ≡ None) × (account.file ≡ bytes)) ⊎ IsOpenFor base bytes account
+
+-- the file is the one before the first session, then the entries of these messages, in this order, each once, and then
+-- perhaps a prefix of another one's, whose intent is open. These are recorded, and what was before the first session
+pub record HoldsEntries (base : Base) (done : List Message) (account : MboxMail) : Type 0 where
+  pub are : IsMaildrop base.text done
+  pub new : AllByRecursion (λ (m : Message). base.had m.uid ≡ false) done
+  pub recorded : (id : List ℕ) → is_delivered account.rows id ≡ is_entered base done id
+  pub stands : Stands base (base.start ++ entries_of done) account
+
+-- an open intent is that of the first of these
+abbrev pub IsNext : (base : Base) (bytes : List ℕ) (account : MboxMail) → List Message → Stands base bytes account
+    → Type 0
+IsNext base bytes account rest (inl closed) = Unit {0}
+IsNext base bytes account rest (inr o) = (more : List Message) × (rest ≡ o.next ∷ more)
+
+-- the messages that have entries, after those that were recorded before the first session, are exactly the first of
+-- these, and an open intent is that of the next
+pub record IsMboxFront (base : Base) {done : List Message} {account : MboxMail} (holds : HoldsEntries base done account)
+    (all : List Message) : Type 0 where
+  pub first : List Message
+  pub rest : List Message
+  pub prefix : all ≡ (first ++ done) ++ rest
+  pub had : (id : List ℕ) → base.had id ≡ has_id (ids_of first) id
+  pub next : IsNext base (base.start ++ entries_of done) account rest holds.stands
+
+-- after an uncut session no intent is open, and the file ends after a whole entry. Each DELE, the last perhaps in part,
+-- and what QUIT removes is of a message that has its whole entry at the end, or was recorded before the first session
+pub record MboxPromises {W S F : Type 0} (base : Base) (before done : List Message) (call : Call W S F)
+    (sent : List ℕ) (after : MboxMail) : Type 0 where
+  pub closed : call.report.outcome ≡ Ended → after.intent ≡ None
+  pub whole : call.report.outcome ≡ Ended → after.file ≡ base.start ++ entries_of done
+  pub left_out : LeavesOut call (is_entered base before) (λ id. is_entered base done id ≡ true)
+  pub deletes : SendsOnly (DeletesOneOf call.maildrop (λ id. is_entered base done id ≡ true)) sent
+  pub retrieved : call.report.outcome ≡ Ended → call.report.retrieved ≡ count_by is_retr deletes.commands
+  pub vanished : AllByRecursion (λ id. is_entered base done id ≡ true) call.vanished
+
+-- a call adds the entries of these messages, in the order in which they were fetched, and keeps its promises. If
+-- the server shows the messages of a list in their order, the first of these have entries
+pub record AppendsMail {W S F : Type 0} (base : Base) {done : List Message} {before : MboxMail}
+    (holds : HoldsEntries base done before) (call : Call W S F) (sent : List ℕ) (after : MboxMail) : Type 0 where
+  pub more : List Message
+  pub promises : MboxPromises base done (done ++ more) call sent after
+  pub kept : HoldsEntries base (done ++ more) after
+  pub in_order : (all : List Message) → (front : IsMboxFront base holds all)
+      → ShowsNext call.settings call.maildrop (front.first ++ done) front.rest → IsMboxFront base kept all
+
+-- a law: it may begin with any account that has no open intent, also after others wrote its file or its record
+abbrev pub MboxStarts : Type 0
+MboxStarts = (base : Base) (account : MboxMail) → account.intent ≡ None
+    → HoldsEntries (base_from base account) [] account
