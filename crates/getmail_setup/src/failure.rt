@@ -1,9 +1,9 @@
 //! Why a run ends before its session: the line on standard error, and the exit status.
-ghost use Rattle.std.specs.Prelude.{◌≡◌, ◌≢◌, ◌⊎◌, ◌≤◌, true, false};
+ghost use Rattle.std.specs.Prelude.{◌≡◌, ◌≢◌, ◌⊎◌, ◌≤◌, ℕ, List, true, false};
 ghost use Rattle.std.specs.IoError.{error_kind};
 ghost use Rattle.clap.specs.Values.{kind_of};
 ghost use Rattle.command_line.specs.Rules.{is_asked_for};
-ghost use Rattle.getmail_setup.specs.Failures.{status_of, unconnected_line};
+ghost use Rattle.getmail_setup.specs.Failures.{IsLine, IsRcLine, line_with, other_list_line, status_of, unconnected_line};
 ghost use Rattle.getmail_setup.specs.Output.{Puts};
 ghost use Rattle.getmail_setup.specs.Places.{peer_name};
 
@@ -83,26 +83,36 @@ pub fn failure_of<'a>(error: io::Error, failure: Failure<'a>) -> Failure<'a>
     }
 }
 
+/// Writes a text as a line.
+#[tactic(auto, using(crate::proofs::OutputLemmas::puts_three))]
+fn put_text<E: Write>(text: &str, err: &mut Output<E>)
+    ensures { Puts E.contents err.old (line_with text.now) err.new }
+{
+    err.put(b"getmail: ");
+    err.put(text.as_bytes());
+    err.put(b"\n");
+}
+
 /// Writes the line of an rc file's fault.
-fn tell_rc_fault<E: Write>(alloc: Global, fault: &RcFault, err: &mut Output<E>) {
+fn tell_rc_fault<E: Write>(alloc: Global, fault: &RcFault, err: &mut Output<E>)
+    ensures { (line : List ℕ) × IsRcLine fault.now line × Puts E.contents err.old line err.new }
+{
     match rc_text(alloc, fault) {
-        Ok(text) => {
-            err.put(b"getmail: ");
-            err.put(text.as_bytes());
-            err.put(b"\n");
-        }
+        Ok(text) => put_text(text.as_str(), err),
         Err(_) => err.put(OUT_OF_MEMORY.as_bytes()),
     }
 }
 
 /// Writes the line of a first run in getmail6's place, which would fetch all mail again.
-fn tell_other_list<E: Write>(list: &str, record: &str, err: &mut Output<E>) {
+fn tell_other_list<E: Write>(list: &str, path: &str, err: &mut Output<E>)
+    ensures { Puts E.contents err.old (other_list_line list.now path.now) err.new }
+{
     err.put(b"getmail: ");
     err.put(list.as_bytes());
     err.put(
         b" lists what getmail6 fetched: make a record of it with from-getmail6.py, or an empty file ",
     );
-    err.put(record.as_bytes());
+    err.put(path.as_bytes());
     err.put(b" to fetch all mail\n");
 }
 
@@ -130,11 +140,9 @@ fn tell_unconnected<E: Write>(server: &str, port: u16, err: &mut Output<E>)
     err.put(b"\n");
 }
 
-/// Writes a failure's line and returns the exit status: 1 if another run is at work or there was no
-/// connection, 2 for all that is found before. A line that can't be written changes nothing.
-pub fn tell<E: Write>(alloc: Global, failure: Failure<'_>, err: &mut Output<E>) -> u8
-    ensures status { result ≡ status_of failure.entry }
-    ensures within { result ≤ 2 }
+/// Writes a failure's line.
+fn put_line<E: Write>(alloc: Global, failure: Failure<'_>, err: &mut Output<E>)
+    ensures { (line : List ℕ) × IsLine failure.entry line × Puts E.contents err.old line err.new }
 {
     match failure {
         Failure::NoHome => err.put(b"getmail: HOME is not set\n"),
@@ -145,6 +153,16 @@ pub fn tell<E: Write>(alloc: Global, failure: Failure<'_>, err: &mut Output<E>) 
         Failure::CannotConnect(server, port) => tell_unconnected(server, port, err),
         Failure::NoMemory => err.put(OUT_OF_MEMORY.as_bytes()),
     }
+}
+
+/// Writes a failure's line and returns the exit status: 1 if another run is at work or there was no
+/// connection, 2 for all that is found before. A line that can't be written changes nothing.
+pub fn tell<E: Write>(alloc: Global, failure: Failure<'_>, err: &mut Output<E>) -> u8
+    ensures status { result ≡ status_of failure.entry }
+    ensures within { result ≤ 2 }
+    ensures line { (line : List ℕ) × IsLine failure.entry line × Puts E.contents err.old line err.new }
+{
+    put_line(alloc, failure, err);
     match failure {
         Failure::AtWork | Failure::CannotConnect(_, _) => 1,
         _ => 2,
