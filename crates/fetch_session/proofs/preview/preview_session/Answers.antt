@@ -1,4 +1,4 @@
-use Rattle.std.proofs.Common.{refl, rules, inl, Err}
+use Rattle.std.proofs.Common.{refl, rules, inl, Ok, Err}
 use Rattle.fetch_session.proofs.ReadyLemmas.{followed, untaken}
 use Rattle.pop3_client.specs.Turns.{quit}
 use Rattle.pop3_wire.proofs.LinkLemmas.{in_words}
@@ -20,3 +20,20 @@ returns-in_err-quit-clause-previews g c = rw (err_is c.from_residual-in_err-quit
 pub returns-in_err-listing-clause-previews : goal.returns-in_err-listing-clause-previews
 returns-in_err-listing-clause-previews g c = rw (err_is c.from_residual.ensures.1) (link_alone (in_words g.W.Wire c.in_err-listing.ensures.enters (λ entered.
     untaken _ (inl (record { why = c.in_err-listing.field-0.0; is = refl; enters = entered; nothing = search rules }), search rules))))
+
+pub returns-clause-previews : goal.returns-clause-previews
+returns-clause-previews g c = λ w d f.
+    let completes = c.in_ok-quit.ensures.completes w in
+    let entered = c.in_ok-listing.ensures.enters completes.0 in
+    let ahead = c.in_ok-preview.ensures.previews d f in
+    followed (entered.0, ahead.0, ahead.1, entered.1, ahead.2) entered.0 (g.met.W.Wire.leads_on _ _ _ entered.1 completes.1) (λ left is. (
+      record {
+        items = c.in_ok-listing.listing;
+        mid = _;
+        enters = entered.2;
+        total = c.len-preview.ensures.count;
+        previews = is.0;
+        quits = completes_talks quit _ _ (Ok c.in_ok-quit.field-0) completes.2;
+      },
+      is.1,
+    ))
