@@ -252,7 +252,7 @@ class RefusedSteps(Shared):
                 self.assertEqual(len(account.content()), 149)
 
     def test_an_entry_whose_append_is_refused_and_then_memory(self):
-        """With each growth refused in turn: if memory ran out, no intent is open."""
+        """With each growth refused in turn: if memory ran out, an intent is open only if its entry is whole."""
         self.server.messages = [(b"a", b"one\n"), (b"b", b"two\n"), (b"c", b"three\n")]
         number = self.number_of("write", "mbox", 2)
         ends = collections.Counter()
@@ -260,7 +260,8 @@ class RefusedSteps(Shared):
             with self.subTest(growth=refusal.number), MboxAccount(self.server.port) as account:
                 run, _ = self.refused_session(account, number, growth=refusal)
                 _, intent = account.known()
-                ends[run.err, intent is not None] += 1
+                is_short = intent is not None and int(intent[1]) + int(intent[2]) > len(account.content())
+                ends[run.err, is_short] += 1
                 self.check_completed(account, self.server.messages)
         wants = b"getmail: out of memory\n"
         self.assertGreater(ends[REFUSED.err, False], 0)
