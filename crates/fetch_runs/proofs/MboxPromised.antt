@@ -1,5 +1,5 @@
 -- With an mboxrd file, each session that reads only what is new appends entries and keeps its promises.
-use Rattle.std.proofs.Common.{subst, not, length, None, Some, map, ◌⊎◌, slice_get, zero, ◌≡◌, inl, inr, ℕ, List, [], ◌∷◌, ◌++◌, Bool, true, false, refl, sym, ◌∙◌, ap, suc, ◌||◌, take, arith, append_assoc}
+use Rattle.std.proofs.Common.{subst, not, length, None, Some, map, ◌⊎◌, slice_get, zero, ◌≡◌, inl, inr, ℕ, List, [], ◌∷◌, ◌++◌, Bool, true, false, refl, sym, ◌∙◌, ap, suc, ◌||◌, take, arith, append_assoc, ◌+◌}
 use Rattle.std.specs.Prelude.{bytes_eq, ◌↔◌}
 use Rattle.std.specs.List.{AllByRecursion, count_by, filter}
 use Rattle.std.proofs.lemmas.Bool.{both_ways, false_from_ne_true, or_left, or_right, or_parts}
@@ -9,16 +9,16 @@ use Rattle.std.proofs.Math.Logic.{⊎_elim, ⊎_map}
 use Rattle.mail_terms.specs.UniqueId.{has_id}
 use Rattle.mail_terms.specs.Listing.{Item}
 use Rattle.mail_store.specs.Mboxrd.{entry_of}
-use Rattle.mail_store.specs.Settling.{listed_size}
+use Rattle.mail_store.specs.Settling.{MayBeLeft, listed_size}
 use Rattle.mail_terms.specs.Text.{IsWhole}
 use Rattle.std.proofs.lemmas.Grind.{flat_map-append}
 use Rattle.std.proofs.lemmas.Option.{same_Some}
-use Rattle.fetch_runs.specs.Sessions.{AreTexts, Effect, IsHonest, SendsOnly, IsBegun, Served, is_retr, IsOpen, MboxMail, settled, mbox_rows, mbox_wanted, none_held, entries, IsBroken, MboxLeaves, MboxStores, entries_of, MboxSession}
+use Rattle.fetch_runs.specs.Sessions.{AreTexts, Effect, IsHonest, SendsOnly, IsBegun, Served, is_retr, MboxMail, settled, mbox_rows, mbox_wanted, none_held, entries, IsBroken, MboxLeaves, MboxStores, entries_of, MboxSession}
 use Rattle.fetch_rules.specs.Record.{marked, is_delivered, Row, has_row, marked_all}
 use Rattle.pop3_wire.specs.World.{Message}
 use Rattle.fetch_runs.specs.Accounts.{ids_of}
 use Rattle.fetch_runs.specs.Below.{Below}
-use Rattle.fetch_runs.specs.Promises.{IsOf, IsMaildrop, ShowsNext, Call, Base, is_entered, IsOpenFor, Stands, HoldsEntries, IsNext, IsMboxFront, MboxPromises, MboxStarts, AppendsMail}
+use Rattle.fetch_runs.specs.Promises.{IsOf, IsMaildrop, ShowsNext, Call, Base, is_entered, IsOpenAfter, IsOpenFor, Stands, HoldsEntries, IsNext, IsMboxFront, MboxPromises, MboxStarts, AppendsMail}
 use Rattle.fetch_runs.proofs.Promised.{sends_such}
 use Rattle.fetch_runs.proofs.Core.{BeginsWith, next_in, added, added_begins, prefix_after, all_added, parts_apart, IsNumbered, num_item, Fetch, all_wanted, distinct_wanted, wanted_is, taken_is, texts_are, wanted_ids, none_recorded, left_out, qs, wants, wants_placed, has_listed, mbox_fetched}
 use Rattle.fetch_runs.proofs.Lists.{all_ids_at, distinct_filter, filter_all, other_id, bytes_self, Distinct, distinct_is, are_distinct, all_map, all_take, all_append, all_back, all_mapped, members, ids_both, bytes_swap, delivered_unheld, delivered_one, delivered_all, rows_marked}
@@ -49,12 +49,17 @@ or_assoc false b c = refl
 pub entries-append : (ms ns : List Message) → entries_of (ms ++ ns) ≡ entries_of ms ++ entries_of ns
 entries-append ms ns = flat_map-append (λ (m : Message). entry_of m.text) ms ns
 
--- a front of an entry is all of it and counts, or is cut off
-pub settled_is : Below → {bytes uid text : List ℕ} {account : MboxMail} (listing : List Item) → IsWhole text → IsOpen bytes uid text account
+-- a front of bytes is among what a loss of power may leave of them
+pub front_left : (place : ℕ) (front behind : List ℕ) → MayBeLeft place (front ++ behind) front
+front_left place [] behind = tt
+front_left place (byte ∷ front) behind = (inl refl, front_left (place + 1) front behind)
+
+-- what is left of an entry is all of it and counts, or is cut off
+pub settled_is : Below → {bytes uid text : List ℕ} {account : MboxMail} (listing : List Item) → IsWhole text → IsOpenAfter bytes uid text account
     → (((settled listing account).rows ≡ marked account.rows uid) × ((settled listing account).file ≡ bytes ++ entry_of text))
     ⊎ (((settled listing account).rows ≡ account.rows) × ((settled listing account).file ≡ bytes))
 settled_is laws {bytes} {uid} {text} listing whole o = ⊎_map (λ counts. (rw (o.intent, o.file, counts.0), rw (o.intent, o.file) (counts.1 ∙ ap (λ l. bytes ++ l) counts.2)))
-    (λ cut. (rw (o.intent, o.file, cut.0), rw (o.intent, o.file) cut.1)) (laws.fronts bytes text o.front o.behind (listed_size listing uid) whole o.entry)
+    (λ cut. (rw (o.intent, o.file, cut.0), rw (o.intent, o.file) cut.1)) (laws.leftovers bytes text o.part (listed_size listing uid) whole o.left)
 
 -- the message and the text at one place
 pub at_place : (drop' : List Message) (qs : List (ℕ × Message)) (texts : List (List ℕ)) (n : ℕ) {message : ℕ × Item} {text : List ℕ} → AllByRecursion (IsNumbered drop') qs
@@ -170,14 +175,14 @@ module _ (base : Base) where
       left_stands (inl closed) = inl (h.intent ∙ closed.0, elim h.file [ inl same ↦ same ∙ closed.1 | inr cut ↦ cut ∙ rw closed.0 closed.1 ])
       left_stands (inr o) = inr (record { next = o.next; is = o.is; unrecorded = rw h.rows o.unrecorded; row = rw h.rows o.row; opened = reopened o })
         where
-          opened : (o : IsOpenFor base (bytes_of done) before) (front behind : List ℕ) → entry_of o.next.text ≡ front ++ behind → now.file ≡ bytes_of done ++ front → IsOpen (bytes_of done) o.next.uid o.next.text now
-          opened o front behind entry file = record { intent = h.intent ∙ o.opened.intent; front = front; behind = behind; entry = entry; file = file }
+          opened : (o : IsOpenFor base (bytes_of done) before) (part : List ℕ) → MayBeLeft (length (bytes_of done)) (entry_of o.next.text) part → now.file ≡ bytes_of done ++ part → IsOpenAfter (bytes_of done) o.next.uid o.next.text now
+          opened o part left file = record { intent = h.intent ∙ o.opened.intent; part = part; left = left; file = file }
 
-          reopened : (o : IsOpenFor base (bytes_of done) before) → IsOpen (bytes_of done) o.next.uid o.next.text now
+          reopened : (o : IsOpenFor base (bytes_of done) before) → IsOpenAfter (bytes_of done) o.next.uid o.next.text now
           reopened o = elim h.file [
-            | inl same ↦ opened o o.opened.front o.opened.behind o.opened.entry (same ∙ o.opened.file)
-            | inr cut ↦ ⊎_elim (λ whole. opened o (entry_of o.next.text) [] (sym (append-nil _)) (cut ∙ whole.1))
-                (λ part. opened o [] (entry_of o.next.text) refl (cut ∙ part.1 ∙ sym (append-nil (bytes_of done))))
+            | inl same ↦ opened o o.opened.part o.opened.left (same ∙ o.opened.file)
+            | inr cut ↦ ⊎_elim (λ whole. opened o (entry_of o.next.text) (subst (λ l. MayBeLeft (length (bytes_of done)) l (entry_of o.next.text)) (append-nil (entry_of o.next.text)) (front_left (length (bytes_of done)) (entry_of o.next.text) [])) (cut ∙ whole.1))
+                (λ part. opened o [] tt (cut ∙ part.1 ∙ sym (append-nil (bytes_of done))))
                 (settled_is laws did.listing o.is.whole o.opened)
           ]
 
@@ -253,9 +258,9 @@ module _ (base : Base) where
             row = ap (λ r. has_row r next.uid) rows_are ∙ rows_marked laws rows (ids_of (new s.stored)) next.uid ∙ (all_back _ (new s.stored) _ (rw taken at (has_rows (suc s.stored)))).0;
             opened = record {
               intent = b.opened.intent ∙ simp (bytes_are, place.1, place.2);
-              front = b.opened.front;
-              behind = b.opened.behind;
-              entry = rw (← place.2) b.opened.entry;
+              part = b.opened.front;
+              left = subst (λ l. MayBeLeft (length (bytes_of (was ++ new s.stored))) l b.opened.front) (sym (ap entry_of (sym place.2) ∙ b.opened.entry))
+                  (front_left (length (bytes_of (was ++ new s.stored))) b.opened.front b.opened.behind);
               file = b.opened.file ∙ rw bytes_are;
             };
           }

@@ -18,7 +18,7 @@ use Rattle.mail_store.specs.FileName.{stem}
 use Rattle.mail_store.specs.Held.{flags_of}
 use Rattle.mail_store.specs.Maildir.{Maildir}
 use Rattle.mail_store.specs.Mboxrd.{EntryAddsText}
-use Rattle.mail_store.specs.Settling.{FrontsAreSettled}
+use Rattle.mail_store.specs.Settling.{LeftoversAreSettled}
 use Rattle.fetch_session.specs.Laws.{SessionsAreDurable, SessionsKeepFiles, SteadyFilesKeep, UnsavedFilesKeep}
 
 pub record Below : Type 0 where
@@ -49,7 +49,7 @@ pub record Below : Type 0 where
   pub steady : SteadyFilesKeep
   pub unsaved : UnsavedFilesKeep
   -- entries
-  pub fronts : FrontsAreSettled
+  pub leftovers : LeftoversAreSettled
   pub adds : EntryAddsText
   -- octets
   pub line : OneLine

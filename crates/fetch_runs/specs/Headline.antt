@@ -4,7 +4,7 @@
 -- exclude; and DELE was sent only for messages held. What a reader took away counts as held here, and what was
 -- withdrawn from the server before it was fetched isn't part of its mail. With calls that read only what is new, an
 -- mboxrd file holds what it held before the first one, followed by the entries of exactly a prefix of the selected
--- messages, each once, and by at most a prefix of the next one's entry, whose intent is then open.
+-- messages, each once, and by at most a part of the next one's entry, whose intent is then open.
 use Rattle.std.specs.Prelude.{◌≡◌, ◌⊎◌, ◌≤◌, ℕ, true, false, List, [], ◌∷◌, ◌++◌, map, take, length, None, Some}
 use Rattle.std.specs.Prelude.{bytes_eq}
 use Rattle.std.specs.List.{AllByRecursion}

@@ -13,10 +13,12 @@ use Rattle.rc_file.specs.declared.settings.Settings.{Settings}
 use Rattle.fetch_rules.specs.Record.{is_delivered, has_row}
 use Rattle.fetch_rules.specs.Wanted.{is_within}
 use Rattle.mail_store.specs.FileName.{is_held, stem_of, mail_file}
+use Rattle.mail_store.specs.Mboxrd.{entry_of}
+use Rattle.mail_store.specs.Settling.{MayBeLeft}
 use Rattle.fetch_session.specs.declared.report.Outcome.TheVariants.{Ended}
 use Rattle.fetch_session.specs.declared.report.Report.{Report}
 use Rattle.fetch_runs.specs.Accounts.{AccountMail, copies, has_named, ids_of, without_flags}
-use Rattle.fetch_runs.specs.Sessions.{SendsOnly, is_retr, IsOpen, MboxMail, entries_of}
+use Rattle.fetch_runs.specs.Sessions.{SendsOnly, is_retr, MboxMail, entries_of, intent_of}
 use Rattle.std.proofs.Common.{inl, inr}
 
 -- the devices of an account: its store, which is a Maildir or an mboxrd file, and the record's file
@@ -175,20 +177,28 @@ is_entered base done id = base.had id || has_id (ids_of done) id
 abbrev pub base_from : Base → MboxMail → Base
 base_from base after = record base { start = after.file; had = λ id. is_delivered after.rows id }
 
--- the intent to append the entry of a message that isn't recorded is open, and a prefix of it may follow these bytes
+-- the intent to append the entry of this text is open, and the file is these bytes and what a loss of power may leave of
+-- the entry: all of it, a prefix, or one with zeros
+pub record IsOpenAfter (bytes uid text : List ℕ) (account : MboxMail) : Type 0 where
+  pub intent : account.intent ≡ Some (intent_of bytes uid text)
+  pub part : List ℕ
+  pub left : MayBeLeft (length bytes) (entry_of text) part
+  pub file : account.file ≡ bytes ++ part
+
+-- the intent to append the entry of a message that isn't recorded is open, and a part of it may follow these bytes
 pub record IsOpenFor (base : Base) (bytes : List ℕ) (account : MboxMail) : Type 0 where
   pub next : Message
   pub is : IsOf base.text next
   pub unrecorded : is_delivered account.rows next.uid ≡ false
   pub row : has_row account.rows next.uid ≡ true
-  pub opened : IsOpen bytes next.uid next.text account
+  pub opened : IsOpenAfter bytes next.uid next.text account
 
 -- no intent is open, and the file is these bytes; or one is
 abbrev pub Stands : Base → List ℕ → MboxMail → Type 0
 Stands base bytes account = ((account.intent ≡ None) × (account.file ≡ bytes)) ⊎ IsOpenFor base bytes account
 
 -- the file is the one before the first session, then the entries of these messages, in this order, each once, and then
--- perhaps a prefix of another one's, whose intent is open. These are recorded, and what was before the first session
+-- perhaps a part of another one's, whose intent is open. These are recorded, and what was before the first session
 pub record HoldsEntries (base : Base) (done : List Message) (account : MboxMail) : Type 0 where
   pub are : IsMaildrop base.text done
   pub new : AllByRecursion (λ (m : Message). base.had m.uid ≡ false) done

@@ -22,7 +22,7 @@ use fetch_session::{
 };
 use mail_store::{
     FlatFile, MaildirDisk, account_texts_are_digits, entries_add_texts, flags_tell_what_is_held,
-    fronts_of_entries_are_settled, marks_keep_the_base, names_are_bases, names_have_stems,
+    leftovers_of_entries_are_settled, marks_keep_the_base, names_are_bases, names_have_stems,
     stems_differ,
 };
 use pop3_client::{conversations_are_paced, turns_join};
@@ -53,7 +53,7 @@ fn laws_below()
     torn_is_ignored_or_seen();
     steady_files_keep();
     unsaved_files_keep();
-    fronts_of_entries_are_settled();
+    leftovers_of_entries_are_settled();
     entries_add_texts();
     only_one_line();
     only_one_reading();
@@ -208,7 +208,7 @@ pub fn empty_accounts_are_kept()
 /// The statement, for an mboxrd file: where a unique-id always names one text, after any list of calls of
 /// `session` that read only what is new, each cut at any reply or refused write, over maildrops in any order
 /// and under any limits, the file holds what it held before the first one, followed by the entries of
-/// messages, each once, in the order in which they were fetched, and by at most a beginning of one more
+/// messages, each once, in the order in which they were fetched, and by at most a part of one more
 /// entry, whose intent is then open; after an uncut call nothing of another entry is left, and only what its
 /// own limits exclude is left out; and DELE was sent only for messages whose entry is whole, or that were
 /// recorded before the first call or before others last wrote the file. If a server shows the messages of a
@@ -238,7 +238,7 @@ pub fn entries_mean_texts()
 
 /// The headline for an mboxrd file: with a server that keeps its order and one limit on sizes, after any list
 /// of calls that read only what is new the file holds what it held before, followed by the entries of the
-/// first of the selected messages that weren't recorded before, each once, and by at most a prefix of the next
+/// first of the selected messages that weren't recorded before, each once, and by at most a part of the next
 /// entry.
 pub fn mbox_headline<W: Wire, D: MaildirDisk, F: FlatFile>()
     ensures { MboxHeadline W.Wire D.MaildirDisk F.FlatFile }
