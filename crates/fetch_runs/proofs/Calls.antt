@@ -191,10 +191,10 @@ mbox_calls_keep_promises laws link disk file sessions = keep
     keep base done account devices (Others left now ∷ later) shows holds = (
       shows,
       holds,
-      λ then. (λ same. keep base done account left later (rw same at then) holds, λ closed. keep (base_from base now) [] now left later then (starts base now closed)),
+      λ then. (λ first there. keep base first now left later then there, λ closed. keep (base_from base now) [] now left later then (starts base now closed)),
     )
     keep base done account devices (PowerLost left now ∷ later) shows holds = (
       shows,
       holds,
-      λ then. (λ same. keep base done account left later (rw same at then) holds, λ closed. keep (base_from base now) [] now left later then (starts base now closed)),
+      λ then. (λ first there. keep base first now left later then there, λ closed. keep (base_from base now) [] now left later then (starts base now closed)),
     )

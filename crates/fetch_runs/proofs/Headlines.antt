@@ -242,7 +242,7 @@ mbox_headline laws link disk file sessions = all_hold
       shows,
       is,
       λ then. (
-        λ same. all_hold world done account left later sound (rw same at then) is,
+        λ held there. all_hold world held now left later sound then there,
         λ first rest closed prefix recorded. all_hold (record world { base = base_from world.base now }) [] now left later sound then
             (starts_in_order world now first rest closed prefix recorded),
       ),
@@ -251,7 +251,7 @@ mbox_headline laws link disk file sessions = all_hold
       shows,
       is,
       λ then. (
-        λ same. all_hold world done account left later sound (rw same at then) is,
+        λ held there. all_hold world held now left later sound then there,
         λ first rest closed prefix recorded. all_hold (record world { base = base_from world.base now }) [] now left later sound then
             (starts_in_order world now first rest closed prefix recorded),
       ),

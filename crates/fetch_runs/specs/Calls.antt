@@ -153,7 +153,8 @@ pub record ShowsMbox {F : Type 0} (file : FileGhosts F) (devices : Devices F F) 
   pub bytes : account.file ≡ mail_in (file.stored devices.store).content
 
 -- the devices show an account whose file holds these entries; if the next of these happens, a call that reads only what
--- is new appends entries, and they do so after it. What others or a loss of power leave is as it was, or starts anew
+-- is new appends entries, and they do so after it. What others or a loss of power leave holds the entries of some
+-- messages, and perhaps a part of one more; or has no open intent, and counts as from before the first call
 abbrev pub AreMboxPromised : {W D F : Type 0} → WireGhosts W → DiskGhosts D → FileGhosts F → Base → List Message
     → MboxMail → Devices F F → List (Happening (Call W F F) (Devices F F) MboxMail) → Type 0
 AreMboxPromised link disk file base done account devices [] =
@@ -166,11 +167,13 @@ AreMboxPromised link disk file base done account devices (Called call ∷ later)
     × AreMboxPromised link disk file base (done ++ appends.more) after call.after later)
 AreMboxPromised link disk file base done account devices (Others left now ∷ later) = ShowsMbox file devices account
     × HoldsEntries base done account × (ShowsMbox file left now
-    → (now ≡ account → AreMboxPromised link disk file base done account left later)
+    → ((first : List Message) → HoldsEntries base first now
+    → AreMboxPromised link disk file base first now left later)
     × (now.intent ≡ None → AreMboxPromised link disk file (base_from base now) [] now left later))
 AreMboxPromised link disk file base done account devices (PowerLost left now ∷ later) = ShowsMbox file devices account
     × HoldsEntries base done account × (ShowsMbox file left now
-    → (now ≡ account → AreMboxPromised link disk file base done account left later)
+    → ((first : List Message) → HoldsEntries base first now
+    → AreMboxPromised link disk file base first now left later)
     × (now.intent ≡ None → AreMboxPromised link disk file (base_from base now) [] now left later))
 
 -- the law: so it is of any list of calls and of what others and losses of power leave

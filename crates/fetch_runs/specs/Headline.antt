@@ -169,8 +169,8 @@ EntriesMeanTexts = (base : Base) (done : List Message) (account : MboxMail) (fir
 
 -- the devices show an account whose file holds a prefix. If messages that weren't begun are withdrawn, and the next
 -- call shows a beginning of all mail but for some that are entered, it appends entries and keeps its promises, and a
--- prefix is held after it; and so on. What others or a loss of power leave is the account as it was; or has no open
--- intent and a record that shows a prefix of the selected messages, and counts as from before the first call
+-- prefix is held after it; and so on. What others or a loss of power leave holds a prefix too; or has no open intent
+-- and a record that shows a prefix of the selected messages, and counts as from before the first call
 abbrev pub HoldMboxPrefixes : {W D F : Type 0} → WireGhosts W → DiskGhosts D → FileGhosts F → MboxWorld → List Message
     → MboxMail → Devices F F → List (Happening (Call W F F) (Devices F F) MboxMail) → Type 0
 HoldMboxPrefixes link disk file world done account devices [] =
@@ -185,13 +185,15 @@ HoldMboxPrefixes link disk file world done account devices (Called call ∷ late
     × HoldMboxPrefixes link disk file next (done ++ appends.more) after call.after later)
 HoldMboxPrefixes link disk file world done account devices (Others left now ∷ later) = ShowsMbox file devices account
     × HoldsAMboxPrefix world done account × (ShowsMbox file left now
-    → (now ≡ account → HoldMboxPrefixes link disk file world done account left later)
+    → ((held : List Message) → HoldsAMboxPrefix world held now
+    → HoldMboxPrefixes link disk file world held now left later)
     × ((first rest : List Message) → now.intent ≡ None → selected world.max_size world.all ≡ first ++ rest
     → ((id : List ℕ) → is_delivered now.rows id ≡ has_id (ids_of first) id)
     → HoldMboxPrefixes link disk file (record world { base = base_from world.base now }) [] now left later))
 HoldMboxPrefixes link disk file world done account devices (PowerLost left now ∷ later) = ShowsMbox file devices account
     × HoldsAMboxPrefix world done account × (ShowsMbox file left now
-    → (now ≡ account → HoldMboxPrefixes link disk file world done account left later)
+    → ((held : List Message) → HoldsAMboxPrefix world held now
+    → HoldMboxPrefixes link disk file world held now left later)
     × ((first rest : List Message) → now.intent ≡ None → selected world.max_size world.all ≡ first ++ rest
     → ((id : List ℕ) → is_delivered now.rows id ≡ has_id (ids_of first) id)
     → HoldMboxPrefixes link disk file (record world { base = base_from world.base now }) [] now left later))

@@ -177,8 +177,8 @@ is_entered base done id = base.had id || has_id (ids_of done) id
 abbrev pub base_from : Base → MboxMail → Base
 base_from base after = record base { start = after.file; had = λ id. is_delivered after.rows id }
 
--- the intent to append the entry of this text is open, and the file is these bytes and what a loss of power may leave of
--- the entry: all of it, a prefix, or one with zeros
+-- the intent to append the entry of this text is open, and the file is these bytes and what a loss of power may leave
+-- of the entry: all of it, a prefix, or one with zeros
 pub record IsOpenAfter (bytes uid text : List ℕ) (account : MboxMail) : Type 0 where
   pub intent : account.intent ≡ Some (intent_of bytes uid text)
   pub part : List ℕ

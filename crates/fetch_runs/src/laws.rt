@@ -214,8 +214,8 @@ pub fn empty_accounts_are_kept()
 /// recorded before the first call or before others last wrote the file. If a server shows the messages of a
 /// list in their order, the first of these have entries.
 ///
-/// Between two calls a process may start anew. While no intent is open afterwards, others may write the file,
-/// and the record may be lost or replaced: what there is then counts as from before the first call.
+/// Between two calls a process may start anew. What others or a loss of power leave may hold the entries of any messages,
+/// and a part of one more. Otherwise, if no intent is open then, it counts as from before the first call.
 pub fn mbox_calls_keep_promises<W: Wire, D: MaildirDisk, F: FlatFile>()
     ensures { MboxCallsKeepPromises W.Wire D.MaildirDisk F.FlatFile }
 {

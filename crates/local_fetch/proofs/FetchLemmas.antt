@@ -93,7 +93,7 @@ module _ {M D F : Type 0} (link : WireGhosts (Loop M)) (disk : DiskGhosts D) (fi
     λ then.
         let (was, held, next) = law base done account devices (Others left now ∷ []) shows holds in
         let (stays, begins) = next then in (
-          λ same. let (shows', holds') = stays same in mbox_fetches_keep law base done account left later shows' holds',
+          λ first there. let (shows', holds') = stays first there in mbox_fetches_keep law base first now left later shows' holds',
           λ closed. let (shows', holds') = begins closed in mbox_fetches_keep law (base_from base now) [] now left later shows' holds',
         ),
   )
@@ -103,7 +103,7 @@ module _ {M D F : Type 0} (link : WireGhosts (Loop M)) (disk : DiskGhosts D) (fi
     λ then.
         let (was, held, next) = law base done account devices (PowerLost left now ∷ []) shows holds in
         let (stays, begins) = next then in (
-          λ same. let (shows', holds') = stays same in mbox_fetches_keep law base done account left later shows' holds',
+          λ first there. let (shows', holds') = stays first there in mbox_fetches_keep law base first now left later shows' holds',
           λ closed. let (shows', holds') = begins closed in mbox_fetches_keep law (base_from base now) [] now left later shows' holds',
         ),
   )

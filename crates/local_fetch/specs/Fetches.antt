@@ -142,7 +142,7 @@ FirstFetchesKeepMail {M} {D} {F} link disk file drop = (mail : Mail) (devices : 
 
 -- the devices show an account whose file holds the entries of these messages; if the next of these happens, a call
 -- that reads only what is new appends entries and keeps its promises, and they do so after it. What others or a loss of
--- power leave is the account as it was; or has no open intent, and counts as from before the first session
+-- power leave holds entries too; or has no open intent, and counts as from before the first session
 abbrev pub KeepMboxPromises : {M D F : Type 0} → WireGhosts (Loop M) → DiskGhosts D → FileGhosts F → DropGhosts M
     → Base → List Message → MboxMail → Devices F F → List (Happening (Fetch M F F) (Devices F F) MboxMail) → Type 0
 KeepMboxPromises link disk file drop base done account devices [] =
@@ -157,11 +157,13 @@ KeepMboxPromises link disk file drop base done account devices (Called fetch ∷
     × KeepMboxPromises link disk file drop base (done ++ appends.more) after fetch.after later)
 KeepMboxPromises link disk file drop base done account devices (Others left now ∷ later) =
     ShowsMbox file devices account × HoldsEntries base done account × (ShowsMbox file left now
-    → (now ≡ account → KeepMboxPromises link disk file drop base done account left later)
+    → ((first : List Message) → HoldsEntries base first now
+    → KeepMboxPromises link disk file drop base first now left later)
     × (now.intent ≡ None → KeepMboxPromises link disk file drop (base_from base now) [] now left later))
 KeepMboxPromises link disk file drop base done account devices (PowerLost left now ∷ later) =
     ShowsMbox file devices account × HoldsEntries base done account × (ShowsMbox file left now
-    → (now ≡ account → KeepMboxPromises link disk file drop base done account left later)
+    → ((first : List Message) → HoldsEntries base first now
+    → KeepMboxPromises link disk file drop base first now left later)
     × (now.intent ≡ None → KeepMboxPromises link disk file drop (base_from base now) [] now left later))
 
 -- a law: so it is of any list
