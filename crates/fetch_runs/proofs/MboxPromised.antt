@@ -1,5 +1,5 @@
 -- With an mboxrd file, each session that reads only what is new appends entries and keeps its promises.
-use Rattle.std.proofs.Common.{subst, not, length, None, Some, map, ◌⊎◌, slice_get, zero, ◌≡◌, inl, inr, ℕ, List, [], ◌∷◌, ◌++◌, Bool, true, false, refl, sym, ◌∙◌, ap, suc, ◌||◌, take, arith, append_assoc, ◌+◌}
+use Rattle.std.proofs.Common.{subst, not, length, None, Some, map, ◌⊎◌, slice_get, zero, ◌≡◌, inl, inr, ℕ, List, [], ◌∷◌, ◌++◌, Bool, true, false, refl, sym, ◌∙◌, ap, suc, ◌||◌, take, arith, append_assoc}
 use Rattle.std.specs.Prelude.{bytes_eq, ◌↔◌}
 use Rattle.std.specs.List.{AllByRecursion, count_by, filter}
 use Rattle.std.proofs.lemmas.Bool.{both_ways, false_from_ne_true, or_left, or_right, or_parts}
@@ -10,6 +10,7 @@ use Rattle.mail_terms.specs.UniqueId.{has_id}
 use Rattle.mail_terms.specs.Listing.{Item}
 use Rattle.mail_store.specs.Mboxrd.{entry_of}
 use Rattle.mail_store.specs.Settling.{MayBeLeft, listed_size}
+use Rattle.mail_store.proofs.SettlingLemmas.{all_left, part_left}
 use Rattle.mail_terms.specs.Text.{IsWhole}
 use Rattle.std.proofs.lemmas.Grind.{flat_map-append}
 use Rattle.std.proofs.lemmas.Option.{same_Some}
@@ -48,11 +49,6 @@ or_assoc false b c = refl
 
 pub entries-append : (ms ns : List Message) → entries_of (ms ++ ns) ≡ entries_of ms ++ entries_of ns
 entries-append ms ns = flat_map-append (λ (m : Message). entry_of m.text) ms ns
-
--- a front of bytes is among what a loss of power may leave of them
-pub front_left : (place : ℕ) (front behind : List ℕ) → MayBeLeft place (front ++ behind) front
-front_left place [] behind = tt
-front_left place (byte ∷ front) behind = (inl refl, front_left (place + 1) front behind)
 
 -- what is left of an entry is all of it and counts, or is cut off
 pub settled_is : Below → {bytes uid text : List ℕ} {account : MboxMail} (listing : List Item) → IsWhole text → IsOpenAfter bytes uid text account
@@ -181,7 +177,7 @@ module _ (base : Base) where
           reopened : (o : IsOpenFor base (bytes_of done) before) → IsOpenAfter (bytes_of done) o.next.uid o.next.text now
           reopened o = elim h.file [
             | inl same ↦ opened o o.opened.part o.opened.left (same ∙ o.opened.file)
-            | inr cut ↦ ⊎_elim (λ whole. opened o (entry_of o.next.text) (subst (λ l. MayBeLeft (length (bytes_of done)) l (entry_of o.next.text)) (append-nil (entry_of o.next.text)) (front_left (length (bytes_of done)) (entry_of o.next.text) [])) (cut ∙ whole.1))
+            | inr cut ↦ ⊎_elim (λ whole. opened o (entry_of o.next.text) (all_left (length (bytes_of done)) (entry_of o.next.text)) (cut ∙ whole.1))
                 (λ part. opened o [] tt (cut ∙ part.1 ∙ sym (append-nil (bytes_of done))))
                 (settled_is laws did.listing o.is.whole o.opened)
           ]
@@ -260,7 +256,7 @@ module _ (base : Base) where
               intent = b.opened.intent ∙ simp (bytes_are, place.1, place.2);
               part = b.opened.front;
               left = subst (λ l. MayBeLeft (length (bytes_of (was ++ new s.stored))) l b.opened.front) (sym (ap entry_of (sym place.2) ∙ b.opened.entry))
-                  (front_left (length (bytes_of (was ++ new s.stored))) b.opened.front b.opened.behind);
+                  (part_left (length (bytes_of (was ++ new s.stored))) b.opened.front b.opened.behind b.opened.front (all_left (length (bytes_of (was ++ new s.stored))) b.opened.front));
               file = b.opened.file ∙ rw bytes_are;
             };
           }

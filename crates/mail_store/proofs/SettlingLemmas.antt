@@ -15,7 +15,7 @@ use Rattle.memchr.specs.Find.{FindsNeedle, OccursAt}
 use Rattle.memchr.proofs.lemmas.MatchLemmas.{OccursAt-from_part, OccursAt-split}
 use Rattle.mail_terms.specs.Text.{HasNoLf, IsWhole}
 use Rattle.mail_store.specs.Power.{IsLonger, LeavesFront, LeavesLonger, Outlives, KeepsBytes}
-use Rattle.mail_store.specs.Settling.{MayBeLeft, is_one_entry, block_size, is_lost, is_torn, begin_with, ends_empty, is_ours, is_entry, has_size, stands_whole, settled_file, LeftoversAreSettled, FrontsAreSettled, WholeEntriesCount}
+use Rattle.mail_store.specs.Settling.{MayBeLeft, is_one_entry, block_size, is_lost, is_torn, begin_with, ends_empty, is_ours, is_entry, has_size, stands_whole, settled_file, LeftoversAreSettled, WholeEntriesCount}
 use Rattle.mail_store.specs.Mboxrd.{lines_of, from_words, begins_entry, separator, quoted_text, entry_of, text_in, IsApart}
 use Rattle.mail_store.proofs.MboxLemmas.{first_of, onto_parts, begins_with, unquotes_quoted, inner_apart, entry_bytes, entry_group, entry_lines, entry_is_group, group_ends}
 
@@ -224,11 +224,6 @@ left_settled file text left listed whole is =
         ],
       )
     ]
-
-pub fronts_settled : FrontsAreSettled
-fronts_settled file text front rest listed whole e =
-    left_settled file text front listed whole (subst (λ (l : List ℕ). MayBeLeft (length file) l front) (sym e)
-    (part_left (length file) front rest front (all_left (length file) front)))
 
 -- an entry has its text
 entry_text : (text : List ℕ) → IsWhole text → text_in (entry_of text) ≡ text

@@ -111,11 +111,6 @@ abbrev pub LeftoversAreSettled : Type 0
 LeftoversAreSettled = (file text left : List ℕ) (listed : Option ℕ) → IsWhole text
     → MayBeLeft (length file) (entry_of text) left → CountsWhole file text listed left ⊎ IsCutOff file text listed left
 
--- a law: so is a front of an entry
-abbrev pub FrontsAreSettled : Type 0
-FrontsAreSettled = (file text front rest : List ℕ) (listed : Option ℕ) → IsWhole text → entry_of text ≡ front ++ rest
-    → CountsWhole file text listed front ⊎ IsCutOff file text listed front
-
 -- a law: an entry that is all there counts as whole if its text has the listed size, unless that text has a zero at the
 -- end of a block; with another size it is cut off
 abbrev pub WholeEntriesCount : Type 0

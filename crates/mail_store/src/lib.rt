@@ -32,7 +32,7 @@ pub use mboxrd::entry::{
 pub use mboxrd::quoting::{is_whole, quote, unquote, unquoting_undoes_quoting};
 pub use mboxrd::reading::read_mbox;
 pub use mboxrd::settling::{
-    fronts_of_entries_are_settled, leftovers_of_entries_are_settled, listed_size, peek_settled,
-    settle_file, what_is_lost_is_zero, whole_entries_count,
+    leftovers_of_entries_are_settled, listed_size, peek_settled, settle_file, what_is_lost_is_zero,
+    whole_entries_count,
 };
 pub use refusal::{admit, refuse};

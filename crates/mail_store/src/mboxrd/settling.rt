@@ -9,7 +9,7 @@ ghost use Rattle.mail_store.specs.Mboxrd.{text_in};
 ghost use Rattle.mail_store.specs.Power.{LastsWhole, LeavesFront, LeavesNoMore};
 ghost use Rattle.mail_store.specs.Settling.{block_size, begin_with, has_size, is_lost, is_one_entry, is_ours, is_torn};
 ghost use Rattle.mail_store.specs.Settling.{is_whole};
-ghost use Rattle.mail_store.specs.Settling.{FrontsAreSettled, IsBehind, LeftoversAreSettled, LooksBehind};
+ghost use Rattle.mail_store.specs.Settling.{IsBehind, LeftoversAreSettled, LooksBehind};
 ghost use Rattle.mail_store.specs.Settling.{PeeksSettled, SettlesFile, WholeEntriesCount, listed_size};
 
 use crate::fault::StoreFault;
@@ -250,12 +250,6 @@ pub fn peek_settled<F: FlatFile>(
 /// is all of the entry; else settling cuts the file back to what it was.
 pub fn leftovers_of_entries_are_settled()
     ensures { LeftoversAreSettled }
-{}
-
-/// If a front of an entry follows a file, it is all of the entry and counts as whole, or settling
-/// cuts the file back to what it was.
-pub fn fronts_of_entries_are_settled()
-    ensures { FrontsAreSettled }
 {}
 
 /// An entry that is all there counts as whole if its text has the listed size, unless that text has

@@ -1,5 +1,0 @@
-use Rattle.mail_store.proofs.SettlingLemmas as lemma
-use Rattle.mail_store.proofs.mboxrd.settling.fronts_of_entries_are_settled.Goals as goal
-
-pub returns : goal.returns
-returns c = lemma.fronts_settled
