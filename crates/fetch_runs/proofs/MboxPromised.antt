@@ -85,6 +85,10 @@ next_less : (limit : ℕ) (done : List Message) (n : Message) (ms : List Message
 next_less limit done n [] = refl
 next_less limit done n (m ∷ ms) = grind (arith, ids_both done (n ∷ []) m.uid, next_less limit done n ms)
 
+-- what holds of what stands on the right
+of_right : {A B : Type 0} (P : B → Type 0) {both : A ⊎ B} {a b : B} → both ≡ inr a → P a → both ≡ inr b → P b
+of_right P {a = a} {b = b} is holds other = let same : a ≡ b = cc in subst P same holds
+
 -- ---- a kept state
 
 module _ (base : Base) where
@@ -165,25 +169,41 @@ module _ (base : Base) where
     pub settle : (listing : List Item) → Settled done (bytes_of done) before kept.stands (settled listing before)
     settle listing = settle_by listing kept.stands
 
+    -- what there is of one more entry is as it was, or a front of it
+    abbrev pub IsPart : MboxMail → Message → List ℕ → Type 0
+    IsPart now next part = (now.file ≡ before.file) ⊎ ((behind : List ℕ) × (entry_of next.text ≡ part ++ behind))
+
     -- an account that is left, its file perhaps cut back
     module _ (now : MboxMail) (did : Effect) (h : MboxLeaves before did now) where
+      opened : (o : IsOpenFor base (bytes_of done) before) (part : List ℕ) → MayBeLeft (length (bytes_of done)) (entry_of o.next.text) part → now.file ≡ bytes_of done ++ part → IsOpenAfter (bytes_of done) o.next.uid o.next.text now
+      opened o part left file = record { intent = h.intent ∙ o.opened.intent; part = part; left = left; file = file }
+
+      pub reopened : (o : IsOpenFor base (bytes_of done) before) → (again : IsOpenAfter (bytes_of done) o.next.uid o.next.text now) × IsPart now o.next again.part
+      unfolding opened
+      reopened o = elim h.file [
+        | inl same ↦ (opened o o.opened.part o.opened.left (same ∙ o.opened.file), inl same)
+        | inr cut ↦ elim (settled_is laws did.listing o.is.whole o.opened) [
+          | inl whole ↦
+              let entry = entry_of o.next.text in
+              (opened o entry (all_left (length (bytes_of done)) entry) (cut ∙ whole.1), inr ([], sym (append-nil entry)))
+          | inr none ↦ (opened o [] tt (cut ∙ none.1 ∙ sym (append-nil (bytes_of done))), inr (entry_of o.next.text, refl))
+        ]
+      ]
+
       abbrev pub left_stands : Stands base (bytes_of done) before → Stands base (bytes_of done) now
       left_stands (inl closed) = inl (h.intent ∙ closed.0, elim h.file [ inl same ↦ same ∙ closed.1 | inr cut ↦ cut ∙ rw closed.0 closed.1 ])
-      left_stands (inr o) = inr (record { next = o.next; is = o.is; unrecorded = rw h.rows o.unrecorded; row = rw h.rows o.row; opened = reopened o })
-        where
-          opened : (o : IsOpenFor base (bytes_of done) before) (part : List ℕ) → MayBeLeft (length (bytes_of done)) (entry_of o.next.text) part → now.file ≡ bytes_of done ++ part → IsOpenAfter (bytes_of done) o.next.uid o.next.text now
-          opened o part left file = record { intent = h.intent ∙ o.opened.intent; part = part; left = left; file = file }
+      left_stands (inr o) = inr (record { next = o.next; is = o.is; unrecorded = rw h.rows o.unrecorded; row = rw h.rows o.row; opened = (reopened o).0 })
 
-          reopened : (o : IsOpenFor base (bytes_of done) before) → IsOpenAfter (bytes_of done) o.next.uid o.next.text now
-          reopened o = elim h.file [
-            | inl same ↦ opened o o.opened.part o.opened.left (same ∙ o.opened.file)
-            | inr cut ↦ ⊎_elim (λ whole. opened o (entry_of o.next.text) (all_left (length (bytes_of done)) (entry_of o.next.text)) (cut ∙ whole.1))
-                (λ part. opened o [] tt (cut ∙ part.1 ∙ sym (append-nil (bytes_of done))))
-                (settled_is laws did.listing o.is.whole o.opened)
-          ]
+      part_stands : (stands : Stands base (bytes_of done) before) (o : IsOpenFor base (bytes_of done) now) → left_stands stands ≡ inr o → IsPart now o.next o.opened.part
+      part_stands (inl closed) o is = absurd cc
+      part_stands (inr was) o is = of_right (λ (p : IsOpenFor base (bytes_of done) now). IsPart now p.next p.opened.part) refl (reopened was).1 is
 
       pub left_kept : HoldsEntries base done now
       left_kept = record { are = kept.are; new = kept.new; recorded = rw h.rows kept.recorded; stands = left_stands kept.stands }
+
+      left_part : (o : IsOpenFor base (bytes_of done) now) → left_kept.stands ≡ inr o → IsPart now o.next o.opened.part
+      unfolding left_kept
+      left_part = part_stands kept.stands
 
     -- ---- one session that stored something
 
@@ -265,13 +285,33 @@ module _ (base : Base) where
       unfolding broken
       broken_more b = broken_taken b
 
+      broken_part : (b : IsBroken v.settings before did s.stored now) → IsPart now (broken b).next (broken b).opened.part
+      unfolding broken
+      broken_part b = inr (b.opened.behind, ap entry_of (sym (placed b).2) ∙ b.opened.entry)
+
+      -- how the file stands once the session ended so
+      abbrev Ending : Type 0
+      Ending = ((now.intent ≡ None) × (now.file ≡ account.file ++ entries (take s.stored did.texts))) ⊎ IsBroken v.settings before did s.stored now
+
+      abbrev stands_at : Ending → Stands base (bytes_of (was ++ new s.stored)) now
+      stands_at (inl (closed, file)) = inl (closed, file ∙ bytes_are)
+      stands_at (inr b) = inr (broken b)
+
       holds_after : HoldsEntries base (was ++ new s.stored) now
       holds_after = let more = grown was (new s.stored) (origin.1.are, origin.1.new) (all_new (IsOf base.text) s.stored is.each) (distinct_wanted fetch s.stored) (fresh s.stored) in record {
         are = more.0;
         new = more.1;
         recorded = recorded_after;
-        stands = ⊎_elim (λ c. inl (c.0, c.1 ∙ bytes_are)) (λ b. inr (broken b)) s.ending;
+        stands = stands_at s.ending;
       }
+
+      part_of : (ending : Ending) (o : IsOpenFor base (bytes_of (was ++ new s.stored)) now) → stands_at ending ≡ inr o → IsPart now o.next o.opened.part
+      part_of (inl c) o is = absurd cc
+      part_of (inr b) o is = of_right (λ (p : IsOpenFor base (bytes_of (was ++ new s.stored)) now). IsPart now p.next p.opened.part) refl (broken_part b) is
+
+      part_after : (o : IsOpenFor base (bytes_of (was ++ new s.stored)) now) → holds_after.stands ≡ inr o → IsPart now o.next o.opened.part
+      unfolding holds_after
+      part_after = part_of s.ending
 
       -- an uncut session retrieved all that was wanted
       all_retrieved : did.ended ≡ true → v.report.outcome ≡ Ended → v.report.retrieved ≡ length (mbox_wanted v.settings before did)
@@ -331,8 +371,7 @@ module _ (base : Base) where
             let taken : new (suc s.stored) ≡ new s.stored ++ o.next ∷ [] = broken_more b in
             (o.next ∷ (rest_after (suc s.stored)).0, prefix_new (suc s.stored) ∙ rw taken (simp append_assoc), ((rest_after (suc s.stored)).0, refl))
 
-        next_after : (ending : ((now.intent ≡ None) × (now.file ≡ account.file ++ entries (take s.stored did.texts))) ⊎ IsBroken v.settings before did s.stored now)
-            → Next (⊎_elim (λ c. inl (c.0, c.1 ∙ bytes_are)) (λ b. inr (broken b)) ending)
+        next_after : (ending : Ending) → Next (stands_at ending)
         next_after (inl c) = ((rest_after s.stored).0, prefix_new s.stored, tt)
         next_after (inr b) = next_open b
 
@@ -355,6 +394,7 @@ module _ (base : Base) where
       abbrev Leaves : List Message → Type 0
       Leaves now = (holds : HoldsEntries base now after) × MboxPromises base done now v sent after
           × ((all : List Message) → (front : IsMboxFront base kept all) → ShowsNext v.settings v.maildrop (front.first ++ done) front.rest → IsMboxFront base holds all)
+          × ((o : IsOpenFor base (bytes_of now) after) → holds.stands ≡ inr o → IsPart after o.next o.opened.part)
 
       pub appends : {got : List ℕ} (effect : Effect) → IsMaildrop base.text v.maildrop → v.settings.read_all ≡ false → Served v.maildrop sent got v.vanished
           → MboxSession v.settings before sent got v.report effect after → AppendsMail base kept v sent after
@@ -372,6 +412,7 @@ module _ (base : Base) where
                 vanished = all_map _ step.1 (λ id b. absurd (both_ways false refl (rw left.begun at b)));
               },
               λ all front next. left_front after effect left all front,
+              left_part after effect left,
             ))
             | inr (s, honest) ↦
                 let come : List Message = (origin v after effect maildrop only_new s honest).0 in
@@ -380,11 +421,12 @@ module _ (base : Base) where
                   holds_after v after effect maildrop only_new s honest,
                   promises_after v after effect maildrop only_new s honest session.ended session.sends session.retrieves step.1,
                   front_after v after effect maildrop only_new s honest,
+                  part_after v after effect maildrop only_new s honest,
                 ))
           ]
         where
           by : (more : List Message) → Leaves (done ++ more) → AppendsMail base kept v sent after
-          by more (holds, promises, in_order) = record { more = more; promises = promises; kept = holds; in_order = in_order }
+          by more (holds, promises, in_order, part) = record { more = more; promises = promises; kept = holds; part = part; in_order = in_order }
 
 pub starts : MboxStarts
 starts base account closed = record {

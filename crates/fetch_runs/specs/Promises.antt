@@ -232,13 +232,16 @@ pub record MboxPromises {W S F : Type 0} (base : Base) (before done : List Messa
   pub retrieved : call.report.outcome ≡ Ended → call.report.retrieved ≡ count_by is_retr deletes.commands
   pub vanished : AllByRecursion (λ id. is_entered base done id ≡ true) call.vanished
 
--- a call adds the entries of these messages, in the order in which they were fetched, and keeps its promises. If
--- the server shows the messages of a list in their order, the first of these have entries
+-- a call adds the entries of these messages, in the order in which they were fetched, and keeps its promises. What
+-- follows of one more entry is as it was, or a prefix. If the server shows the messages of a list in their order, the
+-- first of these have entries
 pub record AppendsMail {W S F : Type 0} (base : Base) {done : List Message} {before : MboxMail}
     (holds : HoldsEntries base done before) (call : Call W S F) (sent : List ℕ) (after : MboxMail) : Type 0 where
   pub more : List Message
   pub promises : MboxPromises base done (done ++ more) call sent after
   pub kept : HoldsEntries base (done ++ more) after
+  pub part : (o : IsOpenFor base (base.start ++ entries_of (done ++ more)) after) → kept.stands ≡ inr o
+      → (after.file ≡ before.file) ⊎ ((behind : List ℕ) × (entry_of o.next.text ≡ o.opened.part ++ behind))
   pub in_order : (all : List Message) → (front : IsMboxFront base holds all)
       → ShowsNext call.settings call.maildrop (front.first ++ done) front.rest → IsMboxFront base kept all
 

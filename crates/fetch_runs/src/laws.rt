@@ -207,15 +207,16 @@ pub fn empty_accounts_are_kept()
 
 /// The statement, for an mboxrd file: where a unique-id always names one text, after any list of calls of
 /// `session` that read only what is new, each cut at any reply or refused write, over maildrops in any order
-/// and under any limits, the file holds what it held before the first one, followed by the entries of
-/// messages, each once, in the order in which they were fetched, and by at most a part of one more
-/// entry, whose intent is then open; after an uncut call nothing of another entry is left, and only what its
-/// own limits exclude is left out; and DELE was sent only for messages whose entry is whole, or that were
-/// recorded before the first call or before others last wrote the file. If a server shows the messages of a
-/// list in their order, the first of these have entries.
+/// and under any limits, the file holds what it held before the first one, followed by the entries of messages,
+/// each once, in the order in which they were fetched, and by at most a prefix of one more entry, or what a
+/// loss of power left of it, whose intent is then open; after an uncut call nothing of another entry is left,
+/// and only what its own limits exclude is left out; and DELE was sent only for messages whose entry is whole,
+/// or that were recorded before the first call or before others last wrote the file. If a server shows the
+/// messages of a list in their order, the first of these have entries.
 ///
-/// Between two calls a process may start anew. What others or a loss of power leave may hold the entries of any messages,
-/// and a part of one more. Otherwise, if no intent is open then, it counts as from before the first call.
+/// Between two calls a process may start anew. What others or a loss of power leave may hold the entries of any
+/// messages, and a part of one more. Otherwise, if no intent is open then, it counts as from before the first
+/// call.
 pub fn mbox_calls_keep_promises<W: Wire, D: MaildirDisk, F: FlatFile>()
     ensures { MboxCallsKeepPromises W.Wire D.MaildirDisk F.FlatFile }
 {
