@@ -143,6 +143,7 @@ pub fn mbox_session_is_a_step()
 /// marks, and take them away. Between two calls a process may start anew, readers may put messages back, and
 /// the record may be lost or be replaced by an older one. Power may be lost: that takes only messages that are
 /// neither recorded nor gone from the server, and such as were taken away before and stored again.
+#[tactic(auto, using(crate::proofs::Calls::calls_keep_promises))]
 pub fn calls_keep_promises<W: Wire, D: MaildirDisk, F: FlatFile>()
     ensures { CallsKeepPromises W.Wire D.MaildirDisk F.FlatFile }
 {
@@ -173,6 +174,7 @@ pub fn none_taken()
 /// here too, if what readers put back was held or taken away. Messages may be gone from the server, and one
 /// that wasn't fetched is then no longer part of its mail. A loss of power takes at most the last message
 /// that was stored, and such as were taken away before and stored again.
+#[tactic(auto, using(crate::proofs::Headlines::headline))]
 pub fn headline<W: Wire, D: MaildirDisk, F: FlatFile>()
     ensures { Headline W.Wire D.MaildirDisk F.FlatFile }
 {
@@ -187,6 +189,7 @@ pub fn empty_fronts_begin()
 
 /// A kept state is safe from a loss of power if the files of the account are durable, and nothing else may be
 /// left of the record's file than what it holds: so is what a new device finds after a loss of power.
+#[tactic(auto, using(crate::proofs::Losses::durable_is_safe))]
 pub fn durable_accounts_are_safe<F: FlatFile>()
     ensures { DurableAccountsAreSafe F.FlatFile }
 {
@@ -231,6 +234,7 @@ pub fn mbox_starts()
 {}
 
 /// If the file held texts before the first call, it holds the same and then those of the entries.
+#[tactic(auto, using(crate::proofs::Headlines::entries_mean_texts))]
 pub fn entries_mean_texts()
     ensures { EntriesMeanTexts }
 {
