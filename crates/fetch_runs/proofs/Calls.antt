@@ -1,32 +1,44 @@
--- Each call of `session` is a session over accounts, and lists of calls and what else happens keep what is promised.
-use Rattle.std.proofs.Common.{◌≡◌, ◌⊎◌, inl, inr, ℕ, true, List, [], ◌∷◌, ◌++◌, refl, sym, ap, subst, ◌∙◌, arith, length, ◌≤◌, false}
+-- Each call of `session` is a session over accounts, and lists of calls and what else happens keep what is promised; what is promised of
+-- any list, and the order of the maildrops, give the headlines.
+use Rattle.std.proofs.Common.{◌≡◌, ◌⊎◌, inl, inr, ℕ, true, List, [], ◌∷◌, ◌++◌, refl, sym, ap, subst, ◌∙◌, arith, length, ◌≤◌, false, Bool, length-append, not, ◌&&◌, ◌||◌, map}
 use Rattle.mail_store.specs.Durable.{MayLeave}
 use Rattle.std.proofs.Math.Logic.{⊎_elim}
 use Rattle.pop3_wire.specs.declared.wire.Wire.{Ghosts as WireGhosts}
 use Rattle.mail_store.specs.declared.maildir.disk.MaildirDisk.{Ghosts as DiskGhosts}
 use Rattle.mail_store.specs.declared.file.flat_file.FlatFile.{Ghosts as FileGhosts}
 use Rattle.std.proofs.lemmas.Slice.Eq.{bytes_eq-Decides}
-use Rattle.pop3_wire.specs.World.{Message}
-use Rattle.mail_store.specs.FileName.{IsAccountText, mail_file, names_id, stem, stem_of}
+use Rattle.pop3_wire.specs.World.{Message, IsWorld}
+use Rattle.mail_store.specs.FileName.{IsAccountText, mail_file, names_id, stem, stem_of, is_held}
 use Rattle.std.specs.String.{string_bytes}
 use Rattle.mail_store.specs.Loss.{LosesPower}
 use Rattle.mail_store.specs.Maildir.{Maildir, WereTaken}
 use Rattle.fetch_session.specs.Account.{digits_of}
 use Rattle.fetch_session.specs.Laws.{MboxSessions}
 use Rattle.fetch_session.specs.Session.{account_files, mbox_account_files}
-use Rattle.fetch_runs.specs.Accounts.{AccountMail, files}
-use Rattle.fetch_runs.specs.Promises.{Mail, State, state_with, IsBetween, Kept, Call, Devices, base_from, AppendsMail, Base, HoldsEntries}
-use Rattle.fetch_runs.specs.Sessions.{Session, MboxMail}
+use Rattle.fetch_runs.specs.Accounts.{AccountMail, files, ids_of, is_selected, without, texts_of, copies, has_named, selected}
+use Rattle.fetch_runs.specs.Promises.{Mail, State, state_with, IsBetween, Kept, Call, Devices, base_from, AppendsMail, Base, HoldsEntries, IsMaildrop, IsSafe, IsFront, ShowsNext, is_safe, Stands, IsNext, IsMboxFront}
+use Rattle.fetch_runs.specs.Sessions.{Session, MboxMail, entries_of}
 use Rattle.fetch_runs.specs.Steps.{holds}
 use Rattle.fetch_runs.specs.Calls.{Called, CallsKeepPromises, EmptyAccountsAreKept, Others, PowerLost, with_left, IsCall, Shows, MboxCallsKeepPromises, ShowsMbox}
 use Rattle.fetch_runs.proofs.LeftRecords.{LeavesDurably, leaves_durably}
-use Rattle.fetch_runs.proofs.Losses.{all_left_durable, calls_keep_order, calls_keep_safe, durable_is_safe, left_keeps_front, left_keeps_safe, losses_keep_order, losses_leave_kept, others_keep_order, others_keep_safe}
-use Rattle.fetch_runs.proofs.Lists.{left_or_none}
+use Rattle.fetch_runs.proofs.Losses.{all_left_durable, calls_keep_order, calls_keep_safe, durable_is_safe, left_keeps_front, left_keeps_safe, losses_keep_order, losses_leave_kept, others_keep_order, others_keep_safe, front_stays, left_front}
+use Rattle.fetch_runs.proofs.Lists.{left_or_none, all_filter, all_ids_at, all_map, all_front, are_distinct, distinct_filter, distinct_is, front_is, is_some, no_texts, all_at, bytes_self, ids_both, all_mapped}
 use Rattle.fetch_session.specs.declared.account.Store.TheVariants.{Maildir as InMaildir, Mboxrd as InMbox}
 use Rattle.fetch_runs.specs.Below.{Below}
-use Rattle.fetch_runs.proofs.MboxPromised.{appends, starts}
-use Rattle.fetch_runs.proofs.Promised.{IsSession, others_leave_kept, sessions_keep_promises}
-use Rattle.fetch_runs.proofs.Steps.{mbox_session_is_a_step, session_is_a_step}
+use Rattle.fetch_runs.proofs.MboxPromised.{appends, starts, ends_whole}
+use Rattle.fetch_runs.proofs.Promised.{IsSession, others_leave_kept, sessions_keep_promises, copies_came, copies_messages, held_copies, one_text}
+use Rattle.fetch_runs.proofs.Steps.{mbox_session_is_a_step, session_is_a_step, texts_stand}
+use Rattle.std.specs.List.{AllByRecursion}
+use Rattle.std.proofs.lemmas.Bool.{both_ways, false_from_ne_true, or_left, cases_Bool}
+use Rattle.std.proofs.lemmas.List.{append-nil}
+use Rattle.mail_terms.specs.UniqueId.{is_legal_id, has_id}
+use Rattle.fetch_rules.specs.Record.{is_delivered}
+use Rattle.fetch_runs.specs.Headline.{World, IsSound, HoldsAPrefix, EmptyFrontsBegin, NoneTaken, StaysAway, selected_of, MboxStartsInOrder, EntriesMeanTexts, mbox_world_without, IsInOrder, world_without, Headline, MboxHeadline, HoldsAMboxPrefix, IsUnbegun, MboxWorld}
+use Rattle.fetch_runs.proofs.Core.{next_here, prefix_left, done_legal, done_distinct}
+use Rattle.mail_terms.specs.Text.{IsWhole}
+use Rattle.rc_file.specs.declared.settings.Settings.{Settings}
+use Rattle.std.proofs.lemmas.List.Folds.{flat_map-map}
+use Rattle.mail_store.specs.Mboxrd.{entry_of}
 
 -- ---- with a Maildir
 
@@ -197,4 +209,229 @@ mbox_calls_keep_promises laws link disk file sessions = keep
       shows,
       holds,
       λ then. (λ first there. keep base first now left later then there, λ closed. keep (base_from base now) [] now left later then (starts base now closed)),
+    )
+
+-- all mail is a world
+pub as_world : (text : List ℕ → List ℕ) (all : List Message) → IsMaildrop text all → IsWorld all
+as_world text all is = record { messages = all_map all is.each (λ m h. record { legal = h.legal; whole = h.whole }); distinct = is.distinct }
+
+-- what is left of it is
+pub withdrawn : (text : List ℕ → List ℕ) (ids : List (List ℕ)) (all : List Message) → IsMaildrop text all → IsMaildrop text (without ids all)
+withdrawn text ids all is = record {
+  each = all_filter _ (λ (m : Message). not (has_id ids m.uid)) all is.each;
+  distinct = are_distinct _ (distinct_filter (λ (m : Message). not (has_id ids m.uid)) all (distinct_is all is.distinct));
+}
+
+module _ (world : World) (state : State) (sound : IsSound world) (front : IsFront world.mail state (selected_of world)) where
+  open world use {mail, max_size, all}
+
+  mail_is : IsWorld all
+  mail_is = as_world mail.text all sound.all
+
+  done_safe : (id : List ℕ) → has_id (ids_of front.done) id ≡ true → IsSafe mail state id
+  done_safe id e = let l = done_legal max_size front.done front.rest mail_is front.prefix id e in (l, sym (front.is_done id l) ∙ e)
+
+  safe_done : (id : List ℕ) → IsSafe mail state id → has_id (ids_of front.done) id ≡ true
+  safe_done id (l, safe) = front.is_done id l ∙ safe
+
+  texts_done : (id : List ℕ) → has_id (ids_of front.done) id ≡ true → texts_of front.done id ≡ mail.text id ∷ []
+  texts_done = one_text mail.text front.done (done_distinct max_size front.done front.rest mail_is front.prefix)
+      (all_front _ front.done _ (rw front.prefix at (all_filter _ (is_selected max_size) _ sound.all.each)))
+
+  holds_done : Kept mail state → (id : List ℕ) → is_legal_id id ≡ true → (copies (files state.account) (stem_of mail.account id) ≡ texts_of front.done id)
+      ⊎ ((state.taken id ≡ true) × (copies (files state.account) (stem_of mail.account id) ≡ []))
+  holds_done kept id l = elim (kept.holds id l) [
+    | inl none ↦ ⊎_elim (λ taken. inr (taken, none)) (λ (untaken : state.taken id ≡ false). inl (none ∙ sym (no_texts front.done id (front.is_done id l
+        ∙ ap (λ b. b || state.taken id) (held_copies mail.account state.account id ∙ ap is_some none) ∙ untaken)))) (cases_Bool (state.taken id))
+    | inr text ↦ inl (text ∙ sym (texts_done id (safe_done id (l, or_left _ _ (held_copies mail.account state.account id ∙ ap is_some text)))))
+  ]
+
+  -- exactly the first of the selected messages are held
+  holds_a_prefix : Kept mail state → HoldsAPrefix world state
+  holds_a_prefix kept = record {
+    j = length front.done;
+    below = let e = ap length front.prefix in omega (arith, e, length-append front.done front.rest);
+    texts = λ id l. rw (front_is front.done front.rest front.prefix) (holds_done kept id l);
+    ids = λ id l h. rw (front_is front.done front.rest front.prefix) (safe_done id (l, or_left _ _ h));
+    once = λ id l. ⊎_elim (λ none. rw none (omega arith)) (λ text. rw text (omega arith)) (kept.holds id l);
+  }
+
+pub empty_fronts_begin : EmptyFrontsBegin
+empty_fronts_begin mail state all none = record { done = []; rest = all; prefix = refl; is_done = λ id l. sym (none id l) }
+
+-- so it is without messages that are neither held nor were taken away
+withdrawn_leave_fronts : (world : World) (state : State) (ids : List (List ℕ)) → IsSound world → (front : IsFront world.mail state (selected_of world))
+    → AllByRecursion (λ id. is_safe world.mail state id ≡ false) ids
+    → IsSound (world_without ids world) × (later : IsFront world.mail state (selected_of (world_without ids world))) × (later.done ≡ front.done)
+withdrawn_leave_fronts world state ids sound front none = (
+  record { account = sound.account; all = withdrawn world.mail.text ids world.all sound.all },
+  record {
+    done = front.done;
+    rest = without ids front.rest;
+    prefix = prefix_left world.max_size world.all front.done front.rest ids front.prefix (λ id done gone. both_ways _ (all_ids_at _ _ none gone) (done_safe world state sound front id done).1);
+    is_done = front.is_done;
+  },
+  refl,
+)
+
+-- a maildrop in order shows what is next, if these are done
+order_shows_next : (text_of : List ℕ → List ℕ) (limit : ℕ) (all done rest : List Message) (settings : Settings) (maildrop : List Message) → IsMaildrop text_of all → selected limit all ≡ done ++ rest
+    → IsInOrder limit all (λ id. has_id (ids_of done) id ≡ true) settings maildrop → ShowsNext settings maildrop done rest
+order_shows_next text_of limit all done rest settings maildrop are prefix order =
+    rw (order.max_size, order.shown) (next_here limit order.come order.gone done rest (as_world text_of all are) prefix order.done)
+
+-- ---- what is taken away
+
+pub none_taken : NoneTaken
+none_taken mail state after none stays id =
+    untaken (is_held mail.account state.account.maildir id) (state.taken id) (is_held mail.account after.maildir id) (has_named mail.account after.maildir id) (none id) (stays id)
+  where
+    untaken : (held taken held' named : Bool) → taken ≡ false → (held ≡ true → held' ≡ true) → (((held || taken) && not held') || (taken && not named)) ≡ false
+    untaken held taken held' named none stays = grind (arith, none, stays)
+
+pub stays_away : Below → {W D F : Type 0} (link : WireGhosts W) (disk : DiskGhosts D) (file : FileGhosts F) → StaysAway link disk file
+stays_away laws link disk file mail state devices call id account drop is new legal recorded unheld =
+    let promises = is.promises in
+    let legal_came = all_map _ promises.new (λ m h. all_at (λ x. is_legal_id x ≡ true) call.maildrop (all_map _ drop.each (λ n k. k.legal)) h.shown) in
+    let unlike = no_texts promises.came id (none_has promises.came (all_map _ promises.new (λ m h. h.unrecorded new))) in
+    let before = copies is.left.files (stem_of mail.account id) in (
+      promises.recorded id recorded,
+      held_copies mail.account is.after id ∙ ap is_some (copies_came is.left.files (files is.after) _ (stem_of mail.account id) promises.added
+          ∙ ap (λ c. before ++ c) (copies_messages laws mail.account account promises.came id legal legal_came ∙ unlike) ∙ append-nil before)
+          ∙ sym (held_copies mail.account (record state.account { maildir = is.left }) id) ∙ unheld,
+    )
+  where
+    none_has : (ms : List Message) → AllByRecursion (λ (m : Message). is_delivered state.account.rows m.uid ≡ false) ms → has_id (ids_of ms) id ≡ false
+    none_has ms all = false_from_ne_true _ (λ there. both_ways _ (all_at (λ x. is_delivered state.account.rows x ≡ false) ms all there) recorded)
+
+-- what is entered is recorded, so it isn't withdrawn; nor is the next message, if its intent is open
+withdrawn_leave_prefixes : (world : MboxWorld) (done : List Message) (account : MboxMail) (ids : List (List ℕ)) → IsMaildrop world.base.text world.all → (is : HoldsAMboxPrefix world done account)
+    → AllByRecursion (IsUnbegun account) ids → IsMaildrop world.base.text (without ids world.all) × IsMboxFront world.base is.holds (selected world.max_size (without ids world.all))
+withdrawn_leave_prefixes world done account ids sound is unbegun = (
+  withdrawn base.text ids all sound,
+  record {
+    first = is.front.first;
+    rest = without ids is.front.rest;
+    prefix = prefix_left max_size all (is.front.first ++ done) is.front.rest ids is.front.prefix
+        (λ id there gone. both_ways (is_delivered account.rows id) (all_ids_at _ _ unbegun gone).0 (recorded_is id ∙ there));
+    had = is.front.had;
+    next = next is.holds.stands is.front.next;
+  },
+)
+  where
+    open world use {base, max_size, all}
+
+    -- what is recorded is the first of the selected messages
+    recorded_is : (id : List ℕ) → is_delivered account.rows id ≡ has_id (ids_of (is.front.first ++ done)) id
+    recorded_is id = is.holds.recorded id ∙ ap (λ b. b || has_id (ids_of done) id) (is.front.had id) ∙ sym (ids_both is.front.first done id)
+
+    next : (stands : Stands base (base.start ++ entries_of done) account) → IsNext base (base.start ++ entries_of done) account is.front.rest stands
+        → IsNext base (base.start ++ entries_of done) account (without ids is.front.rest) stands
+    next (inl closed) is_next = tt
+    next (inr o) is_next =
+        let out : has_id ids o.next.uid ≡ false = false_from_ne_true _ (λ gone. both_ways _ ((all_ids_at _ _ unbegun gone).1 _ o.opened.intent) (bytes_self o.next.uid)) in
+        (without ids is_next.0, ap (without ids) is_next.1 ∙ rw out refl)
+
+pub starts_in_order : MboxStartsInOrder
+starts_in_order world account first rest closed prefix recorded = record {
+  holds = starts world.base account closed;
+  front = record { first = first; rest = rest; prefix = rw append-nil prefix; had = recorded; next = next (starts world.base account closed).stands };
+}
+  where
+    next : (stands : Stands (base_from world.base account) (account.file ++ []) account) → IsNext (base_from world.base account) (account.file ++ []) account rest stands
+    next (inl c) = tt
+    next (inr o) = absurd (let never = sym closed ∙ o.opened.intent in cc)
+
+-- ---- what the file means
+
+pub entries_mean_texts : Below → EntriesMeanTexts
+entries_mean_texts laws base done account first holds closed stands =
+    rw (ends_whole base done account holds closed, ← flat_map-map entry_of (λ (m : Message). m.text) done) (texts_stand laws.adds base.start first (map (λ (m : Message). m.text) done) (all_mapped IsWhole _ done (all_map _ holds.are.each (λ m h. h.whole))) stands)
+
+-- what is done is among these, by whichever test
+in_order : {limit : ℕ} {all : List Message} {P Q : List ℕ → Type 0} {settings : Settings} {maildrop : List Message} → ((id : List ℕ) → P id → Q id)
+    → IsInOrder limit all P settings maildrop → IsInOrder limit all Q settings maildrop
+in_order f order = record { max_size = order.max_size; come = order.come; gone = order.gone; done = all_map order.gone order.done f; shown = order.shown }
+
+legal_selected : (world : World) → IsSound world → AllByRecursion (λ (m : Message). is_legal_id m.uid ≡ true) (selected_of world)
+legal_selected world sound = all_filter (λ (m : Message). is_legal_id m.uid ≡ true) (is_selected world.max_size) world.all (all_map world.all sound.all.each (λ m is. is.legal))
+
+pub headline : {W D F : Type 0} (link : WireGhosts W) (disk : DiskGhosts D) (file : FileGhosts F) → CallsKeepPromises link disk file → Headline link disk file
+headline link disk file promised = all_hold
+  where
+    all_hold : Headline link disk file
+    all_hold world state devices [] sound shows kept front = (shows, holds_a_prefix world state sound front kept)
+    all_hold world state devices (Called call ∷ later) sound shows kept front = (
+      shows,
+      holds_a_prefix world state sound front kept,
+      λ withdrawn none order account_is is.
+          let (promises, (after_shows, after_kept)) = (promised world.mail state devices (Called call ∷ []) shows kept).2 account_is is in
+          let (sound', front', same) = withdrawn_leave_fronts world state withdrawn sound front none in
+          let legal = legal_selected (world_without withdrawn world) sound' in
+          let shown : (f : IsFront world.mail state (selected_of (world_without withdrawn world))) → ShowsNext call.settings call.maildrop f.done f.rest =
+          λ f. order_shows_next world.mail.text world.max_size (world_without withdrawn world).all f.done f.rest call.settings call.maildrop sound'.all f.prefix
+          (in_order (λ id (l, safe). f.is_done id l ∙ safe) order) in (
+            promises,
+            λ durable.
+                let (sound'', is', done_is) = withdrawn_leave_fronts world state withdrawn sound durable.is none in
+                promises.in_order (selected_of (world_without withdrawn world)) legal
+                (record { is = is'; first = durable.first; last = durable.last; done = done_is ∙ durable.done; at_most_one = durable.at_most_one; named = durable.named }) (shown is'),
+            all_hold (world_without withdrawn world) _ call.after later sound' after_shows after_kept
+                (promises.promises.in_order _ legal (left_front world.mail state promises.left kept promises.taken _ front') (shown front')).0,
+          ),
+    )
+    all_hold world state devices (Others left account ∷ later) sound shows kept front = (
+      shows,
+      holds_a_prefix world state sound front kept,
+      λ then between back.
+          let (safe, fronts, (after_shows, after_kept)) = (promised world.mail state devices (Others left account ∷ []) shows kept).2 then between in
+          all_hold world _ left later sound after_shows after_kept (front_stays world.mail state account _ front back),
+    )
+    all_hold world state devices (PowerLost left account ∷ later) sound shows kept front = (
+      shows,
+      holds_a_prefix world state sound front kept,
+      λ safe durable lost.
+          let (safe', fronts, (after_shows, after_kept)) = (promised world.mail state devices (PowerLost left account ∷ []) shows kept).2 safe lost in
+          all_hold world _ left later sound after_shows after_kept (fronts (selected_of world) (legal_selected world sound) durable).is,
+    )
+
+pub mbox_headline : Below → {W D F : Type 0} (link : WireGhosts W) (disk : DiskGhosts D) (file : FileGhosts F) → MboxSessions link disk file → MboxHeadline link disk file
+mbox_headline laws link disk file sessions = all_hold
+  where
+    all_hold : MboxHeadline link disk file
+    all_hold world done account devices [] sound shows is = (shows, is)
+    all_hold world done account devices (Called call ∷ later) sound shows is = (
+      shows,
+      is,
+      λ withdrawn unbegun order only_new called.
+          let (sound', front) = withdrawn_leave_prefixes world done account withdrawn sound is unbegun in
+          let (sent, after, sent_is, shows', one) = mbox_calls_append laws link disk file sessions world.base done account devices call shows is.holds only_new called in
+          let shown = order_shows_next world.base.text world.max_size (mbox_world_without withdrawn world).all (front.first ++ done) front.rest call.settings call.maildrop sound' front.prefix
+          (in_order (λ id entered. ids_both front.first done id ∙ ap (λ (b : Bool). b || has_id (ids_of done) id) (sym (front.had id)) ∙ entered) order) in (
+            sent,
+            after,
+            sent_is,
+            shows',
+            one,
+            all_hold (mbox_world_without withdrawn world) (done ++ one.more) after call.after later sound' shows'
+                (record { holds = one.kept; front = one.in_order _ front shown }),
+          ),
+    )
+    all_hold world done account devices (Others left now ∷ later) sound shows is = (
+      shows,
+      is,
+      λ then. (
+        λ held there. all_hold world held now left later sound then there,
+        λ first rest closed prefix recorded. all_hold (record world { base = base_from world.base now }) [] now left later sound then
+            (starts_in_order world now first rest closed prefix recorded),
+      ),
+    )
+    all_hold world done account devices (PowerLost left now ∷ later) sound shows is = (
+      shows,
+      is,
+      λ then. (
+        λ held there. all_hold world held now left later sound then there,
+        λ first rest closed prefix recorded. all_hold (record world { base = base_from world.base now }) [] now left later sound then
+            (starts_in_order world now first rest closed prefix recorded),
+      ),
     )

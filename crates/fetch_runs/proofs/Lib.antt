@@ -1,6 +1,5 @@
 pub mod Calls
 pub mod Core
-pub mod Headlines
 pub mod LeftRecords
 pub mod Listed
 pub mod Lists
@@ -10,4 +9,3 @@ pub mod Promised
 pub mod State
 pub mod Steps
 pub mod Talk
-pub mod TalkConversation

@@ -37,7 +37,7 @@ use Rattle.fetch_session.specs.Task.{Task, deletes, Done, lines_of}
 use Rattle.fetch_session.specs.Record.{Keeps, KeepsRows}
 use Rattle.fetch_session.specs.Session.{keeps_files, outcome_of, Keeping, keeps_entries, SessionIn}
 use Rattle.fetch_session.specs.Target.{AsFiles, AsEntries, mail_in, no_maildir, Target}
-use Rattle.fetch_runs.proofs.TalkConversation.{name_of, word_of, Spoke, session_spoke, Planned}
+use Rattle.fetch_runs.proofs.Talk.{name_of, word_of, Spoke, session_spoke, Planned}
 use Rattle.fetch_runs.proofs.Talk.{Course, course, SessionCourse, Idle, Deals, begun_of, IsOfTask, idle_said, begins_of, both_none, deleted_in, deleted_by, text_found, effect_of, tail_for, is_tail_for, course_proceeded, found_by, found_in}
 use Rattle.fetch_runs.proofs.State.{IsRight, found_all, count, is_ended, tally_numbers, tally_right, CourseLeads, inputs, Leads, figures, course_leads, mbox_inputs, MboxLeads, Rests, mbox_figures, course_leaves}
 use Rattle.pop3_wire.specs.Body.{kept, text_of, unstuffed}

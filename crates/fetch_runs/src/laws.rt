@@ -95,7 +95,7 @@ pub fn session_is_a_step()
 }
 
 /// An uncut session of an account with a Maildir did its tasks.
-#[tactic(auto, using(crate::proofs::TalkConversation::uncut_sessions_do_tasks))]
+#[tactic(auto, using(crate::proofs::Talk::uncut_sessions_do_tasks))]
 pub fn uncut_sessions_do_tasks()
     ensures { UncutSessionsDoTasks }
 {}
@@ -159,7 +159,7 @@ pub fn stays_away<W: Wire, D: MaildirDisk, F: FlatFile>()
 }
 
 /// If no reader takes anything away, nothing counts as taken away.
-#[tactic(auto, using(crate::proofs::Headlines::none_taken))]
+#[tactic(auto, using(crate::proofs::Calls::none_taken))]
 pub fn none_taken()
     ensures { NoneTaken }
 {}
@@ -174,7 +174,7 @@ pub fn none_taken()
 /// here too, if what readers put back was held or taken away. Messages may be gone from the server, and one
 /// that wasn't fetched is then no longer part of its mail. A loss of power takes at most the last message
 /// that was stored, and such as were taken away before and stored again.
-#[tactic(auto, using(crate::proofs::Headlines::headline))]
+#[tactic(auto, using(crate::proofs::Calls::headline))]
 pub fn headline<W: Wire, D: MaildirDisk, F: FlatFile>()
     ensures { Headline W.Wire D.MaildirDisk F.FlatFile }
 {
@@ -182,7 +182,7 @@ pub fn headline<W: Wire, D: MaildirDisk, F: FlatFile>()
 }
 
 /// In order it begins, if nothing is held or was taken away.
-#[tactic(auto, using(crate::proofs::Headlines::empty_fronts_begin))]
+#[tactic(auto, using(crate::proofs::Calls::empty_fronts_begin))]
 pub fn empty_fronts_begin()
     ensures { EmptyFrontsBegin }
 {}
@@ -234,7 +234,7 @@ pub fn mbox_starts()
 {}
 
 /// If the file held texts before the first call, it holds the same and then those of the entries.
-#[tactic(auto, using(crate::proofs::Headlines::entries_mean_texts))]
+#[tactic(auto, using(crate::proofs::Calls::entries_mean_texts))]
 pub fn entries_mean_texts()
     ensures { EntriesMeanTexts }
 {

@@ -1,4 +1,4 @@
-use Rattle.fetch_runs.proofs.TalkConversation as lemmas
+use Rattle.fetch_runs.proofs.Talk as lemmas
 use Rattle.fetch_runs.proofs.laws.mbox_sessions_follow_plans.Goals as goal
 
 pub returns : goal.returns

@@ -1,4 +1,4 @@
-use Rattle.fetch_runs.proofs.Headlines as lemmas
+use Rattle.fetch_runs.proofs.Calls as lemmas
 use Rattle.fetch_runs.proofs.laws.mbox_starts_in_order.Goals as goal
 
 pub returns : goal.returns

@@ -1,4 +1,4 @@
-use Rattle.fetch_runs.proofs.Headlines as lemmas
+use Rattle.fetch_runs.proofs.Calls as lemmas
 use Rattle.fetch_runs.proofs.laws.stays_away.Goals as goal
 
 pub returns : goal.returns
