@@ -1,32 +1,31 @@
 -- Each call of `session` is a session over accounts, and lists of calls and what else happens keep what is promised; what is promised of
 -- any list, and the order of the maildrops, give the headlines.
 use Rattle.std.proofs.Common.{◌≡◌, ◌⊎◌, inl, inr, ℕ, true, List, [], ◌∷◌, ◌++◌, refl, sym, ap, subst, ◌∙◌, arith, length, ◌≤◌, false, Bool, length-append, not, ◌&&◌, ◌||◌, map}
-use Rattle.mail_store.specs.Durable.{MayLeave}
 use Rattle.std.proofs.Math.Logic.{⊎_elim}
 use Rattle.pop3_wire.specs.declared.wire.Wire.{Ghosts as WireGhosts}
 use Rattle.mail_store.specs.declared.maildir.disk.MaildirDisk.{Ghosts as DiskGhosts}
 use Rattle.mail_store.specs.declared.file.flat_file.FlatFile.{Ghosts as FileGhosts}
 use Rattle.std.proofs.lemmas.Slice.Eq.{bytes_eq-Decides}
 use Rattle.pop3_wire.specs.World.{Message, IsWorld}
-use Rattle.mail_store.specs.FileName.{IsAccountText, mail_file, names_id, stem, stem_of, is_held}
+use Rattle.mail_store.specs.FileName.{IsAccountText, name_of, names_id, stem_of, is_held}
 use Rattle.std.specs.String.{string_bytes}
 use Rattle.mail_store.specs.Loss.{LosesPower}
 use Rattle.mail_store.specs.Maildir.{Maildir, WereTaken}
 use Rattle.fetch_session.specs.Account.{digits_of}
 use Rattle.fetch_session.specs.Laws.{MboxSessions}
 use Rattle.fetch_session.specs.Session.{account_files, mbox_account_files}
-use Rattle.fetch_runs.specs.Accounts.{AccountMail, files, ids_of, is_selected, without, texts_of, copies, has_named, selected}
-use Rattle.fetch_runs.specs.Promises.{Mail, State, state_with, IsBetween, Kept, Call, Devices, base_from, AppendsMail, Base, HoldsEntries, IsMaildrop, IsSafe, IsFront, ShowsNext, is_safe, Stands, IsNext, IsMboxFront}
-use Rattle.fetch_runs.specs.Sessions.{Session, MboxMail, entries_of}
+use Rattle.fetch_runs.specs.Accounts.{AccountMail, files, ids_of, is_selected, without, texts_of, copies, has_named, selected, without_flags}
+use Rattle.fetch_runs.specs.Promises.{Mail, State, state_with, IsBetween, Kept, Call, Devices, base_from, AppendsMail, Base, HoldsEntries, IsMaildrop, IsSafe, IsFront, ShowsNext, is_safe, IsMboxFront}
+use Rattle.fetch_runs.specs.Sessions.{Session, MboxMail}
 use Rattle.fetch_runs.specs.Steps.{holds}
-use Rattle.fetch_runs.specs.Calls.{Called, CallsKeepPromises, EmptyAccountsAreKept, Others, PowerLost, with_left, IsCall, Shows, MboxCallsKeepPromises, ShowsMbox}
+use Rattle.fetch_runs.specs.Calls.{Called, CallsKeepPromises, EmptyAccountsAreKept, Left, with_left, IsCall, Shows, MboxCallsKeepPromises, ShowsMbox}
 use Rattle.fetch_runs.proofs.LeftRecords.{LeavesDurably, leaves_durably}
 use Rattle.fetch_runs.proofs.Losses.{all_left_durable, calls_keep_order, calls_keep_safe, durable_is_safe, left_keeps_front, left_keeps_safe, losses_keep_order, losses_leave_kept, others_keep_order, others_keep_safe, front_stays, left_front}
 use Rattle.fetch_runs.proofs.Lists.{left_or_none, all_filter, all_ids_at, all_map, all_front, are_distinct, distinct_filter, distinct_is, front_is, is_some, no_texts, all_at, bytes_self, ids_both, all_mapped}
 use Rattle.fetch_session.specs.declared.account.Store.TheVariants.{Maildir as InMaildir, Mboxrd as InMbox}
 use Rattle.fetch_runs.specs.Below.{Below}
 use Rattle.fetch_runs.proofs.MboxPromised.{appends, starts, ends_whole}
-use Rattle.fetch_runs.proofs.Promised.{IsSession, others_leave_kept, sessions_keep_promises, copies_came, copies_messages, held_copies, one_text}
+use Rattle.fetch_runs.proofs.Promised.{IsSession, others_leave_kept, sessions_keep_promises, copies_came, copies_messages, held_copies, named_messages, one_text}
 use Rattle.fetch_runs.proofs.Steps.{mbox_session_is_a_step, session_is_a_step, texts_stand}
 use Rattle.std.specs.List.{AllByRecursion}
 use Rattle.std.proofs.lemmas.Bool.{both_ways, false_from_ne_true, or_left, cases_Bool}
@@ -105,8 +104,8 @@ left_between mail state left kept taken = record {
 pub calls_keep_promises : Below → {W D F : Type 0} (link : WireGhosts W) (disk : DiskGhosts D) (file : FileGhosts F) → CallsKeepPromises link disk file
 calls_keep_promises laws {W} {D} {F} link disk file = keep
   where
-    own : (account : List ℕ) → IsAccountText account → (m : Message) → names_id account m.uid (mail_file account m.uid m.text).name ≡ true
-    own account text m = (bytes_eq-Decides (stem_of account m.uid) _).1 (sym (ap stem (laws.bases account m.uid (length m.text) text) ∙ laws.stems account m.uid (length m.text) text))
+    own : (account : List ℕ) → IsAccountText account → (m : Message) → names_id account m.uid (name_of account m.uid (length m.text)) ≡ true
+    own account text m = (bytes_eq-Decides (stem_of account m.uid) _).1 (sym (laws.stems account m.uid (length m.text) text))
 
     keep : CallsKeepPromises link disk file
     keep mail state devices [] shows kept = (shows, kept)
@@ -130,28 +129,26 @@ calls_keep_promises laws {W} {D} {F} link disk file = keep
               taken_is = it.taken_is;
               promises = done.0;
               safe = λ sure safe. calls_keep_safe laws file devices.file call.after.file mail (with_left mail state it.left) call it.sent it.after here it.session
-                  it.leaves sure (left_keeps_safe (MayLeave (file.disk devices.file)) mail state it.left kept it.taken safe);
+                  it.leaves sure (left_keeps_safe (file.disk devices.file) mail state it.left kept it.taken safe);
               in_order = λ all legal front next. calls_keep_order mail (own mail.account account) file devices.file call.after.file
                   (with_left mail state it.left) call it.sent it.after done.0 it.leaves all legal (left_keeps_front mail state it.left kept it.taken all legal front) next;
             },
             keep mail _ call.after later it.shows done.1,
           ),
     )
-    keep mail state devices (Others left account ∷ later) shows kept = (
+    keep mail state devices (Left left account ∷ later) shows kept = (
       shows,
       kept,
       λ then between. (
-        λ keeps safe. others_keep_safe laws file devices.file left.file mail state account then.intent kept then.record_is between keeps safe,
-        λ keeps back all legal front. others_keep_order file devices.file left.file mail state account keeps back all legal front,
-        keep mail (state_with mail state account) left later then (others_leave_kept mail state account kept between),
+        λ keeps. (
+          λ safe. others_keep_safe laws file devices.file left.file mail state account then.intent kept then.record_is between keeps safe,
+          λ back all legal front. others_keep_order file devices.file left.file mail state account keeps back all legal front,
+        ),
+        keep mail (state_with mail state [] account) left later then (others_leave_kept mail state account kept between),
       ),
-    )
-    keep mail state devices (PowerLost left account ∷ later) shows kept = (
-      shows,
-      kept,
       λ safe lost.
           let loses : LosesPower state.account.maildir account.maildir = rw (shows.maildir, lost.shows.maildir) lost.maildir in
-          let now = losses_leave_kept (MayLeave (file.disk devices.file)) mail state account (file.stored left.file).content lost.shows.intent kept safe
+          let now = losses_leave_kept (file.disk devices.file) mail state account (file.stored left.file).content lost.shows.intent kept safe
           loses lost.record_is lost.shows.record_is in (
             durable_is_safe laws file left.file mail (record state { account = account }) lost.shows.intent now lost.shows.record_is
                 (all_left_durable mail.account state.account.maildir account.maildir loses) lost.durable,
@@ -200,12 +197,7 @@ mbox_calls_keep_promises laws link disk file sessions = keep
           let (sent, after, sent_is, shows', one) = mbox_calls_append laws link disk file sessions base done account devices call shows holds only_new is in
           (sent, after, sent_is, shows', one, keep base (done ++ one.more) after call.after later shows' one.kept),
     )
-    keep base done account devices (Others left now ∷ later) shows holds = (
-      shows,
-      holds,
-      λ then. (λ first there. keep base first now left later then there, λ closed. keep (base_from base now) [] now left later then (starts base now closed)),
-    )
-    keep base done account devices (PowerLost left now ∷ later) shows holds = (
+    keep base done account devices (Left left now ∷ later) shows holds = (
       shows,
       holds,
       λ then. (λ first there. keep base first now left later then there, λ closed. keep (base_from base now) [] now left later then (starts base now closed)),
@@ -296,7 +288,8 @@ stays_away laws link disk file mail state devices call id account drop is new le
     let unlike = no_texts promises.came id (none_has promises.came (all_map _ promises.new (λ m h. h.unrecorded new))) in
     let before = copies is.left.files (stem_of mail.account id) in (
       promises.recorded id recorded,
-      held_copies mail.account is.after id ∙ ap is_some (copies_came is.left.files (files is.after) _ (stem_of mail.account id) promises.added
+      held_copies mail.account is.after id ∙ ap is_some (copies_came is.left.files (files is.after) _ (stem_of mail.account id)
+          (promises.added ∙ ap (λ fs. without_flags is.left.files ++ fs) (sym (named_messages laws mail.account account promises.came)))
           ∙ ap (λ c. before ++ c) (copies_messages laws mail.account account promises.came id legal legal_came ∙ unlike) ∙ append-nil before)
           ∙ sym (held_copies mail.account (record state.account { maildir = is.left }) id) ∙ unheld,
     )
@@ -315,7 +308,10 @@ withdrawn_leave_prefixes world done account ids sound is unbegun = (
     prefix = prefix_left max_size all (is.front.first ++ done) is.front.rest ids is.front.prefix
         (λ id there gone. both_ways (is_delivered account.rows id) (all_ids_at _ _ unbegun gone).0 (recorded_is id ∙ there));
     had = is.front.had;
-    next = next is.holds.stands is.front.next;
+    next = λ o e.
+        let (more, first) = is.front.next o e in
+        let out : has_id ids o.next.uid ≡ false = false_from_ne_true _ (λ gone. both_ways _ ((all_ids_at _ _ unbegun gone).1 _ o.opened.intent) (bytes_self o.next.uid)) in
+        (without ids more, ap (without ids) first ∙ rw out refl);
   },
 )
   where
@@ -325,22 +321,11 @@ withdrawn_leave_prefixes world done account ids sound is unbegun = (
     recorded_is : (id : List ℕ) → is_delivered account.rows id ≡ has_id (ids_of (is.front.first ++ done)) id
     recorded_is id = is.holds.recorded id ∙ ap (λ b. b || has_id (ids_of done) id) (is.front.had id) ∙ sym (ids_both is.front.first done id)
 
-    next : (stands : Stands base (base.start ++ entries_of done) account) → IsNext base (base.start ++ entries_of done) account is.front.rest stands
-        → IsNext base (base.start ++ entries_of done) account (without ids is.front.rest) stands
-    next (inl closed) is_next = tt
-    next (inr o) is_next =
-        let out : has_id ids o.next.uid ≡ false = false_from_ne_true _ (λ gone. both_ways _ ((all_ids_at _ _ unbegun gone).1 _ o.opened.intent) (bytes_self o.next.uid)) in
-        (without ids is_next.0, ap (without ids) is_next.1 ∙ rw out refl)
-
 pub starts_in_order : MboxStartsInOrder
 starts_in_order world account first rest closed prefix recorded = record {
   holds = starts world.base account closed;
-  front = record { first = first; rest = rest; prefix = rw append-nil prefix; had = recorded; next = next (starts world.base account closed).stands };
+  front = record { first = first; rest = rest; prefix = rw append-nil prefix; had = recorded; next = λ o e. absurd (let never = sym closed ∙ o.opened.intent in cc) };
 }
-  where
-    next : (stands : Stands (base_from world.base account) (account.file ++ []) account) → IsNext (base_from world.base account) (account.file ++ []) account rest stands
-    next (inl c) = tt
-    next (inr o) = absurd (let never = sym closed ∙ o.opened.intent in cc)
 
 -- ---- what the file means
 
@@ -380,20 +365,17 @@ headline link disk file promised = all_hold
                 (promises.promises.in_order _ legal (left_front world.mail state promises.left kept promises.taken _ front') (shown front')).0,
           ),
     )
-    all_hold world state devices (Others left account ∷ later) sound shows kept front = (
-      shows,
-      holds_a_prefix world state sound front kept,
-      λ then between back.
-          let (safe, fronts, (after_shows, after_kept)) = (promised world.mail state devices (Others left account ∷ []) shows kept).2 then between in
-          all_hold world _ left later sound after_shows after_kept (front_stays world.mail state account _ front back),
-    )
-    all_hold world state devices (PowerLost left account ∷ later) sound shows kept front = (
-      shows,
-      holds_a_prefix world state sound front kept,
-      λ safe durable lost.
-          let (safe', fronts, (after_shows, after_kept)) = (promised world.mail state devices (PowerLost left account ∷ []) shows kept).2 safe lost in
-          all_hold world _ left later sound after_shows after_kept (fronts (selected_of world) (legal_selected world sound) durable).is,
-    )
+    all_hold world state devices (Left left account ∷ later) sound shows kept front =
+        let (_, _, others, loss) = promised world.mail state devices (Left left account ∷ []) shows kept in (
+          shows,
+          holds_a_prefix world state sound front kept,
+          λ then between back.
+              let (safe, (after_shows, after_kept)) = others then between in
+              all_hold world _ left later sound after_shows after_kept (front_stays world.mail state account _ front back),
+          λ safe durable lost.
+              let (safe', fronts, (after_shows, after_kept)) = loss safe lost in
+              all_hold world _ left later sound after_shows after_kept (fronts (selected_of world) (legal_selected world sound) durable).is,
+        )
 
 pub mbox_headline : Below → {W D F : Type 0} (link : WireGhosts W) (disk : DiskGhosts D) (file : FileGhosts F) → MboxSessions link disk file → MboxHeadline link disk file
 mbox_headline laws link disk file sessions = all_hold
@@ -417,16 +399,7 @@ mbox_headline laws link disk file sessions = all_hold
                 (record { holds = one.kept; front = one.in_order _ front shown }),
           ),
     )
-    all_hold world done account devices (Others left now ∷ later) sound shows is = (
-      shows,
-      is,
-      λ then. (
-        λ held there. all_hold world held now left later sound then there,
-        λ first rest closed prefix recorded. all_hold (record world { base = base_from world.base now }) [] now left later sound then
-            (starts_in_order world now first rest closed prefix recorded),
-      ),
-    )
-    all_hold world done account devices (PowerLost left now ∷ later) sound shows is = (
+    all_hold world done account devices (Left left now ∷ later) sound shows is = (
       shows,
       is,
       λ then. (

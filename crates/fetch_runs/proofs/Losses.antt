@@ -1,6 +1,6 @@
 -- A loss of power between two calls leaves a kept state, if what is recorded or gone is durable; and calls and others keep that.
 use Rattle.std.proofs.Common.{◌≡◌, ◌⊎◌, inl, inr, ℕ, List, [], ◌∷◌, ◌++◌, true, false, length, Option, refl, sym, ◌∙◌, arith, bytes_eq, ⊎_elim, Bool, ap, subst, map, append_assoc, ◌≤◌, ◌<◌, not, ◌+◌, ◌||◌, ◌&&◌}
-use Rattle.mail_store.specs.Durable.{MayLeave}
+use Rattle.mail_store.specs.Durable.{Disk, MayLeave}
 use Rattle.std.specs.List.{AllByRecursion, filter, list_any}
 use Rattle.std.proofs.lemmas.Bool.{both_ways, cases_Bool, or_left, or_right, or_cases}
 use Rattle.std.proofs.lemmas.List.{append-nil, append_cancel_left, nil_from_length}
@@ -8,14 +8,14 @@ use Rattle.std.proofs.lemmas.List.Elements.{filter-append}
 use Rattle.std.proofs.lemmas.List.Folds.{list_any-append}
 use Rattle.mail_terms.specs.UniqueId.{has_id, is_legal_id}
 use Rattle.pop3_wire.specs.World.{Message}
-use Rattle.mail_store.specs.FileName.{is_held, mail_file, names_id, stem, stem_of}
+use Rattle.mail_store.specs.FileName.{is_held, name_of, names_id, stem, stem_of}
 use Rattle.mail_store.specs.Loss.{AreLeftAs, LosesPower}
 use Rattle.mail_store.specs.Maildir.{AllNamed, AreReached, File, IsDurable, IsWithout, Maildir, WereTaken, file}
 use Rattle.mail_store.specs.declared.file.flat_file.FlatFile.{Ghosts as FileGhosts}
 use Rattle.fetch_rules.specs.Record.{Intent, is_delivered}
 use Rattle.fetch_rules.specs.RecordMeaning.{FileStandsFor}
 use Rattle.fetch_runs.specs.Accounts.{AccountMail, copies, has_named, without_flags, ids_of}
-use Rattle.fetch_runs.specs.Promises.{IsBetween, Mail, State, after_session, is_safe, state_with, IsFront, Kept, Promises, ShowsNext, Call}
+use Rattle.fetch_runs.specs.Promises.{IsBetween, Mail, State, is_safe, state_with, IsFront, Kept, Promises, ShowsNext, Call}
 use Rattle.fetch_runs.proofs.Promised.{IsSession}
 use Rattle.fetch_runs.specs.Sessions.{IsHonest, Leaves, Stores, wanted_at}
 use Rattle.fetch_runs.specs.Losses.{DurableAccountsAreSafe, DurableFrontsBegin, IsCrashSafe, IsDurableFront, IsDurableFor, IsFlushedFor, RecordIsSure, KeepsDurable, lasts}
@@ -146,7 +146,7 @@ lasts_bits false held taken named' held' is stays some = grind (arith, some)
 -- it still does, if a durable name stays while the message is held
 lasts_on : (mail : Mail) (state : State) (after : AccountMail) (id : List ℕ)
     → (has_named mail.account state.account.maildir id ≡ true → is_held mail.account after.maildir id ≡ true → has_named mail.account after.maildir id ≡ true)
-    → lasts mail state id ≡ true → lasts mail (state_with mail state after) id ≡ true
+    → lasts mail state id ≡ true → lasts mail (state_with mail state [] after) id ≡ true
 lasts_on mail state after id stays = lasts_bits (has_named mail.account state.account.maildir id) (is_held mail.account state.account.maildir id) (state.taken id)
     (has_named mail.account after.maildir id) (is_held mail.account after.maildir id) (named_any (names_id mail.account id) state.account.maildir.files) stays
 
@@ -154,7 +154,7 @@ lasts_on mail state after id stays = lasts_bits (has_named mail.account state.ac
 
 pub others_keep_safe : Below → {F : Type 0} (file : FileGhosts F) (from f : F) (mail : Mail) (state : State) (after : AccountMail) (intent : Option Intent) → Kept mail state
     → FileStandsFor (file.stored f).content after.rows intent → IsBetween mail state.account after → KeepsDurable file mail.account state.account from f after
-    → IsCrashSafe (MayLeave (file.disk from)) mail state → IsCrashSafe (MayLeave (file.disk f)) mail (state_with mail state after)
+    → IsCrashSafe (file.disk from) mail state → IsCrashSafe (file.disk f) mail (state_with mail state [] after)
 others_keep_safe laws file from f mail state after intent kept stands between keeps safe = record {
   flushed = keeps.flushed;
   recorded = shown;
@@ -167,10 +167,10 @@ others_keep_safe laws file from f mail state after intent kept stands between ke
   gone = all_both state.gone kept.gone safe.gone (λ id is. on id is.0);
 }
   where
-    on : (id : List ℕ) → is_legal_id id ≡ true → lasts mail state id ≡ true → lasts mail (state_with mail state after) id ≡ true
+    on : (id : List ℕ) → is_legal_id id ≡ true → lasts mail state id ≡ true → lasts mail (state_with mail state [] after) id ≡ true
     on id legal = lasts_on mail state after id (keeps.named id legal)
 
-    shown : (id : List ℕ) → is_delivered after.rows id ≡ true → lasts mail (state_with mail state after) id ≡ true
+    shown : (id : List ℕ) → is_delivered after.rows id ≡ true → lasts mail (state_with mail state [] after) id ≡ true
     shown id d = let was = between.shows_no_more id d in on id (kept.recorded id was).0 (safe.recorded id was)
 
 module _ (mail : Mail) (state : State) (left : Maildir) (kept : Kept mail state) (taken : WereTaken state.account.maildir left) where
@@ -178,7 +178,7 @@ module _ (mail : Mail) (state : State) (left : Maildir) (kept : Kept mail state)
   once (inl none) = rw none (omega arith)
   once (inr one) = rw one (omega arith)
 
-  pub lasts_left : (id : List ℕ) → is_legal_id id ≡ true → lasts mail state id ≡ true → lasts mail (state_with mail state (record state.account { maildir = left })) id ≡ true
+  pub lasts_left : (id : List ℕ) → is_legal_id id ≡ true → lasts mail state id ≡ true → lasts mail (state_with mail state [] (record state.account { maildir = left })) id ≡ true
   lasts_left id legal = lasts_on mail state (record state.account { maildir = left }) id
       (named_stays (stem_of mail.account id) taken.gone state.account.maildir.files left.files taken.files (once (kept.holds id legal)))
 
@@ -195,9 +195,9 @@ module _ (mail : Mail) (state : State) (left : Maildir) (kept : Kept mail state)
       by_none none (inr fewer) = nil_from_length (copies left.files (stem_of mail.account id)) (omega (arith, rw none at fewer))
 
 -- readers took some files away while a call was under way; the record's device is as it was
-pub left_keeps_safe : (may_leave : Option (List ℕ) → Type 0) (mail : Mail) (state : State) (left : Maildir) → Kept mail state → WereTaken state.account.maildir left
-    → IsCrashSafe may_leave mail state → IsCrashSafe may_leave mail (state_with mail state (record state.account { maildir = left }))
-left_keeps_safe may_leave mail state left kept taken safe = record {
+pub left_keeps_safe : (disk : Disk) (mail : Mail) (state : State) (left : Maildir) → Kept mail state → WereTaken state.account.maildir left
+    → IsCrashSafe disk mail state → IsCrashSafe disk mail (state_with mail state [] (record state.account { maildir = left }))
+left_keeps_safe disk mail state left kept taken safe = record {
   flushed = flushed_stays mail.account taken.gone state.account.maildir.files left.files taken.files safe.flushed;
   recorded = λ id d. on id (kept.recorded id d).0 (safe.recorded id d);
   left = λ bytes rows opened may is id d. let was = safe.left bytes rows opened may is id d in (was.0, on id was.0 was.1);
@@ -205,7 +205,7 @@ left_keeps_safe may_leave mail state left kept taken safe = record {
 }
   where
     next : State
-    next = state_with mail state (record state.account { maildir = left })
+    next = state_with mail state [] (record state.account { maildir = left })
 
     on : (id : List ℕ) → is_legal_id id ≡ true → lasts mail state id ≡ true → lasts mail next id ≡ true
     on id legal = lasts_left mail state left kept taken id legal
@@ -224,12 +224,12 @@ module _ {F : Type 0} (file : FileGhosts F) (from f : F) (mail : Mail) (state : 
     list_any-append (λ (g : File). names_id mail.account id g.name && g.is_named) leaves.came leaves.last,
   ) (or_right _ _ (or_left _ _ named))
 
-  lasts_call : (id : List ℕ) → lasts mail state id ≡ true → lasts mail (after_session mail state vanished after) id ≡ true
+  lasts_call : (id : List ℕ) → lasts mail state id ≡ true → lasts mail (state_with mail state vanished after) id ≡ true
   lasts_call id = lasts_on mail state after id (λ named held. stays id named)
 
 pub calls_keep_safe : Below → {W S F G : Type 0} (file : FileGhosts F) (from f : F) (mail : Mail) (state : State) (call : Call W S G) (sent : List ℕ) (now : AccountMail) → Kept mail state
     → IsSession mail state.account call sent now → LeavesDurably file mail.account from f state.account now → RecordIsSure file from f
-    → IsCrashSafe (MayLeave (file.disk from)) mail state → IsCrashSafe (MayLeave (file.disk f)) mail (after_session mail state call.vanished now)
+    → IsCrashSafe (file.disk from) mail state → IsCrashSafe (file.disk f) mail (state_with mail state call.vanished now)
 calls_keep_safe laws file from f mail state call sent now kept is leaves sure safe = record {
   flushed = flushed_after;
   recorded = shown;
@@ -241,12 +241,12 @@ calls_keep_safe laws file from f mail state call sent now kept is leaves sure sa
       | inr (inr could) ↦ on id (safe.left left rows opened could stands id d).1
     ],
   );
-  gone = all_append (λ id. lasts mail after id ≡ true) state.gone call.vanished (all_map state.gone safe.gone on)
-      (all_map call.vanished went.1 (λ id begun. shown id (marked id begun)));
+  gone = all_append (λ id. lasts mail after id ≡ true) call.vanished state.gone
+      (all_map call.vanished went.1 (λ id begun. shown id (marked id begun))) (all_map state.gone safe.gone on);
 }
   where
     after : State
-    after = after_session mail state call.vanished now
+    after = state_with mail state call.vanished now
 
     went : (Leaves state.account is.effect now ⊎ (Stores call.settings mail.account state.account is.effect now call.report is.session.sends.commands is.session.sends.asked.part
         × IsHonest (wanted_at call.settings mail.account state.account is.effect) call.maildrop is.effect)) × AllByRecursion (λ id. has_id is.effect.begun id ≡ true) call.vanished
@@ -271,9 +271,9 @@ calls_keep_safe laws file from f mail state call sent now kept is leaves sure sa
 
 -- ---- a loss of power
 
-pub losses_leave_kept : (may_leave : Option (List ℕ) → Type 0) (mail : Mail) (state : State) (after : AccountMail) (left : Option (List ℕ)) (intent : Option Intent) → Kept mail state
-    → IsCrashSafe may_leave mail state → LosesPower state.account.maildir after.maildir → may_leave left → FileStandsFor left after.rows intent → Kept mail (record state { account = after })
-losses_leave_kept may_leave mail state after left intent kept safe loses may stands = record {
+pub losses_leave_kept : (disk : Disk) (mail : Mail) (state : State) (after : AccountMail) (left : Option (List ℕ)) (intent : Option Intent) → Kept mail state
+    → IsCrashSafe disk mail state → LosesPower state.account.maildir after.maildir → MayLeave disk left → FileStandsFor left after.rows intent → Kept mail (record state { account = after })
+losses_leave_kept disk mail state after left intent kept safe loses may stands = record {
   holds = λ id legal. same_or_none (kept.holds id legal) (left_copies (stem_of mail.account id) state.account.maildir.files after.maildir.files loses.files
       (all_map state.account.maildir.files safe.flushed (λ f flushed. flushed id legal)));
   recorded = λ id d. let was = safe.left left after.rows intent may stands id d in (was.0, still id was.1);
@@ -330,7 +330,7 @@ durable_fronts_begin mail state all legal front durable = record {
 -- ---- what others and readers leave
 
 abbrev pub front_stays : (mail : Mail) (state : State) (after : AccountMail) (all : List Message) → IsFront mail state all
-    → ((id : List ℕ) → is_legal_id id ≡ true → is_held mail.account after.maildir id ≡ true → is_safe mail state id ≡ true) → IsFront mail (state_with mail state after) all
+    → ((id : List ℕ) → is_legal_id id ≡ true → is_held mail.account after.maildir id ≡ true → is_safe mail state id ≡ true) → IsFront mail (state_with mail state [] after) all
 front_stays mail state after all front back = record {
   done = front.done;
   rest = front.rest;
@@ -340,20 +340,20 @@ front_stays mail state after all front back = record {
 
 -- readers put nothing else there
 abbrev pub left_front : (mail : Mail) (state : State) (left : Maildir) → Kept mail state → WereTaken state.account.maildir left → (all : List Message) → IsFront mail state all
-    → IsFront mail (state_with mail state (record state.account { maildir = left })) all
+    → IsFront mail (state_with mail state [] (record state.account { maildir = left })) all
 left_front mail state left kept taken all front =
     front_stays mail state (record state.account { maildir = left }) all front (λ id l held. or_left _ _ (held_back mail state left kept taken id held))
 
 module _ (mail : Mail) (state : State) (after : AccountMail) (all : List Message) (legal : AreLegal all) (front : IsDurableFront mail state all)
     (back : (id : List ℕ) → is_legal_id id ≡ true → is_held mail.account after.maildir id ≡ true → is_safe mail state id ≡ true)
-    (on : (id : List ℕ) → is_legal_id id ≡ true → lasts mail state id ≡ true → lasts mail (state_with mail state after) id ≡ true) where
+    (on : (id : List ℕ) → is_legal_id id ≡ true → lasts mail state id ≡ true → lasts mail (state_with mail state [] after) id ≡ true) where
   legal_done : AreLegal front.is.done
   legal_done = all_front (λ (m : Message). is_legal_id m.uid ≡ true) front.is.done front.is.rest (rw front.is.prefix at legal)
 
   pub legal_first : AreLegal front.first
   legal_first = all_front (λ (m : Message). is_legal_id m.uid ≡ true) front.first front.last (rw front.done at legal_done)
 
-  abbrev pub others_keep_front : IsDurableFront mail (state_with mail state after) all
+  abbrev pub others_keep_front : IsDurableFront mail (state_with mail state [] after) all
   others_keep_front = record {
     is = front_stays mail state after all front.is back;
     first = front.first;
@@ -364,13 +364,13 @@ module _ (mail : Mail) (state : State) (after : AccountMail) (all : List Message
   }
 
 abbrev pub left_keeps_front : (mail : Mail) (state : State) (left : Maildir) (kept : Kept mail state) (taken : WereTaken state.account.maildir left) (all : List Message) → AreLegal all
-    → IsDurableFront mail state all → IsDurableFront mail (state_with mail state (record state.account { maildir = left })) all
+    → IsDurableFront mail state all → IsDurableFront mail (state_with mail state [] (record state.account { maildir = left })) all
 left_keeps_front mail state left kept taken all legal front = others_keep_front mail state (record state.account { maildir = left }) all legal front
     (λ id l held. or_left _ _ (held_back mail state left kept taken id held)) (lasts_left mail state left kept taken)
 
 pub others_keep_order : {F : Type 0} (file : FileGhosts F) (from f : F) (mail : Mail) (state : State) (after : AccountMail) → KeepsDurable file mail.account state.account from f after
     → ((id : List ℕ) → is_legal_id id ≡ true → is_held mail.account after.maildir id ≡ true → is_safe mail state id ≡ true)
-    → (all : List Message) → AreLegal all → IsDurableFront mail state all → IsDurableFront mail (state_with mail state after) all
+    → (all : List Message) → AreLegal all → IsDurableFront mail state all → IsDurableFront mail (state_with mail state [] after) all
 others_keep_order file from f mail state after keeps back all legal front = others_keep_front mail state after all legal front back (λ id l. lasts_on mail state after id (keeps.named id l))
 
 -- ---- what a call leaves
@@ -397,9 +397,9 @@ shorter : (p : Message → Bool) (ms : List Message) → length (filter p ms) �
 shorter p [] = omega arith
 shorter p (m ∷ ms) = grind (arith, shorter p ms)
 
-module _ (mail : Mail) (own : (m : Message) → names_id mail.account m.uid (mail_file mail.account m.uid m.text).name ≡ true) where
+module _ (mail : Mail) (own : (m : Message) → names_id mail.account m.uid (name_of mail.account m.uid (length m.text)) ≡ true) where
   abbrev its_file : Message → File
-  its_file m = mail_file mail.account m.uid m.text
+  its_file m = file (name_of mail.account m.uid (length m.text)) m.text
 
   same_length : (ms : List Message) (fs : List File) → map its_file ms ≡ without_flags fs → length ms ≡ length fs
   same_length [] [] e = refl
@@ -424,7 +424,7 @@ module _ (mail : Mail) (own : (m : Message) → names_id mail.account m.uid (mai
   module _ {W S F G : Type 0} (store : FileGhosts F) (from f : F) (state : State) (call : Call W S G) (sent : List ℕ) (now : AccountMail) (promises : Promises mail state call sent now) (leaves : LeavesDurably store mail.account from f state.account now)
       (all : List Message) (legal : AreLegal all) (front : IsDurableFront mail state all) (next : ShowsNext call.settings call.maildrop front.is.done front.is.rest) where
     abbrev after : State
-    after = after_session mail state call.vanished now
+    after = state_with mail state call.vanished now
 
     abbrev new : Message → Bool
     new m = not (has_id (ids_of front.is.done) m.uid)

@@ -1,10 +1,10 @@
 -- With an mboxrd file, each session that reads only what is new appends entries and keeps its promises.
-use Rattle.std.proofs.Common.{subst, not, length, None, Some, map, ◌⊎◌, slice_get, zero, ◌≡◌, inl, inr, ℕ, List, [], ◌∷◌, ◌++◌, Bool, true, false, refl, sym, ◌∙◌, ap, suc, ◌||◌, take, arith, append_assoc}
+use Rattle.std.proofs.Common.{subst, not, length, None, Some, map, ◌⊎◌, slice_get, zero, ◌≡◌, inl, inr, ℕ, List, [], ◌∷◌, ◌++◌, true, false, refl, sym, ◌∙◌, ap, suc, ◌||◌, take, arith, append_assoc}
 use Rattle.std.specs.Prelude.{bytes_eq, ◌↔◌}
 use Rattle.std.specs.List.{AllByRecursion, count_by, filter}
 use Rattle.std.proofs.lemmas.Bool.{both_ways, false_from_ne_true, or_left, or_right, or_parts}
 use Rattle.std.proofs.lemmas.List.{append-nil, map-append}
-use Rattle.std.proofs.Math.Bool.{or-false}
+use Rattle.std.proofs.Math.Bool.{or-false, or_assoc}
 use Rattle.std.proofs.Math.Logic.{⊎_elim, ⊎_map}
 use Rattle.mail_terms.specs.UniqueId.{has_id}
 use Rattle.mail_terms.specs.Listing.{Item}
@@ -19,7 +19,7 @@ use Rattle.fetch_rules.specs.Record.{marked, is_delivered, Row, has_row, marked_
 use Rattle.pop3_wire.specs.World.{Message}
 use Rattle.fetch_runs.specs.Accounts.{ids_of}
 use Rattle.fetch_runs.specs.Below.{Below}
-use Rattle.fetch_runs.specs.Promises.{IsOf, IsMaildrop, ShowsNext, Call, Base, is_entered, IsOpenAfter, IsOpenFor, Stands, HoldsEntries, IsNext, IsMboxFront, MboxPromises, MboxStarts, AppendsMail}
+use Rattle.fetch_runs.specs.Promises.{IsOf, IsMaildrop, ShowsNext, Call, Base, is_entered, IsOpenAfter, IsOpenFor, Stands, HoldsEntries, IsMboxFront, MboxPromises, MboxStarts, AppendsMail}
 use Rattle.fetch_runs.proofs.Promised.{sends_such}
 use Rattle.fetch_runs.proofs.Core.{BeginsWith, next_in, added, added_begins, prefix_after, all_added, parts_apart, IsNumbered, num_item, Fetch, all_wanted, distinct_wanted, wanted_is, taken_is, texts_are, wanted_ids, none_recorded, left_out, qs, wants, wants_placed, has_listed, mbox_fetched}
 use Rattle.fetch_runs.proofs.Lists.{all_ids_at, distinct_filter, filter_all, other_id, bytes_self, Distinct, distinct_is, are_distinct, all_map, all_take, all_append, all_back, all_mapped, members, ids_both, bytes_swap, delivered_unheld, delivered_one, delivered_all, rows_marked}
@@ -40,10 +40,6 @@ distinct_both (m ∷ ms) ns d e h = (
   grind (arith, d.0, ids_both ms ns m.uid, absent ns m.uid (all_map ns h (λ x k. (or_parts _ _ k).0))),
   distinct_both ms ns d.1 e (all_map ns h (λ x k. (or_parts _ _ k).1)),
 )
-
-or_assoc : (a b c : Bool) → ((a || b) || c) ≡ (a || (b || c))
-or_assoc true b c = refl
-or_assoc false b c = refl
 
 -- ---- entries
 
@@ -125,17 +121,21 @@ module _ (base : Base) where
   pub ends_whole : (done : List Message) (account : MboxMail) → HoldsEntries base done account → account.intent ≡ None → account.file ≡ bytes_of done
   ends_whole done account holds closed = ⊎_elim (λ c. c.1) (λ o. absurd (let never = sym closed ∙ o.opened.intent in cc)) holds.stands
 
+  -- an open intent is that of the first of these
+  abbrev pub IsNext : (bytes : List ℕ) (account : MboxMail) → List Message → Stands base bytes account → Type 0
+  IsNext bytes account rest stands = (o : IsOpenFor base bytes account) → stands ≡ inr o → (more : List Message) × (rest ≡ o.next ∷ more)
+
+  next_is : {bytes : List ℕ} {account : MboxMail} {rest : List Message} (o : IsOpenFor base bytes account) (more : List Message) → rest ≡ o.next ∷ more → IsNext bytes account rest (inr o)
+  next_is {bytes} {account} o more first = λ p same. let is : o ≡ p = cc in (more, first ∙ ap (λ (q : IsOpenFor base bytes account). q.next ∷ more) is)
+
   -- after it was settled the next are these
-  ahead : (limit : ℕ) (done ms : List Message) → Distinct (ids_of ms) → (bytes : List ℕ) (account : MboxMail) (stands : Stands base bytes account) (rest more : List Message) → IsNext base bytes account rest stands
+  ahead : (limit : ℕ) (done ms : List Message) → Distinct (ids_of ms) → (bytes : List ℕ) (account : MboxMail) (stands : Stands base bytes account) (rest more : List Message) → IsNext bytes account rest stands
       → IsMore bytes account stands more → BeginsWith (next_in limit done ms) rest
       → (later : List Message) × (rest ≡ more ++ later) × BeginsWith (next_in limit (done ++ more) ms) later
   ahead limit done ms d bytes account (inl closed) rest more next is begins = (rest, rw is refl, rw (is, append-nil) begins)
   ahead limit done ms d bytes account (inr o) rest more next (inl is) begins = (rest, rw is refl, rw (is, append-nil) begins)
-  ahead limit done ms d bytes account (inr o) rest more next (inr is) begins = (
-    next.0,
-    rw is next.1,
-    rw (is, next_less limit done o.next ms) (without_one o.next (next_in limit done ms) next.0 (distinct_filter _ ms d) (rw next.1 at begins)),
-  )
+  ahead limit done ms d bytes account (inr o) rest more next (inr is) begins = let (later, first) = next o refl in
+      (later, rw is first, rw (is, next_less limit done o.next ms) (without_one o.next (next_in limit done ms) later (distinct_filter _ ms d) (rw first at begins)))
 
   -- a closed account whose file is these bytes, with some more entries perhaps
   abbrev pub Settled : (done : List Message) (bytes : List ℕ) (before : MboxMail) → Stands base bytes before → MboxMail → Type 0
@@ -342,7 +342,7 @@ module _ (base : Base) where
 
       module _ (all : List Message) (front : IsMboxFront base kept all) (next : ShowsNext v.settings v.maildrop (front.first ++ done) front.rest) where
         abbrev Next : Stands base (bytes_of (was ++ new s.stored)) now → Type 0
-        Next stands = (rest : List Message) × (all ≡ (front.first ++ (was ++ new s.stored)) ++ rest) × IsNext base (bytes_of (was ++ new s.stored)) now rest stands
+        Next stands = (rest : List Message) × (all ≡ (front.first ++ (was ++ new s.stored)) ++ rest) × IsNext (bytes_of (was ++ new s.stored)) now rest stands
 
         later : (rest : List Message) × (front.rest ≡ origin.0 ++ rest) × BeginsWith (next_in v.settings.max_size (front.first ++ was) v.maildrop) rest
         later =
@@ -369,10 +369,10 @@ module _ (base : Base) where
         next_open b =
             let o = broken b in
             let taken : new (suc s.stored) ≡ new s.stored ++ o.next ∷ [] = broken_more b in
-            (o.next ∷ (rest_after (suc s.stored)).0, prefix_new (suc s.stored) ∙ rw taken (simp append_assoc), ((rest_after (suc s.stored)).0, refl))
+            (o.next ∷ (rest_after (suc s.stored)).0, prefix_new (suc s.stored) ∙ rw taken (simp append_assoc), next_is o (rest_after (suc s.stored)).0 refl)
 
         next_after : (ending : Ending) → Next (stands_at ending)
-        next_after (inl c) = ((rest_after s.stored).0, prefix_new s.stored, tt)
+        next_after (inl c) = ((rest_after s.stored).0, prefix_new s.stored, λ o e. absurd cc)
         next_after (inr b) = next_open b
 
         front_after : IsMboxFront base holds_after all
@@ -383,9 +383,9 @@ module _ (base : Base) where
     unfolding left_kept
     left_front now did h all front = record { first = front.first; rest = front.rest; prefix = front.prefix; had = front.had; next = go kept.stands front.next }
       where
-        go : (stands : Stands base (bytes_of done) before) → IsNext base (bytes_of done) before front.rest stands → IsNext base (bytes_of done) now front.rest (left_stands now did h stands)
-        go (inl closed) next = tt
-        go (inr o) next = next
+        go : (stands : Stands base (bytes_of done) before) → IsNext (bytes_of done) before front.rest stands → IsNext (bytes_of done) now front.rest (left_stands now did h stands)
+        go (inl closed) next = λ o e. absurd cc
+        go (inr o) next = let (more, first) = next o refl in next_is _ more first
 
     -- ---- one session
 

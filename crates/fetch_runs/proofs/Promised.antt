@@ -1,5 +1,5 @@
 -- One session of an account with a Maildir, from a kept state, keeps its promises and leaves a kept state, and so do others.
-use Rattle.std.proofs.Common.{◌≡◌, ◌⊎◌, inl, inr, ◌-◌, ℕ, List, [], ◌∷◌, ◌++◌, Bool, true, false, length, map, refl, sym, subst, ◌∙◌, ap, arith, not, cond, ◌&&◌, ◌||◌, take, drop}
+use Rattle.std.proofs.Common.{◌≡◌, ◌⊎◌, inl, inr, ◌-◌, ℕ, List, [], ◌∷◌, ◌++◌, Bool, true, false, length, map, refl, sym, subst, ◌∙◌, ap, ap₂, arith, not, cond, ◌&&◌, ◌||◌, take, drop}
 use Rattle.std.specs.Prelude.{bytes_eq, ◌↔◌}
 use Rattle.std.specs.List.{AllByRecursion, count_by, filter}
 use Rattle.std.proofs.lemmas.Bool.{cases_Bool, both_ways, or_left, or_right, or_cases, and_parts, false_from_ne_true}
@@ -12,13 +12,13 @@ use Rattle.pop3_wire.specs.World.{Message}
 use Rattle.pop3_wire.specs.declared.command.Command.{Command}
 use Rattle.pop3_wire.specs.declared.command.Command.TheVariants.{Dele}
 use Rattle.fetch_rules.specs.Record.{is_delivered, Row}
-use Rattle.mail_store.specs.Maildir.{File}
+use Rattle.mail_store.specs.Maildir.{File, file as file_of}
 use Rattle.mail_terms.specs.MaildirName.{base}
 use Rattle.mail_store.specs.FileName.{names_id, name_of, stem, is_held, stem_of, IsAccountText}
 use Rattle.fetch_runs.specs.Accounts.{ids_of, item_of, listing_of, texts_of, AccountMail, copies, files, has_named, without_flags}
 use Rattle.fetch_runs.specs.Sessions.{Effect, Leaves, Stores, IsHonest, wanted_at, merged_rows, ids_wanted, SendsOnly, IsBegun, Served, Session, is_retr}
 use Rattle.fetch_runs.specs.Below.{Below}
-use Rattle.fetch_runs.specs.Promises.{Mail, IsOf, IsMaildrop, State, is_safe, IsSafe, state_with, after_session, DeletesOneOf, ShowsNext, IsFront, Promises, Kept, Call, IsBetween}
+use Rattle.fetch_runs.specs.Promises.{Mail, IsOf, IsMaildrop, State, is_safe, IsSafe, state_with, DeletesOneOf, ShowsNext, IsFront, Promises, Kept, Call, IsBetween}
 use Rattle.fetch_runs.proofs.Core.{added, added_begins, prefix_after, Fetch, all_wanted, distinct_wanted, texts_are, taken_is, wanted_ids, none_recorded, left_out, IsLegal, wants, stored_files, message_file, has_listed, fetched, order}
 use Rattle.fetch_runs.proofs.Lists.{ids_both, ids_filtered, any_filter, same_tests, is_some, Distinct, distinct_is, each_text, all_map, all_filter, all_take, all_append, all_at, all_both, all_ids_at, all_passing, members, no_texts, has_texts, texts_filtered, taken_more, delivered_marked, delivered_merged, marks_stay, mapped_at}
 use Rattle.fetch_session.specs.declared.report.Outcome.TheVariants.{Ended}
@@ -30,10 +30,10 @@ pub held_copies : (account : List ℕ) (state : AccountMail) (id : List ℕ) →
 held_copies account state id = any_filter (λ (f : File). names_id account id f.name) (λ (f : File). f.content) (files state)
 
 -- what is safe stays so, whatever becomes of the account
-pub still_safe : (mail : Mail) (state : State) (after : AccountMail) (id : List ℕ) → IsSafe mail state id → IsSafe mail (state_with mail state after) id
+pub still_safe : (mail : Mail) (state : State) (after : AccountMail) (id : List ℕ) → IsSafe mail state id → IsSafe mail (state_with mail state [] after) id
 still_safe mail state after id (l, safe) = (l, grind (arith, safe))
 
-held_safe : (mail : Mail) (state : State) (after : AccountMail) (id : List ℕ) → is_held mail.account after.maildir id ≡ true → is_safe mail (state_with mail state after) id ≡ true
+held_safe : (mail : Mail) (state : State) (after : AccountMail) (id : List ℕ) → is_held mail.account after.maildir id ≡ true → is_safe mail (state_with mail state [] after) id ≡ true
 held_safe mail state after id held = or_left _ _ held
 
 -- ---- copies
@@ -58,6 +58,11 @@ module _ (laws : Below) (account : List ℕ) (text : IsAccountText account) wher
   copies_messages (m ∷ ms) id l h =
       let same = ap (bytes_eq (stem_of account id)) (its_stem m) ∙ same_tests (laws.differ account id m.uid l h.0) (ap (stem_of account)) in
       grind (arith, same, copies_messages ms id l h.1)
+
+  -- their names are their own bases
+  pub named_messages : (ms : List Message) → map (message_file account) ms ≡ map (λ (m : Message). file_of (name_of account m.uid (length m.text)) m.text) ms
+  named_messages [] = refl
+  named_messages (m ∷ ms) = ap₂ (λ (name : List ℕ) (fs : List File). file_of name m.text ∷ fs) (laws.bases account m.uid (length m.text) text) (named_messages ms)
 
 some_both : {X : Type 0} (xs ys : List X) → is_some (xs ++ ys) ≡ (is_some xs || is_some ys)
 some_both [] ys = refl
@@ -124,7 +129,7 @@ module _ {W S F : Type 0} (laws : Below) {mail : Mail} (account_is : IsAccountTe
   ws = wants o.settings rows o.maildrop
 
   abbrev after : State
-  after = after_session mail state o.vanished now
+  after = state_with mail state o.vanished now
 
   fetch : Fetch o.settings rows o.maildrop e
   fetch = record { filtered = laws.filtered; distinct = distinct_is o.maildrop is.distinct; honest = honest }
@@ -249,7 +254,7 @@ module _ {W S F : Type 0} (laws : Below) {mail : Mail} (account_is : IsAccountTe
       deletes = sends_such (IsSafe mail after) o.maildrop e (inl honest.listing) begun_safe sends;
       retrieved = λ uncut. retrieves (ended.1 uncut);
       came = came;
-      added = files_are;
+      added = files_are ∙ ap (λ fs. without_flags (files state.account) ++ fs) (named_messages laws mail.account account_is came);
       new = all_both _ shown_came (all_filter _ (λ (m : Message). not (held m.uid)) got unrecorded_got)
           (λ m both unrecorded. record { shown = both.0; unheld = both.1; unrecorded = unrecorded });
       recorded = stays_recorded;
@@ -258,7 +263,7 @@ module _ {W S F : Type 0} (laws : Below) {mail : Mail} (account_is : IsAccountTe
     record {
       holds = holds_after;
       recorded = recorded_after;
-      gone = all_append _ _ _ (all_map _ kept.gone (still_safe mail state now)) (all_map _ vanished (λ id b. all_ids_at _ _ begun_safe b));
+      gone = all_append _ _ _ (all_map _ vanished (λ id b. all_ids_at _ _ begun_safe b)) (all_map _ kept.gone (still_safe mail state now));
     },
   )
     where
@@ -277,11 +282,11 @@ module _ {W S F : Type 0} (laws : Below) {mail : Mail} (account_is : IsAccountTe
 
 -- a session that changed nothing
 left_kept : {W S F : Type 0} {mail : Mail} {state : State} (o : Call W S F) (now : AccountMail) (e : Effect) → Kept mail state → Leaves state.account e now → (e.ended ≡ true) ↔ (o.report.outcome ≡ Ended)
-    → {sent : List ℕ} → SendsOnly (IsBegun e.listing e.begun) sent → AllByRecursion (λ id. has_id e.begun id ≡ true) o.vanished → Promises mail state o sent now × Kept mail (after_session mail state o.vanished now)
+    → {sent : List ℕ} → SendsOnly (IsBegun e.listing e.begun) sent → AllByRecursion (λ id. has_id e.begun id ≡ true) o.vanished → Promises mail state o sent now × Kept mail (state_with mail state o.vanished now)
 left_kept {mail = mail} {state = state} o now e kept left ended sends vanished = (
   record {
     left_out = λ uncut. absurd (both_ways e.ended left.ended (ended.1 uncut));
-    deletes = sends_such (IsSafe mail (after_session mail state o.vanished now)) o.maildrop e (inr left.begun) (rw left.begun tt) sends;
+    deletes = sends_such (IsSafe mail (state_with mail state o.vanished now)) o.maildrop e (inr left.begun) (rw left.begun tt) sends;
     retrieved = λ uncut. absurd (both_ways e.ended left.ended (ended.1 uncut));
     came = [];
     added = ap without_flags left.same ∙ sym (append-nil (without_flags (files state.account)));
@@ -293,19 +298,19 @@ left_kept {mail = mail} {state = state} o now e kept left ended sends vanished =
   record {
     holds = λ id l. rw left.same (kept.holds id l);
     recorded = λ id d. still_safe mail state now id (kept.recorded id (rw left.rows at d));
-    gone = all_append _ _ _ (all_map _ kept.gone (still_safe mail state now)) (all_map _ vanished (λ id b. absurd (both_ways false refl (rw left.begun at b))));
+    gone = all_append _ _ _ (all_map _ vanished (λ id b. absurd (both_ways false refl (rw left.begun at b)))) (all_map _ kept.gone (still_safe mail state now));
   },
 )
   where
     same : (id : List ℕ) → is_held mail.account now.maildir id ≡ is_held mail.account state.account.maildir id
     same id = rw left.same refl
 
-    unchanged : (id : List ℕ) → is_safe mail state id ≡ is_safe mail (after_session mail state o.vanished now) id
+    unchanged : (id : List ℕ) → is_safe mail state id ≡ is_safe mail (state_with mail state o.vanished now) id
     unchanged id = grind (arith, same id)
 
 -- ---- sessions and others
 
-pub others_leave_kept : (mail : Mail) (state : State) (after : AccountMail) → Kept mail state → IsBetween mail state.account after → Kept mail (state_with mail state after)
+pub others_leave_kept : (mail : Mail) (state : State) (after : AccountMail) → Kept mail state → IsBetween mail state.account after → Kept mail (state_with mail state [] after)
 others_leave_kept mail state after kept is = record {
   holds = is.holds;
   recorded = λ id d. still_safe mail state after id (kept.recorded id (is.shows_no_more id d));
@@ -314,7 +319,7 @@ others_leave_kept mail state after kept is = record {
 
 -- a session keeps its promises, and leads from a kept state to a kept state
 pub sessions_keep_promises : Below → {W S F : Type 0} (mail : Mail) (state : State) (call : Call W S F) (sent : List ℕ) (after : AccountMail) → IsAccountText mail.account → Kept mail state
-    → IsSession mail state.account call sent after → Promises mail state call sent after × Kept mail (after_session mail state call.vanished after)
+    → IsSession mail state.account call sent after → Promises mail state call sent after × Kept mail (state_with mail state call.vanished after)
 sessions_keep_promises laws mail state call sent after account_is kept is =
     let step = served_session laws call.settings mail.account state.account is.effect is.session is.served in
     ⊎_elim (λ left. left_kept call after is.effect kept left is.session.ended is.session.sends step.1)

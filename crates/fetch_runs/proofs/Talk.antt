@@ -912,12 +912,6 @@ name_of settings = string_bytes settings.username
 abbrev pub word_of : Settings → List ℕ
 word_of settings = string_bytes settings.password
 
--- these octets are those of the first commands of the plan of these steps
-pub record Follows (settings : Settings) (steps : List Step) (sent : List ℕ) : Type 0 where
-  pub commands : List Command
-  pub asked : Asked commands sent
-  pub front : IsFrontOfPlan (name_of settings) (word_of settings) steps commands
-
 abbrev opening_of : Settings → List Turn
 opening_of settings = opening (name_of settings) (word_of settings)
 
@@ -932,7 +926,7 @@ pub record Planned (settings : Settings) (target : Target) (now : ℕ) (before :
   pub said : Said c enters.3 by.took
   pub open said use *
   pub split : plan_turns (name_of settings) (word_of settings) (planned settings by.rows items now) ≡ (opening_of settings ++ by.took.done) ++ (by.took.begun ++ flat_map turns_in by.ahead.later)
-  pub follows : Follows settings (planned settings by.rows items now) sent
+  pub follows : FollowsPlan settings (planned settings by.rows items now) sent
 
 -- what a session said: with no listing, the opening alone
 abbrev pub Spoke : Settings → Target → ℕ → Keeping → Link → Link → Result (Unit {0}) Cut → List ReportLine → SessionCourse → Type 0
@@ -980,7 +974,7 @@ session_spoke laws settings valid target now link before report link' after sess
     spoke (Err cut) (inr (inr is)) leaves = planned_talk (Err cut) is leaves
 
 -- its commands are the first of a plan without steps
-follows_none : Below → (settings : Settings) → IsValid settings → {turns : List Turn} {link link' : Link} → IsTail turns → (it : OpensAlone (name_of settings) (word_of settings) turns link link') → Follows settings [] it.sent
+follows_none : Below → (settings : Settings) → IsValid settings → {turns : List Turn} {link link' : Link} → IsTail turns → (it : OpensAlone (name_of settings) (word_of settings) turns link link') → FollowsPlan settings [] it.sent
 follows_none laws settings valid kind it =
     let whole = commanded_opening laws (name_of settings) (word_of settings) valid.valid_username valid.valid_password kind it.said in
     search (whole.asked, front_of_plan {steps = []} (it.said.later ++ quit ∷ []) (ap (λ (ts : List Turn). ts ++ quit ∷ []) it.said.split ∙ simp append_assoc) kind whole)
@@ -992,9 +986,9 @@ mbox_sessions_follow_plans laws settings now link before report link' after vali
     by (course_proceeded settings AsEntries now (at link []) (keeps_entries before) session.result session.mid (keeps_entries after) session.notes session.proceeds)
     (session_spoke laws settings valid AsEntries now link (keeps_entries before) report link' (keeps_entries after) session)
   where
-    by : (session_course : SessionCourse) → Spoke settings AsEntries now (keeps_entries before) link link' session.result session.notes.lines session_course → (sent : List ℕ) × (link'.sent ≡ link.sent ++ sent) × FollowsPlan settings sent
-    by Idle it = let follows = follows_none laws settings valid (is_tail_for session.result) it in (it.sent, it.sent_is, search follows)
-    by (Deals c) p = (p.sent, p.sent_is, search p.follows)
+    by : (session_course : SessionCourse) → Spoke settings AsEntries now (keeps_entries before) link link' session.result session.notes.lines session_course → (sent : List ℕ) × (link'.sent ≡ link.sent ++ sent) × (steps : List Step) × FollowsPlan settings steps sent
+    by Idle it = (it.sent, it.sent_is, [], follows_none laws settings valid (is_tail_for session.result) it)
+    by (Deals c) p = (p.sent, p.sent_is, planned settings p.by.rows p.items now, p.follows)
 
 pub sessions_are_conversations : Below → SessionsAreConversations
 sessions_are_conversations laws settings account now link before report link' after valid session =
@@ -1009,12 +1003,10 @@ sessions_are_conversations laws settings account now link before report link' af
       said =
           let is : Conversation (opening_of settings ++ p.by.took.done) (replies_to p.enters.3 ++ p.by.took.replies) p.by.took.begun (tail_behind report.outcome) p.sent p.got = rw session.reports.outcome_is p.is in
           search (p.split, p.by.took.one, is);
-      found = ⊎_map (λ (mid, prepared, same). record { was = prepared.was.rows; stood = (prepared.was.intent, prepared.stood); merged_is = sym same ∙ prepared.rows }) (λ none.
+      found = ⊎_map (λ (mid, prepared, same). (prepared.was.rows, (prepared.was.intent, prepared.stood), sym same ∙ prepared.rows)) (λ none.
           let both = both_none p.by.took.done p.by.took.begun (sym p.by.took.all ∙ ap (λ (ts : List Task). flat_map turns_in ts) none) in
           (rw both.0, both.1)) p.by.found;
-      commands = p.follows.commands;
-      asked = p.follows.asked;
-      front = p.follows.front;
+      follows = p.follows;
       listed = (_, _, _, _, _, _, _, ap (λ (ws : List WholeReply). (ws ++ p.enters.3.counted ∷ p.enters.3.named ∷ p.enters.3.sized ∷ []) ++ p.by.took.replies) (replied p.enters.3.welcome p.enters.3.talked.good).is, listed p.enters.3 p.enters.4);
       counts = ⊎_map (λ same. ap retrieved_by same ∙ number) (λ (n, same, none, (reply, more)).
           (session.reports.outcome_is ∙ p.by.ahead.spare account reply refl more, (opening_of settings ++ turns_of c.taken, n, rw same, number, none))) p.by.took.asks;
@@ -1029,9 +1021,8 @@ sessions_are_conversations laws settings account now link before report link' af
     by : (session_course : SessionCourse) → Spoke settings (AsFiles account) now (keeps_files before) link link' session.result session.notes.lines session_course
         → (sent got : List ℕ) × (link'.sent ≡ link.sent ++ sent) × (link'.got ≡ link.got ++ got) × (Opens settings report sent got ⊎ SpeaksByPlan settings account now before report sent got)
     by Idle it =
-        let follows = follows_none laws settings valid (is_tail_for session.result) it in
         let said : Converses (opening_of settings) (tail_behind report.outcome) it.sent it.got = rw session.reports.outcome_is it.said in
-        (it.sent, it.got, it.sent_is, it.got_is, inl (search (said, follows)))
+        (it.sent, it.got, it.sent_is, it.got_is, inl (record { said = said; follows = follows_none laws settings valid (is_tail_for session.result) it }))
     by (Deals c) p = (p.sent, p.got, p.sent_is, p.got_is, inr (by_plan c p))
 
 pub zip_both : {A B : Type 0} (R : A → B → Type 0) (xs : List A) (ys : List B) (us : List A) (vs : List B) → AllZip R xs ys → AllZip R us vs → AllZip R (xs ++ us) (ys ++ vs)
@@ -1254,7 +1245,8 @@ module _ (laws : Below) (settings : Settings) (account : List ℕ) (now : ℕ) (
       lines = lines_of front;
       cut = (refused_at there).link;
       after = account_files (maildir (files_of account front)) (file u.ready.file.failures);
-      files = record { files = is.files; content = refl };
+      files = is.files;
+      content = refl;
       sent = (asking (turns_of (next ∷ back)), sent_is front (next ∷ back) split);
       got = (flat_map reply_bytes (replies_of (next ∷ back)) ++ waits, got_is front (next ∷ back) split);
       session = session is.file (cut_of WriteFailed None)
@@ -1302,7 +1294,8 @@ module _ (laws : Below) (settings : Settings) (account : List ℕ) (now : ℕ) (
         lines = lines_of front ++ delivered is.number reply ∷ [];
         cut = (refused_at place).link;
         after = account_files (maildir (files_of account front ++ file_from account is.uid reply ∷ [])) (file (u.ready.file.failures + 1));
-        files = record { files = is.files ∙ ap (λ l. before.maildir.files ++ l) files_are; content = refl };
+        files = is.files ∙ ap (λ l. before.maildir.files ++ l) files_are;
+        content = refl;
         sent = (asking (turns_of back), rw cut_sent (sent_is (front ++ next ∷ []) back split_next));
         got = (flat_map reply_bytes (replies_of back) ++ waits, rw cut_got (got_is (front ++ next ∷ []) back split_next));
         session =

@@ -23,7 +23,7 @@ use Rattle.fetch_session.specs.declared.report.Report.{Report}
 use Rattle.fetch_runs.specs.Accounts.{AccountMail, copies, files}
 use Rattle.fetch_runs.specs.Sessions.{Served, MboxMail}
 use Rattle.fetch_runs.specs.Promises.{Call, Devices, IsBetween, IsMaildrop, Kept, Mail, Promises, ShowsNext, State}
-use Rattle.fetch_runs.specs.Promises.{after_session, is_safe, state_with, AppendsMail, Base, HoldsEntries, base_from}
+use Rattle.fetch_runs.specs.Promises.{is_safe, state_with, AppendsMail, Base, HoldsEntries, base_from}
 use Rattle.fetch_runs.specs.Losses.{IsCrashSafe, IsDurableFront, RecordIsSure, KeepsDurable, KeepsFronts}
 use Rattle.fetch_session.specs.Target.{mail_in}
 
@@ -64,7 +64,7 @@ pub record Shows {D F : Type 0} (disk : DiskGhosts D) (file : FileGhosts F) (dev
 
 -- the state with what readers left of its Maildir
 abbrev pub with_left : Mail → State → Maildir → State
-with_left mail state left = state_with mail state (record state.account { maildir = left })
+with_left mail state left = state_with mail state [] (record state.account { maildir = left })
 
 -- readers were seen to take files away during the call, and none was besides; over what they left it was a session that
 -- kept its promises. If a loss of power could do no harm before it, none can after it
@@ -78,13 +78,12 @@ pub record IsPromised {W D F : Type 0} (link : WireGhosts W) (disk : DiskGhosts 
   pub shows : Shows disk file call.after after
   pub taken_is : after.maildir.taken ≡ left.taken
   pub promises : Promises mail (with_left mail state left) call sent after
-  pub safe : RecordIsSure file devices.file call.after.file → IsCrashSafe (MayLeave (file.disk devices.file)) mail state
-      → IsCrashSafe (MayLeave (file.disk call.after.file)) mail
-      (after_session mail (with_left mail state left) call.vanished after)
+  pub safe : RecordIsSure file devices.file call.after.file → IsCrashSafe (file.disk devices.file) mail state
+      → IsCrashSafe (file.disk call.after.file) mail (state_with mail (with_left mail state left) call.vanished after)
   pub in_order : (all : List Message) → AllByRecursion (λ (m : Message). is_legal_id m.uid ≡ true) all
       → (front : IsDurableFront mail state all)
       → ShowsNext call.settings call.maildrop front.is.done front.is.rest
-      → IsDurableFront mail (after_session mail (with_left mail state left) call.vanished after) all
+      → IsDurableFront mail (state_with mail (with_left mail state left) call.vanished after) all
 
 -- of the account's messages no other is held than such as were held or taken away
 abbrev pub HoldsNoMore : Mail → State → AccountMail → Type 0
@@ -102,36 +101,31 @@ pub record IsLeftByLoss {D F : Type 0} (disk : DiskGhosts D) (file : FileGhosts 
 
 -- ---- any list of calls
 
--- a call; or others, or a loss of power, which leave these devices, which show this account
+-- a call; or others, or a loss of power, left these devices, which show this account
 pub data Happening (Call Devices Account : Type 0) : Type 0 where
   Called : Call → Happening Call Devices Account
-  Others : Devices → Account → Happening Call Devices Account
-  PowerLost : Devices → Account → Happening Call Devices Account
+  Left : Devices → Account → Happening Call Devices Account
 
--- the devices show a kept state; if the next of these happens, a call keeps its promises, and they do so after it. What
--- a loss of power takes, if it can do no harm, doesn't count as taken away: the next calls fetch it again
+-- the devices show a kept state; if the next of these happens, a call keeps its promises, and they do so after it, and
+-- after others or a loss of power. What such a loss takes, if it can do no harm, doesn't count as taken away: the next
+-- calls fetch it again
 abbrev pub ArePromised : {W D F : Type 0} → WireGhosts W → DiskGhosts D → FileGhosts F → Mail → State → Devices D F
     → List (Happening (Call W D F) (Devices D F) AccountMail) → Type 0
 ArePromised link disk file mail state devices [] = Shows disk file devices state.account × Kept mail state
 ArePromised link disk file mail state devices (Called call ∷ later) = Shows disk file devices state.account
     × Kept mail state × (digits_of call.settings ≡ mail.account → IsCall link disk file InMaildir disk.sound mail.text
     devices call → (is : IsPromised link disk file mail state devices call)
-    × ArePromised link disk file mail (after_session mail (with_left mail state is.left) call.vanished is.after)
+    × ArePromised link disk file mail (state_with mail (with_left mail state is.left) call.vanished is.after)
     call.after later)
-ArePromised link disk file mail state devices (Others left account ∷ later) = Shows disk file devices state.account
+ArePromised link disk file mail state devices (Left left account ∷ later) = Shows disk file devices state.account
     × Kept mail state × (Shows disk file left account → IsBetween mail state.account account
-    → (KeepsDurable file mail.account state.account devices.file left.file account
-    → IsCrashSafe (MayLeave (file.disk devices.file)) mail state
-    → IsCrashSafe (MayLeave (file.disk left.file)) mail (state_with mail state account))
-    × (KeepsDurable file mail.account state.account devices.file left.file account → HoldsNoMore mail state account
-    → KeepsFronts mail state (state_with mail state account))
-    × ArePromised link disk file mail (state_with mail state account) left later)
-ArePromised link disk file mail state devices (PowerLost left account ∷ later) = Shows disk file devices state.account
-    × Kept mail state × (IsCrashSafe (MayLeave (file.disk devices.file)) mail state
-    → IsLeftByLoss disk file devices left account
-    → IsCrashSafe (MayLeave (file.disk left.file)) mail (record state { account = account })
-    × KeepsFronts mail state (record state { account = account })
-    × ArePromised link disk file mail (record state { account = account }) left later)
+    → let next = state_with mail state [] account in
+    (KeepsDurable file mail.account state.account devices.file left.file account
+    → (IsCrashSafe (file.disk devices.file) mail state → IsCrashSafe (file.disk left.file) mail next)
+    × (HoldsNoMore mail state account → KeepsFronts mail state next)) × ArePromised link disk file mail next left later)
+    × (IsCrashSafe (file.disk devices.file) mail state → IsLeftByLoss disk file devices left account
+    → let next : State = record state { account = account } in IsCrashSafe (file.disk left.file) mail next
+    × KeepsFronts mail state next × ArePromised link disk file mail next left later)
 
 -- the law: so it is of any list of calls, of what others leave, and of losses of power, from a kept state on
 abbrev pub CallsKeepPromises : {W D F : Type 0} → WireGhosts W → DiskGhosts D → FileGhosts F → Type 0
@@ -165,12 +159,7 @@ AreMboxPromised link disk file base done account devices (Called call ∷ later)
     × ((link.history call.wire').sent ≡ (link.history call.wire).sent ++ sent) × ShowsMbox file call.after after
     × (appends : AppendsMail base holds call sent after)
     × AreMboxPromised link disk file base (done ++ appends.more) after call.after later)
-AreMboxPromised link disk file base done account devices (Others left now ∷ later) = ShowsMbox file devices account
-    × HoldsEntries base done account × (ShowsMbox file left now
-    → ((first : List Message) → HoldsEntries base first now
-    → AreMboxPromised link disk file base first now left later)
-    × (now.intent ≡ None → AreMboxPromised link disk file (base_from base now) [] now left later))
-AreMboxPromised link disk file base done account devices (PowerLost left now ∷ later) = ShowsMbox file devices account
+AreMboxPromised link disk file base done account devices (Left left now ∷ later) = ShowsMbox file devices account
     × HoldsEntries base done account × (ShowsMbox file left now
     → ((first : List Message) → HoldsEntries base first now
     → AreMboxPromised link disk file base first now left later)

@@ -13,9 +13,7 @@ use Rattle.pop3_wire.specs.Reading.{WholeReply, reply_bytes}
 use Rattle.pop3_client.specs.Turns.{Turn, asking, greeting, retr, IsGood}
 use Rattle.mail_terms.specs.Listing.{Item}
 use Rattle.fetch_rules.specs.Record.{Row, merged}
-use Rattle.mail_store.specs.FlatFile.{Stored}
 use Rattle.mail_store.specs.Held.{flags_of}
-use Rattle.mail_store.specs.Maildir.{Maildir}
 use Rattle.fetch_session.specs.Record.{KeepsRows}
 use Rattle.fetch_rules.specs.Plan.{planned}
 use Rattle.rc_file.specs.Settings.{IsValid}
@@ -101,23 +99,22 @@ CountsTexts outcome done begun count = (retrieved_by done ≡ count)
     × ((front : List Turn) × (number : ℕ) × (done ≡ front ++ retr number ∷ []) × (retrieved_by front ≡ count)
     × (begun ≡ [])))
 
+-- these octets are those of the first commands of a plan of these steps and of a tail, and perhaps a beginning of one
+-- more's line
+pub record FollowsPlan (settings : Settings) (steps : List Step) (sent : List ℕ) : Type 0 where
+  pub commands : List Command
+  pub asked : Asked commands sent
+  pub front : IsFrontOfPlan (string_bytes settings.username) (string_bytes settings.password) steps commands
+
 -- a session that didn't get past its opening
 pub record Opens (settings : Settings) (report : Report) (sent got : List ℕ) : Type 0 where
   pub said : Converses (opening (string_bytes settings.username) (string_bytes settings.password))
       (tail_behind report.outcome) sent got
-  pub commands : List Command
-  pub asked : Asked commands sent
-  pub front : IsFrontOfPlan (string_bytes settings.username) (string_bytes settings.password) [] commands
+  pub follows : FollowsPlan settings [] sent
 
--- the rows are those that the record's file stood for, with the listing and what was found held merged into them
-pub record AreFound (account : List ℕ) (now : ℕ) (maildir : Maildir) (file : Stored) (items : List Item)
-    (rows : List Row) : Type 0 where
-  pub was : List Row
-  pub stood : KeepsRows file.content was
-  pub merged_is : rows ≡ merged was items (flags_of account maildir items) now
-
--- a session whose listing was joined followed the plan for that listing, the record and the Maildir that it
--- found; or it didn't come to a plan, and began only the tail after the opening
+-- a session whose listing was joined followed the plan for that listing and for the rows that the record's file stood
+-- for, with the listing and what was found held merged into them; or it didn't come to a plan, and began only the tail
+-- after the opening
 pub record SpeaksByPlan (settings : Settings) (account : List ℕ) (now : ℕ) (before : AccountFiles) (report : Report)
     (sent got : List ℕ) : Type 0 where
   pub items : List Item
@@ -125,12 +122,10 @@ pub record SpeaksByPlan (settings : Settings) (account : List ℕ) (now : ℕ) (
   pub said : Converses
       (plan_turns (string_bytes settings.username) (string_bytes settings.password) (planned settings rows items now))
       (tail_behind report.outcome) sent got
-  pub found : AreFound account now before.maildir before.file items rows
+  pub found : ((was : List Row) × KeepsRows before.file.content was
+      × (rows ≡ merged was items (flags_of account before.maildir items) now))
       ⊎ ((said.done ≡ opening (string_bytes settings.username) (string_bytes settings.password)) × (said.begun ≡ []))
-  pub commands : List Command
-  pub asked : Asked commands sent
-  pub front : IsFrontOfPlan (string_bytes settings.username) (string_bytes settings.password)
-      (planned settings rows items now) commands
+  pub follows : FollowsPlan settings (planned settings rows items now) sent
   pub listed : (hello user pass stat uidl list : WholeReply) × (more : List WholeReply)
       × (said.replies ≡ hello ∷ user ∷ pass ∷ stat ∷ uidl ∷ list ∷ more) × IsListed stat uidl list items
   pub counts : CountsTexts report.outcome said.done said.begun report.retrieved
@@ -144,16 +139,9 @@ SessionsAreConversations = (settings : Settings) (account : List ℕ) (now : ℕ
     → (sent got : List ℕ) × (link'.sent ≡ link.sent ++ sent) × (link'.got ≡ link.got ++ got)
     × (Opens settings report sent got ⊎ SpeaksByPlan settings account now before report sent got)
 
--- these octets are those of the first commands of a plan and of a tail, and perhaps a beginning of one more's line
-pub record FollowsPlan (settings : Settings) (sent : List ℕ) : Type 0 where
-  pub steps : List Step
-  pub commands : List Command
-  pub asked : Asked commands sent
-  pub front : IsFrontOfPlan (string_bytes settings.username) (string_bytes settings.password) steps commands
-
 -- a law: with an mboxrd file, what was sent in a session follows a plan
 abbrev pub MboxSessionsFollowPlans : Type 0
 MboxSessionsFollowPlans = (settings : Settings) (now : ℕ) (link : Link) (before : MboxAccountFiles) (report : Report)
     (link' : Link) (after : MboxAccountFiles)
     → IsValid settings → MboxSession settings now link before report link' after
-    → (sent : List ℕ) × (link'.sent ≡ link.sent ++ sent) × FollowsPlan settings sent
+    → (sent : List ℕ) × (link'.sent ≡ link.sent ++ sent) × (steps : List Step) × FollowsPlan settings steps sent

@@ -62,20 +62,16 @@ pub record IsLeftWithin (account : List ℕ) (before : AccountFiles) (ready : Sc
   pub files : left.maildir.files ≡ before.maildir.files ++ files_of account (front ++ next ∷ [])
   pub file : Steady left.file.content (none_open (marked_all ready.rows (ids_of front)))
 
--- the same files of `new` and `cur`, and the same bytes of the record's file; all else may be another process's
-pub record HasTheSameFiles (before after : AccountFiles) : Type 0 where
-  pub files : after.maildir.files ≡ before.maildir.files
-  pub content : after.file.content ≡ before.file.content
-
--- a session that was cut, and that sent and got only a prefix of what this one did, left these files
+-- a session that was cut, and that sent and got only a prefix of what this one did, left these files of `new` and `cur`,
+-- and these bytes of the record's file; all else may be another process's
 pub record IsCutThere (settings : Settings) (account : List ℕ) (now : ℕ) (link : Link) (before : AccountFiles)
-    (link' : Link)
-    (items : List Item) (ready : Scene) (left : AccountFiles) : Type 0 where
+    (link' : Link) (items : List Item) (ready : Scene) (left : AccountFiles) : Type 0 where
   pub fault : Fault
   pub lines : List ReportLine
   pub cut : Link
   pub after : AccountFiles
-  pub files : HasTheSameFiles after left
+  pub files : left.maildir.files ≡ after.maildir.files
+  pub content : left.file.content ≡ after.file.content
   pub sent : (later : List ℕ) × (link'.sent ≡ cut.sent ++ later)
   pub got : (later : List ℕ) × (link'.got ≡ cut.got ++ later)
   pub session : (report : Report)

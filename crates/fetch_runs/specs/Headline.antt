@@ -13,7 +13,6 @@ use Rattle.pop3_wire.specs.declared.wire.Wire.{Ghosts as WireGhosts}
 use Rattle.mail_terms.specs.UniqueId.{is_legal_id, has_id}
 use Rattle.rc_file.specs.declared.settings.Settings.{Settings}
 use Rattle.fetch_rules.specs.Record.{Intent, is_delivered}
-use Rattle.mail_store.specs.Durable.{MayLeave}
 use Rattle.mail_store.specs.FileName.{IsAccountText, is_held, stem_of}
 use Rattle.mail_store.specs.Mboxrd.{MboxFile}
 use Rattle.mail_store.specs.declared.file.flat_file.FlatFile.{Ghosts as FileGhosts}
@@ -23,9 +22,9 @@ use Rattle.fetch_session.specs.declared.account.Store.TheVariants.{Maildir as In
 use Rattle.fetch_runs.specs.Accounts.{AccountMail, copies, files, ids_of, selected, texts_of, without}
 use Rattle.fetch_runs.specs.Sessions.{MboxMail}
 use Rattle.fetch_runs.specs.Promises.{Call, Devices, IsBetween, IsFront, IsMaildrop, IsSafe, Kept, Mail, State}
-use Rattle.fetch_runs.specs.Promises.{after_session, is_safe, state_with, AppendsMail, Base, HoldsEntries, IsMboxFront}
+use Rattle.fetch_runs.specs.Promises.{is_safe, state_with, AppendsMail, Base, HoldsEntries, IsMboxFront}
 use Rattle.fetch_runs.specs.Promises.{base_from, is_entered}
-use Rattle.fetch_runs.specs.Calls.{Called, Happening, HoldsNoMore, IsCall, IsLeftByLoss, IsPromised, Others, PowerLost}
+use Rattle.fetch_runs.specs.Calls.{Called, Happening, HoldsNoMore, IsCall, IsLeftByLoss, IsPromised, Left}
 use Rattle.fetch_runs.specs.Calls.{Shows, with_left, ShowsMbox}
 use Rattle.fetch_runs.specs.Losses.{IsCrashSafe, IsDurableFront}
 
@@ -81,7 +80,7 @@ abbrev pub NoneTaken : Type 0
 NoneTaken = (mail : Mail) (state : State) (after : AccountMail) → ((id : List ℕ) → state.taken id ≡ false)
     → ((id : List ℕ) → is_held mail.account state.account.maildir id ≡ true
     → is_held mail.account after.maildir id ≡ true)
-    → (id : List ℕ) → (state_with mail state after).taken id ≡ false
+    → (id : List ℕ) → (state_with mail state [] after).taken id ≡ false
 
 -- a law: a call that reads only what is new doesn't store a message again that is recorded as delivered and isn't held
 abbrev pub StaysAway : {W D F : Type 0} → WireGhosts W → DiskGhosts D → FileGhosts F → Type 0
@@ -107,15 +106,14 @@ HoldPrefixes link disk file world state devices (Called call ∷ later) = Shows 
     → IsCall link disk file InMaildir disk.sound world.mail.text devices call
     → (is : IsPromised link disk file world.mail state devices call)
     × (IsDurableFront world.mail state (selected_of world) → IsDurableFront world.mail
-    (after_session world.mail (with_left world.mail state is.left) call.vanished is.after) (selected_of next))
+    (state_with world.mail (with_left world.mail state is.left) call.vanished is.after) (selected_of next))
     × HoldPrefixes link disk file next
-    (after_session world.mail (with_left world.mail state is.left) call.vanished is.after) call.after later)
-HoldPrefixes link disk file world state devices (Others left account ∷ later) = Shows disk file devices state.account
+    (state_with world.mail (with_left world.mail state is.left) call.vanished is.after) call.after later)
+HoldPrefixes link disk file world state devices (Left left account ∷ later) = Shows disk file devices state.account
     × HoldsAPrefix world state × (Shows disk file left account → IsBetween world.mail state.account account
     → HoldsNoMore world.mail state account
-    → HoldPrefixes link disk file world (state_with world.mail state account) left later)
-HoldPrefixes link disk file world state devices (PowerLost left account ∷ later) = Shows disk file devices state.account
-    × HoldsAPrefix world state × (IsCrashSafe (MayLeave (file.disk devices.file)) world.mail state
+    → HoldPrefixes link disk file world (state_with world.mail state [] account) left later)
+    × (IsCrashSafe (file.disk devices.file) world.mail state
     → IsDurableFront world.mail state (selected_of world) → IsLeftByLoss disk file devices left account
     → HoldPrefixes link disk file world (record state { account = account }) left later)
 
@@ -183,14 +181,7 @@ HoldMboxPrefixes link disk file world done account devices (Called call ∷ late
     → (sent : List ℕ) × (after : MboxMail) × ((link.history call.wire').sent ≡ (link.history call.wire).sent ++ sent)
     × ShowsMbox file call.after after × (appends : AppendsMail world.base is.holds call sent after)
     × HoldMboxPrefixes link disk file next (done ++ appends.more) after call.after later)
-HoldMboxPrefixes link disk file world done account devices (Others left now ∷ later) = ShowsMbox file devices account
-    × HoldsAMboxPrefix world done account × (ShowsMbox file left now
-    → ((held : List Message) → HoldsAMboxPrefix world held now
-    → HoldMboxPrefixes link disk file world held now left later)
-    × ((first rest : List Message) → now.intent ≡ None → selected world.max_size world.all ≡ first ++ rest
-    → ((id : List ℕ) → is_delivered now.rows id ≡ has_id (ids_of first) id)
-    → HoldMboxPrefixes link disk file (record world { base = base_from world.base now }) [] now left later))
-HoldMboxPrefixes link disk file world done account devices (PowerLost left now ∷ later) = ShowsMbox file devices account
+HoldMboxPrefixes link disk file world done account devices (Left left now ∷ later) = ShowsMbox file devices account
     × HoldsAMboxPrefix world done account × (ShowsMbox file left now
     → ((held : List Message) → HoldsAMboxPrefix world held now
     → HoldMboxPrefixes link disk file world held now left later)

@@ -1,7 +1,7 @@
 -- What of an account with a Maildir is durable, so that a loss of power between two calls, whatever it takes, leaves a
 -- state from which the next call goes on; and what calls and others keep of that.
 use Rattle.std.specs.Prelude.{◌≡◌, ◌⊎◌, ◌||◌, ◌≤◌, ℕ, Bool, true, List, ◌++◌, Option, None, length}
-use Rattle.mail_store.specs.Durable.{MayLeave}
+use Rattle.mail_store.specs.Durable.{Disk, MayLeave}
 use Rattle.std.specs.List.{AllByRecursion}
 use Rattle.mail_terms.specs.UniqueId.{is_legal_id}
 use Rattle.pop3_wire.specs.World.{Message}
@@ -28,10 +28,10 @@ IsDurableFor account f = (id : List ℕ) → is_legal_id id ≡ true → names_i
 
 -- what the record shows as delivered, or may show after a loss of power, and what is gone from the server, has a file
 -- whose name is durable, or was taken away; and the bytes of the account's files are durable
-pub record IsCrashSafe (may_leave : Option (List ℕ) → Type 0) (mail : Mail) (state : State) : Type 0 where
+pub record IsCrashSafe (disk : Disk) (mail : Mail) (state : State) : Type 0 where
   pub flushed : AllByRecursion (IsFlushedFor mail.account) state.account.maildir.files
   pub recorded : (id : List ℕ) → is_delivered state.account.rows id ≡ true → lasts mail state id ≡ true
-  pub left : (bytes : Option (List ℕ)) (rows : List Row) (intent : Option Intent) → may_leave bytes
+  pub left : (bytes : Option (List ℕ)) (rows : List Row) (intent : Option Intent) → MayLeave disk bytes
       → FileStandsFor bytes rows intent
       → (id : List ℕ) → is_delivered rows id ≡ true → (is_legal_id id ≡ true) × (lasts mail state id ≡ true)
   pub gone : AllByRecursion (λ id. lasts mail state id ≡ true) state.gone
@@ -58,7 +58,7 @@ DurableAccountsAreSafe {F} file = (f : F) (mail : Mail) (state : State) (intent 
     → FileStandsFor (file.stored f).content state.account.rows intent
     → AllByRecursion (IsDurableFor mail.account) state.account.maildir.files
     → ((left : Option (List ℕ)) → MayLeave (file.disk f) left → left ≡ (file.stored f).content)
-    → IsCrashSafe (MayLeave (file.disk f)) mail state
+    → IsCrashSafe (file.disk f) mail state
 
 -- the messages that are held or were taken away are exactly the first of these, and all of them but perhaps the last
 -- have a file whose name is durable, or were taken away
@@ -70,7 +70,7 @@ pub record IsDurableFront (mail : Mail) (state : State) (all : List Message) : T
   pub at_most_one : length last ≤ 1
   pub named : AllByRecursion (λ (m : Message). lasts mail state m.uid ≡ true) first
 
--- so it is afterwards, of each list of messages of which it was before
+-- `IsDurableFront` holds afterwards of each list of messages of which it held before
 abbrev pub KeepsFronts : Mail → State → State → Type 0
 KeepsFronts mail before after = (all : List Message)
     → AllByRecursion (λ (m : Message). is_legal_id m.uid ≡ true) all → IsDurableFront mail before all

@@ -12,14 +12,15 @@ use Rattle.mail_terms.specs.UniqueId.{is_legal_id, has_id}
 use Rattle.rc_file.specs.declared.settings.Settings.{Settings}
 use Rattle.fetch_rules.specs.Record.{is_delivered, has_row}
 use Rattle.fetch_rules.specs.Wanted.{is_within}
-use Rattle.mail_store.specs.FileName.{is_held, stem_of, mail_file}
+use Rattle.mail_store.specs.FileName.{is_held, name_of, stem_of}
+use Rattle.mail_store.specs.Maildir.{file}
 use Rattle.mail_store.specs.Mboxrd.{entry_of}
 use Rattle.mail_store.specs.Settling.{MayBeLeft}
 use Rattle.fetch_session.specs.declared.report.Outcome.TheVariants.{Ended}
 use Rattle.fetch_session.specs.declared.report.Report.{Report}
 use Rattle.fetch_runs.specs.Accounts.{AccountMail, copies, has_named, ids_of, without_flags}
 use Rattle.fetch_runs.specs.Sessions.{SendsOnly, is_retr, MboxMail, entries_of, intent_of}
-use Rattle.std.proofs.Common.{inl, inr}
+use Rattle.std.proofs.Common.{inr}
 
 -- the devices of an account: its store, which is a Maildir or an mboxrd file, and the record's file
 pub record Devices (S F : Type 0) : Type 0 where
@@ -72,19 +73,15 @@ abbrev pub HoldsEachOnce : Mail → AccountMail → Type 0
 HoldsEachOnce mail account = (id : List ℕ) → is_legal_id id ≡ true
     → let texts = copies account.maildir.files (stem_of mail.account id) in (texts ≡ []) ⊎ (texts ≡ mail.text id ∷ [])
 
--- the state once this is its account: what was held or taken away, and isn't held, was taken away; and what was taken
--- away before still counts so until a file of it is there whose name is durable
-abbrev pub state_with : Mail → State → AccountMail → State
-state_with mail state after = record {
+-- the state once this is its account, and these ids are gone too. What was held or taken away, and isn't held, was
+-- taken away; and what was taken away before still counts so until a file of it is there whose name is durable
+abbrev pub state_with : Mail → State → List (List ℕ) → AccountMail → State
+state_with mail state vanished after = record {
   account = after;
-  gone = state.gone;
+  gone = vanished ++ state.gone;
   taken = λ id. (is_safe mail state id && not (is_held mail.account after.maildir id))
       || (state.taken id && not (has_named mail.account after.maildir id));
 }
-
--- the same after a session, by which these ids are gone from the server
-abbrev pub after_session : Mail → State → List (List ℕ) → AccountMail → State
-after_session mail state vanished after = record (state_with mail state after) { gone = state.gone ++ vanished }
 
 -- others may move, mark, take away and put back files, and lose the record or put back an older one
 pub record IsBetween (mail : Mail) (before after : AccountMail) : Type 0 where
@@ -142,17 +139,17 @@ pub record IsNew {W S F : Type 0} (mail : Mail) (before : AccountMail) (call : C
 pub record Promises {W S F : Type 0} (mail : Mail) (state : State) (call : Call W S F) (sent : List ℕ)
     (after : AccountMail) : Type 0 where
   pub left_out : LeavesOut call (λ id. is_delivered state.account.rows id
-      || is_held mail.account state.account.maildir id) (IsSafe mail (after_session mail state call.vanished after))
-  pub deletes : SendsOnly (DeletesOneOf call.maildrop (IsSafe mail (after_session mail state call.vanished after))) sent
+      || is_held mail.account state.account.maildir id) (IsSafe mail (state_with mail state call.vanished after))
+  pub deletes : SendsOnly (DeletesOneOf call.maildrop (IsSafe mail (state_with mail state call.vanished after))) sent
   pub retrieved : call.report.outcome ≡ Ended → call.report.retrieved ≡ count_by is_retr deletes.commands
   pub came : List Message
   pub added : without_flags after.maildir.files ≡ without_flags state.account.maildir.files
-      ++ map (λ (m : Message). mail_file mail.account m.uid m.text) came
+      ++ map (λ (m : Message). file (name_of mail.account m.uid (length m.text)) m.text) came
   pub new : AllByRecursion (IsNew mail state.account call) came
   pub recorded : (id : List ℕ) → is_delivered state.account.rows id ≡ true → is_delivered after.rows id ≡ true
   pub in_order : (all : List Message) → AllByRecursion (λ (m : Message). is_legal_id m.uid ≡ true) all
       → (front : IsFront mail state all) → ShowsNext call.settings call.maildrop front.done front.rest
-      → (later : IsFront mail (after_session mail state call.vanished after) all)
+      → (later : IsFront mail (state_with mail state call.vanished after) all)
       × (later.done ≡ front.done ++ filter (λ (m : Message). not (has_id (ids_of front.done) m.uid)) came)
 
 -- each message is held once; what is recorded, or is gone from the server, is held or was taken away
@@ -205,12 +202,6 @@ pub record HoldsEntries (base : Base) (done : List Message) (account : MboxMail)
   pub recorded : (id : List ℕ) → is_delivered account.rows id ≡ is_entered base done id
   pub stands : Stands base (base.start ++ entries_of done) account
 
--- an open intent is that of the first of these
-abbrev pub IsNext : (base : Base) (bytes : List ℕ) (account : MboxMail) → List Message → Stands base bytes account
-    → Type 0
-IsNext base bytes account rest (inl closed) = Unit {0}
-IsNext base bytes account rest (inr o) = (more : List Message) × (rest ≡ o.next ∷ more)
-
 -- the messages that have entries, after those that were recorded before the first session, are exactly the first of
 -- these, and an open intent is that of the next
 pub record IsMboxFront (base : Base) {done : List Message} {account : MboxMail} (holds : HoldsEntries base done account)
@@ -219,7 +210,8 @@ pub record IsMboxFront (base : Base) {done : List Message} {account : MboxMail} 
   pub rest : List Message
   pub prefix : all ≡ (first ++ done) ++ rest
   pub had : (id : List ℕ) → base.had id ≡ has_id (ids_of first) id
-  pub next : IsNext base (base.start ++ entries_of done) account rest holds.stands
+  pub next : (o : IsOpenFor base (base.start ++ entries_of done) account) → holds.stands ≡ inr o
+      → (more : List Message) × (rest ≡ o.next ∷ more)
 
 -- after an uncut session no intent is open, and the file ends after a whole entry. Each DELE, the last perhaps in part,
 -- and what QUIT removes is of a message that has its whole entry at the end, or was recorded before the first session

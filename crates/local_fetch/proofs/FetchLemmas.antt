@@ -10,10 +10,10 @@ use Rattle.pop3_server.specs.LoopLink.{Loop}
 use Rattle.fetch_session.specs.declared.account.Store.{Store}
 use Rattle.fetch_session.specs.declared.account.Store.TheVariants.{Maildir as InMaildir, Mboxrd as InMbox}
 use Rattle.fetch_session.specs.Target.{is_sound, mail_in}
-use Rattle.fetch_runs.specs.Promises.{Devices, IsOf, after_session, state_with}
+use Rattle.fetch_runs.specs.Promises.{Devices, IsOf, state_with}
 use Rattle.fetch_runs.specs.Sessions.{MboxMail}
 use Rattle.fetch_runs.specs.Promises.{MboxStarts, base_from}
-use Rattle.fetch_runs.specs.Calls.{Called, CallsKeepPromises, EmptyAccountsAreKept, IsCall, Others, PowerLost, with_left}
+use Rattle.fetch_runs.specs.Calls.{Called, CallsKeepPromises, EmptyAccountsAreKept, IsCall, Left, with_left}
 use Rattle.fetch_runs.specs.Calls.{MboxCallsKeepPromises}
 use Rattle.local_fetch.specs.Local.{loop_to}
 use Rattle.local_fetch.specs.Fetches.{Fetch, FetchesFromNothing, FetchesKeepPromises, IsFetch, MboxFetchesFromNothing}
@@ -55,25 +55,20 @@ module _ {M D F : Type 0} (link : WireGhosts (Loop M)) (disk : DiskGhosts D) (fi
         let (vanished, left, call) = is_call InMaildir mail.text devices fetch is in
         let (shown, held, then) = law mail state devices (Called (as_call drop fetch vanished) ∷ []) shows kept in
         let (promised, (shows', kept')) = then account_is call in
-        let after = after_session mail (with_left mail state promised.left) vanished promised.after in
+        let after = state_with mail (with_left mail state promised.left) vanished promised.after in
         (vanished, left, promised, fetches_keep law mail after fetch.after later shows' kept'),
   )
-  fetches_keep law mail state devices (Others left account ∷ later) shows kept = (
-    shows,
-    kept,
-    λ then between.
-        let (now, held, next) = law mail state devices (Others left account ∷ []) shows kept in
-        let (safe, fronts, (shows', kept')) = next then between in
-        (safe, fronts, fetches_keep law mail (state_with mail state account) left later shows' kept'),
-  )
-  fetches_keep law mail state devices (PowerLost left account ∷ later) shows kept = (
-    shows,
-    kept,
-    λ safe lost.
-        let (now, held, next) = law mail state devices (PowerLost left account ∷ []) shows kept in
-        let (safe', fronts, (shows', kept')) = next safe lost in
-        (safe', fronts, fetches_keep law mail (record state { account = account }) left later shows' kept'),
-  )
+  fetches_keep law mail state devices (Left left account ∷ later) shows kept =
+      let (_, _, others, loss) = law mail state devices (Left left account ∷ []) shows kept in (
+        shows,
+        kept,
+        λ then between.
+            let (safe, (shows', kept')) = others then between in
+            (safe, fetches_keep law mail (state_with mail state [] account) left later shows' kept'),
+        λ safe lost.
+            let (safe', fronts, (shows', kept')) = loss safe lost in
+            (safe', fronts, fetches_keep law mail (record state { account = account }) left later shows' kept'),
+      )
 
   pub mbox_fetches_keep : MboxCallsKeepPromises link disk file → MboxFetchesKeepPromises link disk file drop
   mbox_fetches_keep law base done account devices [] shows holds = (shows, holds)
@@ -87,21 +82,11 @@ module _ {M D F : Type 0} (link : WireGhosts (Loop M)) (disk : DiskGhosts D) (fi
         let on = mbox_fetches_keep law base (done ++ appends.more) after fetch.after later shows' holds' in
         (vanished, left, held, sent, after, sent_is, shown, appends, on),
   )
-  mbox_fetches_keep law base done account devices (Others left now ∷ later) shows holds = (
+  mbox_fetches_keep law base done account devices (Left left now ∷ later) shows holds = (
     shows,
     holds,
     λ then.
-        let (was, held, next) = law base done account devices (Others left now ∷ []) shows holds in
-        let (stays, begins) = next then in (
-          λ first there. let (shows', holds') = stays first there in mbox_fetches_keep law base first now left later shows' holds',
-          λ closed. let (shows', holds') = begins closed in mbox_fetches_keep law (base_from base now) [] now left later shows' holds',
-        ),
-  )
-  mbox_fetches_keep law base done account devices (PowerLost left now ∷ later) shows holds = (
-    shows,
-    holds,
-    λ then.
-        let (was, held, next) = law base done account devices (PowerLost left now ∷ []) shows holds in
+        let (was, held, next) = law base done account devices (Left left now ∷ []) shows holds in
         let (stays, begins) = next then in (
           λ first there. let (shows', holds') = stays first there in mbox_fetches_keep law base first now left later shows' holds',
           λ closed. let (shows', holds') = begins closed in mbox_fetches_keep law (base_from base now) [] now left later shows' holds',

@@ -1,5 +1,5 @@
 -- From nothing on, a call keeps what it removes from the server, and an uncut one all that was there, up to its limits.
-use Rattle.std.proofs.Common.{◌≡◌, ◌⊎◌, ◌<◌, inl, inr, ℕ, true, false, List, [], ◌∷◌, refl, sym, subst, ◌∙◌, true≢false}
+use Rattle.std.proofs.Common.{◌≡◌, inl, inr, ℕ, true, false, List, [], ◌∷◌, ◌++◌, refl, sym, ◌∙◌, true≢false}
 use Rattle.std.specs.List.{AllByRecursion, list_any}
 use Rattle.std.specs.Prelude.{bytes_eq}
 use Rattle.std.proofs.lemmas.Bool.{cases_Bool}
@@ -12,7 +12,7 @@ use Rattle.pop3_wire.specs.declared.wire.Wire.{Ghosts as WireGhosts}
 use Rattle.pop3_server.specs.declared.maildrop.Maildrop.{Ghosts as DropGhosts}
 use Rattle.pop3_server.specs.LoopLink.{Loop}
 use Rattle.fetch_runs.specs.Accounts.{AccountMail, copies}
-use Rattle.fetch_runs.specs.Promises.{IsOf, IsSafe, Mail, after_session}
+use Rattle.fetch_runs.specs.Promises.{IsSafe, Mail, state_with}
 use Rattle.fetch_runs.specs.Calls.{Called, EmptyAccountsAreKept, with_left}
 use Rattle.local_fetch.specs.Fetches.{FetchesKeepPromises, FirstFetchesKeepMail, nothing_yet, shown_by}
 use Rattle.local_fetch.proofs.FetchLemmas.{from_nothing}
@@ -34,7 +34,7 @@ no_copies front (f ∷ fs) none = elim (cases_Bool (bytes_eq front (stem f.name)
 
 -- none was taken away, so what is safe is held
 held : (mail : Mail) (maildir left : Maildir) (vanished : List (List ℕ)) (after : AccountMail) (id : List ℕ) → maildir.files ≡ [] → left.files ≡ []
-    → IsSafe mail (after_session mail (with_left mail (nothing_yet maildir) left) vanished after) id → is_held mail.account after.maildir id ≡ true
+    → IsSafe mail (state_with mail (with_left mail (nothing_yet maildir) left) vanished after) id → is_held mail.account after.maildir id ≡ true
 held mail maildir left vanished after id none none' safe = elim (cases_Bool (is_held mail.account after.maildir id)) [
   | inl is ↦ is
   | inr isnt ↦ absurd (let never = rw (isnt, none', none) at safe.1 in cc)
@@ -46,9 +46,10 @@ each : {P Q R : Message → Type 0} → ((m : Message) → P m → Q m → R m) 
 each by [] ps qs = tt
 each by (m ∷ ms) (p, ps) (q, qs) = (by m p q, each by ms ps qs)
 
-all_by : {P Q : List ℕ → Type 0} → ((id : List ℕ) → P id → Q id) → (ids : List (List ℕ)) → AllByRecursion P ids → AllByRecursion Q ids
-all_by by [] ps = tt
-all_by by (id ∷ ids) (p, ps) = (by id p, all_by by ids ps)
+all_by : {P Q : List ℕ → Type 0} → ((id : List ℕ) → P id → Q id) → (ids more : List (List ℕ)) → AllByRecursion P (ids ++ more)
+    → AllByRecursion Q ids
+all_by by [] more ps = tt
+all_by by (id ∷ ids) more (p, ps) = (by id p, all_by by ids more ps)
 
 pub keep_mail : {M D F : Type 0} (link : WireGhosts (Loop M)) (disk : DiskGhosts D) (file : FileGhosts F) (drop : DropGhosts M)
     → EmptyAccountsAreKept → FetchesKeepPromises link disk file drop → FirstFetchesKeepMail link disk file drop
@@ -56,12 +57,12 @@ keep_mail link disk file drop empty law mail devices fetch no_file no_record acc
     let (shows, kept, then) = from_nothing link disk file drop empty law mail devices (Called fetch ∷ []) no_file no_record in
     let (vanished, removed, promised, (shows', kept')) = then account_is is in
     let left_none = none_left promised.taken.gone promised.left.files (rw no_file at promised.taken.files) in
-    let safe_held : (id : List ℕ) → IsSafe mail (after_session mail (with_left mail (nothing_yet (disk.maildir devices.store)) promised.left) vanished promised.after) id
+    let safe_held : (id : List ℕ) → IsSafe mail (state_with mail (with_left mail (nothing_yet (disk.maildir devices.store)) promised.left) vanished promised.after) id
     → is_held mail.account promised.after.maildir id ≡ true =
     λ id safe. held mail (disk.maildir devices.store) promised.left vanished promised.after id no_file left_none safe in (
       vanished,
       removed,
-      rw (← shows'.maildir) (all_by safe_held vanished kept'.gone),
+      rw (← shows'.maildir) (all_by safe_held vanished [] kept'.gone),
       λ ended no_size.
           each (λ m of p. elim p [
             | inl safe ↦

@@ -92,13 +92,13 @@ by_kind disk file (InMbox device) maildir mbox sound = mbox sound
 
 module _ {M : Type 0} (sound : M → Type 0) (mail : M → Mail) (honesty : GivesHonest sound mail) where
   -- all that was sent over the new server's link follows a plan
-  over : (settings : Settings) {server : Machine M} {loop : Loop M} → (sent : List ℕ) × (loop.link.sent ≡ sent) × FollowsPlan settings sent
+  over : (settings : Settings) {server : Machine M} {loop : Loop M} → (sent : List ℕ) × (loop.link.sent ≡ sent) × (steps : List Step) × FollowsPlan settings steps sent
       → IsNew (loop_to server) → Serves sound mail (loop_to server) loop → sound loop.machine.drop
       → AllByRecursion IsMessage (there (mail server.drop).slots) → IsServed mail server loop.machine loop.link
-  over settings {server} {loop} (sent, sent_is, s) is_new serves sound' messages =
+  over settings {server} {loop} (sent, sent_is, steps, s) is_new serves sound' messages =
       let before = there (mail server.drop).slots in
       let all = honesty (loop_to server) loop s.commands s.asked.part is_new serves
-      (each_asked s.commands (of_session (string_bytes settings.username) (string_bytes settings.password) s.steps s.commands s.front) s.asked.numbers s.asked.sendable) s.asked.no_line
+      (each_asked s.commands (of_session (string_bytes settings.username) (string_bytes settings.password) steps s.commands s.front) s.asked.numbers s.asked.sendable) s.asked.no_line
       (sent_is ∙ s.asked.whole ∙ ap (λ (l : List ℕ). l ++ s.asked.part) (sym (flat_map-map ended line_of s.commands))) sound' messages in
       elim all.3 [
         | inl still ↦ record {
@@ -118,11 +118,9 @@ module _ {M : Type 0} (sound : M → Type 0) (mail : M → Mail) (honesty : Give
       → AllByRecursion IsMessage (there (mail server.drop).slots) → IsServed mail server loop.machine loop.link
   fetches conversations settings account now server loop before report after is_new valid serves session =
       let said = conversations settings account now unused before report loop.link after valid session in
-      let follows : FollowsPlan settings said.0 = elim said.4 [
-        | inl opens ↦ record { steps = []; commands = opens.commands; asked = opens.asked; front = opens.front }
-        | inr plan ↦ record { steps = planned settings plan.rows plan.items now; commands = plan.commands; asked = plan.asked; front = plan.front }
-      ] in
-      over settings (said.0, said.2, follows) is_new serves
+      let follows : (steps : List Step) × FollowsPlan settings steps said.0 =
+      elim said.4 [ inl opens ↦ ([], opens.follows) | inr plan ↦ (planned settings plan.rows plan.items now, plan.follows) ] in
+      over settings (said.0, said.2, follows.0, follows.1) is_new serves
 
   pub mbox_fetches : MboxSessionsFollowPlans → (settings : Settings) (now : ℕ) (server : Machine M) (loop : Loop M) (before : MboxAccountFiles) (report : Report) (after : MboxAccountFiles)
       → IsNew (loop_to server) → IsValid settings → Serves sound mail (loop_to server) loop

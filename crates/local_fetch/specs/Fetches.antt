@@ -1,7 +1,6 @@
 -- Calls of `fetch_local`, and what others do between them: what is promised of any list of these. Here the server's
 -- honesty is no premise: it follows from the contract of `fetch_local`.
 use Rattle.std.specs.Prelude.{◌≡◌, ◌⊎◌, ◌<◌, ℕ, true, false, List, [], ◌∷◌, ◌++◌, None}
-use Rattle.mail_store.specs.Durable.{MayLeave}
 use Rattle.std.specs.List.{AllByRecursion}
 use Rattle.mail_store.specs.declared.maildir.disk.MaildirDisk.{Ghosts as DiskGhosts}
 use Rattle.mail_store.specs.declared.file.flat_file.FlatFile.{Ghosts as FileGhosts}
@@ -21,10 +20,10 @@ use Rattle.fetch_session.specs.declared.report.Report.{Report}
 use Rattle.fetch_session.specs.Account.{digits_of}
 use Rattle.fetch_session.specs.Target.{is_sound, mail_in}
 use Rattle.fetch_runs.specs.Accounts.{AccountMail, copies}
-use Rattle.fetch_runs.specs.Promises.{Call, Devices, IsBetween, IsMaildrop, Kept, Mail, State, after_session, state_with}
+use Rattle.fetch_runs.specs.Promises.{Call, Devices, IsBetween, IsMaildrop, Kept, Mail, State, state_with}
 use Rattle.fetch_runs.specs.Sessions.{MboxMail}
 use Rattle.fetch_runs.specs.Promises.{AppendsMail, Base, HoldsEntries, base_from}
-use Rattle.fetch_runs.specs.Calls.{Called, Happening, HoldsNoMore, IsLeftByLoss, IsPromised, Others, PowerLost, Shows}
+use Rattle.fetch_runs.specs.Calls.{Called, Happening, HoldsNoMore, IsLeftByLoss, IsPromised, Left, Shows}
 use Rattle.fetch_runs.specs.Calls.{account_over, with_left}
 use Rattle.fetch_runs.specs.Losses.{IsCrashSafe, KeepsDurable, KeepsFronts}
 use Rattle.fetch_runs.specs.Calls.{ShowsMbox}
@@ -75,8 +74,8 @@ ServerRemoves drop fetch vanished = AreWithout (shown_by drop fetch.server) vani
 
 -- ---- with a Maildir
 
--- the devices show a kept state; if the next of these happens, a call keeps its promises, and they do so after it. If
--- a loss of power can do no harm, what it takes doesn't count as taken away
+-- the devices show a kept state; if the next of these happens, a call keeps its promises, and they do so after it, and
+-- after others or a loss of power. What such a loss takes, if it can do no harm, doesn't count as taken away
 abbrev pub KeepPromises : {M D F : Type 0} → WireGhosts (Loop M) → DiskGhosts D → FileGhosts F → DropGhosts M → Mail
     → State → Devices D F → List (Happening (Fetch M D F) (Devices D F) AccountMail) → Type 0
 KeepPromises link disk file drop mail state devices [] = Shows disk file devices state.account × Kept mail state
@@ -85,24 +84,18 @@ KeepPromises link disk file drop mail state devices (Called fetch ∷ later) = S
     → IsFetch link disk file drop InMaildir mail.text devices fetch
     → (vanished : List (List ℕ)) × ServerRemoves drop fetch vanished
     × (is : IsPromised link disk file mail state devices (as_call drop fetch vanished))
-    × KeepPromises link disk file drop mail (after_session mail (with_left mail state is.left) vanished is.after)
+    × KeepPromises link disk file drop mail (state_with mail (with_left mail state is.left) vanished is.after)
     fetch.after later)
-KeepPromises link disk file drop mail state devices (Others left account ∷ later) =
-    Shows disk file devices state.account
+KeepPromises link disk file drop mail state devices (Left left account ∷ later) = Shows disk file devices state.account
     × Kept mail state × (Shows disk file left account → IsBetween mail state.account account
-    → (KeepsDurable file mail.account state.account devices.file left.file account
-    → IsCrashSafe (MayLeave (file.disk devices.file)) mail state
-    → IsCrashSafe (MayLeave (file.disk left.file)) mail (state_with mail state account))
-    × (KeepsDurable file mail.account state.account devices.file left.file account → HoldsNoMore mail state account
-    → KeepsFronts mail state (state_with mail state account))
-    × KeepPromises link disk file drop mail (state_with mail state account) left later)
-KeepPromises link disk file drop mail state devices (PowerLost left account ∷ later) =
-    Shows disk file devices state.account
-    × Kept mail state × (IsCrashSafe (MayLeave (file.disk devices.file)) mail state
-    → IsLeftByLoss disk file devices left account
-    → IsCrashSafe (MayLeave (file.disk left.file)) mail (record state { account = account })
-    × KeepsFronts mail state (record state { account = account })
-    × KeepPromises link disk file drop mail (record state { account = account }) left later)
+    → let next = state_with mail state [] account in
+    (KeepsDurable file mail.account state.account devices.file left.file account
+    → (IsCrashSafe (file.disk devices.file) mail state → IsCrashSafe (file.disk left.file) mail next)
+    × (HoldsNoMore mail state account → KeepsFronts mail state next))
+    × KeepPromises link disk file drop mail next left later)
+    × (IsCrashSafe (file.disk devices.file) mail state → IsLeftByLoss disk file devices left account
+    → let next : State = record state { account = account } in IsCrashSafe (file.disk left.file) mail next
+    × KeepsFronts mail state next × KeepPromises link disk file drop mail next left later)
 
 -- a law: so it is of any list, from a kept state on
 abbrev pub FetchesKeepPromises : {M D F : Type 0} → WireGhosts (Loop M) → DiskGhosts D → FileGhosts F → DropGhosts M
@@ -155,12 +148,7 @@ KeepMboxPromises link disk file drop base done account devices (Called fetch ∷
     × ((link.history fetch.wire).sent ≡ (link.history (loop_to fetch.server)).sent ++ sent)
     × ShowsMbox file fetch.after after × (appends : AppendsMail base holds (as_call drop fetch vanished) sent after)
     × KeepMboxPromises link disk file drop base (done ++ appends.more) after fetch.after later)
-KeepMboxPromises link disk file drop base done account devices (Others left now ∷ later) =
-    ShowsMbox file devices account × HoldsEntries base done account × (ShowsMbox file left now
-    → ((first : List Message) → HoldsEntries base first now
-    → KeepMboxPromises link disk file drop base first now left later)
-    × (now.intent ≡ None → KeepMboxPromises link disk file drop (base_from base now) [] now left later))
-KeepMboxPromises link disk file drop base done account devices (PowerLost left now ∷ later) =
+KeepMboxPromises link disk file drop base done account devices (Left left now ∷ later) =
     ShowsMbox file devices account × HoldsEntries base done account × (ShowsMbox file left now
     → ((first : List Message) → HoldsEntries base first now
     → KeepMboxPromises link disk file drop base first now left later)
