@@ -32,7 +32,7 @@ use Rattle.std.proofs.lemmas.Bool.{both_ways, false_from_ne_true, or_left, cases
 use Rattle.std.proofs.lemmas.List.{append-nil}
 use Rattle.mail_terms.specs.UniqueId.{is_legal_id, has_id}
 use Rattle.fetch_rules.specs.Record.{is_delivered}
-use Rattle.fetch_runs.specs.Headline.{World, IsSound, HoldsAPrefix, EmptyFrontsBegin, NoneTaken, StaysAway, selected_of, MboxStartsInOrder, EntriesMeanTexts, mbox_world_without, IsInOrder, world_without, Headline, MboxHeadline, HoldsAMboxPrefix, IsUnbegun, MboxWorld}
+use Rattle.fetch_runs.specs.Headline.{World, IsSound, HoldsAPrefix, EmptyFrontsBegin, NoneTaken, StaysAway, selected_of, MboxStartsInOrder, EntriesMeanTexts, IsInOrder, world_without, Headline, MboxHeadline, HoldsAMboxPrefix, IsUnbegun}
 use Rattle.fetch_runs.proofs.Core.{next_here, prefix_left, done_legal, done_distinct}
 use Rattle.mail_terms.specs.Text.{IsWhole}
 use Rattle.rc_file.specs.declared.settings.Settings.{Settings}
@@ -214,8 +214,8 @@ withdrawn text ids all is = record {
   distinct = are_distinct _ (distinct_filter (λ (m : Message). not (has_id ids m.uid)) all (distinct_is all is.distinct));
 }
 
-module _ (world : World) (state : State) (sound : IsSound world) (front : IsFront world.mail state (selected_of world)) where
-  open world use {mail, max_size, all}
+module _ (world : World Mail) (state : State) (sound : IsSound world) (front : IsFront world.start state (selected_of world)) where
+  open world use {start as mail, max_size, all}
 
   mail_is : IsWorld all
   mail_is = as_world mail.text all sound.all
@@ -252,11 +252,11 @@ pub empty_fronts_begin : EmptyFrontsBegin
 empty_fronts_begin mail state all none = record { done = []; rest = all; prefix = refl; is_done = λ id l. sym (none id l) }
 
 -- so it is without messages that are neither held nor were taken away
-withdrawn_leave_fronts : (world : World) (state : State) (ids : List (List ℕ)) → IsSound world → (front : IsFront world.mail state (selected_of world))
-    → AllByRecursion (λ id. is_safe world.mail state id ≡ false) ids
-    → IsSound (world_without ids world) × (later : IsFront world.mail state (selected_of (world_without ids world))) × (later.done ≡ front.done)
+withdrawn_leave_fronts : (world : World Mail) (state : State) (ids : List (List ℕ)) → IsSound world → (front : IsFront world.start state (selected_of world))
+    → AllByRecursion (λ id. is_safe world.start state id ≡ false) ids
+    → IsSound (world_without ids world) × (later : IsFront world.start state (selected_of (world_without ids world))) × (later.done ≡ front.done)
 withdrawn_leave_fronts world state ids sound front none = (
-  record { account = sound.account; all = withdrawn world.mail.text ids world.all sound.all },
+  record { account = sound.account; all = withdrawn world.start.text ids world.all sound.all },
   record {
     done = front.done;
     rest = without ids front.rest;
@@ -298,8 +298,8 @@ stays_away laws link disk file mail state devices call id account drop is new le
     none_has ms all = false_from_ne_true _ (λ there. both_ways _ (all_at (λ x. is_delivered state.account.rows x ≡ false) ms all there) recorded)
 
 -- what is entered is recorded, so it isn't withdrawn; nor is the next message, if its intent is open
-withdrawn_leave_prefixes : (world : MboxWorld) (done : List Message) (account : MboxMail) (ids : List (List ℕ)) → IsMaildrop world.base.text world.all → (is : HoldsAMboxPrefix world done account)
-    → AllByRecursion (IsUnbegun account) ids → IsMaildrop world.base.text (without ids world.all) × IsMboxFront world.base is.holds (selected world.max_size (without ids world.all))
+withdrawn_leave_prefixes : (world : World Base) (done : List Message) (account : MboxMail) (ids : List (List ℕ)) → IsMaildrop world.start.text world.all → (is : HoldsAMboxPrefix world done account)
+    → AllByRecursion (IsUnbegun account) ids → IsMaildrop world.start.text (without ids world.all) × IsMboxFront world.start is.holds (selected world.max_size (without ids world.all))
 withdrawn_leave_prefixes world done account ids sound is unbegun = (
   withdrawn base.text ids all sound,
   record {
@@ -315,7 +315,7 @@ withdrawn_leave_prefixes world done account ids sound is unbegun = (
   },
 )
   where
-    open world use {base, max_size, all}
+    open world use {start as base, max_size, all}
 
     -- what is recorded is the first of the selected messages
     recorded_is : (id : List ℕ) → is_delivered account.rows id ≡ has_id (ids_of (is.front.first ++ done)) id
@@ -323,7 +323,7 @@ withdrawn_leave_prefixes world done account ids sound is unbegun = (
 
 pub starts_in_order : MboxStartsInOrder
 starts_in_order world account first rest closed prefix recorded = record {
-  holds = starts world.base account closed;
+  holds = starts world.start account closed;
   front = record { first = first; rest = rest; prefix = rw append-nil prefix; had = recorded; next = λ o e. absurd (let never = sym closed ∙ o.opened.intent in cc) };
 }
 
@@ -338,7 +338,7 @@ in_order : {limit : ℕ} {all : List Message} {P Q : List ℕ → Type 0} {setti
     → IsInOrder limit all P settings maildrop → IsInOrder limit all Q settings maildrop
 in_order f order = record { max_size = order.max_size; come = order.come; gone = order.gone; done = all_map order.gone order.done f; shown = order.shown }
 
-legal_selected : (world : World) → IsSound world → AllByRecursion (λ (m : Message). is_legal_id m.uid ≡ true) (selected_of world)
+legal_selected : (world : World Mail) → IsSound world → AllByRecursion (λ (m : Message). is_legal_id m.uid ≡ true) (selected_of world)
 legal_selected world sound = all_filter (λ (m : Message). is_legal_id m.uid ≡ true) (is_selected world.max_size) world.all (all_map world.all sound.all.each (λ m is. is.legal))
 
 pub headline : {W D F : Type 0} (link : WireGhosts W) (disk : DiskGhosts D) (file : FileGhosts F) → CallsKeepPromises link disk file → Headline link disk file
@@ -350,11 +350,11 @@ headline link disk file promised = all_hold
       shows,
       holds_a_prefix world state sound front kept,
       λ withdrawn none order account_is is.
-          let (promises, (after_shows, after_kept)) = (promised world.mail state devices (Called call ∷ []) shows kept).2 account_is is in
+          let (promises, (after_shows, after_kept)) = (promised world.start state devices (Called call ∷ []) shows kept).2 account_is is in
           let (sound', front', same) = withdrawn_leave_fronts world state withdrawn sound front none in
           let legal = legal_selected (world_without withdrawn world) sound' in
-          let shown : (f : IsFront world.mail state (selected_of (world_without withdrawn world))) → ShowsNext call.settings call.maildrop f.done f.rest =
-          λ f. order_shows_next world.mail.text world.max_size (world_without withdrawn world).all f.done f.rest call.settings call.maildrop sound'.all f.prefix
+          let shown : (f : IsFront world.start state (selected_of (world_without withdrawn world))) → ShowsNext call.settings call.maildrop f.done f.rest =
+          λ f. order_shows_next world.start.text world.max_size (world_without withdrawn world).all f.done f.rest call.settings call.maildrop sound'.all f.prefix
           (in_order (λ id (l, safe). f.is_done id l ∙ safe) order) in (
             promises,
             λ durable.
@@ -362,16 +362,16 @@ headline link disk file promised = all_hold
                 promises.in_order (selected_of (world_without withdrawn world)) legal
                 (record { is = is'; first = durable.first; last = durable.last; done = done_is ∙ durable.done; at_most_one = durable.at_most_one; named = durable.named }) (shown is'),
             all_hold (world_without withdrawn world) _ call.after later sound' after_shows after_kept
-                (promises.promises.in_order _ legal (left_front world.mail state promises.left kept promises.taken _ front') (shown front')).0,
+                (promises.promises.in_order _ legal (left_front world.start state promises.left kept promises.taken _ front') (shown front')).0,
           ),
     )
     all_hold world state devices (Left left account ∷ later) sound shows kept front =
-        let (_, _, others, loss) = promised world.mail state devices (Left left account ∷ []) shows kept in (
+        let (_, _, others, loss) = promised world.start state devices (Left left account ∷ []) shows kept in (
           shows,
           holds_a_prefix world state sound front kept,
           λ then between back.
               let (safe, (after_shows, after_kept)) = others then between in
-              all_hold world _ left later sound after_shows after_kept (front_stays world.mail state account _ front back),
+              all_hold world _ left later sound after_shows after_kept (front_stays world.start state account _ front back),
           λ safe durable lost.
               let (safe', fronts, (after_shows, after_kept)) = loss safe lost in
               all_hold world _ left later sound after_shows after_kept (fronts (selected_of world) (legal_selected world sound) durable).is,
@@ -387,15 +387,15 @@ mbox_headline laws link disk file sessions = all_hold
       is,
       λ withdrawn unbegun order only_new called.
           let (sound', front) = withdrawn_leave_prefixes world done account withdrawn sound is unbegun in
-          let (sent, after, sent_is, shows', one) = mbox_calls_append laws link disk file sessions world.base done account devices call shows is.holds only_new called in
-          let shown = order_shows_next world.base.text world.max_size (mbox_world_without withdrawn world).all (front.first ++ done) front.rest call.settings call.maildrop sound' front.prefix
+          let (sent, after, sent_is, shows', one) = mbox_calls_append laws link disk file sessions world.start done account devices call shows is.holds only_new called in
+          let shown = order_shows_next world.start.text world.max_size (world_without withdrawn world).all (front.first ++ done) front.rest call.settings call.maildrop sound' front.prefix
           (in_order (λ id entered. ids_both front.first done id ∙ ap (λ (b : Bool). b || has_id (ids_of done) id) (sym (front.had id)) ∙ entered) order) in (
             sent,
             after,
             sent_is,
             shows',
             one,
-            all_hold (mbox_world_without withdrawn world) (done ++ one.more) after call.after later sound' shows'
+            all_hold (world_without withdrawn world) (done ++ one.more) after call.after later sound' shows'
                 (record { holds = one.kept; front = one.in_order _ front shown }),
           ),
     )
@@ -404,7 +404,7 @@ mbox_headline laws link disk file sessions = all_hold
       is,
       λ then. (
         λ held there. all_hold world held now left later sound then there,
-        λ first rest closed prefix recorded. all_hold (record world { base = base_from world.base now }) [] now left later sound then
+        λ first rest closed prefix recorded. all_hold (record world { start = base_from world.start now }) [] now left later sound then
             (starts_in_order world now first rest closed prefix recorded),
       ),
     )

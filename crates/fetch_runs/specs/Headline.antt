@@ -1,10 +1,5 @@
--- Mail in order. Where a server's unique-ids are distinct and persistent and its mail unchanged, after any list of calls
--- of `session`, each cut at any reply or refused write, the Maildir holds exactly a prefix of the selected messages in
--- maildrop order, each once, byte for byte with lines ended by LF; an uncut call leaves out only what its limits
--- exclude; and DELE was sent only for messages held. What a reader took away counts as held here, and what was
--- withdrawn from the server before it was fetched isn't part of its mail. With calls that read only what is new, an
--- mboxrd file holds what it held before the first one, followed by the entries of exactly a prefix of the selected
--- messages, each once, and by at most a part of the next one's entry, whose intent is then open.
+-- Mail in order: what `headline` and `mbox_headline` say in words. What a reader took away counts as held here, and
+-- what was withdrawn from the server before it was fetched isn't part of its mail.
 use Rattle.std.specs.Prelude.{◌≡◌, ◌⊎◌, ◌≤◌, ℕ, true, false, List, [], ◌∷◌, ◌++◌, map, take, length, None, Some}
 use Rattle.std.specs.Prelude.{bytes_eq}
 use Rattle.std.specs.List.{AllByRecursion}
@@ -37,38 +32,39 @@ pub record IsInOrder (limit : ℕ) (all : List Message) (IsDone : List ℕ → T
   pub done : AllByRecursion IsDone gone
   pub shown : maildrop ≡ maildrop_of all come gone
 
--- ---- with a Maildir
-
--- whose mail it is; the limit on sizes; and all mail that ever comes, in order of arrival, without what was withdrawn
-pub record World : Type 0 where
-  pub mail : Mail
+-- whose mail it is, or what the mboxrd file began with; the limit on sizes; and all mail that ever comes, in order of
+-- arrival, without what was withdrawn
+pub record World (Start : Type 0) : Type 0 where
+  pub start : Start
   pub max_size : ℕ
   pub all : List Message
 
--- the account's text is one; unique-ids are legal and distinct, and texts are whole, and those that their ids name
-pub record IsSound (world : World) : Type 0 where
-  pub account : IsAccountText world.mail.account
-  pub all : IsMaildrop world.mail.text world.all
-
 -- all mail goes on without the messages that are withdrawn
-abbrev pub world_without : List (List ℕ) → World → World
+abbrev pub world_without : {Start : Type 0} → List (List ℕ) → World Start → World Start
 world_without ids world = record world { all = without ids world.all }
 
-abbrev pub selected_of : World → List Message
+abbrev pub selected_of : {Start : Type 0} → World Start → List Message
 selected_of world = selected world.max_size world.all
+
+-- ---- with a Maildir
+
+-- the account's text is one; unique-ids are legal and distinct, and texts are whole, and those that their ids name
+pub record IsSound (world : World Mail) : Type 0 where
+  pub account : IsAccountText world.start.account
+  pub all : IsMaildrop world.start.text world.all
 
 -- each of the first j of the selected messages is in one file with its text, or was taken away and is in none; and no
 -- other message is held
-pub record HoldsAPrefix (world : World) (state : State) : Type 0 where
+pub record HoldsAPrefix (world : World Mail) (state : State) : Type 0 where
   pub j : ℕ
   pub below : j ≤ length (selected_of world)
-  pub texts : (id : List ℕ) → is_legal_id id ≡ true → (copies (files state.account) (stem_of world.mail.account id)
+  pub texts : (id : List ℕ) → is_legal_id id ≡ true → (copies (files state.account) (stem_of world.start.account id)
       ≡ texts_of (take j (selected_of world)) id)
-      ⊎ ((state.taken id ≡ true) × (copies (files state.account) (stem_of world.mail.account id) ≡ []))
-  pub ids : (id : List ℕ) → is_legal_id id ≡ true → is_held world.mail.account state.account.maildir id ≡ true
+      ⊎ ((state.taken id ≡ true) × (copies (files state.account) (stem_of world.start.account id) ≡ []))
+  pub ids : (id : List ℕ) → is_legal_id id ≡ true → is_held world.start.account state.account.maildir id ≡ true
       → has_id (ids_of (take j (selected_of world))) id ≡ true
   pub once : (id : List ℕ) → is_legal_id id ≡ true
-      → length (copies (files state.account) (stem_of world.mail.account id)) ≤ 1
+      → length (copies (files state.account) (stem_of world.start.account id)) ≤ 1
 
 -- a law: exactly the first of any messages, none of them, are held or were taken away, if nothing is
 abbrev pub EmptyFrontsBegin : Type 0
@@ -95,54 +91,44 @@ StaysAway {W} {D} {F} link disk file = (mail : Mail) (state : State) (devices : 
 -- promises, and a prefix is held after it; and so on. So it is of what others leave, if they put only messages back
 -- that were held or taken away, and after a loss of power, if it can do no harm and all that is held is durable, but
 -- perhaps the last
-abbrev pub HoldPrefixes : {W D F : Type 0} → WireGhosts W → DiskGhosts D → FileGhosts F → World → State → Devices D F
-    → List (Happening (Call W D F) (Devices D F) AccountMail) → Type 0
+abbrev pub HoldPrefixes : {W D F : Type 0} → WireGhosts W → DiskGhosts D → FileGhosts F → World Mail → State
+    → Devices D F → List (Happening (Call W D F) (Devices D F) AccountMail) → Type 0
 HoldPrefixes link disk file world state devices [] = Shows disk file devices state.account × HoldsAPrefix world state
 HoldPrefixes link disk file world state devices (Called call ∷ later) = Shows disk file devices state.account
     × HoldsAPrefix world state × ((withdrawn : List (List ℕ))
-    → AllByRecursion (λ id. is_safe world.mail state id ≡ false) withdrawn → let next = world_without withdrawn world in
-    IsInOrder next.max_size next.all (IsSafe world.mail state) call.settings call.maildrop
-    → digits_of call.settings ≡ world.mail.account
-    → IsCall link disk file InMaildir disk.sound world.mail.text devices call
-    → (is : IsPromised link disk file world.mail state devices call)
-    × (IsDurableFront world.mail state (selected_of world) → IsDurableFront world.mail
-    (state_with world.mail (with_left world.mail state is.left) call.vanished is.after) (selected_of next))
+    → AllByRecursion (λ id. is_safe world.start state id ≡ false) withdrawn
+    → let next = world_without withdrawn world in
+    IsInOrder next.max_size next.all (IsSafe world.start state) call.settings call.maildrop
+    → digits_of call.settings ≡ world.start.account
+    → IsCall link disk file InMaildir disk.sound world.start.text devices call
+    → (is : IsPromised link disk file world.start state devices call)
+    × (IsDurableFront world.start state (selected_of world) → IsDurableFront world.start
+    (state_with world.start (with_left world.start state is.left) call.vanished is.after) (selected_of next))
     × HoldPrefixes link disk file next
-    (state_with world.mail (with_left world.mail state is.left) call.vanished is.after) call.after later)
+    (state_with world.start (with_left world.start state is.left) call.vanished is.after) call.after later)
 HoldPrefixes link disk file world state devices (Left left account ∷ later) = Shows disk file devices state.account
-    × HoldsAPrefix world state × (Shows disk file left account → IsBetween world.mail state.account account
-    → HoldsNoMore world.mail state account
-    → HoldPrefixes link disk file world (state_with world.mail state [] account) left later)
-    × (IsCrashSafe (file.disk devices.file) world.mail state
-    → IsDurableFront world.mail state (selected_of world) → IsLeftByLoss disk file devices left account
+    × HoldsAPrefix world state × (Shows disk file left account → IsBetween world.start state.account account
+    → HoldsNoMore world.start state account
+    → HoldPrefixes link disk file world (state_with world.start state [] account) left later)
+    × (IsCrashSafe (file.disk devices.file) world.start state
+    → IsDurableFront world.start state (selected_of world) → IsLeftByLoss disk file devices left account
     → HoldPrefixes link disk file world (record state { account = account }) left later)
 
 -- the law: so it is from each kept state in which exactly the first of the selected messages are held or were taken
 -- away, as one in which nothing is
 abbrev pub Headline : {W D F : Type 0} → WireGhosts W → DiskGhosts D → FileGhosts F → Type 0
-Headline {W} {D} {F} link disk file = (world : World) (state : State) (devices : Devices D F)
+Headline {W} {D} {F} link disk file = (world : World Mail) (state : State) (devices : Devices D F)
     (list : List (Happening (Call W D F) (Devices D F) AccountMail)) → IsSound world
-    → Shows disk file devices state.account → Kept world.mail state
-    → IsFront world.mail state (selected_of world) → HoldPrefixes link disk file world state devices list
+    → Shows disk file devices state.account → Kept world.start state
+    → IsFront world.start state (selected_of world) → HoldPrefixes link disk file world state devices list
 
 -- ---- with an mboxrd file
 
--- what the file began with; the limit on sizes; and all mail that ever comes, in order of arrival, without what was
--- withdrawn
-pub record MboxWorld : Type 0 where
-  pub base : Base
-  pub max_size : ℕ
-  pub all : List Message
-
--- all mail goes on without the messages that are withdrawn
-abbrev pub mbox_world_without : List (List ℕ) → MboxWorld → MboxWorld
-mbox_world_without ids world = record world { all = without ids world.all }
-
 -- the entries are those of exactly a prefix of the selected messages, but for those that were recorded before the first
 -- session
-pub record HoldsAMboxPrefix (world : MboxWorld) (done : List Message) (account : MboxMail) : Type 0 where
-  pub holds : HoldsEntries world.base done account
-  pub front : IsMboxFront world.base holds (selected world.max_size world.all)
+pub record HoldsAMboxPrefix (world : World Base) (done : List Message) (account : MboxMail) : Type 0 where
+  pub holds : HoldsEntries world.start done account
+  pub front : IsMboxFront world.start holds (selected_of world)
 
 -- the message isn't recorded as delivered, and no intent is open for it
 abbrev pub IsUnbegun : MboxMail → List ℕ → Type 0
@@ -152,10 +138,10 @@ IsUnbegun account id = (is_delivered account.rows id ≡ false)
 -- a law: it may begin with any file, and with a record that has no open intent and shows exactly a prefix of the
 -- selected messages as delivered, as an empty one does; also after others wrote
 abbrev pub MboxStartsInOrder : Type 0
-MboxStartsInOrder = (world : MboxWorld) (account : MboxMail) (first rest : List Message) → account.intent ≡ None
-    → selected world.max_size world.all ≡ first ++ rest
+MboxStartsInOrder = (world : World Base) (account : MboxMail) (first rest : List Message) → account.intent ≡ None
+    → selected_of world ≡ first ++ rest
     → ((id : List ℕ) → is_delivered account.rows id ≡ has_id (ids_of first) id)
-    → HoldsAMboxPrefix (record world { base = base_from world.base account }) [] account
+    → HoldsAMboxPrefix (record world { start = base_from world.start account }) [] account
 
 -- a law: if the first file holds texts, the file without an open intent holds the same, and then those of these
 -- messages
@@ -169,29 +155,29 @@ EntriesMeanTexts = (base : Base) (done : List Message) (account : MboxMail) (fir
 -- call shows a beginning of all mail but for some that are entered, it appends entries and keeps its promises, and a
 -- prefix is held after it; and so on. What others or a loss of power leave holds a prefix too; or has no open intent
 -- and a record that shows a prefix of the selected messages, and counts as from before the first call
-abbrev pub HoldMboxPrefixes : {W D F : Type 0} → WireGhosts W → DiskGhosts D → FileGhosts F → MboxWorld → List Message
+abbrev pub HoldMboxPrefixes : {W D F : Type 0} → WireGhosts W → DiskGhosts D → FileGhosts F → World Base → List Message
     → MboxMail → Devices F F → List (Happening (Call W F F) (Devices F F) MboxMail) → Type 0
 HoldMboxPrefixes link disk file world done account devices [] =
     ShowsMbox file devices account × HoldsAMboxPrefix world done account
 HoldMboxPrefixes link disk file world done account devices (Called call ∷ later) = ShowsMbox file devices account
     × (is : HoldsAMboxPrefix world done account) × ((withdrawn : List (List ℕ))
-    → AllByRecursion (IsUnbegun account) withdrawn → let next = mbox_world_without withdrawn world in
-    IsInOrder next.max_size next.all (λ id. is_entered world.base done id ≡ true) call.settings call.maildrop
-    → call.settings.read_all ≡ false → IsCall link disk file InMbox file.sound world.base.text devices call
+    → AllByRecursion (IsUnbegun account) withdrawn → let next = world_without withdrawn world in
+    IsInOrder next.max_size next.all (λ id. is_entered world.start done id ≡ true) call.settings call.maildrop
+    → call.settings.read_all ≡ false → IsCall link disk file InMbox file.sound world.start.text devices call
     → (sent : List ℕ) × (after : MboxMail) × ((link.history call.wire').sent ≡ (link.history call.wire).sent ++ sent)
-    × ShowsMbox file call.after after × (appends : AppendsMail world.base is.holds call sent after)
+    × ShowsMbox file call.after after × (appends : AppendsMail world.start is.holds call sent after)
     × HoldMboxPrefixes link disk file next (done ++ appends.more) after call.after later)
 HoldMboxPrefixes link disk file world done account devices (Left left now ∷ later) = ShowsMbox file devices account
     × HoldsAMboxPrefix world done account × (ShowsMbox file left now
     → ((held : List Message) → HoldsAMboxPrefix world held now
     → HoldMboxPrefixes link disk file world held now left later)
-    × ((first rest : List Message) → now.intent ≡ None → selected world.max_size world.all ≡ first ++ rest
+    × ((first rest : List Message) → now.intent ≡ None → selected_of world ≡ first ++ rest
     → ((id : List ℕ) → is_delivered now.rows id ≡ has_id (ids_of first) id)
-    → HoldMboxPrefixes link disk file (record world { base = base_from world.base now }) [] now left later))
+    → HoldMboxPrefixes link disk file (record world { start = base_from world.start now }) [] now left later))
 
 -- the law: so it is from each such account
 abbrev pub MboxHeadline : {W D F : Type 0} → WireGhosts W → DiskGhosts D → FileGhosts F → Type 0
-MboxHeadline {W} {D} {F} link disk file = (world : MboxWorld) (done : List Message) (account : MboxMail)
+MboxHeadline {W} {D} {F} link disk file = (world : World Base) (done : List Message) (account : MboxMail)
     (devices : Devices F F) (list : List (Happening (Call W F F) (Devices F F) MboxMail))
-    → IsMaildrop world.base.text world.all → ShowsMbox file devices account → HoldsAMboxPrefix world done account
+    → IsMaildrop world.start.text world.all → ShowsMbox file devices account → HoldsAMboxPrefix world done account
     → HoldMboxPrefixes link disk file world done account devices list

@@ -1,6 +1,4 @@
--- What holds of one session of the code, whatever its server says, and if it is honest: it loses or changes no stored
--- text, but for the rest of an open intent's entry in an mboxrd file; it deletes no message that may not be deleted; and
--- it stores only messages of an honest server's maildrop.
+-- What holds of one session of the code, whatever its server says, and if it is honest.
 use Rattle.std.specs.Prelude.{◌≡◌, ◌⊎◌, ◌<◌, ◌-◌, ℕ, Bool, true, List, [], ◌∷◌, ◌++◌, zip, length, Some, slice_get}
 use Rattle.std.specs.List.{AllByRecursion}
 use Rattle.pop3_wire.specs.declared.command.Command.{Command}
@@ -114,11 +112,7 @@ pub record IsStep (settings : Settings) (account : List ℕ) (now : ℕ) (link :
   pub keeps : KeepsRows after.file.content rows'
   pub session : Session settings account (holds rows before.maildir) sent got report effect (holds rows' after.maildir)
 
--- a law: if the record's file stood for these rows, a session is a step that loses and changes no file of
--- `new` and `cur`, and each DELE that it sent is for a message that was recorded as delivered, or was held,
--- or whose text it stored. If all that the link gained is honest for a maildrop, it left the account as it was; or
--- its joined listing is the maildrop's, and each file that it stored is that of one of the maildrop's
--- messages, with the message's text
+-- a law: what `session_is_a_step` says in words
 abbrev pub SessionIsAStep : Type 0
 SessionIsAStep = (settings : Settings) (account : List ℕ) (now : ℕ) (link : Link) (before : AccountFiles)
     (rows : List Row) (report : Report) (link' : Link) (after : AccountFiles)
@@ -160,11 +154,7 @@ pub record AddsTexts (settings : Settings) (before : MboxMail) (effect : Effect)
   pub texts : (first : List (List ℕ)) → MboxFile (settled effect.listing before).file first
       → MboxFile after.file (first ++ effect.texts)
 
--- a law: if the record's file stood for this record, a session is a step that keeps what the mboxrd file holds,
--- except for the rest of an open intent's entry, and each DELE that it sent is for a message that was recorded as
--- delivered, or whose entry it appended. If it ended, it added the texts. If all that the link gained is honest for a
--- maildrop, it left the account as it was, its file perhaps cut back; or its joined listing is the maildrop's, and what
--- it appended are the entries of messages of the maildrop, with their texts, and at most a beginning of one more
+-- a law: what `mbox_session_is_a_step` says in words
 abbrev pub MboxSessionIsAStep : Type 0
 MboxSessionIsAStep = (settings : Settings) (now : ℕ) (link : Link) (before : MboxAccountFiles) (held : RecordState)
     (report : Report) (link' : Link) (after : MboxAccountFiles) → IsValid settings → Keeps before.file.content held
