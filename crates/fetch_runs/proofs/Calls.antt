@@ -24,7 +24,7 @@ use Rattle.fetch_runs.proofs.Losses.{all_left_durable, calls_keep_order, calls_k
 use Rattle.fetch_runs.proofs.Lists.{left_or_none, all_filter, all_ids_at, all_map, all_front, are_distinct, distinct_filter, distinct_is, front_is, is_some, no_texts, all_at, bytes_self, ids_both, all_mapped}
 use Rattle.fetch_session.specs.declared.account.Store.TheVariants.{Maildir as InMaildir, Mboxrd as InMbox}
 use Rattle.fetch_runs.specs.Below.{Below}
-use Rattle.fetch_runs.proofs.MboxPromised.{appends, starts, ends_whole}
+use Rattle.fetch_runs.proofs.MboxPromised.{appends, starts, ends_whole, open_row}
 use Rattle.fetch_runs.proofs.Promised.{IsSession, others_leave_kept, sessions_keep_promises, copies_came, copies_messages, held_copies, named_messages, one_text}
 use Rattle.fetch_runs.proofs.Steps.{mbox_session_is_a_step, session_is_a_step, texts_stand}
 use Rattle.std.specs.List.{AllByRecursion}
@@ -182,7 +182,7 @@ mbox_calls_append laws link disk file sessions base done account devices call sh
       _,
       s.sent_is,
       record { record_is = s.keeps; bytes = refl },
-      appends base laws holds call s.sent _ s.effect is.maildrop only_new (is.served s.sent s.got s.sent_is s.got_is) (rw (← shows.bytes) at s.session),
+      appends base laws holds (open_row laws (file.stored devices.file).content account.rows account.intent shows.record_is) call s.sent _ s.effect is.maildrop only_new (is.served s.sent s.got s.sent_is s.got_is) (rw (← shows.bytes) at s.session),
     )
 
 pub mbox_calls_keep_promises : Below → {W D F : Type 0} (link : WireGhosts W) (disk : DiskGhosts D) (file : FileGhosts F) → MboxSessions link disk file → MboxCallsKeepPromises link disk file
@@ -310,7 +310,7 @@ withdrawn_leave_prefixes world done account ids sound is unbegun = (
     had = is.front.had;
     next = λ o e.
         let (more, first) = is.front.next o e in
-        let out : has_id ids o.next.uid ≡ false = false_from_ne_true _ (λ gone. both_ways _ ((all_ids_at _ _ unbegun gone).1 _ o.opened.intent) (bytes_self o.next.uid)) in
+        let out : has_id ids o.next.uid ≡ false = false_from_ne_true _ (λ gone. both_ways _ ((all_ids_at _ _ unbegun gone).1 _ o.intent) (bytes_self o.next.uid)) in
         (without ids more, ap (without ids) first ∙ rw out refl);
   },
 )
@@ -324,7 +324,7 @@ withdrawn_leave_prefixes world done account ids sound is unbegun = (
 pub starts_in_order : MboxStartsInOrder
 starts_in_order world account first rest closed prefix recorded = record {
   holds = starts world.start account closed;
-  front = record { first = first; rest = rest; prefix = rw append-nil prefix; had = recorded; next = λ o e. absurd (let never = sym closed ∙ o.opened.intent in cc) };
+  front = record { first = first; rest = rest; prefix = rw append-nil prefix; had = recorded; next = λ o e. absurd (let never = sym closed ∙ o.intent in cc) };
 }
 
 -- ---- what the file means

@@ -248,10 +248,6 @@ module _ (laws : Below) (rows : List Row) where
   pub delivered_one : (uid id : List ℕ) → has_row rows uid ≡ true → is_delivered (marked rows uid) id ≡ (is_delivered rows id || bytes_eq id uid)
   delivered_one uid id has = grind (arith, laws.marks rows uid id, bytes_swap uid id, has, λ (e : bytes_eq id uid ≡ true). bytes_same id uid e)
 
-pub rows_marked : Below → (rows : List Row) (uids : List (List ℕ)) (id : List ℕ) → has_row (marked_all rows uids) id ≡ has_row rows id
-rows_marked laws rows [] id = refl
-rows_marked laws rows (uid ∷ uids) id = rows_marked laws (marked rows uid) uids id ∙ laws.keeps rows uid id
-
 -- the same for several ids
 pub delivered_all : Below → (rows : List Row) (uids : List (List ℕ)) (id : List ℕ) → AllByRecursion (λ uid. has_row rows uid ≡ true) uids
     → is_delivered (marked_all rows uids) id ≡ (is_delivered rows id || has_id uids id)

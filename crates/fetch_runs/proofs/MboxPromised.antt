@@ -1,5 +1,5 @@
 -- With an mboxrd file, each session that reads only what is new appends entries and keeps its promises.
-use Rattle.std.proofs.Common.{subst, not, length, None, Some, map, ◌⊎◌, slice_get, zero, ◌≡◌, inl, inr, ℕ, List, [], ◌∷◌, ◌++◌, true, false, refl, sym, ◌∙◌, ap, suc, ◌||◌, take, arith, append_assoc}
+use Rattle.std.proofs.Common.{subst, not, length, None, Option, Some, map, ◌⊎◌, slice_get, zero, ◌≡◌, inl, inr, ℕ, List, [], ◌∷◌, ◌++◌, true, false, refl, sym, ◌∙◌, ap, suc, ◌||◌, take, arith, append_assoc}
 use Rattle.std.specs.Prelude.{bytes_eq, ◌↔◌}
 use Rattle.std.specs.List.{AllByRecursion, count_by, filter}
 use Rattle.std.proofs.lemmas.Bool.{both_ways, false_from_ne_true, or_left, or_right, or_parts}
@@ -11,18 +11,18 @@ use Rattle.mail_terms.specs.Listing.{Item}
 use Rattle.mail_store.specs.Mboxrd.{entry_of}
 use Rattle.mail_store.specs.Settling.{MayBeLeft, listed_size}
 use Rattle.mail_store.proofs.SettlingLemmas.{all_left, part_left}
-use Rattle.mail_terms.specs.Text.{IsWhole}
 use Rattle.std.proofs.lemmas.Grind.{flat_map-append}
 use Rattle.std.proofs.lemmas.Option.{same_Some}
 use Rattle.fetch_runs.specs.Sessions.{AreTexts, Effect, IsHonest, SendsOnly, IsBegun, Served, is_retr, MboxMail, settled, mbox_rows, mbox_wanted, none_held, entries, IsBroken, MboxLeaves, MboxStores, entries_of, MboxSession}
-use Rattle.fetch_rules.specs.Record.{marked, is_delivered, Row, has_row, marked_all}
+use Rattle.fetch_rules.specs.Record.{Intent, marked, is_delivered, Row, has_row, marked_all}
+use Rattle.fetch_rules.specs.RecordMeaning.{FileStandsFor}
 use Rattle.pop3_wire.specs.World.{Message}
 use Rattle.fetch_runs.specs.Accounts.{ids_of}
 use Rattle.fetch_runs.specs.Below.{Below}
-use Rattle.fetch_runs.specs.Promises.{IsOf, IsMaildrop, ShowsNext, Call, Base, is_entered, IsOpenAfter, IsOpenFor, Stands, HoldsEntries, IsMboxFront, MboxPromises, MboxStarts, AppendsMail}
+use Rattle.fetch_runs.specs.Promises.{IsOf, IsMaildrop, ShowsNext, Call, Base, is_entered, IsOpenFor, Stands, HoldsEntries, IsMboxFront, MboxPromises, MboxStarts, AppendsMail}
 use Rattle.fetch_runs.proofs.Promised.{sends_such}
 use Rattle.fetch_runs.proofs.Core.{BeginsWith, next_in, added, added_begins, prefix_after, all_added, parts_apart, IsNumbered, num_item, Fetch, all_wanted, distinct_wanted, wanted_is, taken_is, texts_are, wanted_ids, none_recorded, left_out, qs, wants, wants_placed, has_listed, mbox_fetched}
-use Rattle.fetch_runs.proofs.Lists.{all_ids_at, distinct_filter, filter_all, other_id, bytes_self, Distinct, distinct_is, are_distinct, all_map, all_take, all_append, all_back, all_mapped, members, ids_both, bytes_swap, delivered_unheld, delivered_one, delivered_all, rows_marked}
+use Rattle.fetch_runs.proofs.Lists.{all_ids_at, distinct_filter, filter_all, other_id, bytes_self, Distinct, distinct_is, are_distinct, all_map, all_take, all_append, all_back, all_mapped, members, ids_both, bytes_swap, delivered_unheld, delivered_one, delivered_all}
 use Rattle.fetch_session.specs.declared.report.Outcome.TheVariants.{Ended}
 use Rattle.fetch_runs.proofs.Steps.{mbox_served_session}
 use Rattle.std.proofs.lemmas.List.Folds.{flat_map-map}
@@ -46,12 +46,17 @@ distinct_both (m ∷ ms) ns d e h = (
 pub entries-append : (ms ns : List Message) → entries_of (ms ++ ns) ≡ entries_of ms ++ entries_of ns
 entries-append ms ns = flat_map-append (λ (m : Message). entry_of m.text) ms ns
 
+-- an open intent has a row
+pub open_row : Below → (content : Option (List ℕ)) (rows : List Row) (intent : Option Intent) → FileStandsFor content rows intent → (i : Intent) → intent ≡ Some i → has_row rows i.uid ≡ true
+open_row laws None rows intent stands i is = absurd (let never = sym stands.1 ∙ is in cc)
+open_row laws (Some bytes) rows intent (version, torn, means) i is = (rw is at (laws.rowed bytes version rows intent torn means)).1
+
 -- what is left of an entry is all of it and counts, or is cut off
-pub settled_is : Below → {bytes uid text : List ℕ} {account : MboxMail} (listing : List Item) → IsWhole text → IsOpenAfter bytes uid text account
-    → (((settled listing account).rows ≡ marked account.rows uid) × ((settled listing account).file ≡ bytes ++ entry_of text))
+pub settled_is : Below → {base : Base} {bytes : List ℕ} {account : MboxMail} (listing : List Item) (o : IsOpenFor base bytes account)
+    → (((settled listing account).rows ≡ marked account.rows o.next.uid) × ((settled listing account).file ≡ bytes ++ entry_of o.next.text))
     ⊎ (((settled listing account).rows ≡ account.rows) × ((settled listing account).file ≡ bytes))
-settled_is laws {bytes} {uid} {text} listing whole o = ⊎_map (λ counts. (rw (o.intent, o.file, counts.0), rw (o.intent, o.file) (counts.1 ∙ ap (λ l. bytes ++ l) counts.2)))
-    (λ cut. (rw (o.intent, o.file, cut.0), rw (o.intent, o.file) cut.1)) (laws.leftovers bytes text o.part (listed_size listing uid) whole o.left)
+settled_is laws {bytes = bytes} listing o = ⊎_map (λ counts. (rw (o.intent, o.file, counts.0), rw (o.intent, o.file) (counts.1 ∙ ap (λ l. bytes ++ l) counts.2)))
+    (λ cut. (rw (o.intent, o.file, cut.0), rw (o.intent, o.file) cut.1)) (laws.leftovers bytes o.next.text o.part (listed_size listing o.next.uid) o.is.whole o.left)
 
 -- the message and the text at one place
 pub at_place : (drop' : List Message) (qs : List (ℕ × Message)) (texts : List (List ℕ)) (n : ℕ) {message : ℕ × Item} {text : List ℕ} → AllByRecursion (IsNumbered drop') qs
@@ -119,7 +124,7 @@ module _ (base : Base) where
 
   -- without an open intent the file ends after these entries
   pub ends_whole : (done : List Message) (account : MboxMail) → HoldsEntries base done account → account.intent ≡ None → account.file ≡ bytes_of done
-  ends_whole done account holds closed = ⊎_elim (λ c. c.1) (λ o. absurd (let never = sym closed ∙ o.opened.intent in cc)) holds.stands
+  ends_whole done account holds closed = ⊎_elim (λ c. c.1) (λ o. absurd (let never = sym closed ∙ o.intent in cc)) holds.stands
 
   -- an open intent is that of the first of these
   abbrev pub IsNext : (bytes : List ℕ) (account : MboxMail) → List Message → Stands base bytes account → Type 0
@@ -141,14 +146,15 @@ module _ (base : Base) where
   abbrev pub Settled : (done : List Message) (bytes : List ℕ) (before : MboxMail) → Stands base bytes before → MboxMail → Type 0
   Settled done bytes before stands account = (more : List Message) × HoldsEntries base (done ++ more) account × (account.file ≡ bytes_of (done ++ more)) × IsMore bytes before stands more
 
-  module _ (laws : Below) {done : List Message} {before : MboxMail} (kept : HoldsEntries base done before) where
+  module _ (laws : Below) {done : List Message} {before : MboxMail} (kept : HoldsEntries base done before)
+      (rowed : (i : Intent) → before.intent ≡ Some i → has_row before.rows i.uid ≡ true) where
     no_more : (listing : List Item) → (settled listing before).rows ≡ before.rows → (settled listing before).file ≡ bytes_of done
         → HoldsEntries base (done ++ []) (settled listing before) × ((settled listing before).file ≡ bytes_of (done ++ []))
     no_more listing rows file = (rw append-nil (record { are = kept.are; new = kept.new; recorded = rw rows kept.recorded; stands = inl (refl, file) }), rw append-nil file)
 
     settle_by : (listing : List Item) (stands : Stands base (bytes_of done) before) → Settled done (bytes_of done) before stands (settled listing before)
     settle_by listing (inl closed) = let same = no_more listing (rw closed.0 refl) (rw closed.0 closed.1) in ([], same.0, same.1, refl)
-    settle_by listing (inr o) = elim (settled_is laws listing o.is.whole o.opened) [
+    settle_by listing (inr o) = elim (settled_is laws listing o) [
       | inr (rows, file) ↦ let same = no_more listing rows file in ([], same.0, same.1, inl refl)
       | inl (rows, file) ↦
           let longer : (settled listing before).file ≡ bytes_of (done ++ o.next ∷ []) = file ∙ rw (bytes_more done (o.next ∷ [])) (simp append-nil) in (
@@ -157,7 +163,7 @@ module _ (base : Base) where
                 record {
                   are = more.0;
                   new = more.1;
-                  recorded = λ id. ap (λ r. is_delivered r id) rows ∙ delivered_one laws before.rows o.next.uid id o.row ∙ ap (λ b. b || bytes_eq id o.next.uid) (kept.recorded id)
+                  recorded = λ id. ap (λ r. is_delivered r id) rows ∙ delivered_one laws before.rows o.next.uid id (rowed _ o.intent) ∙ ap (λ b. b || bytes_eq id o.next.uid) (kept.recorded id)
                       ∙ ap (λ b. is_entered base done id || b) (sym (or-false (bytes_eq id o.next.uid))) ∙ sym (in_more done (o.next ∷ []) id);
                   stands = inl (refl, longer);
                 },
@@ -175,33 +181,29 @@ module _ (base : Base) where
 
     -- an account that is left, its file perhaps cut back
     module _ (now : MboxMail) (did : Effect) (h : MboxLeaves before did now) where
-      opened : (o : IsOpenFor base (bytes_of done) before) (part : List ℕ) → MayBeLeft (length (bytes_of done)) (entry_of o.next.text) part → now.file ≡ bytes_of done ++ part → IsOpenAfter (bytes_of done) o.next.uid o.next.text now
-      opened o part left file = record { intent = h.intent ∙ o.opened.intent; part = part; left = left; file = file }
-
-      pub reopened : (o : IsOpenFor base (bytes_of done) before) → (again : IsOpenAfter (bytes_of done) o.next.uid o.next.text now) × IsPart now o.next again.part
-      unfolding opened
+      pub reopened : (o : IsOpenFor base (bytes_of done) before) → (part : List ℕ) × MayBeLeft (length (bytes_of done)) (entry_of o.next.text) part × (now.file ≡ bytes_of done ++ part) × IsPart now o.next part
       reopened o = elim h.file [
-        | inl same ↦ (opened o o.opened.part o.opened.left (same ∙ o.opened.file), inl same)
-        | inr cut ↦ elim (settled_is laws did.listing o.is.whole o.opened) [
-          | inl whole ↦
-              let entry = entry_of o.next.text in
-              (opened o entry (all_left (length (bytes_of done)) entry) (cut ∙ whole.1), inr ([], sym (append-nil entry)))
-          | inr none ↦ (opened o [] tt (cut ∙ none.1 ∙ sym (append-nil (bytes_of done))), inr (entry_of o.next.text, refl))
+        | inl same ↦ (o.part, o.left, same ∙ o.file, inl same)
+        | inr cut ↦ elim (settled_is laws did.listing o) [
+          | inl whole ↦ let entry = entry_of o.next.text in (entry, all_left (length (bytes_of done)) entry, cut ∙ whole.1, inr ([], sym (append-nil entry)))
+          | inr none ↦ ([], tt, cut ∙ none.1 ∙ sym (append-nil (bytes_of done)), inr (entry_of o.next.text, refl))
         ]
       ]
 
       abbrev pub left_stands : Stands base (bytes_of done) before → Stands base (bytes_of done) now
       left_stands (inl closed) = inl (h.intent ∙ closed.0, elim h.file [ inl same ↦ same ∙ closed.1 | inr cut ↦ cut ∙ rw closed.0 closed.1 ])
-      left_stands (inr o) = inr (record { next = o.next; is = o.is; unrecorded = rw h.rows o.unrecorded; row = rw h.rows o.row; opened = (reopened o).0 })
+      left_stands (inr o) =
+          let again = reopened o in
+          inr (record { next = o.next; is = o.is; unrecorded = rw h.rows o.unrecorded; intent = h.intent ∙ o.intent; part = again.0; left = again.1; file = again.2 })
 
-      part_stands : (stands : Stands base (bytes_of done) before) (o : IsOpenFor base (bytes_of done) now) → left_stands stands ≡ inr o → IsPart now o.next o.opened.part
+      part_stands : (stands : Stands base (bytes_of done) before) (o : IsOpenFor base (bytes_of done) now) → left_stands stands ≡ inr o → IsPart now o.next o.part
       part_stands (inl closed) o is = absurd cc
-      part_stands (inr was) o is = of_right (λ (p : IsOpenFor base (bytes_of done) now). IsPart now p.next p.opened.part) refl (reopened was).1 is
+      part_stands (inr was) o is = of_right (λ (p : IsOpenFor base (bytes_of done) now). IsPart now p.next p.part) refl (reopened was).3 is
 
       pub left_kept : HoldsEntries base done now
       left_kept = record { are = kept.are; new = kept.new; recorded = rw h.rows kept.recorded; stands = left_stands kept.stands }
 
-      left_part : (o : IsOpenFor base (bytes_of done) now) → left_kept.stands ≡ inr o → IsPart now o.next o.opened.part
+      left_part : (o : IsOpenFor base (bytes_of done) now) → left_kept.stands ≡ inr o → IsPart now o.next o.part
       unfolding left_kept
       left_part = part_stands kept.stands
 
@@ -271,21 +273,18 @@ module _ (base : Base) where
               (all_back _ (new s.stored) _ (rw taken at (fresh (suc s.stored)))).0,
               (parts_apart (new s.stored) (next ∷ []) (rw taken at (distinct_wanted fetch (suc s.stored)))).1 next (members (next ∷ [])).0,
             ) refl;
-            row = ap (λ r. has_row r next.uid) rows_are ∙ rows_marked laws rows (ids_of (new s.stored)) next.uid ∙ (all_back _ (new s.stored) _ (rw taken at (has_rows (suc s.stored)))).0;
-            opened = record {
-              intent = b.opened.intent ∙ simp (bytes_are, place.1, place.2);
-              part = b.opened.front;
-              left = subst (λ l. MayBeLeft (length (bytes_of (was ++ new s.stored))) l b.opened.front) (sym (ap entry_of (sym place.2) ∙ b.opened.entry))
-                  (part_left (length (bytes_of (was ++ new s.stored))) b.opened.front b.opened.behind b.opened.front (all_left (length (bytes_of (was ++ new s.stored))) b.opened.front));
-              file = b.opened.file ∙ rw bytes_are;
-            };
+            intent = b.opened.intent ∙ simp (bytes_are, place.1, place.2);
+            part = b.opened.front;
+            left = subst (λ l. MayBeLeft (length (bytes_of (was ++ new s.stored))) l b.opened.front) (sym (ap entry_of (sym place.2) ∙ b.opened.entry))
+                (part_left (length (bytes_of (was ++ new s.stored))) b.opened.front b.opened.behind b.opened.front (all_left (length (bytes_of (was ++ new s.stored))) b.opened.front));
+            file = b.opened.file ∙ rw bytes_are;
           }
 
       pub broken_more : (b : IsBroken v.settings before did s.stored now) → new (suc s.stored) ≡ new s.stored ++ (broken b).next ∷ []
       unfolding broken
       broken_more b = broken_taken b
 
-      broken_part : (b : IsBroken v.settings before did s.stored now) → IsPart now (broken b).next (broken b).opened.part
+      broken_part : (b : IsBroken v.settings before did s.stored now) → IsPart now (broken b).next (broken b).part
       unfolding broken
       broken_part b = inr (b.opened.behind, ap entry_of (sym (placed b).2) ∙ b.opened.entry)
 
@@ -305,11 +304,11 @@ module _ (base : Base) where
         stands = stands_at s.ending;
       }
 
-      part_of : (ending : Ending) (o : IsOpenFor base (bytes_of (was ++ new s.stored)) now) → stands_at ending ≡ inr o → IsPart now o.next o.opened.part
+      part_of : (ending : Ending) (o : IsOpenFor base (bytes_of (was ++ new s.stored)) now) → stands_at ending ≡ inr o → IsPart now o.next o.part
       part_of (inl c) o is = absurd cc
-      part_of (inr b) o is = of_right (λ (p : IsOpenFor base (bytes_of (was ++ new s.stored)) now). IsPart now p.next p.opened.part) refl (broken_part b) is
+      part_of (inr b) o is = of_right (λ (p : IsOpenFor base (bytes_of (was ++ new s.stored)) now). IsPart now p.next p.part) refl (broken_part b) is
 
-      part_after : (o : IsOpenFor base (bytes_of (was ++ new s.stored)) now) → holds_after.stands ≡ inr o → IsPart now o.next o.opened.part
+      part_after : (o : IsOpenFor base (bytes_of (was ++ new s.stored)) now) → holds_after.stands ≡ inr o → IsPart now o.next o.part
       unfolding holds_after
       part_after = part_of s.ending
 
@@ -394,7 +393,7 @@ module _ (base : Base) where
       abbrev Leaves : List Message → Type 0
       Leaves now = (holds : HoldsEntries base now after) × MboxPromises base done now v sent after
           × ((all : List Message) → (front : IsMboxFront base kept all) → ShowsNext v.settings v.maildrop (front.first ++ done) front.rest → IsMboxFront base holds all)
-          × ((o : IsOpenFor base (bytes_of now) after) → holds.stands ≡ inr o → IsPart after o.next o.opened.part)
+          × ((o : IsOpenFor base (bytes_of now) after) → holds.stands ≡ inr o → IsPart after o.next o.part)
 
       pub appends : {got : List ℕ} (effect : Effect) → IsMaildrop base.text v.maildrop → v.settings.read_all ≡ false → Served v.maildrop sent got v.vanished
           → MboxSession v.settings before sent got v.report effect after → AppendsMail base kept v sent after

@@ -10,7 +10,7 @@ use Rattle.mail_terms.specs.MaildirName.{base}
 use Rattle.rc_file.specs.declared.settings.Settings.{Settings}
 use Rattle.fetch_rules.specs.Plan.{planned, retrieved}
 use Rattle.fetch_rules.specs.Record.{Row, has_row, is_delivered, marked, merged}
-use Rattle.fetch_rules.specs.RecordGrowth.{AppendedCounts, OneMeaning, OneRecord}
+use Rattle.fetch_rules.specs.RecordGrowth.{AppendedCounts, OneMeaning, OneRecord, OpenHasRow}
 use Rattle.fetch_rules.specs.RecordTorn.{TornIsIgnoredOrSeen}
 use Rattle.fetch_rules.specs.Wanted.{DistinctAreFiltered, wanted}
 use Rattle.mail_store.specs.FileName.{IsAccountText, NamesAreBases, NamesHaveStems, StemsDiffer, account_text, is_held}
@@ -45,6 +45,7 @@ pub record Below : Type 0 where
   pub one : OneRecord
   pub meaning : OneMeaning
   pub counts : AppendedCounts
+  pub rowed : OpenHasRow
   pub torn : TornIsIgnoredOrSeen
   pub steady : SteadyFilesKeep
   pub unsaved : UnsavedFilesKeep

@@ -10,7 +10,7 @@ use Rattle.mail_terms.specs.Distinct.{AreDistinct}
 use Rattle.mail_terms.specs.Text.{IsWhole}
 use Rattle.mail_terms.specs.UniqueId.{is_legal_id, has_id}
 use Rattle.rc_file.specs.declared.settings.Settings.{Settings}
-use Rattle.fetch_rules.specs.Record.{is_delivered, has_row}
+use Rattle.fetch_rules.specs.Record.{is_delivered}
 use Rattle.fetch_rules.specs.Wanted.{is_within}
 use Rattle.mail_store.specs.FileName.{is_held, name_of, stem_of}
 use Rattle.mail_store.specs.Maildir.{file}
@@ -174,21 +174,16 @@ is_entered base done id = base.had id || has_id (ids_of done) id
 abbrev pub base_from : Base → MboxMail → Base
 base_from base after = record base { start = after.file; had = λ id. is_delivered after.rows id }
 
--- the intent to append the entry of this text is open, and the file is these bytes and what a loss of power may leave
--- of the entry: all of it, a prefix, or one with zeros
-pub record IsOpenAfter (bytes uid text : List ℕ) (account : MboxMail) : Type 0 where
-  pub intent : account.intent ≡ Some (intent_of bytes uid text)
-  pub part : List ℕ
-  pub left : MayBeLeft (length bytes) (entry_of text) part
-  pub file : account.file ≡ bytes ++ part
-
--- the intent to append the entry of a message that isn't recorded is open, and a part of it may follow these bytes
+-- the intent to append the entry of a message that isn't recorded is open, and the file is these bytes and what a loss
+-- of power may leave of the entry: all of it, a prefix, or one with zeros
 pub record IsOpenFor (base : Base) (bytes : List ℕ) (account : MboxMail) : Type 0 where
   pub next : Message
   pub is : IsOf base.text next
   pub unrecorded : is_delivered account.rows next.uid ≡ false
-  pub row : has_row account.rows next.uid ≡ true
-  pub opened : IsOpenAfter bytes next.uid next.text account
+  pub intent : account.intent ≡ Some (intent_of bytes next.uid next.text)
+  pub part : List ℕ
+  pub left : MayBeLeft (length bytes) (entry_of next.text) part
+  pub file : account.file ≡ bytes ++ part
 
 -- no intent is open, and the file is these bytes; or one is
 abbrev pub Stands : Base → List ℕ → MboxMail → Type 0
@@ -233,7 +228,7 @@ pub record AppendsMail {W S F : Type 0} (base : Base) {done : List Message} {bef
   pub promises : MboxPromises base done (done ++ more) call sent after
   pub kept : HoldsEntries base (done ++ more) after
   pub part : (o : IsOpenFor base (base.start ++ entries_of (done ++ more)) after) → kept.stands ≡ inr o
-      → (after.file ≡ before.file) ⊎ ((behind : List ℕ) × (entry_of o.next.text ≡ o.opened.part ++ behind))
+      → (after.file ≡ before.file) ⊎ ((behind : List ℕ) × (entry_of o.next.text ≡ o.part ++ behind))
   pub in_order : (all : List Message) → (front : IsMboxFront base holds all)
       → ShowsNext call.settings call.maildrop (front.first ++ done) front.rest → IsMboxFront base kept all
 

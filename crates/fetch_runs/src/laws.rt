@@ -14,7 +14,7 @@ ghost use Rattle.fetch_runs.specs.Steps.{MboxSessionIsAStep, SessionIsAStep};
 use fetch_rules::{
     appended_counts, bytes_have_one_meaning, distinct_messages_are_filtered,
     files_stand_for_one_record, held_is_delivered, listed_has_row, marked_is_delivered,
-    marked_keeps_rows, plans_fetch_wanted, torn_is_ignored_or_seen,
+    marked_keeps_rows, open_intents_have_rows, plans_fetch_wanted, torn_is_ignored_or_seen,
 };
 use fetch_session::{
     sessions_are_durable, sessions_by_store, sessions_keep_files, steady_files_keep,
@@ -50,6 +50,7 @@ fn laws_below()
     files_stand_for_one_record();
     bytes_have_one_meaning();
     appended_counts();
+    open_intents_have_rows();
     torn_is_ignored_or_seen();
     steady_files_keep();
     unsaved_files_keep();
