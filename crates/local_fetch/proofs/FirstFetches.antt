@@ -1,6 +1,7 @@
 -- From nothing on, a call keeps what it removes from the server, and an uncut one all that was there, up to its limits.
-use Rattle.std.proofs.Common.{◌≡◌, inl, inr, ℕ, true, false, List, [], ◌∷◌, ◌++◌, refl, sym, ◌∙◌, true≢false}
-use Rattle.std.specs.List.{AllByRecursion, list_any}
+use Rattle.std.proofs.Common.{◌≡◌, inl, inr, ℕ, Bool, true, false, List, [], ◌∷◌, ◌++◌, refl, sym, ◌∙◌, true≢false, ◌≤◌, arith, length}
+use Rattle.std.specs.List.{AllByRecursion, filter, list_any}
+use Rattle.std.proofs.lemmas.List.Sums.{count_by-le-length, length-filter}
 use Rattle.std.specs.Prelude.{bytes_eq}
 use Rattle.std.proofs.lemmas.Bool.{cases_Bool}
 use Rattle.mail_store.specs.declared.maildir.disk.MaildirDisk.{Ghosts as DiskGhosts}
@@ -51,6 +52,9 @@ all_by : {P Q : List ℕ → Type 0} → ((id : List ℕ) → P id → Q id) →
 all_by by [] more ps = tt
 all_by by (id ∷ ids) more (p, ps) = (by id p, all_by by ids more ps)
 
+no_longer : (p : Message → Bool) {n : ℕ} (ms : List Message) → n ≤ length (filter p ms) → n ≤ length ms
+no_longer p ms most = omega (arith, most, length-filter p ms, count_by-le-length p ms)
+
 pub keep_mail : {M D F : Type 0} (link : WireGhosts (Loop M)) (disk : DiskGhosts D) (file : FileGhosts F) (drop : DropGhosts M)
     → EmptyAccountsAreKept → FetchesKeepPromises link disk file drop → FirstFetchesKeepMail link disk file drop
 keep_mail link disk file drop empty law mail devices fetch no_file no_record account_is is =
@@ -63,15 +67,18 @@ keep_mail link disk file drop empty law mail devices fetch no_file no_record acc
       vanished,
       removed,
       rw (← shows'.maildir) (all_by safe_held vanished [] kept'.gone),
-      λ ended no_size.
-          each (λ m of p. elim p [
-            | inl safe ↦
-                let is_there = safe_held m.uid safe in
-                elim (kept'.holds m.uid of.legal) [
-                  | inl none ↦ absurd (true≢false (sym is_there ∙ no_copies (stem_of mail.account m.uid) promised.after.maildir.files none))
-                  | inr one ↦ inl (rw (← shows'.maildir, of.text) one)
-                ]
-            | inr (inl large) ↦ absurd (true≢false (rw no_size at large))
-            | inr (inr past) ↦ inr (past.limit, past.full)
-          ]) (shown_by drop fetch.server) is.maildrop.each (promised.promises.left_out ended),
+      λ ended. (
+        (promised.sent, promised.sent_is, (promised.promises.deletes.commands, promised.promises.deletes.asked, promised.promises.retrieved ended)),
+        λ no_size.
+            each (λ m of p. elim p [
+              | inl safe ↦
+                  let is_there = safe_held m.uid safe in
+                  elim (kept'.holds m.uid of.legal) [
+                    | inl none ↦ absurd (true≢false (sym is_there ∙ no_copies (stem_of mail.account m.uid) promised.after.maildir.files none))
+                    | inr one ↦ inl (rw (← shows'.maildir, of.text) one)
+                  ]
+              | inr (inl large) ↦ absurd (true≢false (rw no_size at large))
+              | inr (inr past) ↦ inr (past.front, past.behind, past.place, past.limit, no_longer _ past.front past.before, past.full)
+            ]) (shown_by drop fetch.server) is.maildrop.each (promised.promises.left_out ended),
+      ),
     )

@@ -1,12 +1,14 @@
 -- Calls of `fetch_local`, and what others do between them: what is promised of any list of these. Here the server's
 -- honesty is no premise: it follows from the contract of `fetch_local`.
-use Rattle.std.specs.Prelude.{◌≡◌, ◌⊎◌, ◌<◌, ℕ, true, false, List, [], ◌∷◌, ◌++◌, None}
-use Rattle.std.specs.List.{AllByRecursion}
+use Rattle.std.specs.Prelude.{◌≡◌, ◌⊎◌, ◌<◌, ◌≤◌, ℕ, true, false, length, List, [], ◌∷◌, ◌++◌, None}
+use Rattle.std.specs.List.{AllByRecursion, count_by}
 use Rattle.mail_store.specs.declared.maildir.disk.MaildirDisk.{Ghosts as DiskGhosts}
 use Rattle.mail_store.specs.declared.file.flat_file.FlatFile.{Ghosts as FileGhosts}
 use Rattle.mail_store.specs.FileName.{is_held, stem_of}
 use Rattle.mail_store.specs.Maildir.{Maildir}
 use Rattle.pop3_wire.specs.World.{Message}
+use Rattle.pop3_wire.specs.Honest.{Asked}
+use Rattle.pop3_wire.specs.declared.command.Command.{Command}
 use Rattle.pop3_wire.specs.declared.wire.Wire.{Ghosts as WireGhosts}
 use Rattle.pop3_server.specs.declared.maildrop.Maildrop.{Ghosts as DropGhosts}
 use Rattle.pop3_server.specs.Maildrop.{there}
@@ -21,7 +23,7 @@ use Rattle.fetch_session.specs.Account.{digits_of}
 use Rattle.fetch_session.specs.Target.{is_sound, mail_in}
 use Rattle.fetch_runs.specs.Accounts.{AccountMail, copies}
 use Rattle.fetch_runs.specs.Promises.{Call, Devices, IsBetween, IsMaildrop, Kept, Mail, State, state_with}
-use Rattle.fetch_runs.specs.Sessions.{MboxMail}
+use Rattle.fetch_runs.specs.Sessions.{MboxMail, is_retr}
 use Rattle.fetch_runs.specs.Promises.{AppendsMail, Base, HoldsEntries, base_from}
 use Rattle.fetch_runs.specs.Calls.{Called, Happening, HoldsNoMore, IsLeftByLoss, IsPromised, Left, Shows}
 use Rattle.fetch_runs.specs.Calls.{account_over, with_left}
@@ -116,9 +118,14 @@ FetchesFromNothing {M} {D} {F} link disk file drop = (mail : Mail) (devices : De
     → (file.stored devices.file).content ≡ None
     → KeepPromises link disk file drop mail (nothing_yet (disk.maildir devices.store)) devices list
 
+-- as many RETRs as this were sent, among whole commands
+abbrev pub SendsRetrs : List ℕ → ℕ → Type 0
+SendsRetrs sent count = (commands : List Command) × Asked commands sent × (count ≡ count_by is_retr commands)
+
 -- a law: from a Maildir without files and no record on, each message that a call removed from its server is held; and
--- if the call is uncut and has no limit on sizes, each message that the server had is in one file, with its text,
--- unless as many were retrieved as the limit on their number says
+-- if the call is uncut, it reports as many texts as it sent RETRs, and if it has no limit on sizes, each message that
+-- the server had is in one file, with its text, unless as many come before it, and were retrieved, as the limit on
+-- their number says
 abbrev pub FirstFetchesKeepMail : {M D F : Type 0} → WireGhosts (Loop M) → DiskGhosts D → FileGhosts F → DropGhosts M
     → Type 0
 FirstFetchesKeepMail {M} {D} {F} link disk file drop = (mail : Mail) (devices : Devices D F)
@@ -126,10 +133,13 @@ FirstFetchesKeepMail {M} {D} {F} link disk file drop = (mail : Mail) (devices : 
     → digits_of fetch.settings ≡ mail.account → IsFetch link disk file drop InMaildir mail.text devices fetch
     → (vanished : List (List ℕ)) × ServerRemoves drop fetch vanished
     × AllByRecursion (λ id. is_held mail.account (disk.maildir fetch.after.store) id ≡ true) vanished
-    × (fetch.report.outcome ≡ Ended → fetch.settings.max_size ≡ 0 → AllByRecursion (λ (m : Message).
+    × (fetch.report.outcome ≡ Ended
+    → ((sent : List ℕ) × ((link.history fetch.wire).sent ≡ (link.history (loop_to fetch.server)).sent ++ sent)
+    × SendsRetrs sent fetch.report.retrieved) × (fetch.settings.max_size ≡ 0 → AllByRecursion (λ (m : Message).
     (copies (disk.maildir fetch.after.store).files (stem_of mail.account m.uid) ≡ m.text ∷ [])
-    ⊎ ((0 < fetch.settings.max_count) × (fetch.report.retrieved ≡ fetch.settings.max_count)))
-    (shown_by drop fetch.server))
+    ⊎ ((front behind : List Message) × (shown_by drop fetch.server ≡ front ++ m ∷ behind)
+    × (0 < fetch.settings.max_count) × (fetch.settings.max_count ≤ length front)
+    × (fetch.report.retrieved ≡ fetch.settings.max_count))) (shown_by drop fetch.server)))
 
 -- ---- with an mboxrd file
 
