@@ -23,7 +23,7 @@ use Rattle.mail_store.specs.Maildir.{AreReached, File, IsPart, Maildir}
 use Rattle.fetch_session.specs.Record.{Keeps, KeepsRows}
 use Rattle.fetch_runs.specs.Accounts.{copies, ids_of, texts_of}
 use Rattle.fetch_runs.specs.Below.{Below}
-use Rattle.fetch_runs.specs.Sessions.{none_held}
+use Rattle.fetch_session.specs.Target.{none_held}
 
 pub filter-filter : {X : Type 0} (p q : X → Bool) (xs : List X) → filter p (filter q xs) ≡ filter (λ x. q x && p x) xs
 filter-filter p q [] = refl

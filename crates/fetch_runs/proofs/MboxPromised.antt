@@ -13,7 +13,7 @@ use Rattle.mail_store.specs.Settling.{MayBeLeft, listed_size}
 use Rattle.mail_store.proofs.SettlingLemmas.{all_left, part_left}
 use Rattle.std.proofs.lemmas.Grind.{flat_map-append}
 use Rattle.std.proofs.lemmas.Option.{same_Some}
-use Rattle.fetch_runs.specs.Sessions.{AreTexts, Effect, IsHonest, SendsOnly, IsBegun, Served, is_retr, MboxMail, settled, mbox_rows, mbox_wanted, none_held, entries, IsBroken, MboxLeaves, MboxStores, entries_of, MboxSession}
+use Rattle.fetch_runs.specs.Sessions.{AreTexts, Effect, IsHonest, SendsOnly, IsBegun, Served, is_retr, MboxMail, settled, mbox_rows, mbox_wanted, entries, IsBroken, MboxLeaves, MboxStores, entries_of, MboxSession}
 use Rattle.fetch_rules.specs.Record.{Intent, marked, is_delivered, Row, has_row, marked_all}
 use Rattle.fetch_rules.specs.RecordMeaning.{FileStandsFor}
 use Rattle.pop3_wire.specs.World.{Message}
@@ -23,6 +23,7 @@ use Rattle.fetch_runs.specs.Promises.{IsOf, IsMaildrop, ShowsNext, Call, Base, i
 use Rattle.fetch_runs.proofs.Promised.{sends_such}
 use Rattle.fetch_runs.proofs.Core.{BeginsWith, next_in, added, added_begins, prefix_after, all_added, parts_apart, IsNumbered, num_item, Fetch, all_wanted, distinct_wanted, wanted_is, taken_is, texts_are, wanted_ids, none_recorded, left_out, qs, wants, wants_placed, has_listed, mbox_fetched}
 use Rattle.fetch_runs.proofs.Lists.{all_ids_at, distinct_filter, filter_all, other_id, bytes_self, Distinct, distinct_is, are_distinct, all_map, all_take, all_append, all_back, all_mapped, members, ids_both, bytes_swap, delivered_unheld, delivered_one, delivered_all}
+use Rattle.fetch_session.specs.Target.{none_held}
 use Rattle.fetch_session.specs.declared.report.Outcome.TheVariants.{Ended}
 use Rattle.fetch_runs.proofs.Steps.{mbox_served_session}
 use Rattle.std.proofs.lemmas.List.Folds.{flat_map-map}

@@ -62,8 +62,8 @@ pub record IsLeftWithin (account : List ℕ) (before : AccountFiles) (ready : Sc
   pub files : left.maildir.files ≡ before.maildir.files ++ files_of account (front ++ next ∷ [])
   pub file : Steady left.file.content (none_open (marked_all ready.rows (ids_of front)))
 
--- a session that was cut, and that sent and got only a prefix of what this one did, left these files of `new` and `cur`,
--- and these bytes of the record's file; all else may be another process's
+-- a session that was cut, and that sent and got only a prefix of what this one did, left these files of `new` and
+-- `cur`, and these bytes of the record's file; all else may be another process's
 pub record IsCutThere (settings : Settings) (account : List ℕ) (now : ℕ) (link : Link) (before : AccountFiles)
     (link' : Link) (items : List Item) (ready : Scene) (left : AccountFiles) : Type 0 where
   pub fault : Fault

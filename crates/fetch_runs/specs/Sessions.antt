@@ -33,7 +33,7 @@ use Rattle.fetch_session.specs.Tail.{tail, turns_in}
 use Rattle.fetch_runs.specs.Accounts.{AccountMail, listing_of, without_flags}
 use Rattle.fetch_rules.specs.Intents.{closed_rows}
 use Rattle.mail_store.specs.Mboxrd.{entry_of}
-use Rattle.fetch_session.specs.Target.{closed_file, is_stored}
+use Rattle.fetch_session.specs.Target.{closed_file, is_stored, none_held}
 
 -- a whole and positive reply to the command
 pub record IsGood (command : Command) (reply : WholeReply) : Type 0 where
@@ -274,10 +274,6 @@ settled listing account = record {
   intent = None;
   file = closed_file account.intent listing account.file;
 }
-
--- no message counts as held; only the record knows them
-abbrev pub none_held : List Item → List Bool
-none_held listing = map (λ _. false) listing
 
 -- the record after it was settled and the listing was merged into it
 abbrev pub mbox_rows : MboxMail → Effect → List Row

@@ -120,7 +120,8 @@ SessionIsAStep = (settings : Settings) (account : List ℕ) (now : ℕ) (link : 
     → SessionIn settings (AsFiles account) now link (keeps_files before) report link' (keeps_files after)
     → (step : IsStep settings account now link before rows report link' after)
     × (safe : IsSafeSession settings account (holds rows before.maildir) step.sent step.effect
-    (holds step.rows' after.maildir)) × ((drop : List Message) (marks : List Bool) → Honest drop step.sent step.got marks
+    (holds step.rows' after.maildir))
+    × ((drop : List Message) (marks : List Bool) → Honest drop step.sent step.got marks
     → Leaves (holds rows before.maildir) step.effect (holds step.rows' after.maildir)
     ⊎ BringsMessages account drop step.effect safe.gained)
 
