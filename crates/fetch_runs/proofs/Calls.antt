@@ -15,7 +15,7 @@ use Rattle.fetch_session.specs.Account.{digits_of}
 use Rattle.fetch_session.specs.Laws.{MboxSessions}
 use Rattle.fetch_session.specs.Session.{account_files, mbox_account_files}
 use Rattle.fetch_runs.specs.Accounts.{AccountMail, files, ids_of, is_selected, without, texts_of, copies, has_named, selected, without_flags}
-use Rattle.fetch_runs.specs.Promises.{Mail, State, state_with, IsBetween, Kept, Call, Devices, base_from, AppendsMail, Base, HoldsEntries, IsMaildrop, IsSafe, IsFront, ShowsNext, is_safe, IsMboxFront}
+use Rattle.fetch_runs.specs.Promises.{Mail, State, state_with, IsBetween, Kept, Call, Devices, AppendsMail, Base, HoldsEntries, IsMaildrop, IsSafe, IsFront, ShowsNext, is_safe, IsMboxFront}
 use Rattle.fetch_runs.specs.Sessions.{Session, MboxMail}
 use Rattle.fetch_runs.specs.Steps.{holds}
 use Rattle.fetch_runs.specs.Calls.{Called, CallsKeepPromises, EmptyAccountsAreKept, Left, with_left, IsCall, Shows, MboxCallsKeepPromises, ShowsMbox}
@@ -197,11 +197,7 @@ mbox_calls_keep_promises laws link disk file sessions = keep
           let (sent, after, sent_is, shows', one) = mbox_calls_append laws link disk file sessions base done account devices call shows holds only_new is in
           (sent, after, sent_is, shows', one, keep base (done ++ one.more) after call.after later shows' one.kept),
     )
-    keep base done account devices (Left left now ∷ later) shows holds = (
-      shows,
-      holds,
-      λ then. (λ first there. keep base first now left later then there, λ closed. keep (base_from base now) [] now left later then (starts base now closed)),
-    )
+    keep base done account devices (Left left now ∷ later) shows holds = (shows, holds, λ then from first there. keep from first now left later then there)
 
 -- all mail is a world
 pub as_world : (text : List ℕ → List ℕ) (all : List Message) → IsMaildrop text all → IsWorld all
@@ -399,12 +395,5 @@ mbox_headline laws link disk file sessions = all_hold
                 (record { holds = one.kept; front = one.in_order _ front shown }),
           ),
     )
-    all_hold world done account devices (Left left now ∷ later) sound shows is = (
-      shows,
-      is,
-      λ then. (
-        λ held there. all_hold world held now left later sound then there,
-        λ first rest closed prefix recorded. all_hold (record world { start = base_from world.start now }) [] now left later sound then
-            (starts_in_order world now first rest closed prefix recorded),
-      ),
-    )
+    all_hold world done account devices (Left left now ∷ later) sound shows is =
+        (shows, is, λ then from held sound' there. all_hold (record world { start = from }) held now left later sound' then there)

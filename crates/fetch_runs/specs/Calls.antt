@@ -1,6 +1,6 @@
 -- Calls of `session`, and what others do between them, over the account's devices: what is promised of any list of
 -- these. Nobody has to know what a session does.
-use Rattle.std.specs.Prelude.{◌≡◌, ℕ, true, List, [], ◌∷◌, ◌++◌, Option, false, None}
+use Rattle.std.specs.Prelude.{◌≡◌, ℕ, true, List, [], ◌∷◌, ◌++◌, Option, false}
 use Rattle.std.specs.List.{AllByRecursion}
 use Rattle.pop3_wire.specs.World.{Message}
 use Rattle.pop3_wire.specs.declared.wire.Wire.{Ghosts as WireGhosts}
@@ -23,7 +23,7 @@ use Rattle.fetch_session.specs.declared.report.Report.{Report}
 use Rattle.fetch_runs.specs.Accounts.{AccountMail, copies, files}
 use Rattle.fetch_runs.specs.Sessions.{Served, MboxMail}
 use Rattle.fetch_runs.specs.Promises.{Call, Devices, IsBetween, IsMaildrop, Kept, Mail, Promises, ShowsNext, State}
-use Rattle.fetch_runs.specs.Promises.{is_safe, state_with, AppendsMail, Base, HoldsEntries, base_from}
+use Rattle.fetch_runs.specs.Promises.{is_safe, state_with, AppendsMail, Base, HoldsEntries}
 use Rattle.fetch_runs.specs.Losses.{IsCrashSafe, IsDurableFront, RecordIsSure, KeepsDurable, KeepsFronts}
 use Rattle.fetch_session.specs.Target.{mail_in}
 
@@ -147,8 +147,8 @@ pub record ShowsMbox {F : Type 0} (file : FileGhosts F) (devices : Devices F F) 
   pub bytes : account.file ≡ mail_in (file.stored devices.store).content
 
 -- the devices show an account whose file holds these entries; if the next of these happens, a call that reads only what
--- is new appends entries, and they do so after it. What others or a loss of power leave holds the entries of some
--- messages, and perhaps a part of one more; or has no open intent, and counts as from before the first call
+-- is new appends entries, and they do so after it. What others or a loss of power left has the entries of some messages
+-- after some bytes, as each file has without an open intent (`mbox_starts`), and perhaps a part of one more
 abbrev pub AreMboxPromised : {W D F : Type 0} → WireGhosts W → DiskGhosts D → FileGhosts F → Base → List Message
     → MboxMail → Devices F F → List (Happening (Call W F F) (Devices F F) MboxMail) → Type 0
 AreMboxPromised link disk file base done account devices [] =
@@ -160,10 +160,8 @@ AreMboxPromised link disk file base done account devices (Called call ∷ later)
     × (appends : AppendsMail base holds call sent after)
     × AreMboxPromised link disk file base (done ++ appends.more) after call.after later)
 AreMboxPromised link disk file base done account devices (Left left now ∷ later) = ShowsMbox file devices account
-    × HoldsEntries base done account × (ShowsMbox file left now
-    → ((first : List Message) → HoldsEntries base first now
-    → AreMboxPromised link disk file base first now left later)
-    × (now.intent ≡ None → AreMboxPromised link disk file (base_from base now) [] now left later))
+    × HoldsEntries base done account × (ShowsMbox file left now → (from : Base) (first : List Message)
+    → HoldsEntries from first now → AreMboxPromised link disk file from first now left later)
 
 -- the law: so it is of any list of calls and of what others and losses of power leave
 abbrev pub MboxCallsKeepPromises : {W D F : Type 0} → WireGhosts W → DiskGhosts D → FileGhosts F → Type 0

@@ -153,8 +153,8 @@ EntriesMeanTexts = (base : Base) (done : List Message) (account : MboxMail) (fir
 
 -- the devices show an account whose file holds a prefix. If messages that weren't begun are withdrawn, and the next
 -- call shows a beginning of all mail but for some that are entered, it appends entries and keeps its promises, and a
--- prefix is held after it; and so on. What others or a loss of power leave holds a prefix too; or has no open intent
--- and a record that shows a prefix of the selected messages, and counts as from before the first call
+-- prefix is held after it; and so on. What others or a loss of power left holds a prefix after some bytes, as each
+-- account in order does without an open intent (`mbox_starts_in_order`)
 abbrev pub HoldMboxPrefixes : {W D F : Type 0} → WireGhosts W → DiskGhosts D → FileGhosts F → World Base → List Message
     → MboxMail → Devices F F → List (Happening (Call W F F) (Devices F F) MboxMail) → Type 0
 HoldMboxPrefixes link disk file world done account devices [] =
@@ -168,12 +168,9 @@ HoldMboxPrefixes link disk file world done account devices (Called call ∷ late
     × ShowsMbox file call.after after × (appends : AppendsMail world.start is.holds call sent after)
     × HoldMboxPrefixes link disk file next (done ++ appends.more) after call.after later)
 HoldMboxPrefixes link disk file world done account devices (Left left now ∷ later) = ShowsMbox file devices account
-    × HoldsAMboxPrefix world done account × (ShowsMbox file left now
-    → ((held : List Message) → HoldsAMboxPrefix world held now
-    → HoldMboxPrefixes link disk file world held now left later)
-    × ((first rest : List Message) → now.intent ≡ None → selected_of world ≡ first ++ rest
-    → ((id : List ℕ) → is_delivered now.rows id ≡ has_id (ids_of first) id)
-    → HoldMboxPrefixes link disk file (record world { start = base_from world.start now }) [] now left later))
+    × HoldsAMboxPrefix world done account × (ShowsMbox file left now → (from : Base) (held : List Message)
+    → IsMaildrop from.text world.all → let next = record world { start = from } in HoldsAMboxPrefix next held now
+    → HoldMboxPrefixes link disk file next held now left later)
 
 -- the law: so it is from each such account
 abbrev pub MboxHeadline : {W D F : Type 0} → WireGhosts W → DiskGhosts D → FileGhosts F → Type 0

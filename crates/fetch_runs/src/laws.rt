@@ -218,9 +218,9 @@ pub fn empty_accounts_are_kept()
 /// or that were recorded before the first call or before others last wrote the file. If a server shows the
 /// messages of a list in their order, the first of these have entries.
 ///
-/// Between two calls a process may start anew. What others or a loss of power leave may hold the entries of any
-/// messages, and a part of one more. Otherwise, if no intent is open then, it counts as from before the first
-/// call.
+/// Between two calls a process may start anew. What others or a loss of power left may be any account without an
+/// open intent, which counts as from before the first call, or one whose file holds the entries of any messages
+/// and a part of one more.
 pub fn mbox_calls_keep_promises<W: Wire, D: MaildirDisk, F: FlatFile>()
     ensures { MboxCallsKeepPromises W.Wire D.MaildirDisk F.FlatFile }
 {

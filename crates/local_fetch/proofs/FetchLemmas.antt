@@ -12,7 +12,7 @@ use Rattle.fetch_session.specs.declared.account.Store.TheVariants.{Maildir as In
 use Rattle.fetch_session.specs.Target.{is_sound, mail_in}
 use Rattle.fetch_runs.specs.Promises.{Devices, IsOf, state_with}
 use Rattle.fetch_runs.specs.Sessions.{MboxMail}
-use Rattle.fetch_runs.specs.Promises.{MboxStarts, base_from}
+use Rattle.fetch_runs.specs.Promises.{MboxStarts}
 use Rattle.fetch_runs.specs.Calls.{Called, CallsKeepPromises, EmptyAccountsAreKept, IsCall, Left, with_left}
 use Rattle.fetch_runs.specs.Calls.{MboxCallsKeepPromises}
 use Rattle.local_fetch.specs.Local.{loop_to}
@@ -82,16 +82,8 @@ module _ {M D F : Type 0} (link : WireGhosts (Loop M)) (disk : DiskGhosts D) (fi
         let on = mbox_fetches_keep law base (done ++ appends.more) after fetch.after later shows' holds' in
         (vanished, left, held, sent, after, sent_is, shown, appends, on),
   )
-  mbox_fetches_keep law base done account devices (Left left now ∷ later) shows holds = (
-    shows,
-    holds,
-    λ then.
-        let (was, held, next) = law base done account devices (Left left now ∷ []) shows holds in
-        let (stays, begins) = next then in (
-          λ first there. let (shows', holds') = stays first there in mbox_fetches_keep law base first now left later shows' holds',
-          λ closed. let (shows', holds') = begins closed in mbox_fetches_keep law (base_from base now) [] now left later shows' holds',
-        ),
-  )
+  mbox_fetches_keep law base done account devices (Left left now ∷ later) shows holds =
+      (shows, holds, λ then from first there. mbox_fetches_keep law from first now left later then there)
 
 -- ---- from nothing on
 

@@ -24,7 +24,7 @@ use Rattle.fetch_session.specs.Target.{is_sound, mail_in}
 use Rattle.fetch_runs.specs.Accounts.{AccountMail, copies}
 use Rattle.fetch_runs.specs.Promises.{Call, Devices, IsBetween, IsMaildrop, Kept, Mail, State, state_with}
 use Rattle.fetch_runs.specs.Sessions.{MboxMail, is_retr}
-use Rattle.fetch_runs.specs.Promises.{AppendsMail, Base, HoldsEntries, base_from}
+use Rattle.fetch_runs.specs.Promises.{AppendsMail, Base, HoldsEntries}
 use Rattle.fetch_runs.specs.Calls.{Called, Happening, HoldsNoMore, IsLeftByLoss, IsPromised, Left, Shows}
 use Rattle.fetch_runs.specs.Calls.{account_over, with_left}
 use Rattle.fetch_runs.specs.Losses.{IsCrashSafe, KeepsDurable, KeepsFronts}
@@ -145,7 +145,7 @@ FirstFetchesKeepMail {M} {D} {F} link disk file drop = (mail : Mail) (devices : 
 
 -- the devices show an account whose file holds the entries of these messages; if the next of these happens, a call
 -- that reads only what is new appends entries and keeps its promises, and they do so after it. What others or a loss of
--- power leave holds entries too; or has no open intent, and counts as from before the first session
+-- power left has the entries of some messages after some bytes, as each file has without an open intent
 abbrev pub KeepMboxPromises : {M D F : Type 0} → WireGhosts (Loop M) → DiskGhosts D → FileGhosts F → DropGhosts M
     → Base → List Message → MboxMail → Devices F F → List (Happening (Fetch M F F) (Devices F F) MboxMail) → Type 0
 KeepMboxPromises link disk file drop base done account devices [] =
@@ -160,9 +160,8 @@ KeepMboxPromises link disk file drop base done account devices (Called fetch ∷
     × KeepMboxPromises link disk file drop base (done ++ appends.more) after fetch.after later)
 KeepMboxPromises link disk file drop base done account devices (Left left now ∷ later) =
     ShowsMbox file devices account × HoldsEntries base done account × (ShowsMbox file left now
-    → ((first : List Message) → HoldsEntries base first now
-    → KeepMboxPromises link disk file drop base first now left later)
-    × (now.intent ≡ None → KeepMboxPromises link disk file drop (base_from base now) [] now left later))
+    → (from : Base) (first : List Message) → HoldsEntries from first now
+    → KeepMboxPromises link disk file drop from first now left later)
 
 -- a law: so it is of any list
 abbrev pub MboxFetchesKeepPromises : {M D F : Type 0} → WireGhosts (Loop M) → DiskGhosts D → FileGhosts F
