@@ -1252,7 +1252,7 @@ module _ (laws : Below) (settings : Settings) (account : List ℕ) (now : ℕ) (
       session = session is.file (cut_of WriteFailed None)
           (scene (refused_at there) (in_maildir (maildir (files_of account front))) (file u.ready.file.failures) rows (lines_of front)) (refused_at there).link
           (inl (record { none = refl; turn = is.turn; takes = is.takes; broke = (talk.WriteFailed, refl, inl (refl, refuses is.turn there)); store = refl; file = refl; rows = refl; lines = refl }))
-          (refused_at there, (Ok tt, ([], laws.joins.none (refused_at there))), refl) refl;
+          (refused_at there, (Ok tt, ([], laws.joins.none (refused_at there)), λ silent. refl), refl) refl;
     }
 
     -- the turns and replies of the next task too
@@ -1301,7 +1301,7 @@ module _ (laws : Below) (settings : Settings) (account : List ℕ) (now : ℕ) (
         session =
             let stored : Gained here.store.maildir stopped.store.maildir (file_from account is.uid reply ∷ []) = search (append_assoc, arith) in
             let saves : Saves here.file (none_open rows) (none_open (marked rows is.uid)) (Err SeenRefused) stopped.file = (refl, λ steady. inl (laws.steady left.file.content (none_open rows) steady)) in
-            session is.file (cut_of SeenRefused None) stopped (refused_at place).link (inr (inr (search (is.is, whole.2, stored, saves)))) (refused_at place, (Err talk.WriteFailed, record { done = []; replies = []; next = rset; later = quit ∷ []; mid = place; split = refl; talked = laws.joins.none place; broke = inl (refl, refuses rset place) }), refl) refl;
+            session is.file (cut_of SeenRefused None) stopped (refused_at place).link (inr (inr (search (is.is, whole.2, stored, saves)))) (refused_at place, (Err talk.WriteFailed, record { done = []; replies = []; next = rset; later = quit ∷ []; mid = place; split = refl; talked = laws.joins.none place; broke = inl (refl, refuses rset place) }, λ silent. absurd cc), refl) refl;
       }
 
     -- what is left there a session left that was cut, and what its link gained is served

@@ -185,9 +185,9 @@ module _ (joining : TurnsJoin) (paced : ConversationsArePaced) where
 
   -- ---- a tail after a reply under way
 
-  pub left_dropped : (fault : Fault) (rest : Option Rest) (old mid new : Place) (r : Result (Unit {0}) ClientFault) → Drops rest old (Ok tt) mid → Talks (turns_in (tail fault)) mid r new → LeftBy fault rest old new
-  left_dropped fault None old mid new r same talks = (r, rw same at talks)
-  left_dropped fault (Some rest) old mid new r drops talks = (
+  pub left_dropped : (fault : Fault) (rest : Option Rest) (old mid new : Place) (r : Result (Unit {0}) ClientFault) → Drops rest old (Ok tt) mid → Talks (turns_in (tail fault)) mid r new → (tail fault ≡ Nothing → new ≡ mid) → LeftBy fault rest old new
+  left_dropped fault None old mid new r same talks still = (r, rw same at talks, λ silent. still silent ∙ same)
+  left_dropped fault (Some rest) old mid new r drops talks still = (
     λ done. (r, rw (drops.0 done).1 at talks),
     λ number start text now.
         let told = drops.1 number start text now in

@@ -45,10 +45,12 @@ pub record WentOn (turns : List Turn) (old new : Place) : Type 0 where
   pub got : new.link.got ≡ old.link.got ++ gained
   pub front : (later : List ℕ) × (asking turns ≡ said ++ later)
 
--- with no reply under way, or a whole one, the tail was talked, or it stopped; with a reply, its turn and then the tail
--- were talked, or stopped, from where that turn began, and what was sent and what came went on from before
+-- with no reply under way, or a whole one, the tail was talked, or it stopped; with nothing to say, nothing came. With
+-- a reply, its turn and then the tail were talked, or stopped, from where that turn began, and what was sent and what
+-- came went on from before
 abbrev pub LeftBy : Fault → Option Rest → Place → Place → Type 0
 LeftBy fault None old new = (result : Result (Unit {0}) ClientFault) × Talks (turns_in (tail fault)) old result new
+    × (tail fault ≡ Nothing → new ≡ old)
 LeftBy fault (Some rest) old new = (rest.spot ≡ Done → (result : Result (Unit {0}) ClientFault)
     × Talks (turns_in (tail fault)) old result new)
     × ((number : ℕ) (start : Place) (text : List ℕ) → Fetching (retr number) start old rest text

@@ -35,6 +35,7 @@ fn say_tail<W: Wire>(client: &mut Client<'_, W>, kind: Tail) -> Result<(), Clien
     ensures link { HasSameLink client.old client.new }
     ensures counted { CountsRefusals W.Wire client.old result client.new }
     ensures nothing { kind ≡ Tail.Nothing → result ≡ Ok tt }
+    ensures still { kind ≡ Tail.Nothing → place_of W.Wire client.new ≡ place_of W.Wire client.old }
     ensures talks { WhereSound W.sound W.leads_to client.old.wire.now client.new.wire.now
         (Talks (turns_in kind) (place_of W.Wire client.old) result (place_of W.Wire client.new)) }
 {
