@@ -5,7 +5,7 @@ mod MessagePreviewLemmas
 mod PartLemmas
 mod ReadyLemmas
 mod SceneLemmas
-mod ServedLemmas
+pub mod ServedLemmas
 mod SessionLemmas
 mod TakenLemmas
 mod TalkLemmas

@@ -1,9 +1,10 @@
 -- If nothing fails, a session ends, and has stored what it wants.
-use Rattle.std.proofs.Common.{◌≡◌, ◌≢◌, ◌≤◌, ◌+◌, ◌-◌, ℕ, Bool, true, false, List, [], ◌∷◌, ◌++◌, Option, None, Some, Result, Ok, Err, IsOk, Contains, refl, sym, ap, ap₂, subst, ◌∙◌, inl, inr, arith, append_assoc, length, length-append, take, zip, map, filter}
+use Rattle.std.proofs.Common.{◌≡◌, ◌≢◌, ◌<◌, ◌≤◌, ◌+◌, ◌-◌, ◌⊎◌, ℕ, Bool, true, false, List, [], ◌∷◌, ◌++◌, Option, None, Some, Result, Ok, Err, IsOk, Contains, refl, sym, ap, subst, ◌∙◌, inl, inr, arith, append_assoc, length, length-append, take, zip, map, filter}
 use Rattle.std.specs.List.{AllByRecursion, AllZip, enumerate_from, flat_map}
 use Rattle.std.proofs.Math.Seq.{take-append-add}
 use Rattle.std.proofs.lemmas.Bool.{cases_Bool, false≢true}
-use Rattle.std.proofs.lemmas.List.{append_cancel_left}
+use Rattle.std.proofs.lemmas.List.{append_cancel_left, append-nil, take-append-le}
+use Rattle.std.proofs.lemmas.List.Concat.{flat_map-append}
 use Rattle.std.proofs.lemmas.List.Elements.{Contains-append_left, Contains-append_right}
 use Rattle.mail_terms.specs.Listing.{Item, message_limit}
 use Rattle.mail_store.specs.FileName.{is_held}
@@ -16,19 +17,19 @@ use Rattle.fetch_rules.specs.RecordGrowth.{OneMeaning}
 use Rattle.fetch_rules.specs.RecordMeaning.{Meaning, Rows, Fault as Faulty}
 use Rattle.fetch_rules.specs.Wanted.{wanted}
 use Rattle.fetch_rules.specs.declared.steps.Step.{Step}
-use Rattle.pop3_wire.proofs.BodyLemmas.{IsLine-dot, IsLine-front}
-use Rattle.pop3_wire.specs.Body.{IsContent, body_of, dot, text_of}
-use Rattle.pop3_wire.specs.Line.{crlf, IsLine, OneLine, ended}
+use Rattle.pop3_wire.proofs.BodyLemmas.{first_lines, IsLine-front, no_body, one_line, one_reading}
+use Rattle.pop3_wire.specs.Body.{HasNoBody, IsContent, body_of, dot, text_of}
+use Rattle.pop3_wire.specs.Line.{crlf, IsLine, ended}
 use Rattle.pop3_wire.specs.Link.{Link}
 use Rattle.pop3_wire.specs.Place.{Place, at}
-use Rattle.pop3_wire.specs.Reading.{WholeReply, body_bytes, gives_body, reply_bytes}
+use Rattle.pop3_wire.specs.Reading.{IsBodyIf, IsReplyTo, WholeReply, body_bytes, gives_body, reply_bytes}
 use Rattle.pop3_wire.specs.Fields.{number_and_size}
 use Rattle.pop3_wire.specs.Reply.{IsFirstLine, indicator, without_space}
 use Rattle.pop3_wire.specs.declared.command.Command.TheVariants.{UidlAll, ListAll, Retr}
 use Rattle.pop3_wire.specs.declared.reply.Status.TheVariants.{Negative, Positive}
-use Rattle.pop3_client.specs.Causes.{BeginsPositive, Cause, HasRows, IsOverlong, IsPartOfBody, IsPartOfListing}
-use Rattle.pop3_client.specs.Conversation.{Broke}
-use Rattle.pop3_client.specs.Turns.{list, uidl, IsBody, IsGood, IsListing, IsRow, IsShort, LinesFit, Turn, line_limit, retr, text_limit}
+use Rattle.pop3_client.specs.Causes.{BeginsPositive, Cause, HasRows, IsOverlong, IsPartOfBody, IsPartOfListing, NextLine}
+use Rattle.pop3_client.specs.Conversation.{Broke, ConversationsArePaced, Talked, Talks}
+use Rattle.pop3_client.specs.Turns.{list, uidl, asking, IsBody, IsGood, IsListing, IsRow, IsShort, LinesFit, Turn, line_limit, retr, text_limit, turn_bytes}
 use Rattle.pop3_client.specs.declared.fault.ClientFault.{ClientFault}
 use Rattle.pop3_client.specs.declared.fault.ClientFault.TheVariants as talk
 use Rattle.fetch_session.specs.declared.fault.Cut.{Cut}
@@ -38,14 +39,17 @@ use Rattle.fetch_session.specs.declared.fault.Why.TheVariants.{Missing, NotMbox,
 use Rattle.fetch_session.specs.declared.report.Outcome.{Outcome}
 use Rattle.fetch_session.specs.declared.report.Outcome.TheVariants.{Ended, Cut as WasCut}
 use Rattle.fetch_session.specs.declared.report.Report.{Report}
-use Rattle.fetch_session.specs.Cuts.{CausesFault, CutsHaveCauses, Disagreed, IsMissing, IsUnusable, StoreRose, TurnBroke}
+use Rattle.fetch_session.specs.declared.tail.Tail.TheVariants.{Nothing}
+use Rattle.fetch_session.specs.Cuts.{ArePlanned, CausesFault, CutsHaveCauses, Extends, IsMissing, IsUnusable, StoreRose, TurnBroke}
 use Rattle.fetch_session.specs.Fault.{fault_of}
 use Rattle.fetch_session.specs.Plan.{tasks_ahead}
 use Rattle.fetch_session.specs.Readiness.{Settles}
 use Rattle.fetch_session.specs.Record.{Misread}
-use Rattle.fetch_session.specs.Served.{refused_in, HasText, IsServed, IsStored, IsUsable, ServedSessionsStoreAll, StoresAll, WasAnswered}
-use Rattle.fetch_session.specs.Session.{Dealt, Keeping, LeavesLink, Noted, Proceeds, outcome_of}
+use Rattle.fetch_session.specs.Served.{refused_in, HasText, IsServed, IsStored, IsUsable, ServedSessionsStoreAll, StoresAll}
+use Rattle.fetch_session.specs.Scene.{Scene, Stops}
+use Rattle.fetch_session.specs.Session.{Dealt, Keeping, LeavesLink, Noted, Proceeds, SessionIn, outcome_of}
 use Rattle.fetch_session.specs.Store.{Brings}
+use Rattle.fetch_session.specs.Tail.{tail, turns_in as tail_turns}
 use Rattle.fetch_session.specs.Target.{Target, AsFiles, AsEntries, Stores, closed_file, flags_in}
 use Rattle.fetch_session.specs.Task.{Done, IsAnswered, Task, deleting, fetching, file_from, files_in, files_of, replies_of, says, stores, tasks_in, tasks_of, tasks_planned, texts_in, texts_of, turns_in, turns_of}
 use Rattle.pop3_client.specs.Texts.{body_text}
@@ -75,57 +79,47 @@ take_past n xs ys fits =
     let all : n ≡ length xs + (n - length xs) = omega (arith, fits) in
     ap (λ (k : ℕ). take k (xs ++ ys)) all ∙ take-append-add xs ys (n - length xs)
 
--- a short line isn't overlong
-not_overlong : (line more bytes : List ℕ) → IsShort line → bytes ≡ ended line ++ more → IsOverlong bytes → ⊥
-not_overlong line more bytes short is over =
+-- octets that begin with a short line aren't overlong, whatever comes after them
+not_overlong : (line more bytes later : List ℕ) → IsShort line → bytes ++ later ≡ ended line ++ more → IsOverlong bytes → ⊥
+not_overlong line more bytes later short is over =
     IsLine-front (ended line) (take (line_limit - length (ended line)) more)
-    (subst IsLine (ap (take line_limit) is ∙ take_past line_limit (ended line) more (omega (arith, short, length-append line crlf))) over.0.none) line [] refl
+    (subst IsLine (sym (take-append-le line_limit bytes later over.1) ∙ ap (take line_limit) is ∙ take_past line_limit (ended line) more (omega (arith, short, length-append line crlf))) over.0.none) line [] refl
 
-module _ (one : OneLine) where
-  -- the lines that were read are the first lines of a body that begins with them
-  behind_lines : (lines others : List (List ℕ)) (behind rest : List ℕ) → AllByRecursion IsContent lines → AllByRecursion IsContent others
-      → flat_map ended lines ++ behind ≡ flat_map ended others ++ (ended dot ++ rest)
-      → (more : List (List ℕ)) × AllByRecursion IsContent more × (others ≡ lines ++ more) × (behind ≡ flat_map ended more ++ (ended dot ++ rest))
-  behind_lines [] others behind rest content content' e = (others, content', refl, e)
-  behind_lines (line ∷ lines) [] behind rest content content' e =
-      absurd (content.0.1 (one line dot (flat_map ended lines ++ behind) rest content.0.0 IsLine-dot (sym (append_assoc (ended line) (flat_map ended lines) behind) ∙ e)).0)
-  behind_lines (line ∷ lines) (other ∷ others) behind rest content content' e =
-      let same = one line other (flat_map ended lines ++ behind) (flat_map ended others ++ (ended dot ++ rest)) content.0.0 content'.0.0
-      (sym (append_assoc (ended line) (flat_map ended lines) behind) ∙ e ∙ append_assoc (ended other) (flat_map ended others) (ended dot ++ rest)) in
-      let (more, are, is, behind_is) = behind_lines lines others behind rest content.1 content'.1 same.1 in
-      (more, are, ap₂ (λ (l : List ℕ) (ls : List (List ℕ)). l ∷ ls) (sym same.0) is, behind_is)
+-- nor do those that begin with what is left of a body of short lines
+next_not_overlong : (more : List (List ℕ)) (behind later rest : List ℕ) → AllByRecursion IsShort more → behind ++ later ≡ flat_map ended more ++ (ended dot ++ rest) → IsOverlong behind → ⊥
+next_not_overlong [] behind later rest short e over = not_overlong dot rest behind later (omega arith) e over
+next_not_overlong (line ∷ more) behind later rest short e over =
+    not_overlong line (flat_map ended more ++ (ended dot ++ rest)) behind later short.0 (e ∙ append_assoc (ended line) (flat_map ended more) (ended dot ++ rest)) over
 
-  -- the row that comes next is the next line of the body
-  next_row : (more : List (List ℕ)) (row behind rest : List ℕ) → IsContent row → AllByRecursion IsContent more → ended row ++ behind ≡ flat_map ended more ++ (ended dot ++ rest)
-      → (others : List (List ℕ)) × (more ≡ row ∷ others)
-  next_row [] row behind rest content are e = absurd (content.1 (one row dot behind rest content.0 IsLine-dot e).0)
-  next_row (line ∷ more) row behind rest content are e =
-      (more, ap (λ (l : List ℕ). l ∷ more) (sym (one row line behind (flat_map ended more ++ (ended dot ++ rest)) content.0 are.0.0 (e ∙ append_assoc (ended line) (flat_map ended more) (ended dot ++ rest))).0))
+listing_without : (turn : Turn) (after : List ℕ) → IsPartOfListing turn after → HasNoBody after
+listing_without turn after (behind, lines, has, part) =
+    no_body after behind (text_of lines) (record { lines = lines; content = has.content; whole = has.whole; read = refl }) part.0
 
--- a body doesn't end in a part of a line
-unended : (more : List (List ℕ)) (behind rest : List ℕ) → behind ≡ flat_map ended more ++ (ended dot ++ rest) → IsLine behind → ⊥
-unended [] behind rest e line = line dot rest e
-unended (l ∷ more) behind rest e line =
-    line l (flat_map ended more ++ (ended dot ++ rest)) (e ∙ append_assoc (ended l) (flat_map ended more) (ended dot ++ rest) ∙ append_assoc l crlf (flat_map ended more ++ (ended dot ++ rest)))
+-- a part of a body holds no body
+part_without : (turn : Turn) (after : List ℕ) → IsPartOfBody turn after → HasNoBody after
+part_without (Some UidlAll) after p = listing_without uidl after p
+part_without (Some ListAll) after p = listing_without list after p
+part_without (Some (Retr number)) after p = p.0
+part_without _ after never = absurd never
 
--- nor is what follows in a body of short lines
-next_not_overlong : (more : List (List ℕ)) (behind rest : List ℕ) → AllByRecursion IsShort more → behind ≡ flat_map ended more ++ (ended dot ++ rest) → IsOverlong behind → ⊥
-next_not_overlong [] behind rest short e over = not_overlong dot rest behind (omega arith) e over
-next_not_overlong (line ∷ more) behind rest short e over =
-    not_overlong line (flat_map ended more ++ (ended dot ++ rest)) behind short.0 (e ∙ append_assoc (ended line) (flat_map ended more) (ended dot ++ rest)) over
+-- whether nothing is said after a turn broke so
+abbrev is_silent : ClientFault → Bool
+is_silent (talk.Refused to) = false
+is_silent other = true
 
 count_of : {E : Type 0} (a b : ℕ × ℕ) → ◌≡◌ {A = Result (ℕ × ℕ) E} (Ok a) (Ok b) → a.0 ≡ b.0
 count_of a b e = let same : a ≡ b = cc in ap (λ (p : ℕ × ℕ). p.0) same
 
-module _ (one : OneLine) (turn : Turn) (reply : WholeReply) (good : IsGood turn reply) (bytes rest : List ℕ) (is : bytes ≡ reply_bytes reply ++ rest) where
-  first_is : bytes ≡ reply.first ++ (crlf ++ (body_bytes reply.body ++ rest))
-  first_is = is ∙ append_assoc (ended reply.first) (body_bytes reply.body) rest ∙ append_assoc reply.first crlf (body_bytes reply.body ++ rest)
+-- what came of a good reply, and what comes after it
+module _ (turn : Turn) (reply : WholeReply) (good : IsGood turn reply) (bytes later rest : List ℕ) (is : bytes ++ later ≡ reply_bytes reply ++ rest) where
+  first_is : bytes ++ later ≡ ended reply.first ++ (body_bytes reply.body ++ rest)
+  first_is = is ∙ append_assoc (ended reply.first) (body_bytes reply.body) rest
 
   -- the first line is the reply's
-  same_first : (line after : List ℕ) → IsLine line → bytes ≡ ended line ++ after → (line ≡ reply.first) × (after ≡ body_bytes reply.body ++ rest)
-  same_first line after a e = one line reply.first after (body_bytes reply.body ++ rest) a good.line (sym e ∙ is ∙ append_assoc (ended reply.first) (body_bytes reply.body) rest)
+  same_first : (line after : List ℕ) → IsLine line → bytes ≡ ended line ++ after → (line ≡ reply.first) × (after ++ later ≡ body_bytes reply.body ++ rest)
+  same_first line after a e = one_line line reply.first (after ++ later) (body_bytes reply.body ++ rest) a good.line (sym (append_assoc (ended line) after later) ∙ ap (λ (l : List ℕ). l ++ later) (sym e) ∙ first_is)
 
-  body_begins : (after : List ℕ) → BeginsPositive bytes after → after ≡ body_bytes reply.body ++ rest
+  body_begins : (after : List ℕ) → BeginsPositive bytes after → after ++ later ≡ body_bytes reply.body ++ rest
   body_begins after b = (same_first b.line after b.is b.whole).1
 
   -- the lines of the body
@@ -136,7 +130,7 @@ module _ (one : OneLine) (turn : Turn) (reply : WholeReply) (good : IsGood turn 
       by None none = absurd (false≢true (sym none ∙ gives))
       by (Some lines) fit = (lines, refl, fit.0, fit.1)
 
-  body_begins_with : (after : List ℕ) (lines : List (List ℕ)) → reply.body ≡ Some lines → BeginsPositive bytes after → after ≡ body_of lines ++ rest
+  body_begins_with : (after : List ℕ) (lines : List (List ℕ)) → reply.body ≡ Some lines → BeginsPositive bytes after → after ++ later ≡ body_of lines ++ rest
   body_begins_with after lines body_is begins = body_begins after begins ∙ ap (λ (b : Option (List (List ℕ))). body_bytes b ++ rest) body_is
 
   -- those of a listing are rows, and those that were read are the first of them
@@ -146,13 +140,14 @@ module _ (one : OneLine) (turn : Turn) (reply : WholeReply) (good : IsGood turn 
     pub few : length lines + length more ≤ message_limit
     pub short : AllByRecursion IsShort more
     pub rows : AllByRecursion (IsRow turn) more
-    pub behind_is : behind ≡ flat_map ended more ++ (ended dot ++ rest)
+    pub behind_is : behind ++ later ≡ flat_map ended more ++ (ended dot ++ rest)
 
   listing_of : (after behind : List ℕ) (lines : List (List ℕ)) → BeginsPositive bytes after → HasRows turn after behind lines → Listing lines behind
   listing_of after behind lines begins has =
       let (all, body_is, content, fit) = lines_of (by_listing (λ t. gives_body t ≡ true) refl refl turn has.listing) in
       let (few, short, rows) = by_listing (λ t. LinesFit t all → (length all ≤ message_limit) × AllByRecursion IsShort all × AllByRecursion (IsRow t) all) (λ f. f) (λ f. f) turn has.listing fit in
-      let (more, are, all_is, behind_is) = behind_lines one lines all behind rest has.content content (sym has.whole ∙ body_begins_with after all body_is begins ∙ append_assoc (flat_map ended all) (ended dot) rest) in
+      let (more, are, all_is, behind_is) = first_lines lines (behind ++ later) all rest has.content content
+      (sym (append_assoc (flat_map ended lines) behind later) ∙ ap (λ (l : List ℕ). l ++ later) (sym has.whole) ∙ body_begins_with after all body_is begins ∙ append_assoc (flat_map ended all) (ended dot) rest) in
       record {
         more = more;
         content = are;
@@ -162,20 +157,13 @@ module _ (one : OneLine) (turn : Turn) (reply : WholeReply) (good : IsGood turn 
         behind_is = behind_is;
       }
 
-  -- the body doesn't stop early
-  whole_body : (lines : List (List ℕ)) (after : List ℕ) → AllByRecursion IsContent lines → after ≡ body_of lines ++ rest → IsPartOfBody turn after → ⊥
-  whole_body lines after content e part = by turn part
-    where
-      by_lines : (t : Turn) → IsPartOfListing t after → ⊥
-      by_lines t (behind, read, has, line) =
-          let (more, are, is, behind_is) = behind_lines one read lines behind rest has.content content (sym has.whole ∙ e ∙ append_assoc (flat_map ended lines) (ended dot) rest) in
-          unended more behind rest behind_is line.0
-
-      by : (t : Turn) → IsPartOfBody t after → ⊥
-      by (Some UidlAll) p = by_lines (Some UidlAll) p
-      by (Some ListAll) p = by_lines (Some ListAll) p
-      by (Some (Retr number)) p = p.0 (body_of lines) (text_of lines) rest (record { lines = lines; content = content; whole = refl; read = refl }) e
-      by _ never = absurd never
+  -- the next line is a row, and no more than the limit
+  row_next : (row : List ℕ) (rows : ℕ) → NextLine turn bytes row rows → IsRow turn row × (rows < message_limit)
+  row_next row rows (after, begins, next) =
+      let listing = listing_of after (ended row ++ next.behind) next.lines begins next.has in
+      let first = first_lines (row ∷ []) (next.behind ++ later) listing.more rest (next.content, tt) listing.content
+      (ap (λ (l : List ℕ). l ++ (next.behind ++ later)) (append-nil (ended row)) ∙ sym (append_assoc (ended row) next.behind later) ∙ listing.behind_is) in
+      ((subst (AllByRecursion (IsRow turn)) first.2 listing.rows).0, omega (arith, listing.few, next.count, ap (λ (l : List (List ℕ)). length l) first.2))
 
   part_gives : (after : List ℕ) → IsPartOfBody turn after → gives_body turn ≡ true
   part_gives after part = by turn part
@@ -186,61 +174,141 @@ module _ (one : OneLine) (turn : Turn) (reply : WholeReply) (good : IsGood turn 
       by (Some (Retr number)) p = refl
       by _ never = absurd never
 
-  no_cause : (why : ClientFault) (old new : Link) → new.failures ≡ old.failures → Cause why turn old new bytes → why ≡ talk.NoMemory
-  no_cause talk.ConnectionEnded old new none (ended_is, inl part) = absurd (part.0 reply.first (body_bytes reply.body ++ rest) first_is)
-  no_cause talk.ConnectionEnded old new none (ended_is, inr (after, begins, part)) =
+  no_cause : (why : ClientFault) (old new : Link) → (is_silent why ≡ true → new.failures ≡ old.failures) → (is_silent why ≡ true → new.ended ≡ true → later ≡ []) → Cause why turn old new bytes → why ≡ talk.NoMemory
+  no_cause talk.ConnectionEnded old new none all (ended_is, inl part) =
+      absurd (part.0 reply.first (body_bytes reply.body ++ rest) (sym (append-nil bytes) ∙ (rw (all refl ended_is) at first_is) ∙ append_assoc reply.first crlf (body_bytes reply.body ++ rest)))
+  no_cause talk.ConnectionEnded old new none all (ended_is, inr (after, begins, part)) =
       let (lines, body_is, content, fit) = lines_of (part_gives after part) in
-      absurd (whole_body lines after content (body_begins_with after lines body_is begins) part)
-  no_cause talk.ReadFailed old new none risen = absurd (omega (arith, none, risen))
-  no_cause talk.WriteFailed old new none never = absurd never
-  no_cause talk.ReplyTooLong old new none (inl over) = absurd (not_overlong reply.first (body_bytes reply.body ++ rest) bytes good.short (is ∙ append_assoc (ended reply.first) (body_bytes reply.body) rest) over)
-  no_cause talk.ReplyTooLong old new none (inr (after, behind, lines, begins, has, over)) =
+      absurd (part_without turn after part (body_of lines) (text_of lines) rest (record { lines = lines; content = content; whole = refl; read = refl })
+      (sym (append-nil after) ∙ (rw (all refl ended_is) at body_begins_with after lines body_is begins)))
+  no_cause talk.ReadFailed old new none all risen = absurd (omega (arith, none refl, risen))
+  no_cause talk.WriteFailed old new none all never = absurd never
+  no_cause talk.ReplyTooLong old new none all (inl over) = absurd (not_overlong reply.first (body_bytes reply.body ++ rest) bytes later good.short first_is over)
+  no_cause talk.ReplyTooLong old new none all (inr (after, behind, lines, begins, has, over)) =
       let listing = listing_of after behind lines begins has in
-      absurd (next_not_overlong listing.more behind rest listing.short listing.behind_is over)
-  no_cause talk.BadReply old new none (line, first, not_negative, not_positive) =
+      absurd (next_not_overlong listing.more behind later rest listing.short listing.behind_is over)
+  no_cause talk.BadReply old new none all (line, first, not_negative, not_positive) =
       let same = (same_first line first.after first.is first.whole).0 in
       let (gives, bad) = not_positive good.rest (rw same good.positive) in
       absurd (bad (subst (λ r. IsOk r) (sym (good.fits gives).2) refl))
-  no_cause (talk.Refused to) old new none (names, (line, more, first, negative)) =
+  no_cause (talk.Refused to) old new none all (names, (line, more, first, negative)) =
       absurd (two_statuses good.positive (subst (λ (l : List ℕ). IsFirstLine l Negative more) (same_first line first.after first.is first.whole).0 negative))
-  no_cause talk.BadListing old new none (row, count, (after, begins, next), few, bad) =
-      let listing = listing_of after (ended row ++ next.behind) next.lines begins next.has in
-      let (others, more_is) = next_row one listing.more row next.behind rest next.content listing.content listing.behind_is in
-      absurd (bad (subst (AllByRecursion (IsRow turn)) more_is listing.rows).0)
-  no_cause talk.ListingsDisagree old new none never = absurd never
-  no_cause talk.TooMany old new none (inl (gives, (line, more, count, size, first, positive, counts, over))) =
+  no_cause talk.BadListing old new none all (row, rows, next, few, bad) = absurd (bad (row_next row rows next).0)
+  no_cause talk.ListingsDisagree old new none all never = absurd never
+  no_cause talk.TooMany old new none all (inl (gives, (line, more, count, size, first, positive, counts, over))) =
       let same = (same_first line first.after first.is first.whole).0 in
       let rest_is : more ≡ good.rest = positive.2 ∙ ap without_space (append_cancel_left (indicator Positive) positive.0 good.positive.0 (sym positive.1 ∙ same ∙ good.positive.1)) ∙ sym good.positive.2 in
       let (n, octets, is_n, few) = good.fits gives in
       absurd (omega (arith, over, few, count_of (count, size) (n, octets) (sym counts ∙ ap number_and_size rest_is ∙ is_n)))
-  no_cause talk.TooMany old new none (inr (row, (after, begins, next))) =
-      let listing = listing_of after (ended row ++ next.behind) next.lines begins next.has in
-      let (others, more_is) = next_row one listing.more row next.behind rest next.content listing.content listing.behind_is in
-      absurd (omega (arith, listing.few, next.count, ap (λ (l : List (List ℕ)). length l) more_is))
-  no_cause talk.TextTooLong old new none ((number, is_retr), (after, begins, none_there, long)) =
+  no_cause talk.TooMany old new none all (inr (row, next)) = absurd (omega (arith, (row_next row message_limit next).1))
+  no_cause talk.TextTooLong old new none all ((number, is_retr), (after, begins, none_there, long)) =
       let (lines, body_is, content, fit) = lines_of (rw is_retr refl) in
       let fits : length (body_of lines) ≤ text_limit = subst (λ (t : Turn). LinesFit t lines) is_retr fit in
       absurd (none_there (body_of lines) (text_of lines) (take (text_limit - length (body_of lines)) rest) (record { lines = lines; content = content; whole = refl; read = refl })
-      (ap (take text_limit) (body_begins_with after lines body_is begins) ∙ take_past text_limit (body_of lines) rest fits))
-  no_cause talk.NoMemory old new none cause = refl
+      (sym (take-append-le text_limit after later long) ∙ ap (take text_limit) (body_begins_with after lines body_is begins) ∙ take_past text_limit (body_of lines) rest fits))
+  no_cause talk.NoMemory old new none all cause = refl
 
--- so it broke for want of memory alone
-only_memory : OneLine → (turn : Turn) (old new : Place) (why : ClientFault) → Broke turn old new why → WasAnswered turn old new → why ≡ talk.NoMemory
-only_memory one turn old new why (inl (is, part)) was = absurd (omega (arith, part.risen, was.none_refused))
-only_memory one turn old new why (inr (inl not)) was =
-    let same : not.gained ≡ was.gained = append_cancel_left old.link.got not.gained was.gained (sym not.got ∙ was.got) in
-    no_cause one turn was.reply was.good (old.waiting ++ not.gained) was.rest (rw same was.whole) why old.link new.link was.none_refused not.cause
-only_memory one turn old new why (inr (inr (is, may, same))) was = is
+-- a good reply is one that a client reads
+reads_body : (turn : Turn) (body : Option (List (List ℕ))) → IsBody turn body → IsBodyIf (gives_body turn) body
+reads_body turn None none = rw none tt
+reads_body (Some UidlAll) (Some lines) is = is.0
+reads_body (Some ListAll) (Some lines) is = is.0
+reads_body (Some (Retr number)) (Some lines) is = is.0
+reads_body turn (Some lines) is = absurd is.1
+
+pub reads_all : (turns : List Turn) (replies : List WholeReply) → AllZip IsGood turns replies → AllZip IsReplyTo turns replies
+reads_all [] [] good = tt
+reads_all (turn ∷ turns) (reply ∷ replies) good =
+    (record { line = good.0.line; status = inr ((good.0.rest, good.0.positive), reads_body turn reply.body good.0.body) }, reads_all turns replies good.1)
+reads_all turns replies never = absurd never
+
+-- the reply to the last of some turns
+last_of : (turns : List Turn) (turn : Turn) (replies : List WholeReply) → AllZip IsGood (turns ++ turn ∷ []) replies
+    → (front : List WholeReply) × (reply : WholeReply) × (replies ≡ front ++ reply ∷ []) × AllZip IsGood turns front × IsGood turn reply
+last_of [] turn (reply ∷ []) good = ([], reply, refl, tt, good.0)
+last_of (first ∷ turns) turn (reply ∷ replies) good =
+    let (front, last, is, goods, one) = last_of turns turn replies good.1 in
+    (reply ∷ front, last, ap (λ (rs : List WholeReply). reply ∷ rs) is, (good.0, goods), one)
+last_of [] turn (reply ∷ other ∷ replies) never = absurd never.1
+last_of turns turn replies never = absurd never
+
+last_apart : {A : Type 0} (f : A → List ℕ) (front : List A) (last : A) (rest : List ℕ) → flat_map f (front ++ last ∷ []) ++ rest ≡ flat_map f front ++ (f last ++ rest)
+last_apart f front last rest = simp (flat_map-append, append_assoc, append-nil)
+
+-- ---- after a cut by a turn the link goes on; with nothing to say it stays as it is
+
+abbrev fault_in : Outcome → Fault
+fault_in Ended = NoMemory
+fault_in (WasCut fault) = fault
+
+abbrev was_cut : Outcome → Bool
+was_cut Ended = false
+was_cut (WasCut fault) = true
+
+abbrev is_store : Fault → Bool
+is_store (StoreRefused why) = true
+is_store other = false
+
+-- only a text that the store refused is left under way
+rest_stopped : (target : Target) (next : Task) (old new : Scene) (cut : Cut) → Stops target next old cut new → (cut.rest ≡ None) ⊎ (is_store cut.fault ≡ true)
+rest_stopped target next old new cut (inl broken) = inl broken.none
+rest_stopped (AsFiles account) next old new cut (inr (inl not)) = inr (elim not.refuses [ inl missing ↦ ap is_store missing.0 | inr refused ↦ ap is_store refused.0 ])
+rest_stopped AsEntries next old new cut (inr (inl (inl room))) = inl room.none
+rest_stopped AsEntries next old new cut (inr (inl (inr (inl not)))) = inl not.none
+rest_stopped AsEntries next old new cut (inr (inl (inr (inr left)))) = inl left.none
+rest_stopped (AsFiles account) next old new cut (inr (inr not)) = inl not.none
+rest_stopped AsEntries next old new cut (inr (inr not)) = inl not.none
+
+rest_of : (settings : Settings) (target : Target) (now : ℕ) (old : Place) (before : Keeping) (cut : Cut) (new : Place) (after : Keeping) (notes : Noted) → Proceeds settings target now old before (Err cut) new after notes
+    → (cut.rest ≡ None) ⊎ (is_store cut.fault ≡ true)
+rest_of settings target now old before cut new after notes (inl not) = inl (ap (λ (c : Cut). c.rest) not.is)
+rest_of settings target now old before cut new after notes (inr (inl room)) = inl (ap (λ (c : Cut). c.rest) room.is)
+rest_of settings target now old before cut new after notes (inr (inr dealt)) = elim dealt.carries.1 [
+  | inl un ↦ inl un.1.none
+  | inr carried ↦ rest_stopped target carried.does.next carried.does.mid _ cut carried.does.stops
+]
+
+talks_extend : ConversationsArePaced → (turns : List Turn) (old new : Place) (result : Result (Unit {0}) ClientFault) → Talks turns old result new → Extends old.link new.link
+talks_extend paced turns old new result talks =
+    let p = paced turns old new result talks in
+    record { said = asking p.done ++ p.part; gained = p.gained; sent = p.sent; got = p.got }
+
+abbrev LeftOn : Fault → Link → Link → Type 0
+LeftOn fault old new = Extends old new × (tail fault ≡ Nothing → new ≡ old)
+
+left_on : ConversationsArePaced → (settings : Settings) (target : Target) (now : ℕ) (link : Link) (before : Keeping) (report : Report) (link' : Link) (after : Keeping) (done : SessionIn settings target now link before report link' after)
+    (fault : Fault) → report.outcome ≡ WasCut fault → is_store fault ≡ false → LeftOn fault done.mid.link link'
+left_on paced settings target now link before report link' after done fault is other = by done.result done.proceeds done.leaves done.reports.outcome_is
+  where
+    by : (result : Result (Unit {0}) Cut) → Proceeds settings target now (at link []) before result done.mid after done.notes → LeavesLink result done.mid link' → report.outcome ≡ outcome_of result → LeftOn fault done.mid.link link'
+    by (Ok unit) proceeds leaves outcome = absurd (false≢true (ap was_cut (sym outcome ∙ is)))
+    by (Err cut) proceeds (new, left, link_is) outcome =
+        let same : cut.fault ≡ fault = ap fault_in (sym outcome ∙ is) in
+        elim (rest_of settings target now (at link []) before cut done.mid after done.notes proceeds) [
+          | inl none ↦
+              let said = rw none at left in
+              (rw link_is (talks_extend paced (tail_turns (tail cut.fault)) done.mid new said.0 said.1), λ quiet. link_is ∙ ap (λ (p : Place). p.link) (said.2 (ap tail same ∙ quiet)))
+          | inr store ↦ absurd (false≢true (sym other ∙ ap is_store (sym same) ∙ store))
+        ]
+
+by_client : (why : ClientFault) → (is_store (fault_of why) ≡ false) × (is_silent why ≡ true → tail (fault_of why) ≡ Nothing)
+by_client talk.ConnectionEnded = (refl, λ silent. refl)
+by_client talk.ReadFailed = (refl, λ silent. refl)
+by_client talk.WriteFailed = (refl, λ silent. refl)
+by_client talk.ReplyTooLong = (refl, λ silent. refl)
+by_client talk.BadReply = (refl, λ silent. refl)
+by_client (talk.Refused to) = (refl, λ silent. absurd (false≢true silent))
+by_client talk.BadListing = (refl, λ silent. refl)
+by_client talk.ListingsDisagree = (refl, λ silent. refl)
+by_client talk.TooMany = (refl, λ silent. refl)
+by_client talk.TextTooLong = (refl, λ silent. refl)
+by_client talk.NoMemory = (refl, λ silent. refl)
 
 -- ---- nothing fails, so the session ends
 
 abbrev is_faulty : Meaning → Bool
 is_faulty (Rows version rows intent torn) = false
 is_faulty (Faulty fault) = true
-
-abbrev was_cut : Outcome → Bool
-was_cut Ended = false
-was_cut (WasCut fault) = true
 
 usable_is_there : (target : Target) (store : Stores) → IsUsable target store → IsMissing target store → ⊥
 usable_is_there (AsFiles account) store (tmp, new, cur) (inl none) = false≢true (sym none ∙ tmp)
@@ -258,34 +326,75 @@ none_rose : (target : Target) (old new : Stores) → refused_in target new ≡ r
 none_rose (AsFiles account) old new same rose = absurd (omega (arith, same, rose))
 none_rose AsEntries old new same rose = absurd (omega (arith, same, rose))
 
-module _ (line : OneLine) (one : OneMeaning) (settings : Settings) (target : Target) (link : Link) (before : Keeping) (report : Report) (link' : Link) (after : Keeping) (served : IsServed settings target link before report link' after) where
+extends_on : (old mid new : Link) → Extends old mid → Extends mid new → Extends old new
+extends_on old mid new first later = record {
+  said = first.said ++ later.said;
+  gained = first.gained ++ later.gained;
+  sent = rw (later.sent, first.sent) (append_assoc old.sent first.said later.said);
+  got = rw (later.got, first.got) (append_assoc old.got first.gained later.gained);
+}
+
+planned_on : (settings : Settings) (target : Target) (now : ℕ) (link : Link) (before : Keeping) (mid new : Link) (turns : List Turn) → Extends mid new → ArePlanned settings target now link before mid turns
+    → ArePlanned settings target now link before new turns
+planned_on settings target now link before mid new turns more (inl is) = inl is
+planned_on settings target now link before mid new turns more (inr (items, place, enters, first, by)) = inr (items, place, enters, extends_on place.link mid new first more, by)
+
+module _ (one : OneMeaning) (settings : Settings) (target : Target) (now : ℕ) (link : Link) (before : Keeping) (report : Report) (mid : Place) (link' : Link) (after : Keeping) (served : IsServed settings target now link before report link' after) where
   no_misread : (at_line : ℕ) (file' : Stored) → Misread before.file at_line file' → ⊥
   no_misread at_line file' (why, means, line_is, same) = false≢true (ap is_faulty (one _ _ _ served.read.1.means means))
 
-  no_fault : (fault : Fault) (mid : Place) → fault ≢ NoMemory → (TurnBroke link mid fault → ⊥) → (Disagreed settings link mid → ⊥) → CausesFault settings target link before fault mid after → ⊥
-  no_fault (StoreRefused Missing) mid other unbroken agreed cause = usable_is_there target after.store served.usable cause
-  no_fault (StoreRefused Refused) mid other unbroken agreed cause = none_rose target before.store after.store served.store_refused cause
-  no_fault (StoreRefused NotMbox) mid other unbroken agreed cause = usable_goes_on target after.store served.usable cause
-  no_fault SeenRefused mid other unbroken agreed cause = absurd (omega (arith, cause, served.file_refused))
-  no_fault (BadSeen at_line) mid other unbroken agreed cause = no_misread at_line after.file cause
-  no_fault ListingsDisagree mid other unbroken agreed cause = agreed cause
-  no_fault NoMemory mid other unbroken agreed cause = other refl
-  no_fault fault mid other unbroken agreed cause = unbroken cause
-
-  not_cut : (fault : Fault) → report.outcome ≡ WasCut fault → ((cut : Cut) × (mid : Place) × (cut.fault ≡ fault) × LeavesLink (Err cut) mid link' × CausesFault settings target link before fault mid after) → ⊥
-  not_cut fault is (cut, mid, same, leaves, cause) = no_fault fault mid other (λ broke. other (memory (subst (λ (f : Fault). TurnBroke link mid f) (sym same) broke)))
-      (λ d. d.disagree (served.agree cut mid was_cut_by leaves d.count d.uids d.sizes d.opened)) cause
+  -- a turn that broke, if the link gives a good reply to it, broke for want of memory
+  only_memory : (turns : List Turn) (replies : List WholeReply) (next : Turn) (later : List Turn) (old : Place) → ArePlanned settings target now link before old.link (turns ++ next ∷ later) → Talked turns replies (at link []) old
+      → (why : ClientFault) → Extends mid.link link' → (is_silent why ≡ true → link' ≡ mid.link) → Broke next old mid why → why ≡ talk.NoMemory
+  only_memory turns replies next later old planned talked why on stays broke = by broke
     where
-      was_cut_by : report.outcome ≡ WasCut cut.fault
-      was_cut_by = is ∙ ap (λ (f : Fault). WasCut f) (sym same)
+      none : is_silent why ≡ true → mid.link.failures ≡ old.link.failures
+      none silent = ap (λ (l : Link). l.failures) (sym (stays silent)) ∙ served.link_refused ∙ sym talked.goes_on.failures
 
+      all_came : (rest : List ℕ) → (link'.ended ≡ true → rest ≡ []) → is_silent why ≡ true → mid.link.ended ≡ true → on.gained ++ rest ≡ []
+      all_came rest none_left silent ended_is =
+          let nothing : on.gained ≡ [] = append_cancel_left mid.link.got on.gained [] (sym on.got ∙ ap (λ (l : Link). l.got) (stays silent) ∙ sym (append-nil mid.link.got)) in
+          rw (nothing, none_left (ap (λ (l : Link). l.ended) (stays silent) ∙ ended_is)) refl
+
+      by : Broke next old mid why → why ≡ talk.NoMemory
+      by (inl (is, part)) = absurd (omega (arith, part.risen, none (ap is_silent is)))
+      by (inr (inl not)) =
+          let sent_is : link'.sent ≡ link.sent ++ (asking (turns ++ next ∷ []) ++ on.said) = on.sent ∙ ap (λ (l : List ℕ). l ++ on.said) (not.sent ∙ ap (λ (l : List ℕ). l ++ turn_bytes next) talked.sent) ∙ simp (flat_map-append, append_assoc, append-nil) in
+          let here : Extends old.link mid.link = record { said = turn_bytes next; gained = not.gained; sent = not.sent; got = not.got } in
+          let was = served.answered (turns ++ next ∷ []) later on.said
+          (rw (append_assoc turns (next ∷ []) later) (planned_on settings target now link before old.link link' (turns ++ next ∷ later) (extends_on old.link mid.link link' here on) planned)) sent_is in
+          let (front, reply, replies_are, goods, good) = last_of turns next was.replies was.good in
+          let after = not.gained ++ (on.gained ++ was.later) in
+          let got_is : link'.got ++ was.later ≡ link.got ++ (talked.gained ++ after) = ap (λ (l : List ℕ). l ++ was.later) (on.got ∙ ap (λ (l : List ℕ). l ++ on.gained) (not.got ∙ ap (λ (l : List ℕ). l ++ not.gained) talked.got)) ∙ simp append_assoc in
+          let all : talked.gained ++ after ≡ flat_map reply_bytes was.replies ++ was.rest = append_cancel_left link.got _ _ (sym got_is ∙ was.whole) in
+          let last : flat_map reply_bytes (front ++ reply ∷ []) ++ was.rest ≡ flat_map reply_bytes front ++ (reply_bytes reply ++ was.rest) = last_apart reply_bytes front reply was.rest in
+          let read = one_reading turns replies front (old.waiting ++ after) (reply_bytes reply ++ was.rest) (reads_all turns replies talked.good) (reads_all turns front goods)
+          (sym (append_assoc (flat_map reply_bytes replies) old.waiting after) ∙ ap (λ (l : List ℕ). l ++ after) (sym talked.heard) ∙ all ∙ ap (λ (rs : List WholeReply). flat_map reply_bytes rs ++ was.rest) replies_are ∙ last) in
+          no_cause next reply good (old.waiting ++ not.gained) (on.gained ++ was.later) was.rest (append_assoc old.waiting not.gained (on.gained ++ was.later) ∙ read.1) why old.link mid.link none (all_came was.later was.none_left) not.cause
+      by (inr (inr (is, may, same))) = is
+
+  no_fault : (fault : Fault) → fault ≢ NoMemory → (is_store fault ≡ false → LeftOn fault mid.link link') → (TurnBroke settings target now link before mid fault → ⊥) → CausesFault settings target now link before fault mid after → ⊥
+  no_fault (StoreRefused Missing) other left unbroken cause = usable_is_there target after.store served.usable cause
+  no_fault (StoreRefused Refused) other left unbroken cause = none_rose target before.store after.store served.store_refused cause
+  no_fault (StoreRefused NotMbox) other left unbroken cause = usable_goes_on target after.store served.usable cause
+  no_fault SeenRefused other left unbroken cause = absurd (omega (arith, cause, served.file_refused))
+  no_fault (BadSeen at_line) other left unbroken cause = no_misread at_line after.file cause
+  no_fault ListingsDisagree other left unbroken cause = cause.disagree (served.agree cause.count cause.uids cause.sizes mid (left refl).0 cause.opened)
+  no_fault NoMemory other left unbroken cause = other refl
+  no_fault fault other left unbroken cause = unbroken cause
+
+  not_cut : (fault : Fault) → report.outcome ≡ WasCut fault → (is_store fault ≡ false → LeftOn fault mid.link link') → CausesFault settings target now link before fault mid after → ⊥
+  not_cut fault is left cause = no_fault fault other left (λ broke. other (memory broke)) cause
+    where
       other : fault ≢ NoMemory
       other same_fault = served.memory (is ∙ ap (λ (f : Fault). WasCut f) same_fault)
 
-      memory : TurnBroke link mid cut.fault → fault ≡ NoMemory
+      memory : TurnBroke settings target now link before mid fault → fault ≡ NoMemory
       memory broke =
           let (why, fault_is, broken) = broke.broke in
-          sym same ∙ fault_is ∙ ap fault_of (only_memory line broke.next broke.mid mid why broken (served.answered cut mid was_cut_by leaves broke))
+          let (no_store, quiet) = by_client why in
+          let on = left (ap is_store fault_is ∙ no_store) in
+          fault_is ∙ ap fault_of (only_memory broke.turns broke.replies broke.next broke.later broke.mid broke.planned broke.talked why on.0 (λ silent. on.1 (ap tail fault_is ∙ quiet silent)) broken)
 
 -- ---- a session that ended has stored what it wants
 
@@ -397,16 +506,17 @@ module _ (fetch_wanted : (settings : Settings) (rows : List Row) (listing : List
             (all_brought target carried.prepared.was dealt.items before.store carried.mid.store after.store all.dones carried.prepared.settles all.went.stored all.went.each))));
       }
 
-pub store_all : OneLine → CutsHaveCauses → OneMeaning → ((settings : Settings) (rows : List Row) (listing : List Item) (now : ℕ) → retrieved (planned settings rows listing now) listing ≡ wanted settings rows listing)
+pub store_all : CutsHaveCauses → ConversationsArePaced → OneMeaning → ((settings : Settings) (rows : List Row) (listing : List Item) (now : ℕ) → retrieved (planned settings rows listing now) listing ≡ wanted settings rows listing)
     → ServedSessionsStoreAll
-store_all line causes one fetch_wanted settings target now link before report link' after done = (
+store_all causes paced one fetch_wanted settings target now link before report link' after done = (
   λ served. by_outcome served report.outcome refl,
   λ ended. by_result ended done.result done.proceeds done.leaves done.reports.outcome_is,
 )
   where
-    by_outcome : IsServed settings target link before report link' after → (outcome : Outcome) → report.outcome ≡ outcome → report.outcome ≡ Ended
+    by_outcome : IsServed settings target now link before report link' after → (outcome : Outcome) → report.outcome ≡ outcome → report.outcome ≡ Ended
     by_outcome served Ended is = is
-    by_outcome served (WasCut fault) is = absurd (not_cut line one settings target link before report link' after served fault is (causes settings target now link before report link' after done fault is))
+    by_outcome served (WasCut fault) is = absurd (not_cut one settings target now link before report done.mid link' after served fault is (left_on paced settings target now link before report link' after done fault is)
+        (causes settings target now link before report link' after done fault is))
 
     by_result : report.outcome ≡ Ended → (result : Result (Unit {0}) Cut) → Proceeds settings target now (at link []) before result done.mid after done.notes → LeavesLink result done.mid link' → report.outcome ≡ outcome_of result
         → StoresAll settings target now link before link' after

@@ -1,16 +1,16 @@
 -- Why a session didn't end: what its server, its link, its store, its record's file or its memory did.
-use Rattle.std.specs.Prelude.{◌≡◌, ◌⊎◌, ◌<◌, ℕ, false, List, [], None, Err}
+use Rattle.std.specs.Prelude.{◌≡◌, ◌⊎◌, ◌<◌, ℕ, false, List, [], ◌∷◌, ◌++◌, None, Ok}
 use Rattle.std.specs.String.{string_bytes}
-use Rattle.mail_terms.specs.Listing.{Agree, UidRow}
+use Rattle.mail_terms.specs.Listing.{Agree, Item, UidRow}
 use Rattle.mail_terms.specs.declared.listing.ScanRow.{ScanRow}
 use Rattle.mail_store.specs.MboxCalls.{IsOther}
 use Rattle.rc_file.specs.declared.settings.Settings.{Settings}
+use Rattle.fetch_rules.specs.Record.{RecordState}
 use Rattle.pop3_wire.specs.Link.{Link}
 use Rattle.pop3_wire.specs.Place.{Place, at}
 use Rattle.pop3_wire.specs.Reading.{WholeReply}
 use Rattle.pop3_client.specs.Conversation.{Talked}
 use Rattle.pop3_client.specs.Turns.{Turn}
-use Rattle.fetch_session.specs.declared.fault.Cut.{Cut}
 use Rattle.fetch_session.specs.declared.fault.Fault.{Fault}
 use Rattle.fetch_session.specs.declared.fault.Fault.TheVariants.{ListingsDisagree, StoreRefused, SeenRefused}
 use Rattle.fetch_session.specs.declared.fault.Fault.TheVariants.{NoMemory, BadSeen}
@@ -18,18 +18,40 @@ use Rattle.fetch_session.specs.declared.fault.Why.TheVariants.{Missing, Refused,
 use Rattle.fetch_session.specs.declared.report.Outcome.TheVariants.{Cut as WasCut}
 use Rattle.fetch_session.specs.declared.report.Report.{Report}
 use Rattle.fetch_session.specs.Fault.{Breaks}
-use Rattle.fetch_session.specs.Opening.{Opened}
-use Rattle.fetch_session.specs.Record.{Misread}
-use Rattle.fetch_session.specs.Session.{Keeping, LeavesLink, SessionIn}
+use Rattle.fetch_session.specs.Opening.{opening, Opened}
+use Rattle.fetch_session.specs.Plan.{tasks_ahead}
+use Rattle.fetch_session.specs.Readiness.{merged_in}
+use Rattle.fetch_session.specs.Record.{Keeps, Misread}
+use Rattle.fetch_session.specs.Session.{Enters_with, Keeping, SessionIn}
 use Rattle.fetch_session.specs.Target.{Target, AsFiles, AsEntries, Stores}
+use Rattle.fetch_session.specs.Task.{turns_ahead}
 
--- every turn before was answered, whole and well, and this one broke: not all of it was sent, or the octets that came
--- of its reply tell why
-pub record TurnBroke (link : Link) (new : Place) (fault : Fault) : Type 0 where
+-- what was sent and what came went on from before
+pub record Extends (old new : Link) : Type 0 where
+  pub said : List ℕ
+  pub gained : List ℕ
+  pub sent : new.sent ≡ old.sent ++ said
+  pub got : new.got ≡ old.got ++ gained
+
+-- the turns of the opening; or of it and of what is planned for what it listed, by the record that was read, once the
+-- listing is merged into it
+abbrev pub ArePlanned : Settings → Target → ℕ → Link → Keeping → Link → List Turn → Type 0
+ArePlanned settings target now link before link' turns =
+    let begin = opening (string_bytes settings.username) (string_bytes settings.password) in
+    (turns ≡ begin) ⊎ ((items : List Item) × (mid : Place) × Enters_with settings (at link []) (Ok items) mid
+    × Extends mid.link link' × ((was : RecordState) × Keeps before.file.content was × (turns ≡ begin ++ turns_ahead
+    (tasks_ahead settings target items now before.store (merged_in target before.store was items now)))))
+
+-- every turn that was planned before was answered, whole and well, and this one broke: not all of it was sent, or the
+-- octets that came of its reply tell why
+pub record TurnBroke (settings : Settings) (target : Target) (now : ℕ) (link : Link) (before : Keeping) (new : Place)
+    (fault : Fault) : Type 0 where
   pub turns : List Turn
   pub replies : List WholeReply
   pub next : Turn
+  pub later : List Turn
   pub mid : Place
+  pub planned : ArePlanned settings target now link before mid.link (turns ++ next ∷ later)
   pub talked : Talked turns replies (at link []) mid
   pub broke : Breaks next mid new fault
 
@@ -58,20 +80,18 @@ StoreRose (AsFiles account) old new = old.maildir.failures < new.maildir.failure
 StoreRose AsEntries old new = old.mbox.failures < new.mbox.failures
 
 -- what led to a fault. Out of memory alone has no cause that a contract can tell
-abbrev pub CausesFault : Settings → Target → Link → Keeping → Fault → Place → Keeping → Type 0
-CausesFault settings target link before (StoreRefused Missing) mid after = IsMissing target after.store
-CausesFault settings target link before (StoreRefused Refused) mid after = StoreRose target before.store after.store
-CausesFault settings target link before (StoreRefused NotMbox) mid after = IsUnusable target after.store
-CausesFault settings target link before SeenRefused mid after = before.file.failures < after.file.failures
-CausesFault settings target link before (BadSeen line) mid after = Misread before.file line after.file
-CausesFault settings target link before ListingsDisagree mid after = Disagreed settings link mid
-CausesFault settings target link before NoMemory mid after = Unit {0}
-CausesFault settings target link before fault mid after = TurnBroke link mid fault
+abbrev pub CausesFault : Settings → Target → ℕ → Link → Keeping → Fault → Place → Keeping → Type 0
+CausesFault settings target now link before (StoreRefused Missing) mid after = IsMissing target after.store
+CausesFault settings target now link before (StoreRefused Refused) mid after = StoreRose target before.store after.store
+CausesFault settings target now link before (StoreRefused NotMbox) mid after = IsUnusable target after.store
+CausesFault settings target now link before SeenRefused mid after = before.file.failures < after.file.failures
+CausesFault settings target now link before (BadSeen line) mid after = Misread before.file line after.file
+CausesFault settings target now link before ListingsDisagree mid after = Disagreed settings link mid
+CausesFault settings target now link before NoMemory mid after = Unit {0}
+CausesFault settings target now link before fault mid after = TurnBroke settings target now link before mid fault
 
 -- a law: a session that didn't end has its cause
 abbrev pub CutsHaveCauses : Type 0
 CutsHaveCauses = (settings : Settings) (target : Target) (now : ℕ) (link : Link) (before : Keeping) (report : Report)
-    (link' : Link) (after : Keeping) → SessionIn settings target now link before report link' after
-    → (fault : Fault) → report.outcome ≡ WasCut fault
-    → (cut : Cut) × (mid : Place) × (cut.fault ≡ fault) × LeavesLink (Err cut) mid link'
-    × CausesFault settings target link before fault mid after
+    (link' : Link) (after : Keeping) → (done : SessionIn settings target now link before report link' after)
+    → (fault : Fault) → report.outcome ≡ WasCut fault → CausesFault settings target now link before fault done.mid after

@@ -1,6 +1,6 @@
 -- What a session does if nothing fails: it ends, and has stored what it wants.
-use Rattle.std.specs.Prelude.{◌≡◌, ◌≢◌, ◌⊎◌, ℕ, true, List, [], ◌∷◌, ◌++◌, Contains, Some, Ok, Err, zip}
-use Rattle.std.specs.List.{AllByRecursion, flat_map}
+use Rattle.std.specs.Prelude.{◌≡◌, ◌≢◌, ◌⊎◌, ℕ, true, List, [], ◌∷◌, ◌++◌, Contains, Some, Ok, zip}
+use Rattle.std.specs.List.{AllByRecursion, AllZip, flat_map}
 use Rattle.std.specs.String.{string_bytes}
 use Rattle.mail_terms.specs.Listing.{Agree, Item, UidRow}
 use Rattle.mail_terms.specs.declared.listing.ScanRow.{ScanRow}
@@ -13,30 +13,29 @@ use Rattle.pop3_wire.specs.Place.{Place, at}
 use Rattle.pop3_wire.specs.Reading.{WholeReply, reply_bytes}
 use Rattle.pop3_client.specs.Conversation.{Talked}
 use Rattle.pop3_client.specs.Texts.{body_text}
-use Rattle.pop3_client.specs.Turns.{IsGood, Turn, retr}
-use Rattle.fetch_session.specs.declared.fault.Cut.{Cut}
+use Rattle.pop3_client.specs.Turns.{IsGood, Turn, asking, retr}
 use Rattle.fetch_session.specs.declared.fault.Fault.TheVariants.{NoMemory}
 use Rattle.fetch_session.specs.declared.report.Outcome.TheVariants.{Ended, Cut as WasCut}
 use Rattle.fetch_session.specs.declared.report.Report.{Report}
-use Rattle.fetch_session.specs.Cuts.{TurnBroke}
+use Rattle.fetch_session.specs.Cuts.{ArePlanned, Extends}
 use Rattle.fetch_session.specs.Opening.{Opened}
 use Rattle.fetch_session.specs.Readiness.{merged_in}
 use Rattle.fetch_session.specs.Record.{Keeps, ReadAs}
-use Rattle.fetch_session.specs.Session.{Enters_with, Keeping, LeavesLink, SessionIn}
+use Rattle.fetch_session.specs.Session.{Enters_with, Keeping, SessionIn}
 use Rattle.fetch_session.specs.Target.{Target, AsFiles, AsEntries, Stores, flags_in}
 use Rattle.fetch_session.specs.Task.{file_from}
 
 -- ---- nothing fails
 
--- a whole and positive reply to this turn came, within the limits, and no call of the link was refused
-pub record WasAnswered (turn : Turn) (old new : Place) : Type 0 where
-  pub gained : List ℕ
+-- what came begins a whole and positive reply to each of these turns, within the limits, and is all of them if the link
+-- has ended
+pub record AreAnswered (turns : List Turn) (old new : Link) : Type 0 where
+  pub later : List ℕ
   pub rest : List ℕ
-  pub reply : WholeReply
-  pub got : new.link.got ≡ old.link.got ++ gained
-  pub whole : old.waiting ++ gained ≡ reply_bytes reply ++ rest
-  pub good : IsGood turn reply
-  pub none_refused : new.link.failures ≡ old.link.failures
+  pub replies : List WholeReply
+  pub whole : new.got ++ later ≡ old.got ++ (flat_map reply_bytes replies ++ rest)
+  pub good : AllZip IsGood turns replies
+  pub none_left : new.ended ≡ true → later ≡ []
 
 -- the folders of the Maildir are there; or the mboxrd file is, and an entry may follow it
 abbrev pub IsUsable : Target → Stores → Type 0
@@ -49,20 +48,21 @@ abbrev pub refused_in : Target → Stores → ℕ
 refused_in (AsFiles account) store = store.maildir.failures
 refused_in AsEntries store = store.mbox.failures
 
--- the server answers each turn, also the one at which the session was cut, if it was, with listings that agree; the
--- store can be used, the record can be read, no call of them is refused, and memory doesn't run out
-pub record IsServed (settings : Settings) (target : Target) (link : Link) (before : Keeping) (report : Report)
+-- the turns that were sent of the opening and the plan are answered, and the listings agree; the store can be used, the
+-- record can be read, no call of them or of the link is refused, and memory doesn't run out
+pub record IsServed (settings : Settings) (target : Target) (now : ℕ) (link : Link) (before : Keeping) (report : Report)
     (link' : Link) (after : Keeping) : Type 0 where
-  pub answered : (cut : Cut) (mid : Place) → report.outcome ≡ WasCut cut.fault → LeavesLink (Err cut) mid link'
-      → (broke : TurnBroke link mid cut.fault) → WasAnswered broke.next broke.mid mid
-  pub agree : (cut : Cut) (mid : Place) → report.outcome ≡ WasCut cut.fault → LeavesLink (Err cut) mid link'
-      → (count : ℕ) (uids : List UidRow) (sizes : List ScanRow)
+  pub answered : (turns unsent : List Turn) (more : List ℕ)
+      → ArePlanned settings target now link before link' (turns ++ unsent)
+      → link'.sent ≡ link.sent ++ (asking turns ++ more) → AreAnswered turns link link'
+  pub agree : (count : ℕ) (uids : List UidRow) (sizes : List ScanRow) (mid : Place) → Extends mid.link link'
       → Opened (string_bytes settings.username) (string_bytes settings.password) (at link []) mid count uids sizes
       → Agree count uids sizes
   pub usable : IsUsable target after.store
   pub read : (loaded : Loaded) × ReadAs before.file.content loaded
   pub store_refused : refused_in target after.store ≡ refused_in target before.store
   pub file_refused : after.file.failures ≡ before.file.failures
+  pub link_refused : link'.failures ≡ link.failures
   pub memory : report.outcome ≢ WasCut NoMemory
 
 -- ---- what is stored
@@ -100,5 +100,5 @@ abbrev pub ServedSessionsStoreAll : Type 0
 ServedSessionsStoreAll = (settings : Settings) (target : Target) (now : ℕ) (link : Link) (before : Keeping)
     (report : Report) (link' : Link) (after : Keeping)
     → SessionIn settings target now link before report link' after
-    → (IsServed settings target link before report link' after → report.outcome ≡ Ended)
+    → (IsServed settings target now link before report link' after → report.outcome ≡ Ended)
     × (report.outcome ≡ Ended → StoresAll settings target now link before link' after)
