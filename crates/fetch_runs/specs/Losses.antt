@@ -1,7 +1,7 @@
 -- What of an account with a Maildir is durable, so that a loss of power between two calls, whatever it takes, leaves a
 -- state from which the next call goes on; and what calls and others keep of that.
 use Rattle.std.specs.Prelude.{◌≡◌, ◌⊎◌, ◌||◌, ◌≤◌, ℕ, Bool, true, List, ◌++◌, Option, None, length}
-use Rattle.mail_store.specs.Durable.{Disk, MayLeave}
+use Rattle.mail_store.specs.Durable.{Disk, IsSure, MayLeave}
 use Rattle.std.specs.List.{AllByRecursion}
 use Rattle.mail_terms.specs.UniqueId.{is_legal_id}
 use Rattle.pop3_wire.specs.World.{Message}
@@ -38,7 +38,7 @@ pub record IsCrashSafe (disk : Disk) (mail : Mail) (state : State) : Type 0 wher
 
 -- no flush of the record's file was refused before a call, and if no such file is left, a loss of power leaves none
 abbrev pub RecordIsSure : {F : Type 0} → FileGhosts F → F → F → Type 0
-RecordIsSure file from f = file.is_sure from
+RecordIsSure file from f = IsSure (file.disk from).now
     × ((file.stored f).content ≡ None → (left : Option (List ℕ)) → MayLeave (file.disk f) left → left ≡ None)
 
 -- others leave durable what was: the names of messages that they leave, and the bytes of the account's files; and no

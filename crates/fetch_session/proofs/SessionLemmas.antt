@@ -1,5 +1,5 @@
 -- How the parts of a session make the whole, also of one that changes nothing, and what of it outlives a loss of power.
-use Rattle.std.proofs.Common.{◌≡◌, ◌≢◌, ◌⊎◌, ℕ, List, [], ◌∷◌, ◌++◌, Option, None, Some, Result, Ok, Err, refl, sym, ap, subst, ◌∙◌, inl, inr, append_assoc, length, ⊎_elim, Bool, false, append-nil, All, take}
+use Rattle.std.proofs.Common.{◌≡◌, ◌≢◌, ◌⊎◌, ℕ, List, [], ◌∷◌, ◌++◌, Option, None, Some, Result, Ok, Err, refl, sym, ap, subst, ◌∙◌, inl, inr, append_assoc, length, ⊎_elim, Bool, false, append-nil, All, take, option_map}
 use Rattle.std.proofs.lemmas.List.{append-nil}
 use Rattle.std.proofs.lemmas.Grind.{flat_map-append}
 use Rattle.std.proofs.lemmas.Option.{none-some, same_Some}
@@ -8,12 +8,16 @@ use Rattle.pop3_wire.specs.Place.{Place, at}
 use Rattle.fetch_rules.specs.Record.{Row, RecordState, Intent, none_open, marked_all, Loaded, merged}
 use Rattle.fetch_rules.specs.RecordGrowth.{Grows, Updates}
 use Rattle.mail_store.specs.FlatFile.{Stored, holding}
-use Rattle.mail_store.specs.Durable.{MayLeave}
+use Rattle.mail_store.specs.declared.fault.StoreFault.{StoreFault}
+use Rattle.mail_store.specs.DiskCalls.{AppendsDisk, CutsDisk, CutsForGood}
+use Rattle.mail_store.specs.Durable.{IsDurable as IsFileDurable, IsSure, MayLeave, content_in, seen_on}
+use Rattle.mail_store.proofs.DiskLemmas.{appends_for_good, cuts_for_good, durable_sure}
+use Rattle.mail_store.proofs.DurableLemmas.{durable_is_left}
 use Rattle.mail_store.specs.declared.maildir.disk.MaildirDisk.{Ghosts as DiskGhosts}
 use Rattle.mail_store.specs.declared.file.flat_file.FlatFile.{Ghosts as FileGhosts}
 use Rattle.mail_store.specs.Maildir.{Maildir, File, IsWithout, WereTaken}
 use Rattle.mail_store.specs.Mboxrd.{entry_of}
-use Rattle.mail_store.specs.Power.{IsLonger, KeepsWhole, LastsWhole, LeavesCut, LeavesEither, LeavesFront, LeavesLonger, LeavesNoMore, LeavesPart, Outlives}
+use Rattle.mail_store.specs.Power.{IsLonger, KeepsWhole, LastsWhole, LeavesEither, LeavesLonger, LeavesNoMore, LeavesPart, Outlives}
 use Rattle.pop3_client.specs.Conversation.{TurnsJoin, Talks}
 use Rattle.fetch_session.specs.declared.account.Store.{Store}
 use Rattle.fetch_session.specs.declared.account.Store.TheVariants.{Maildir as InMaildir, Mboxrd as InMbox}
@@ -60,7 +64,26 @@ use Rattle.fetch_session.specs.MessagePreview.{message_previews}
 pub no_more_keeps : {a b : Option (List ℕ) → Type 0} (content : Option (List ℕ)) → LeavesNoMore a b → KeepsWhole content a b
 no_more_keeps content no_more bytes is front left may = front left (no_more left may)
 
-pub safe_store : {F : Type 0} (files : FileGhosts F) (f : F) → IsSafe files f → files.is_sure f × LastsWhole (files.stored f).content (Unit {0}) (MayLeave (files.disk f))
+-- what calls see of it is durable
+pub durable_safe : {F : Type 0} (files : FileGhosts F) (f : F) → seen_on (files.disk f) ≡ (files.stored f).content → IsFileDurable (files.disk f) → IsSafe files f
+durable_safe files f shown is = (durable_sure (files.disk f) is, λ bytes has. (is, λ left may. durable_is_left (files.disk f) left is may ∙ shown ∙ has))
+
+-- there is no file
+pub missing_safe : {F : Type 0} (file : FileGhosts F) (f f' : F) → file.disk f' ≡ file.disk f → ((file.stored f).content ≡ None) × (file.stored f' ≡ file.stored f)
+    → IsSure (file.disk f).now → IsSafe file f'
+missing_safe file f f' same (none, as_was) sure = (rw same sure, λ bytes is. absurd (none-some bytes (sym none ∙ ap (λ (s : Stored). s.content) (sym as_was) ∙ is)))
+
+-- bytes are appended to a safe file: what is left of them stands behind what it had; after Ok it is safe again
+pub leaves_part : {F T : Type 0} (file : FileGhosts F) (f f' : F) (bytes : List ℕ) (r : Result T StoreFault) → seen_on (file.disk f) ≡ (file.stored f).content
+    → AppendsDisk (file.disk f) bytes r (file.disk f') → IsSafe file f → LeavesPart (file.stored f).content bytes (MayLeave (file.disk f'))
+leaves_part file f f' bytes r shown appends safe was has = (appends_for_good (file.disk f) (file.disk f') bytes r appends).leaves (safe.1 was has).0 was (shown ∙ has)
+
+pub grown_safe : {F T : Type 0} (file : FileGhosts F) (f f' : F) (bytes : List ℕ) (done : T) → seen_on (file.disk f) ≡ (file.stored f).content
+    → seen_on (file.disk f') ≡ (file.stored f').content → AppendsDisk (file.disk f) bytes (Ok done) (file.disk f') → IsSafe file f → IsSafe file f'
+grown_safe file f f' bytes done shown shown' (b, c, at, is, e) safe = durable_safe file f' shown'
+    ((appends_for_good (file.disk f) (file.disk f') bytes (Ok done) (b, c, at, is, e)).durable (safe.1 b.content (sym shown ∙ ap (option_map content_in) at)).0)
+
+pub safe_store : {F : Type 0} (files : FileGhosts F) (f : F) → IsSafe files f → IsSure (files.disk f).now × LastsWhole (files.stored f).content (Unit {0}) (MayLeave (files.disk f))
 safe_store files f safe = (safe.0, λ bytes is. (tt, (safe.1 bytes is).1))
 
 pub no_more_left : {F : Type 0} (file : FileGhosts F) (f f' : F) → (file.stored f').content ≡ (file.stored f).content → LeavesNoMore (MayLeave (file.disk f)) (MayLeave (file.disk f'))
@@ -188,17 +211,24 @@ whole_left rows others bytes left stands all = record {
 }
 
 -- the file was cut to bytes that stand for the rows, or may have been
-module _ {F : Type 0} (file : FileGhosts F) (f f' : F) (rows : List Row) (size : ℕ) (till : StandsTill (file.stored f) size rows) where
-  pub front_rows : LeavesFront (file.stored f).content size (MayLeave (file.disk f)) (MayLeave (file.disk f')) → RowsStillLast file rows f f'
-  front_rows front last left may = elim (front till.0.0 till.0.1 left may) [
+module _ {F T : Type 0} (file : FileGhosts F) (f f' : F) (rows : List Row) (size : ℕ) (till : StandsTill (file.stored f) size rows) (r : Result T StoreFault)
+    (shown : seen_on (file.disk f) ≡ (file.stored f).content) (cuts : CutsDisk (file.disk f) size r (file.disk f')) where
+  law : CutsForGood (file.disk f) size r (file.disk f')
+  law = cuts_for_good (file.disk f) (file.disk f') size r cuts
+
+  stands : Steady (Some (take size till.0.0)) (none_open rows)
+  stands = till_front (file.stored f) size rows till.0.0 till till.0.1
+
+  pub front_rows : RowsStillLast file rows f f'
+  front_rows last left may = elim (law.front till.0.0 (shown ∙ till.0.1) left may) [
     | inl before ↦ last left before
-    | inr (behind, is) ↦ (take size till.0.0, behind, inr is, till_front (file.stored f) size rows till.0.0 till till.0.1)
+    | inr (behind, is) ↦ (take size till.0.0, behind, inr is, stands)
   ]
 
-  pub cut_left : LeavesCut (file.stored f).content size (MayLeave (file.disk f)) (MayLeave (file.disk f')) → (others : List Row) → Leaves file f (AreLeft rows others) → Leaves file f' (AreLeft rows others)
-  cut_left cut others leaves now is_now left may = elim (cut till.0.0 till.0.1 left may) [
+  pub cut_left : IsSafe file f → (others : List Row) → Leaves file f (AreLeft rows others) → Leaves file f' (AreLeft rows others)
+  cut_left safe others leaves now is_now left may = elim (law.leaves (safe.1 till.0.0 till.0.1).0 till.0.0 (shown ∙ till.0.1) left may) [
     | inl before ↦ leaves till.0.0 till.0.1 left before
-    | inr all ↦ whole_left rows others (take size till.0.0) left (till_front (file.stored f) size rows till.0.0 till till.0.1) all
+    | inr all ↦ whole_left rows others (take size till.0.0) left stands all
   ]
 
 -- ---- a record that is merged

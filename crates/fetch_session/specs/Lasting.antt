@@ -5,7 +5,7 @@ use Rattle.std.specs.List.{flat_map}
 use Rattle.std.proofs.Common.{inl, inr}
 use Rattle.mail_store.specs.declared.maildir.disk.MaildirDisk.{Ghosts as DiskGhosts}
 use Rattle.mail_store.specs.declared.file.flat_file.FlatFile.{Ghosts as FileGhosts}
-use Rattle.mail_store.specs.Durable.{IsDurable as IsFileDurable, MayLeave}
+use Rattle.mail_store.specs.Durable.{IsDurable as IsFileDurable, IsSure, MayLeave}
 use Rattle.mail_store.specs.FlatFile.{Stored}
 use Rattle.mail_store.specs.Maildir.{File, IsDurable, Maildir}
 use Rattle.mail_store.specs.Mboxrd.{entry_of}
@@ -47,18 +47,18 @@ may_leave_in file (InMbox device) left = MayLeave (file.disk device) left
 -- no flush of the mboxrd file was refused
 abbrev pub is_sure : {D F : Type 0} → FileGhosts F → Store D F → Type 0
 is_sure file (InMaildir device) = Unit {0}
-is_sure file (InMbox device) = file.is_sure device
+is_sure file (InMbox device) = IsSure (file.disk device).now
 
 -- a file is on the disk, a loss of power leaves exactly its bytes, and no flush of it was refused
 abbrev pub IsSafe : {F : Type 0} → FileGhosts F → F → Type 0
-IsSafe file f = file.is_sure f
+IsSafe file f = IsSure (file.disk f).now
     × LastsWhole (file.stored f).content (IsFileDurable (file.disk f)) (MayLeave (file.disk f))
 
 -- the same for an mboxrd file, which is flushed again before an entry is appended: so it needn't be known to be on the
 -- disk
 abbrev pub IsSafeStore : {D F : Type 0} → FileGhosts F → Store D F → Type 0
 IsSafeStore file (InMaildir device) = Unit {0}
-IsSafeStore file (InMbox device) = file.is_sure device
+IsSafeStore file (InMbox device) = IsSure (file.disk device).now
     × LastsWhole (file.stored device).content (Unit {0}) (MayLeave (file.disk device))
 
 abbrev pub IsSafeWork : {D F H Z : Type 0} → FileGhosts F → Work D F H Z → Type 0
@@ -158,7 +158,7 @@ pub record DoesAndLasts {D F : Type 0} (file : FileGhosts F) (safe : Type 0) (ta
 
 -- no flush of the record's file or of an mboxrd file was refused
 abbrev pub AreSure : {D F : Type 0} → FileGhosts F → Store D F → F → Type 0
-AreSure files was from = is_sure files was × files.is_sure from
+AreSure files was from = is_sure files was × IsSure (files.disk from).now
 
 -- nothing was written to the record's file: a loss of power leaves no more of it than before
 pub record IsUntouched {F : Type 0} (files : FileGhosts F) (from f : F) : Type 0 where

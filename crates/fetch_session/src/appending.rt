@@ -12,7 +12,7 @@ ghost use Rattle.pop3_wire.specs.Bodies.{items_of};
 ghost use Rattle.pop3_wire.specs.Place.{Place};
 ghost use Rattle.pop3_wire.specs.declared.unstuffer.Spot.TheVariants.{Done};
 ghost use Rattle.fetch_session.specs.Mbox.{AppendsText, HoldsText, IsStoreFault};
-ghost use Rattle.mail_store.specs.Durable.{MayLeave};
+ghost use Rattle.mail_store.specs.Durable.{IsSure, MayLeave};
 ghost use Rattle.mail_store.specs.Power.{KeepsWhole};
 ghost use Rattle.fetch_session.specs.Lasting.{IsSafe, RowsStillLast};
 ghost use Rattle.fetch_session.specs.Parts.{KeepsLedger, KeepsLink, KeepsRecord, IsWritten};
@@ -82,7 +82,8 @@ fn append_text<F: FlatFile, H: BuildHasher>(
     ensures keeps { F.sound mbox.new → F.sound ledger.new.file
         → KeepsWhole (F.stored mbox.old).content (MayLeave (F.disk mbox.old)) (MayLeave (F.disk mbox.new))
         × RowsStillLast F.FlatFile ledger.old.seen.rows ledger.old.file ledger.new.file }
-    ensures lasts { F.sound mbox.new → F.sound ledger.new.file → F.is_sure mbox.old → IsSafe F.FlatFile ledger.old.file
+    ensures lasts { F.sound mbox.new → F.sound ledger.new.file → IsSure (F.disk mbox.old).now
+        → IsSafe F.FlatFile ledger.old.file
         → OnOk result (IsSafe F.FlatFile mbox.new × IsSafe F.FlatFile ledger.new.file) }
 {
     let edges = mbox.edges()?;
@@ -125,7 +126,8 @@ pub(crate) fn take_into_mbox<W: Wire, F: FlatFile, H: BuildHasher>(
     ensures keeps { F.sound mbox.new → F.sound ledger.new.file
         → KeepsWhole (F.stored mbox.old).content (MayLeave (F.disk mbox.old)) (MayLeave (F.disk mbox.new))
         × RowsStillLast F.FlatFile ledger.old.seen.rows ledger.old.file ledger.new.file }
-    ensures lasts { F.sound mbox.new → F.sound ledger.new.file → F.is_sure mbox.old → IsSafe F.FlatFile ledger.old.file
+    ensures lasts { F.sound mbox.new → F.sound ledger.new.file → IsSure (F.disk mbox.old).now
+        → IsSafe F.FlatFile ledger.old.file
         → OnOk result (IsSafe F.FlatFile mbox.new × IsSafe F.FlatFile ledger.new.file) }
 {
     conversations_are_paced();

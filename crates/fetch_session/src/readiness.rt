@@ -7,7 +7,7 @@ ghost use Rattle.fetch_rules.specs.Record.{IsRecord, Loaded, has_row, is_deliver
 ghost use Rattle.fetch_rules.specs.RecordFile.{file_of};
 ghost use Rattle.fetch_rules.specs.Plan.{IsQuiet, planned};
 ghost use Rattle.fetch_session.specs.Mbox.{AsksMbox, SettlesIntent};
-ghost use Rattle.mail_store.specs.Durable.{MayLeave};
+ghost use Rattle.mail_store.specs.Durable.{IsSure, MayLeave};
 ghost use Rattle.mail_store.specs.Maildir.{AfterTaking, AllNamed};
 ghost use Rattle.mail_store.specs.Power.{LeavesNoMore};
 ghost use Rattle.fetch_session.specs.Lasting.{AreSure, IsSafe, IsSafeStore, LeavesMerged, ReadiesAndLasts, is_sure};
@@ -70,8 +70,7 @@ fn line_of(fault: SeenFault) -> Fault
 fn load<F: FlatFile>(alloc: Global, file: &mut F) -> Result<Vec<u8>, Fault>
     ensures gets { F.sound file.new → F.sound file.old
         × Gets (F.stored file.old) result (F.stored file.new) }
-    ensures keeps { F.sound file.new → LeavesNoMore (MayLeave (F.disk file.old)) (MayLeave (F.disk file.new)) }
-    ensures sure { F.sound file.new → F.is_sure file.old → F.is_sure file.new }
+    ensures durable { F.sound file.new → F.disk file.new ≡ F.disk file.old }
 {
     match file.peek() {
         Ok(bytes) => Ok(bytes),
@@ -88,8 +87,7 @@ pub(crate) fn read<F: FlatFile, H: BuildHasher>(
 ) -> Result<bool, Fault>
     ensures reads { F.sound file.new → F.sound file.old
         × Reads (F.stored file.old) seen.new result (F.stored file.new) }
-    ensures keeps { F.sound file.new → LeavesNoMore (MayLeave (F.disk file.old)) (MayLeave (F.disk file.new)) }
-    ensures sure { F.sound file.new → F.is_sure file.old → F.is_sure file.new }
+    ensures durable { F.sound file.new → F.disk file.new ≡ F.disk file.old }
     ensures is_record { OnOk result (IsRecord seen.new.rows) }
 {
     let bytes = load(alloc, file)?;
@@ -103,7 +101,7 @@ pub(crate) fn read<F: FlatFile, H: BuildHasher>(
 fn secure<F: FlatFile>(file: &mut F) -> Result<(), Fault>
     ensures same { F.sound file.new → F.sound file.old × IsSecured (F.stored file.old) result (F.stored file.new) }
     ensures keeps { F.sound file.new → LeavesNoMore (MayLeave (F.disk file.old)) (MayLeave (F.disk file.new)) }
-    ensures lasts { F.sound file.new → F.is_sure file.old → OnOk result (IsSafe F.FlatFile file.new) }
+    ensures lasts { F.sound file.new → IsSure (F.disk file.old).now → OnOk result (IsSafe F.FlatFile file.new) }
 {
     match file.edges() {
         Ok(_) => Ok(()),
@@ -159,7 +157,7 @@ fn settle<F: FlatFile, H: BuildHasher>(
 ) -> Result<bool, Fault>
     ensures settles { F.sound mbox.new → F.sound mbox.old
         × SettlesIntent seen.now.intent listing.now (F.stored mbox.old) result (F.stored mbox.new) }
-    ensures lasts { F.sound mbox.new → F.is_sure mbox.old → OnOk result (F.is_sure mbox.new) }
+    ensures lasts { F.sound mbox.new → IsSure (F.disk mbox.old).now → OnOk result (IsSure (F.disk mbox.new).now) }
 {
     let Some(intent) = seen.intent() else {
         return Ok(false);
@@ -179,7 +177,7 @@ fn ask_mbox<F: FlatFile, H: BuildHasher>(
     ensures length { IfOk result (λ found. length found.held.items ≡ length listing.now) }
     ensures asks { F.sound mbox.new → F.sound mbox.old
         × AsksMbox seen.now.intent (F.stored mbox.old) listing.now result (F.stored mbox.new) }
-    ensures lasts { F.sound mbox.new → F.is_sure mbox.old → OnOk result (IsSafe F.FlatFile mbox.new) }
+    ensures lasts { F.sound mbox.new → IsSure (F.disk mbox.old).now → OnOk result (IsSafe F.FlatFile mbox.new) }
 {
     let stored = settle(alloc, mbox, seen, listing)?;
     check_mbox(mbox)?;

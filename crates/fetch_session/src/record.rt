@@ -10,7 +10,7 @@ ghost use Rattle.fetch_session.specs.Record.{Writes, Saves, StandsTill, Steady, 
 ghost use Rattle.fetch_session.specs.Record.{intent_at, record_state_in, with_open};
 ghost use Rattle.fetch_session.specs.Mbox.{went};
 ghost use Rattle.fetch_session.specs.Lasting.{AreLeft, IsLeft, IsSafe, RowsStillLast, Leaves, LeavesLeft};
-ghost use Rattle.mail_store.specs.Durable.{MayLeave};
+ghost use Rattle.mail_store.specs.Durable.{IsSure, MayLeave};
 ghost use Rattle.mail_store.specs.FlatFile.{HasBytes};
 ghost use Rattle.mail_store.specs.Power.{LeavesEither, LeavesNoMore};
 
@@ -31,7 +31,10 @@ pub(crate) fn save<F: FlatFile, H: BuildHasher>(file: &mut F, seen: &Seen<H>) ->
 {
     bytes_stand();
     let bytes = seen.bytes()?;
-    file.replace(&bytes).map_err(|_| Fault::SeenRefused)
+    match file.replace(&bytes) {
+        Ok(()) => Ok(()),
+        Err(_) => Err(Fault::SeenRefused),
+    }
 }
 
 /// Appends to the file the lines that changed the record, if there are any.
@@ -65,7 +68,7 @@ fn measure<F: FlatFile>(file: &mut F) -> Result<u64, Fault>
     requires begun { F.sound file.old → bytes_in (F.stored file.old).content ≢ [] }
     ensures size { F.sound file.new → F.sound file.old × TellsSize (F.stored file.old) result (F.stored file.new) }
     ensures keeps { F.sound file.new → LeavesNoMore (MayLeave (F.disk file.old)) (MayLeave (F.disk file.new)) }
-    ensures lasts { F.sound file.new → F.is_sure file.old → OnOk result (IsSafe F.FlatFile file.new) }
+    ensures lasts { F.sound file.new → IsSure (F.disk file.old).now → OnOk result (IsSafe F.FlatFile file.new) }
 {
     match file.edges() {
         Ok(edges) => Ok(edges.size),

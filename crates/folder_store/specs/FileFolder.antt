@@ -1,11 +1,12 @@
 -- A folder of a file system: what its calls see, what of it is on the disk, and what each call does,
 -- for either outcome.
-use Rattle.std.specs.Prelude.{◌≡◌, ℕ, min, List, [], ◌∷◌, ◌++◌, length, take, map, Bool, true, false}
+use Rattle.std.specs.Prelude.{◌≡◌, ℕ, List, [], ◌∷◌, ◌++◌, length, take, map, Bool, true, false}
 use Rattle.std.specs.Prelude.{Option, Some, None, option_map, Result, Ok, Err, ◌⊎◌, Vec}
 use Rattle.std.specs.Prelude.{bytes_eq, if◌then◌else◌}
 use Rattle.mail_store.specs.declared.fault.StoreFault.{StoreFault}
 use Rattle.mail_store.specs.declared.fault.StoreFault.TheVariants.{Missing}
 use Rattle.mail_store.specs.declared.file.flat_file.Edges.{Edges}
+use Rattle.mail_store.specs.DiskCalls.{appended, cut, doubted, flushed}
 use Rattle.mail_store.specs.Durable.{Blob, content_in, secured}
 use Rattle.mail_store.specs.FlatFile.{edges_of, piece_at}
 
@@ -53,26 +54,6 @@ content_at d name = option_map content_in (find name d.entries)
 -- a file without bytes
 abbrev pub empty_blob : Blob
 empty_blob = record { content = []; flushed = []; uncut = 0; is_doubted = false }
-
--- a file with bytes appended
-abbrev pub appended : Blob → List ℕ → Blob
-appended b bytes = record b { content = b.content ++ bytes }
-
--- the first bytes of a file
-abbrev pub cut : Blob → ℕ → Blob
-cut b len = record b { content = take len b.content; uncut = min len b.uncut }
-
--- a file after a flush that was answered Ok: its bytes are on the disk, unless an earlier flush of it was
--- refused, since a system may have given up what that one should have written
-abbrev pub flushed : Blob → Blob
-flushed b = record b {
-  flushed = if b.is_doubted then b.flushed else b.content;
-  uncut = if b.is_doubted then b.uncut else length b.content;
-}
-
--- a file after a flush that was refused
-abbrev pub doubted : Blob → Blob
-doubted b = record b { is_doubted = true }
 
 -- the file made is another, or none
 abbrev pub making : Directory → Option Blob → Directory

@@ -1,14 +1,12 @@
 //! A file in a folder of a file system.
 
-ghost use Rattle.std.specs.Prelude.{◌≡◌, ◌<◌, ◌+◌, false, OnErr, OnOk};
+ghost use Rattle.std.specs.Prelude.{◌≡◌, ◌<◌, true};
 ghost use Rattle.std.proofs.Common.{refl};
 ghost use Rattle.mail_terms.specs.FailureCount.{greatest_count};
-ghost use Rattle.mail_store.specs.Power.{LeavesNoMore};
-ghost use Rattle.folder_store.specs.FileFolder.{find};
-ghost use Rattle.folder_store.specs.HostFile.{FlushesAt, stored_in, unknown_file};
-ghost use Rattle.folder_store.specs.NewDevices.{LeftFilesStand, NewFilesLeaveNoMore};
-ghost use Rattle.mail_store.specs.Durable.{IsSure};
-ghost use Rattle.folder_store.specs.PowerLoss.{IsKnown, IsOnDisk, MayBe, disk_at};
+ghost use Rattle.mail_store.specs.DiskCalls.{FlushesBoth, all_flushed};
+ghost use Rattle.folder_store.specs.HostFile.{stored_in, unknown_file};
+ghost use Rattle.folder_store.specs.NewDevices.{LeftFilesStand, NewFilesKeepBytes};
+ghost use Rattle.folder_store.specs.PowerLoss.{disk_at};
 
 use crate::device::FileFolder;
 use crate::host::HostFolder;
@@ -30,7 +28,7 @@ use trace::System;
 /// and its name are flushed, so that no loss of power takes back what an earlier run wrote and this
 /// one relies on.
 #[derive(Drop)]
-pub struct HostFile<'a, F> {
+pub struct HostFile<'a, F: FileFolder> {
     folder: F,
     name: &'a str,
     appending: Appending,
@@ -39,9 +37,12 @@ pub struct HostFile<'a, F> {
     /// Where what is cut off is kept, if it is.
     rests: Option<Rests<'a, F>>,
     failures: FailureCount,
+    // Then another flush would change nothing.
+    ghost settled: { is_flushed ≡ true → F.sound folder → all_flushed (disk_at (F.directory folder) name.now)
+        ≡ disk_at (F.directory folder) name.now },
 }
 
-impl<'a, F> HostFile<'a, F> {
+impl<'a, F: FileFolder> HostFile<'a, F> {
     /// Whether this run kept what it cut off, and appended nothing since that begins with it.
     pub fn keeps_others(&self) -> bool {
         match &self.rests {
@@ -55,8 +56,7 @@ impl<'a, F: FileFolder + Drop> HostFile<'a, F> {
     /// The file of a name in a folder. There need be none.
     pub fn over(folder: F, name: &'a str, appending: Appending) -> HostFile<'a, F>
         ensures stored { ⟦<HostFile<'a, F> as FlatFile>⟧.stored result ≡ stored_in (F.directory folder) name.now 0 }
-        ensures sure { IsSure (find name.now (F.directory folder).entries)
-            → ⟦<HostFile<'a, F> as FlatFile>⟧.is_sure result }
+        ensures disk { ⟦<HostFile<'a, F> as FlatFile>⟧.disk result ≡ disk_at (F.directory folder) name.now }
     {
         HostFile {
             folder,
@@ -84,16 +84,12 @@ impl<'a, F: FileFolder + Drop> HostFile<'a, F> {
     }
 
     // Flushes the file and its name, unless they were flushed before.
+    #[tactic(auto, using(mail_store::proofs::DiskLemmas::flushed_settled))]
     fn secure(&mut self) -> Result<(), StoreFault>
         ensures flushes { F.sound self.new.folder → F.sound self.old.folder
-            × FlushesAt (F.directory self.old.folder) self.old.name.now (F.directory self.new.folder) }
-        ensures on_disk { F.sound self.new.folder
-            → IsKnown self.old.is_flushed (F.directory self.old.folder) self.old.name.now
-            → OnOk result (IsOnDisk (F.directory self.new.folder) self.old.name.now) }
-        ensures keeps { F.sound self.new.folder → LeavesNoMore (MayBe (F.directory self.old.folder) self.old.name.now)
-            (MayBe (F.directory self.new.folder) self.old.name.now) }
-        ensures doubted { OnErr result (self.new.is_flushed ≡ false) }
-        ensures others { self.new ≡ record self.old { folder = self.new.folder; is_flushed = self.new.is_flushed } }
+            × FlushesBoth (disk_at (F.directory self.old.folder) self.old.name.now) result
+            (disk_at (F.directory self.new.folder) self.new.name.now) }
+        ensures others { (self.new.name ≡ self.old.name) × (self.new.failures ≡ self.old.failures) }
     {
         if self.is_flushed {
             return Ok(());
@@ -101,16 +97,6 @@ impl<'a, F: FileFolder + Drop> HostFile<'a, F> {
         flush_both(&mut self.folder, self.name)?;
         self.is_flushed = true;
         Ok(())
-    }
-
-    // Counts a refused call that writes: what it left may not be on the disk.
-    fn doubt(&mut self) -> StoreFault
-        requires { self.old.failures < greatest_count }
-        ensures fault { result ≡ StoreFault.Refused }
-        ensures doubted { self.new ≡ record self.old { is_flushed = false; failures = self.old.failures + 1 } }
-    {
-        self.is_flushed = false;
-        refuse(&mut self.failures)
     }
 }
 
@@ -207,8 +193,6 @@ impl<'a, F: FileFolder + Drop> FlatFile for HostFile<'a, F> {
 
     ghost disk = { λ f. disk_at (F.directory f.folder) f.name.now };
 
-    ghost is_sure = { λ f. IsKnown f.is_flushed (F.directory f.folder) f.name.now };
-
     ghost sound = { λ f. F.sound f.folder × (f.failures < greatest_count) };
 
     fn load(&mut self) -> Result<Vec<u8>, StoreFault> {
@@ -260,6 +244,7 @@ impl<'a, F: FileFolder + Drop> FlatFile for HostFile<'a, F> {
         }
     }
 
+    #[tactic(auto, using(crate::proofs::Files::append_settled))]
     fn append(&mut self, bytes: &[u8]) -> Result<(), StoreFault> {
         admit(&self.failures)?;
         match append_noting(
@@ -270,18 +255,26 @@ impl<'a, F: FileFolder + Drop> FlatFile for HostFile<'a, F> {
             &mut self.rests,
         ) {
             Ok(()) => Ok(()),
-            Err(_) => Err(self.doubt()),
+            Err(_) => {
+                self.is_flushed = false;
+                Err(refuse(&mut self.failures))
+            }
         }
     }
 
+    #[tactic(auto, using(crate::proofs::Files::cut_settled))]
     fn cut_to(&mut self, len: u64) -> Result<(), StoreFault> {
         admit(&self.failures)?;
         match cut_keeping(&mut self.folder, self.name, len, &mut self.rests) {
             Ok(()) => Ok(()),
-            Err(_) => Err(self.doubt()),
+            Err(_) => {
+                self.is_flushed = false;
+                Err(refuse(&mut self.failures))
+            }
         }
     }
 
+    #[tactic(auto, using(mail_store::proofs::DiskLemmas::replaced_settled))]
     fn replace(&mut self, bytes: &[u8]) -> Result<(), StoreFault> {
         admit(&self.failures)?;
         match replace_flushed(&mut self.folder, self.name, bytes) {
@@ -289,7 +282,10 @@ impl<'a, F: FileFolder + Drop> FlatFile for HostFile<'a, F> {
                 self.is_flushed = true;
                 Ok(())
             }
-            Err(_) => Err(self.doubt()),
+            Err(_) => {
+                self.is_flushed = false;
+                Err(refuse(&mut self.failures))
+            }
         }
     }
 
@@ -300,10 +296,9 @@ impl<'a, F: FileFolder + Drop> FlatFile for HostFile<'a, F> {
     ghost shown = { λ f. refl };
 }
 
-/// A file made anew over the same folder leaves no more than the last one did; over a folder that a loss of
-/// power left, it leaves exactly what calls see.
-pub fn new_files_leave_no_more<'a, F: FileFolder + Drop>()
-    ensures anew { NewFilesLeaveNoMore ⟦<HostFile<'a, F> as FlatFile>⟧ (λ f. F.directory f.folder) (λ f. f.name.now)
-        (λ f. f.is_flushed) }
+/// A file made anew over the same folder has what the last one had, and the same of it is durable; over a folder that
+/// a loss of power left, all that calls see is.
+pub fn new_files_keep_bytes<'a, F: FileFolder + Drop>()
+    ensures anew { NewFilesKeepBytes ⟦<HostFile<'a, F> as FlatFile>⟧ (λ f. F.directory f.folder) (λ f. f.name.now) }
     ensures left { LeftFilesStand ⟦<HostFile<'a, F> as FlatFile>⟧ (λ f. F.directory f.folder) }
 {}

@@ -2,34 +2,13 @@
 //! the law.
 
 ghost use Rattle.std.specs.Prelude.{List};
-ghost use Rattle.folder_store.specs.PowerLoss.{DiskIsKnown, DiskIsLeft, PowerLeaves};
-ghost use Rattle.folder_store.specs.HostFile.{AppendsLast, CutsLast, ReplacesLast};
+ghost use Rattle.folder_store.specs.PowerLoss.{PowerLeaves};
 ghost use Rattle.folder_store.specs.MailFolders.{Directories, MailFile, Moved, OneMoves};
 ghost use Rattle.folder_store.specs.MailPower.{MailCanLosePower};
-
-/// A loss of power leaves what calls see under a name whose file is on the disk.
-#[tactic(auto, using(crate::proofs::Files::disk_is_left))]
-pub fn disk_is_left()
-    ensures { DiskIsLeft }
-{}
 
 /// What may be left under a name is exactly what a loss of power may leave there.
 pub fn power_leaves()
     ensures { PowerLeaves }
-{}
-
-/// What is on the disk is known to be there, whether or not a device knows it.
-#[tactic(auto, using(crate::proofs::Files::disk_is_known))]
-pub fn disk_is_known()
-    ensures { DiskIsKnown }
-{}
-
-/// What a loss of power leaves of a file that was appended to, cut or replaced, whatever the call answered.
-#[tactic(auto, using(crate::proofs::Files::appends_for_good, crate::proofs::Files::cuts_for_good, crate::proofs::Files::replaces_for_good))]
-pub fn writes_outlive_power()
-    ensures appends { AppendsLast }
-    ensures cuts { CutsLast }
-    ensures replaces { ReplacesLast }
 {}
 
 /// Readers may do nothing, move or mark a file, and do so again.

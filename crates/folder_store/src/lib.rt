@@ -22,13 +22,10 @@ mod tally;
 
 pub use device::FileFolder;
 pub use exact_listing::{ChangeTime, FolderNames, list_names};
-pub use file::{HostFile, new_files_leave_no_more};
+pub use file::{HostFile, new_files_keep_bytes};
 pub use host::HostFolder;
 pub use host_folders::HostFolders;
-pub use laws::{
-    disk_is_known, disk_is_left, mail_can_lose_power, power_leaves, readers_move,
-    writes_outlive_power,
-};
+pub use laws::{mail_can_lose_power, power_leaves, readers_move};
 pub use mail_folders::{MailFolders, Sought};
 pub use maildir::{FolderMaildir, new_maildirs_keep_mail};
 pub use process_mark::ProcessMark;

@@ -1,7 +1,8 @@
 //! What is cut off from a file, kept in a file of its own.
 
 ghost use Rattle.std.specs.Prelude.{◌≡◌, ◌≤◌, length, IsTrue};
-ghost use Rattle.folder_store.specs.HostFile.{AppendsFlushed, CutsFlushed};
+ghost use Rattle.folder_store.specs.PowerLoss.{disk_at};
+ghost use Rattle.mail_store.specs.DiskCalls.{AppendsDisk, CutsDisk};
 
 use crate::device::FileFolder;
 use crate::steps::{Appending, append_in, cut_flushed, replace_flushed};
@@ -169,7 +170,8 @@ pub fn append_noting<F: FileFolder + Drop>(
     rests: &mut Option<Rests<'_, F>>,
 ) -> Result<(), StoreFault>
     ensures { F.sound folder.new → F.sound folder.old
-        × AppendsFlushed (F.directory folder.old) name.now bytes.now result (F.directory folder.new) }
+        × AppendsDisk (disk_at (F.directory folder.old) name.now) bytes.now result
+        (disk_at (F.directory folder.new) name.now) }
 {
     let answer = append_in(folder, name, bytes, appending);
     if let Some(rests) = rests {
@@ -187,7 +189,7 @@ pub fn cut_keeping<F: FileFolder + Drop>(
     rests: &mut Option<Rests<'_, F>>,
 ) -> Result<(), StoreFault>
     ensures { F.sound folder.new → F.sound folder.old
-        × CutsFlushed (F.directory folder.old) name.now len result (F.directory folder.new) }
+        × CutsDisk (disk_at (F.directory folder.old) name.now) len result (disk_at (F.directory folder.new) name.now) }
 {
     if let Some(rests) = rests {
         if !rests.is_refused {

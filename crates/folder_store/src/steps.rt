@@ -1,11 +1,9 @@
 //! What the devices do to a folder in several calls.
 
-ghost use Rattle.std.specs.Prelude.{◌≡◌, None, OnErr, OnOk};
-ghost use Rattle.folder_store.specs.FileFolder.{find};
-ghost use Rattle.folder_store.specs.HostFile.{AppendsFlushed, CutsFlushed, FlushesAt, PutsFlushed, ReplacesFlushed};
-ghost use Rattle.folder_store.specs.PowerLoss.{IsOnDisk, MayBe};
-ghost use Rattle.mail_store.specs.Durable.{IsSure};
-ghost use Rattle.mail_store.specs.Power.{LeavesNoMore};
+ghost use Rattle.std.specs.Prelude.{◌≡◌, None, OnErr};
+ghost use Rattle.folder_store.specs.HostFile.{PutsFlushed};
+ghost use Rattle.folder_store.specs.PowerLoss.{disk_at};
+ghost use Rattle.mail_store.specs.DiskCalls.{AppendsDisk, CutsDisk, FlushesBoth, ReplacesDisk};
 
 use crate::device::FileFolder;
 use mail_store::StoreFault;
@@ -36,7 +34,8 @@ fn put_flushed<F: FileFolder>(folder: &mut F, name: &str) -> Result<(), StoreFau
 /// Appends bytes to a file, and flushes them.
 fn append_flushed<F: FileFolder>(folder: &mut F, name: &str, bytes: &[u8]) -> Result<(), StoreFault>
     ensures { F.sound folder.new → F.sound folder.old
-        × AppendsFlushed (F.directory folder.old) name.now bytes.now result (F.directory folder.new) }
+        × AppendsDisk (disk_at (F.directory folder.old) name.now) bytes.now result
+        (disk_at (F.directory folder.new) name.now) }
 {
     folder.append(name, bytes)?;
     folder.flush(name)
@@ -45,7 +44,8 @@ fn append_flushed<F: FileFolder>(folder: &mut F, name: &str, bytes: &[u8]) -> Re
 /// The same, but flushes at each border of 512 octets of the file before it writes more.
 fn append_blocks<F: FileFolder>(folder: &mut F, name: &str, bytes: &[u8]) -> Result<(), StoreFault>
     ensures { F.sound folder.new → F.sound folder.old
-        × AppendsFlushed (F.directory folder.old) name.now bytes.now result (F.directory folder.new) }
+        × AppendsDisk (disk_at (F.directory folder.old) name.now) bytes.now result
+        (disk_at (F.directory folder.new) name.now) }
 {
     let size = folder.size(name)?;
     let room = BLOCK - (size % BLOCK as u64) as usize;
@@ -67,7 +67,8 @@ pub fn append_in<F: FileFolder>(
     appending: Appending,
 ) -> Result<(), StoreFault>
     ensures { F.sound folder.new → F.sound folder.old
-        × AppendsFlushed (F.directory folder.old) name.now bytes.now result (F.directory folder.new) }
+        × AppendsDisk (disk_at (F.directory folder.old) name.now) bytes.now result
+        (disk_at (F.directory folder.new) name.now) }
 {
     match appending {
         Appending::AtOnce => append_flushed(folder, name, bytes),
@@ -78,7 +79,7 @@ pub fn append_in<F: FileFolder>(
 /// Cuts a file to its first bytes, and flushes it.
 pub fn cut_flushed<F: FileFolder>(folder: &mut F, name: &str, len: u64) -> Result<(), StoreFault>
     ensures { F.sound folder.new → F.sound folder.old
-        × CutsFlushed (F.directory folder.old) name.now len result (F.directory folder.new) }
+        × CutsDisk (disk_at (F.directory folder.old) name.now) len result (disk_at (F.directory folder.new) name.now) }
 {
     folder.cut_to(name, len)?;
     folder.flush(name)
@@ -87,7 +88,8 @@ pub fn cut_flushed<F: FileFolder>(folder: &mut F, name: &str, len: u64) -> Resul
 /// Makes a file of these bytes, flushes it, puts it under a name, and flushes the names.
 fn put_new<F: FileFolder>(folder: &mut F, name: &str, bytes: &[u8]) -> Result<(), StoreFault>
     ensures { F.sound folder.new → F.sound folder.old
-        × ReplacesFlushed (F.directory folder.old) name.now bytes.now result (F.directory folder.new) }
+        × ReplacesDisk (disk_at (F.directory folder.old) name.now) bytes.now result
+        (disk_at (F.directory folder.new) name.now) }
 {
     folder.make(name)?;
     folder.write(bytes)?;
@@ -101,7 +103,8 @@ pub fn replace_flushed<F: FileFolder>(
     bytes: &[u8],
 ) -> Result<(), StoreFault>
     ensures replaces { F.sound folder.new → F.sound folder.old
-        × ReplacesFlushed (F.directory folder.old) name.now bytes.now result (F.directory folder.new) }
+        × ReplacesDisk (disk_at (F.directory folder.old) name.now) bytes.now result
+        (disk_at (F.directory folder.new) name.now) }
     ensures given_up { F.sound folder.new → OnErr result ((F.directory folder.new).made ≡ None) }
 {
     match put_new(folder, name, bytes) {
@@ -115,12 +118,8 @@ pub fn replace_flushed<F: FileFolder>(
 
 /// Flushes a file and the names.
 pub fn flush_both<F: FileFolder>(folder: &mut F, name: &str) -> Result<(), StoreFault>
-    ensures flushes { F.sound folder.new → F.sound folder.old
-        × FlushesAt (F.directory folder.old) name.now (F.directory folder.new) }
-    ensures keeps { F.sound folder.new
-        → LeavesNoMore (MayBe (F.directory folder.old) name.now) (MayBe (F.directory folder.new) name.now) }
-    ensures on_disk { F.sound folder.new → IsSure (find name.now (F.directory folder.old).entries)
-        → OnOk result (IsOnDisk (F.directory folder.new) name.now) }
+    ensures { F.sound folder.new → F.sound folder.old
+        × FlushesBoth (disk_at (F.directory folder.old) name.now) result (disk_at (F.directory folder.new) name.now) }
 {
     folder.flush(name)?;
     folder.flush_names()

@@ -1,9 +1,7 @@
 -- What a crash leaves of a file that is durable.
-use Rattle.std.proofs.Common.{◌≡◌, ◌∙◌, ⊎_elim, ℕ, List, [], ◌∷◌, ◌++◌, length, Option, Some, None, refl, sym, inl, inr, ap, subst, arith, length-append, append-nil, ◌≤◌, option_map, take}
+use Rattle.std.proofs.Common.{◌≡◌, ◌∙◌, ⊎_elim, ℕ, List, [], ◌∷◌, ◌++◌, length, Option, Some, None, refl, sym, inl, inr, ap, subst, arith, length-append, append-nil, ◌≤◌, option_map}
 use Rattle.std.proofs.Math.Seq.{take-length}
-use Rattle.std.proofs.lemmas.Option.{same_Some}
 use Rattle.mail_store.specs.Durable.{Blob, Crashes, CrashesHappen, Disk, DurableIsLeft, IsDurable, IsFlushed, IsLeft, IsLeftOf, MayLeave, all_durable, content_in, secured, seen_on}
-use Rattle.mail_store.specs.Power.{LastsWhole, LeavesCut, LeavesFront}
 
 pub no_rest : (xs rest : List ℕ) → length (xs ++ rest) ≤ length xs → xs ++ rest ≡ xs
 no_rest xs [] le = append-nil xs
@@ -40,28 +38,6 @@ flushed_all (Some bytes) = refl
 
 pub all_is_durable : (content : Option (List ℕ)) → IsDurable (all_durable content)
 all_is_durable content = record { named = refl; flushed = flushed_all content }
-
-pub left_all : (content left : Option (List ℕ)) → MayLeave (all_durable content) left → left ≡ content
-left_all content left may = durable_is_left (all_durable content) left (all_is_durable content) may ∙ seen_all content
-
-pub lasts_all : (content : Option (List ℕ)) → LastsWhole content (IsDurable (all_durable content)) (MayLeave (all_durable content))
-lasts_all content bytes is = (all_is_durable content, λ left may. left_all content left may ∙ is)
-
--- calls see it again
-pub seen_left : (content : Option (List ℕ)) → MayLeave (all_durable content) content
-unfolding MayLeave
-seen_left None = inl tt
-seen_left (Some bytes) = inl (inl refl)
-
--- a file that was cut
-pub cut_all : (content content' : Option (List ℕ)) (bytes : List ℕ) (len : ℕ) → content ≡ Some bytes → content' ≡ Some (take len bytes)
-    → LeavesFront content len (MayLeave (all_durable content)) (MayLeave (all_durable content'))
-    × (IsDurable (all_durable content) → LeavesCut content len (MayLeave (all_durable content)) (MayLeave (all_durable content')))
-cut_all content content' bytes len is now =
-    (λ was has left may. inr ([], cut was has left may ∙ ap Some (sym (append-nil (take len was)))), λ durable was has left may. inr (cut was has left may))
-  where
-    cut : (was : List ℕ) → content ≡ Some was → (left : Option (List ℕ)) → MayLeave (all_durable content') left → left ≡ Some (take len was)
-    cut was has left may = left_all content' left may ∙ now ∙ ap (λ (l : List ℕ). Some (take len l)) (same_Some bytes was (sym is ∙ has))
 
 pub crashes_happen : CrashesHappen
 crashes_happen old left may = (

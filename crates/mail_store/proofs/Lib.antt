@@ -3,3 +3,4 @@ pub mod MboxLemmas
 pub mod SettlingLemmas
 pub mod LossLemmas
 pub mod DurableLemmas
+pub mod DiskLemmas

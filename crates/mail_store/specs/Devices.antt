@@ -1,38 +1,38 @@
 -- What a call of a device owes by its trait, for devices whose calls promise more than that.
-use Rattle.std.specs.Prelude.{◌≡◌, Result, IfErr, OnOk}
+use Rattle.std.specs.Prelude.{◌≡◌, Result, IfErr}
 use Rattle.mail_terms.specs.FailureCount.{Tallies, refuses}
 use Rattle.mail_store.specs.declared.fault.StoreFault.{StoreFault}
 use Rattle.mail_store.specs.declared.fault.StoreFault.TheVariants.{Refused}
 use Rattle.mail_store.specs.declared.file.flat_file.FlatFile.{Ghosts as FileGhosts}
 use Rattle.mail_store.specs.declared.maildir.disk.MaildirDisk.{Ghosts as DiskGhosts}
-use Rattle.mail_store.specs.Durable.{IsDurable, MayLeave}
+use Rattle.mail_store.specs.DiskCalls.{FlushesDisk}
+use Rattle.mail_store.specs.Durable.{Disk}
 use Rattle.mail_store.specs.Fault.{is_refusal, IsDeviceFault}
 use Rattle.mail_store.specs.FlatFile.{Stored}
 use Rattle.mail_store.specs.Maildir.{Maildir}
-use Rattle.mail_store.specs.Power.{LastsWhole, LeavesNoMore, UnlessRefused}
 
 -- a call did this to the file
 abbrev pub FileDoes : {F : Type 0} → FileGhosts F → (Stored → Stored → Type 0) → F → F → Type 0
 FileDoes file Does old new = file.sound new → file.sound old × Does (file.stored old) (file.stored new)
 
--- a call that only reads
-abbrev pub FileReads : {F T : Type 0} → FileGhosts F → F → Result T StoreFault → F → Type 0
-FileReads file old result new = IfErr result IsDeviceFault
-    × (file.sound new → LeavesNoMore (MayLeave (file.disk old)) (MayLeave (file.disk new)))
-    × Tallies (refuses is_refusal result) (file.stored old).failures (file.stored new).failures
+-- and this to what of it is durable
+abbrev pub FileLasts : {F : Type 0} → FileGhosts F → (Disk → Disk → Type 0) → F → F → Type 0
+FileLasts file Does old new = file.sound new → Does (file.disk old) (file.disk new)
 
 -- a call that reads, and flushes what it reads
-abbrev pub FileFlushes : {F T : Type 0} → FileGhosts F → F → Result T StoreFault → F → Type 0
-FileFlushes file old result new = FileReads file old result new × (file.sound new → file.is_sure old
-    → UnlessRefused result (file.is_sure new
-    × LastsWhole (file.stored new).content (IsDurable (file.disk new)) (MayLeave (file.disk new))))
+abbrev pub FileReads : {F T : Type 0} → FileGhosts F → F → Result T StoreFault → F → Type 0
+FileReads file old result new = IfErr result IsDeviceFault
+    × FileLasts file (λ was now. FlushesDisk was result now) old new
+    × Tallies (refuses is_refusal result) (file.stored old).failures (file.stored new).failures
 
--- a call that writes to a file which is there
-abbrev pub FileWrites : {F T : Type 0} → FileGhosts F → F → Result T StoreFault → F → Type 0
-FileWrites file old result new = IfErr result (λ e. e ≡ Refused)
-    × (file.sound new → file.is_sure old → IsDurable (file.disk old)
-    → OnOk result (file.is_sure new
-    × LastsWhole (file.stored new).content (IsDurable (file.disk new)) (MayLeave (file.disk new))))
+-- a call that only reads
+abbrev pub FilePeeks : {F T : Type 0} → FileGhosts F → F → Result T StoreFault → F → Type 0
+FilePeeks file old result new = IfErr result IsDeviceFault × FileLasts file (λ was now. now ≡ was) old new
+    × Tallies (refuses is_refusal result) (file.stored old).failures (file.stored new).failures
+
+-- the only fault of a call is Refused, and it is counted
+abbrev pub FileRefuses : {F T : Type 0} → FileGhosts F → F → Result T StoreFault → F → Type 0
+FileRefuses file old result new = IfErr result (λ e. e ≡ Refused)
     × Tallies (refuses is_refusal result) (file.stored old).failures (file.stored new).failures
 
 -- a call did this to the Maildir

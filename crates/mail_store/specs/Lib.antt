@@ -1,6 +1,7 @@
 pub mod Fault
 pub mod Maildir
 pub mod Devices
+pub mod DiskCalls
 pub mod Durable
 pub mod FlatFile
 pub mod FileName

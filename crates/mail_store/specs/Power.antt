@@ -1,7 +1,5 @@
--- What outlives a loss of power, as each device defines it.
-use Rattle.std.specs.Prelude.{◌≡◌, ◌⊎◌, ℕ, List, ◌++◌, length, take, Option, Some, Result, Err}
-use Rattle.mail_store.specs.declared.fault.StoreFault.{StoreFault}
-use Rattle.mail_store.specs.declared.fault.StoreFault.TheVariants.{Refused}
+-- What a loss of power may leave of a file after calls, by what it could leave before.
+use Rattle.std.specs.Prelude.{◌≡◌, ◌⊎◌, ℕ, List, ◌++◌, length, take, Option, Some}
 use Rattle.mail_store.specs.Settling.{MayBeLeft}
 
 -- ---- a file: what a loss of power may leave of it, None for no file
@@ -57,8 +55,3 @@ KeepsBytes may_leave may_leave' = (bytes : List ℕ) → Outlives may_leave byte
 abbrev pub KeepsWhole : Option (List ℕ) → (Option (List ℕ) → Type 0) → (Option (List ℕ) → Type 0) → Type 0
 KeepsWhole content may_leave may_leave' =
     (bytes : List ℕ) → content ≡ Some bytes → Outlives may_leave bytes → Outlives may_leave' bytes
-
--- the call was refused, or this holds
-abbrev pub UnlessRefused : {T : Type 0} → Result T StoreFault → Type 0 → Type 0
-UnlessRefused (Err Refused) P = Unit {0}
-UnlessRefused result P = P

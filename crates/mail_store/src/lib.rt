@@ -10,7 +10,7 @@ mod refusal;
 
 pub use account::{AccountId, account_id, account_texts_are_digits};
 pub use fault::{EntryFault, StoreFault};
-pub use file::flat_file::{Edges, FlatFile, calls_keep_bytes, durable_files_are_left};
+pub use file::flat_file::{Edges, FlatFile, calls_outlive_crashes, durable_files_are_left};
 pub use file::memory::MemoryFile;
 pub use file::reading::{edges_of, read_piece};
 pub use maildir::delivery::deliver;

@@ -243,10 +243,9 @@ impl<D: MaildirDisk> MaildirDisk for Fused<D> {
 impl<D: FlatFile> FlatFile for Fused<D> {
     ghost use Rattle.std.specs.Prelude.{◌≡◌, ◌≤◌, ◌<◌, length, IfErr, IfOk, IsSome, OnOk};
     ghost use Rattle.mail_terms.specs.FailureCount.{Tallies, refuses, greatest_count};
-    ghost use Rattle.mail_store.specs.Durable.{IsDurable, MayLeave};
+    ghost use Rattle.mail_store.specs.DiskCalls.{AppendsDisk, CutsDisk, ReplacesDisk};
     ghost use Rattle.mail_store.specs.FlatFile.{Loads, Measures, ReadsAt, Appends, Cuts, Replaces, HasBytes};
-    ghost use Rattle.mail_store.specs.Devices.{FileDoes, FileFlushes, FileReads, FileWrites};
-    ghost use Rattle.mail_store.specs.Power.{LastsWhole, LeavesCut, LeavesEither, LeavesFront, LeavesLonger, LeavesPart};
+    ghost use Rattle.mail_store.specs.Devices.{FileDoes, FileLasts, FilePeeks, FileReads, FileRefuses};
     ghost use Rattle.test_devices.specs.StoreFuse.{device_of, passes_left, effect_is_due, refusals, fused_file};
     ghost use Rattle.test_devices.specs.StoreFuse.{FusedIsSound, Burns, Fuses, AppendsBehind, ReplacesBehind};
 
@@ -254,13 +253,11 @@ impl<D: FlatFile> FlatFile for Fused<D> {
 
     ghost disk = { λ f. D.disk (device_of f) };
 
-    ghost is_sure = { λ f. D.is_sure (device_of f) };
-
     ghost sound = { λ f. FusedIsSound D.sound f };
 
     fn load(&mut self) -> Result<Vec<u8>, StoreFault>
         ensures loads { FileDoes ⟦<Fused<D> as FlatFile>⟧ (λ old new. Loads old result new) self.old self.new }
-        ensures keeps { FileFlushes ⟦<Fused<D> as FlatFile>⟧ self.old result self.new }
+        ensures flushes { FileReads ⟦<Fused<D> as FlatFile>⟧ self.old result self.new }
         ensures fuse { Fuses (λ d. (D.stored d).failures) self.old result self.new }
     {
         self.pass()?;
@@ -270,8 +267,7 @@ impl<D: FlatFile> FlatFile for Fused<D> {
 
     fn peek(&mut self) -> Result<Vec<u8>, StoreFault>
         ensures loads { FileDoes ⟦<Fused<D> as FlatFile>⟧ (λ old new. Loads old result new) self.old self.new }
-        ensures keeps { FileReads ⟦<Fused<D> as FlatFile>⟧ self.old result self.new }
-        ensures sure { FusedIsSound D.sound self.new → D.is_sure (device_of self.old) → D.is_sure (device_of self.new) }
+        ensures peeks { FilePeeks ⟦<Fused<D> as FlatFile>⟧ self.old result self.new }
         ensures fuse { Fuses (λ d. (D.stored d).failures) self.old result self.new }
     {
         self.pass()?;
@@ -281,7 +277,7 @@ impl<D: FlatFile> FlatFile for Fused<D> {
 
     fn edges(&mut self) -> Result<Edges, StoreFault>
         ensures measures { FileDoes ⟦<Fused<D> as FlatFile>⟧ (λ old new. Measures old result new) self.old self.new }
-        ensures keeps { FileFlushes ⟦<Fused<D> as FlatFile>⟧ self.old result self.new }
+        ensures flushes { FileReads ⟦<Fused<D> as FlatFile>⟧ self.old result self.new }
         ensures fuse { Fuses (λ d. (D.stored d).failures) self.old result self.new }
     {
         self.pass()?;
@@ -291,8 +287,7 @@ impl<D: FlatFile> FlatFile for Fused<D> {
 
     fn peek_edges(&mut self) -> Result<Edges, StoreFault>
         ensures measures { FileDoes ⟦<Fused<D> as FlatFile>⟧ (λ old new. Measures old result new) self.old self.new }
-        ensures keeps { FileReads ⟦<Fused<D> as FlatFile>⟧ self.old result self.new }
-        ensures sure { FusedIsSound D.sound self.new → D.is_sure (device_of self.old) → D.is_sure (device_of self.new) }
+        ensures peeks { FilePeeks ⟦<Fused<D> as FlatFile>⟧ self.old result self.new }
         ensures fuse { Fuses (λ d. (D.stored d).failures) self.old result self.new }
     {
         self.pass()?;
@@ -304,7 +299,7 @@ impl<D: FlatFile> FlatFile for Fused<D> {
         ensures within { IfOk result (λ count. count ≤ length buf.new) }
         ensures reads { FileDoes ⟦<Fused<D> as FlatFile>⟧
             (λ old new. ReadsAt old start result buf.new new) self.old self.new }
-        ensures keeps { FileFlushes ⟦<Fused<D> as FlatFile>⟧ self.old result self.new }
+        ensures flushes { FileReads ⟦<Fused<D> as FlatFile>⟧ self.old result self.new }
         ensures fuse { Fuses (λ d. (D.stored d).failures) self.old result self.new }
     {
         self.pass()?;
@@ -316,12 +311,9 @@ impl<D: FlatFile> FlatFile for Fused<D> {
         requires { FusedIsSound D.sound self.old → IsSome (D.stored (device_of self.old)).content }
         ensures appends { FileDoes ⟦<Fused<D> as FlatFile>⟧
             (λ old new. Appends old bytes.now result new) self.old self.new }
-        ensures keeps { FusedIsSound D.sound self.new
-            → LeavesLonger (MayLeave (D.disk (device_of self.old))) (MayLeave (D.disk (device_of self.new)))
-            × (LastsWhole (D.stored (device_of self.old)).content (IsDurable (D.disk (device_of self.old)))
-            (MayLeave (D.disk (device_of self.old)))
-            → LeavesPart (fused_file D.stored self.old).content bytes.now (MayLeave (D.disk (device_of self.new)))) }
-        ensures lasts { FileWrites ⟦<Fused<D> as FlatFile>⟧ self.old result self.new }
+        ensures durable { FileLasts ⟦<Fused<D> as FlatFile>⟧
+            (λ old new. AppendsDisk old bytes.now result new) self.old self.new }
+        ensures refuses { FileRefuses ⟦<Fused<D> as FlatFile>⟧ self.old result self.new }
         ensures fuse { (refusals self.old < greatest_count
             → Burns (λ d. (D.stored d).failures) self.old result self.new)
             × (passes_left self.old ≡ 0 → FusedIsSound D.sound self.new
@@ -340,13 +332,9 @@ impl<D: FlatFile> FlatFile for Fused<D> {
     fn cut_to(&mut self, len: u64) -> Result<(), StoreFault>
         requires { FusedIsSound D.sound self.old → HasBytes (D.stored (device_of self.old)) len }
         ensures cuts { FileDoes ⟦<Fused<D> as FlatFile>⟧ (λ old new. Cuts old len result new) self.old self.new }
-        ensures keeps { FusedIsSound D.sound self.new
-            → LeavesFront (fused_file D.stored self.old).content len (MayLeave (D.disk (device_of self.old)))
-            (MayLeave (D.disk (device_of self.new)))
-            × (IsDurable (D.disk (device_of self.old))
-            → LeavesCut (fused_file D.stored self.old).content len (MayLeave (D.disk (device_of self.old)))
-            (MayLeave (D.disk (device_of self.new)))) }
-        ensures lasts { FileWrites ⟦<Fused<D> as FlatFile>⟧ self.old result self.new }
+        ensures durable { FileLasts ⟦<Fused<D> as FlatFile>⟧
+            (λ old new. CutsDisk old len result new) self.old self.new }
+        ensures refuses { FileRefuses ⟦<Fused<D> as FlatFile>⟧ self.old result self.new }
         ensures fuse { Fuses (λ d. (D.stored d).failures) self.old result self.new }
     {
         self.pass()?;
@@ -357,13 +345,9 @@ impl<D: FlatFile> FlatFile for Fused<D> {
     fn replace(&mut self, bytes: &[u8]) -> Result<(), StoreFault>
         ensures replaces { FileDoes ⟦<Fused<D> as FlatFile>⟧
             (λ old new. Replaces old bytes.now result new) self.old self.new }
-        ensures fault { IfErr result (λ e. e ≡ StoreFault.Refused) }
-        ensures leaves { FusedIsSound D.sound self.new → LeavesEither (MayLeave (D.disk (device_of self.old))) bytes.now
-            (MayLeave (D.disk (device_of self.new))) }
-        ensures lasts { FusedIsSound D.sound self.new → OnOk result (D.is_sure (device_of self.new)
-            × LastsWhole (fused_file D.stored self.new).content (IsDurable (D.disk (device_of self.new)))
-            (MayLeave (D.disk (device_of self.new)))) }
-        ensures count { Tallies (refuses is_refusal result) (refusals self.old) (refusals self.new) }
+        ensures durable { FileLasts ⟦<Fused<D> as FlatFile>⟧
+            (λ old new. ReplacesDisk old bytes.now result new) self.old self.new }
+        ensures refuses { FileRefuses ⟦<Fused<D> as FlatFile>⟧ self.old result self.new }
         ensures fuse { (refusals self.old < greatest_count
             → Burns (λ d. (D.stored d).failures) self.old result self.new)
             × (passes_left self.old ≡ 0 → FusedIsSound D.sound self.new

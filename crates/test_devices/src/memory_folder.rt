@@ -4,9 +4,10 @@ ghost use Rattle.std.specs.Prelude.{◌≡◌, ◌≢◌, ◌<◌, ◌≤◌, �
 ghost use Rattle.std.specs.Prelude.{take, true};
 ghost use Rattle.std.specs.Prelude.{HoldsAt, IfErr, IfNone, IfOk, IfSome, OnErr, OnOk, option_map};
 ghost use Rattle.mail_store.specs.Fault.{IsDeviceFault};
-ghost use Rattle.folder_store.specs.FileFolder.{appended, changed, cut, find, flushed, placed, put_in};
+ghost use Rattle.folder_store.specs.FileFolder.{changed, find, placed, put_in};
 ghost use Rattle.folder_store.specs.FileFolder.{FlushesNames, Makes, MeasuresFile, ReadsPiece, TellsSize};
 ghost use Rattle.folder_store.specs.PowerLoss.{Loses, left_under};
+ghost use Rattle.mail_store.specs.DiskCalls.{appended, cut, flushed};
 ghost use Rattle.mail_store.specs.Durable.{IsLeft, secured};
 ghost use Rattle.test_devices.specs.MemoryFolder.{MayBeOf, Survive, blob_of, entries_of, entry_of, older_of};
 

@@ -1,8 +1,7 @@
 //! Devices that keep one file.
 
-ghost use Rattle.std.specs.Prelude.{◌≡◌, ℕ, List, Some};
-ghost use Rattle.mail_store.specs.Durable.{CrashesHappen, DurableIsLeft, IsDurable, MayLeave};
-ghost use Rattle.mail_store.specs.Power.{KeepsBytes, LastsWhole, LeavesLonger, LeavesNoMore, Outlives};
+ghost use Rattle.mail_store.specs.DiskCalls.{AppendsLast, CutsLast, FlushesLast, ReplacesLast};
+ghost use Rattle.mail_store.specs.Durable.{CrashesHappen, DurableIsLeft};
 
 use crate::fault::StoreFault;
 
@@ -19,22 +18,18 @@ pub struct Edges {
 
 /// A device that keeps one file, and that can refuse any call.
 pub trait FlatFile {
-    ghost use Rattle.std.specs.Prelude.{◌≡◌, ◌≤◌, OnOk, length, IfErr, IfOk, IsSome};
+    ghost use Rattle.std.specs.Prelude.{◌≡◌, ◌≤◌, length, IfErr, IfOk, IsSome};
     ghost use Rattle.mail_terms.specs.FailureCount.{Tallies, refuses};
     ghost use Rattle.mail_store.specs.Fault.{is_refusal, IsDeviceFault};
-    ghost use Rattle.mail_store.specs.Durable.{Disk, IsDurable, MayLeave, seen_on};
+    ghost use Rattle.mail_store.specs.DiskCalls.{AppendsDisk, CutsDisk, FlushesDisk, ReplacesDisk};
+    ghost use Rattle.mail_store.specs.Durable.{Disk, seen_on};
     ghost use Rattle.mail_store.specs.FlatFile.{Stored, Loads, Measures, ReadsAt, Appends, Cuts, Replaces, HasBytes};
-    ghost use Rattle.mail_store.specs.Power.{LastsWhole, LeavesCut, LeavesEither, LeavesFront, LeavesLonger};
-    ghost use Rattle.mail_store.specs.Power.{LeavesNoMore, LeavesPart, UnlessRefused};
 
     // What calls see of the file.
     ghost stored: { Self → Stored };
 
     // What of it is durable, and what its name led to before.
     ghost disk: { Self → Disk };
-
-    // No flush of the file was refused since it was last written whole, as far as is known.
-    ghost is_sure: { Self → Type 0 };
 
     // The premise: so far the device did what this trait says, and its count is below its greatest
     // value. If it holds after a call, it held before it.
@@ -45,10 +40,7 @@ pub trait FlatFile {
         ensures loads { sound self.new → sound self.old
             × Loads (stored self.old) result (stored self.new) }
         ensures fault { IfErr result IsDeviceFault }
-        ensures keeps { sound self.new → LeavesNoMore (MayLeave (disk self.old)) (MayLeave (disk self.new)) }
-        ensures lasts { sound self.new → is_sure self.old
-            → UnlessRefused result (is_sure self.new
-            × LastsWhole (stored self.new).content (IsDurable (disk self.new)) (MayLeave (disk self.new))) }
+        ensures durable { sound self.new → FlushesDisk (disk self.old) result (disk self.new) }
         ensures count { Tallies (refuses is_refusal result) (stored self.old).failures (stored self.new).failures };
 
     /// The bytes of the file, as `load` gives them, but nothing is flushed: a loss of power may take
@@ -57,8 +49,7 @@ pub trait FlatFile {
         ensures loads { sound self.new → sound self.old
             × Loads (stored self.old) result (stored self.new) }
         ensures fault { IfErr result IsDeviceFault }
-        ensures keeps { sound self.new → LeavesNoMore (MayLeave (disk self.old)) (MayLeave (disk self.new)) }
-        ensures sure { sound self.new → is_sure self.old → is_sure self.new }
+        ensures durable { sound self.new → disk self.new ≡ disk self.old }
         ensures count { Tallies (refuses is_refusal result) (stored self.old).failures (stored self.new).failures };
 
     /// The size of the file, its first five bytes and its last two. Missing if there is none, else
@@ -67,10 +58,7 @@ pub trait FlatFile {
         ensures measures { sound self.new → sound self.old
             × Measures (stored self.old) result (stored self.new) }
         ensures fault { IfErr result IsDeviceFault }
-        ensures keeps { sound self.new → LeavesNoMore (MayLeave (disk self.old)) (MayLeave (disk self.new)) }
-        ensures lasts { sound self.new → is_sure self.old
-            → UnlessRefused result (is_sure self.new
-            × LastsWhole (stored self.new).content (IsDurable (disk self.new)) (MayLeave (disk self.new))) }
+        ensures durable { sound self.new → FlushesDisk (disk self.old) result (disk self.new) }
         ensures count { Tallies (refuses is_refusal result) (stored self.old).failures (stored self.new).failures };
 
     /// The size and the ends of the file, as `edges` gives them, but nothing is flushed. Missing if
@@ -79,8 +67,7 @@ pub trait FlatFile {
         ensures measures { sound self.new → sound self.old
             × Measures (stored self.old) result (stored self.new) }
         ensures fault { IfErr result IsDeviceFault }
-        ensures keeps { sound self.new → LeavesNoMore (MayLeave (disk self.old)) (MayLeave (disk self.new)) }
-        ensures sure { sound self.new → is_sure self.old → is_sure self.new }
+        ensures durable { sound self.new → disk self.new ≡ disk self.old }
         ensures count { Tallies (refuses is_refusal result) (stored self.old).failures (stored self.new).failures };
 
     /// Reads the bytes of the file from `start` on into the front of a buffer, and returns how
@@ -91,10 +78,7 @@ pub trait FlatFile {
         ensures reads { sound self.new → sound self.old
             × ReadsAt (stored self.old) start result buf.new (stored self.new) }
         ensures fault { IfErr result IsDeviceFault }
-        ensures keeps { sound self.new → LeavesNoMore (MayLeave (disk self.old)) (MayLeave (disk self.new)) }
-        ensures lasts { sound self.new → is_sure self.old
-            → UnlessRefused result (is_sure self.new
-            × LastsWhole (stored self.new).content (IsDurable (disk self.new)) (MayLeave (disk self.new))) }
+        ensures durable { sound self.new → FlushesDisk (disk self.old) result (disk self.new) }
         ensures count { Tallies (refuses is_refusal result) (stored self.old).failures (stored self.new).failures };
 
     /// Appends bytes to the file, which must be there, as after a good `load`, `edges` or
@@ -104,12 +88,7 @@ pub trait FlatFile {
         ensures appends { sound self.new → sound self.old
             × Appends (stored self.old) bytes.now result (stored self.new) }
         ensures fault { IfErr result (λ e. e ≡ StoreFault.Refused) }
-        ensures keeps { sound self.new → LeavesLonger (MayLeave (disk self.old)) (MayLeave (disk self.new))
-            × (LastsWhole (stored self.old).content (IsDurable (disk self.old)) (MayLeave (disk self.old))
-            → LeavesPart (stored self.old).content bytes.now (MayLeave (disk self.new))) }
-        ensures lasts { sound self.new → is_sure self.old → IsDurable (disk self.old)
-            → OnOk result (is_sure self.new
-            × LastsWhole (stored self.new).content (IsDurable (disk self.new)) (MayLeave (disk self.new))) }
+        ensures durable { sound self.new → AppendsDisk (disk self.old) bytes.now result (disk self.new) }
         ensures count { Tallies (refuses is_refusal result) (stored self.old).failures (stored self.new).failures };
 
     /// Cuts the file to its first `len` bytes; it must have that many (see `edges`). The only fault
@@ -119,13 +98,7 @@ pub trait FlatFile {
         ensures cuts { sound self.new → sound self.old
             × Cuts (stored self.old) len result (stored self.new) }
         ensures fault { IfErr result (λ e. e ≡ StoreFault.Refused) }
-        ensures keeps { sound self.new
-            → LeavesFront (stored self.old).content len (MayLeave (disk self.old)) (MayLeave (disk self.new))
-            × (IsDurable (disk self.old)
-            → LeavesCut (stored self.old).content len (MayLeave (disk self.old)) (MayLeave (disk self.new))) }
-        ensures lasts { sound self.new → is_sure self.old → IsDurable (disk self.old)
-            → OnOk result (is_sure self.new
-            × LastsWhole (stored self.new).content (IsDurable (disk self.new)) (MayLeave (disk self.new))) }
+        ensures durable { sound self.new → CutsDisk (disk self.old) len result (disk self.new) }
         ensures count { Tallies (refuses is_refusal result) (stored self.old).failures (stored self.new).failures };
 
     /// Replaces the file's content by these bytes, whether or not there is a file. The only fault
@@ -134,10 +107,7 @@ pub trait FlatFile {
         ensures replaces { sound self.new → sound self.old
             × Replaces (stored self.old) bytes.now result (stored self.new) }
         ensures fault { IfErr result (λ e. e ≡ StoreFault.Refused) }
-        ensures leaves { sound self.new → LeavesEither (MayLeave (disk self.old)) bytes.now (MayLeave (disk self.new)) }
-        ensures lasts { sound self.new
-            → OnOk result (is_sure self.new
-            × LastsWhole (stored self.new).content (IsDurable (disk self.new)) (MayLeave (disk self.new))) }
+        ensures durable { sound self.new → ReplacesDisk (disk self.old) bytes.now result (disk self.new) }
         ensures count { Tallies (refuses is_refusal result) (stored self.old).failures (stored self.new).failures };
 
     /// How many calls were refused.
@@ -154,17 +124,11 @@ pub fn durable_files_are_left()
     ensures each { CrashesHappen }
 {}
 
-/// What a loss of power would have left before some calls it would still leave after them, as long
-/// as each leaves no more, or only what is longer.
-pub fn calls_keep_bytes<F: FlatFile>()
-    ensures longer { (u v : F) → LeavesNoMore (MayLeave (F.disk u)) (MayLeave (F.disk v))
-        → LeavesLonger (MayLeave (F.disk u)) (MayLeave (F.disk v)) }
-    ensures joined { (u v w : F) → LeavesLonger (MayLeave (F.disk u)) (MayLeave (F.disk v))
-        → LeavesLonger (MayLeave (F.disk v)) (MayLeave (F.disk w))
-        → LeavesLonger (MayLeave (F.disk u)) (MayLeave (F.disk w)) }
-    ensures bytes { (u v : F) → LeavesLonger (MayLeave (F.disk u)) (MayLeave (F.disk v))
-        → KeepsBytes (MayLeave (F.disk u)) (MayLeave (F.disk v)) }
-    ensures whole { (u : F) (bytes : List ℕ)
-        → LastsWhole (F.stored u).content (IsDurable (F.disk u)) (MayLeave (F.disk u))
-        → (F.stored u).content ≡ Some bytes → Outlives (MayLeave (F.disk u)) bytes }
+/// What a crash may leave of a file after each call of its device, whatever it answered.
+#[tactic(auto, using(crate::proofs::DiskLemmas::flushes_last, crate::proofs::DiskLemmas::appends_last, crate::proofs::DiskLemmas::cuts_last, crate::proofs::DiskLemmas::replaces_last))]
+pub fn calls_outlive_crashes()
+    ensures flushes { FlushesLast }
+    ensures appends { AppendsLast }
+    ensures cuts { CutsLast }
+    ensures replaces { ReplacesLast }
 {}

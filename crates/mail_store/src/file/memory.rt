@@ -65,22 +65,23 @@ impl FlatFile for MemoryFile {
     ghost use Rattle.std.specs.Prelude.{◌≡◌, ◌≢◌, ◌≤◌, ◌<◌, length, IfOk, IsOk, None, Some};
     ghost use Rattle.std.proofs.Common.{refl};
     ghost use Rattle.mail_terms.specs.FailureCount.{greatest_count};
-    ghost use Rattle.mail_store.specs.Devices.{FileDoes, FileFlushes, FileReads, FileWrites};
-    ghost use Rattle.mail_store.specs.Durable.{IsDurable, MayLeave, all_durable, seen_on};
+    ghost use Rattle.mail_store.specs.Devices.{FileDoes, FileLasts, FilePeeks, FileReads, FileRefuses};
+    ghost use Rattle.mail_store.specs.DiskCalls.{CutsDisk};
+    ghost use Rattle.mail_store.specs.Durable.{all_durable, seen_on};
     ghost use Rattle.mail_store.specs.FlatFile.{Measures, ReadsAt, Cuts, HasBytes};
-    ghost use Rattle.mail_store.specs.Power.{LeavesCut, LeavesFront};
 
     ghost stored = { λ f. f };
 
     // As long as the program runs, no crash reaches what is in memory.
     ghost disk = { λ f. all_durable f.content };
 
-    ghost is_sure = { λ f. Unit {0} };
-
     ghost sound = { λ f. f.failures < greatest_count };
 
-    #[tactic(auto, using(crate::proofs::DurableLemmas::lasts_all))]
     fn load(&mut self) -> Result<Vec<u8>, StoreFault> {
+        self.peek()
+    }
+
+    fn peek(&mut self) -> Result<Vec<u8>, StoreFault> {
         admit(&self.failures)?;
         let Some(bytes) = &self.content else {
             return Err(StoreFault::Missing);
@@ -91,15 +92,18 @@ impl FlatFile for MemoryFile {
         }
     }
 
-    fn peek(&mut self) -> Result<Vec<u8>, StoreFault> {
-        self.load()
+    fn edges(&mut self) -> Result<Edges, StoreFault>
+        ensures measures { FileDoes ⟦<MemoryFile as FlatFile>⟧ (λ old new. Measures old result new) self.old self.new }
+        ensures flushes { FileReads ⟦<MemoryFile as FlatFile>⟧ self.old result self.new }
+        ensures answers { self.old.failures < greatest_count → result ≢ Err StoreFault.Refused }
+    {
+        self.peek_edges()
     }
 
     // It takes no memory, so below the greatest count it isn't refused.
-    #[tactic(auto, using(crate::proofs::DurableLemmas::lasts_all))]
-    fn edges(&mut self) -> Result<Edges, StoreFault>
+    fn peek_edges(&mut self) -> Result<Edges, StoreFault>
         ensures measures { FileDoes ⟦<MemoryFile as FlatFile>⟧ (λ old new. Measures old result new) self.old self.new }
-        ensures keeps { FileFlushes ⟦<MemoryFile as FlatFile>⟧ self.old result self.new }
+        ensures peeks { FilePeeks ⟦<MemoryFile as FlatFile>⟧ self.old result self.new }
         ensures answers { self.old.failures < greatest_count → result ≢ Err StoreFault.Refused }
     {
         admit(&self.failures)?;
@@ -109,21 +113,13 @@ impl FlatFile for MemoryFile {
         }
     }
 
-    fn peek_edges(&mut self) -> Result<Edges, StoreFault>
-        ensures measures { FileDoes ⟦<MemoryFile as FlatFile>⟧ (λ old new. Measures old result new) self.old self.new }
-        ensures keeps { FileReads ⟦<MemoryFile as FlatFile>⟧ self.old result self.new }
-        ensures answers { self.old.failures < greatest_count → result ≢ Err StoreFault.Refused }
-    {
-        self.edges()
-    }
-
     // It takes no memory, so below the greatest count it isn't refused.
-    #[tactic(auto, using(crate::proofs::DurableLemmas::lasts_all))]
+    #[tactic(auto, using(crate::proofs::DiskLemmas::all_stay, crate::proofs::DiskLemmas::stays_flushed))]
     fn read_at(&mut self, start: u64, buf: &mut [u8]) -> Result<usize, StoreFault>
         ensures within { IfOk result (λ count. count ≤ length buf.new) }
         ensures reads { FileDoes ⟦<MemoryFile as FlatFile>⟧
             (λ old new. ReadsAt old start result buf.new new) self.old self.new }
-        ensures keeps { FileFlushes ⟦<MemoryFile as FlatFile>⟧ self.old result self.new }
+        ensures flushes { FileReads ⟦<MemoryFile as FlatFile>⟧ self.old result self.new }
         ensures answers { self.old.failures < greatest_count → result ≢ Err StoreFault.Refused }
     {
         admit(&self.failures)?;
@@ -133,7 +129,6 @@ impl FlatFile for MemoryFile {
         }
     }
 
-    #[tactic(auto, using(crate::proofs::DurableLemmas::lasts_all, crate::proofs::DurableLemmas::left_all, crate::proofs::DurableLemmas::seen_left))]
     fn append(&mut self, bytes: &[u8]) -> Result<(), StoreFault> {
         admit(&self.failures)?;
         let Some(content) = &mut self.content else {
@@ -146,17 +141,12 @@ impl FlatFile for MemoryFile {
     }
 
     // It takes no memory, so below the greatest count it isn't refused.
-    #[tactic(auto, using(crate::proofs::DurableLemmas::lasts_all, crate::proofs::DurableLemmas::left_all, crate::proofs::DurableLemmas::seen_left))]
     fn cut_to(&mut self, len: u64) -> Result<(), StoreFault>
         requires { self.old.failures < greatest_count → HasBytes self.old len }
         ensures cuts { FileDoes ⟦<MemoryFile as FlatFile>⟧ (λ old new. Cuts old len result new) self.old self.new }
-        ensures keeps { self.new.failures < greatest_count
-            → LeavesFront self.old.content len (MayLeave (all_durable self.old.content))
-            (MayLeave (all_durable self.new.content))
-            × (IsDurable (all_durable self.old.content)
-            → LeavesCut self.old.content len (MayLeave (all_durable self.old.content))
-            (MayLeave (all_durable self.new.content))) }
-        ensures lasts { FileWrites ⟦<MemoryFile as FlatFile>⟧ self.old result self.new }
+        ensures durable { FileLasts ⟦<MemoryFile as FlatFile>⟧
+            (λ old new. CutsDisk old len result new) self.old self.new }
+        ensures refuses { FileRefuses ⟦<MemoryFile as FlatFile>⟧ self.old result self.new }
         ensures answers { self.old.failures < greatest_count → IsOk result }
     {
         admit(&self.failures)?;
@@ -167,7 +157,6 @@ impl FlatFile for MemoryFile {
         Ok(())
     }
 
-    #[tactic(auto, using(crate::proofs::DurableLemmas::lasts_all, crate::proofs::DurableLemmas::left_all))]
     fn replace(&mut self, bytes: &[u8]) -> Result<(), StoreFault> {
         admit(&self.failures)?;
         match Vec::from_slice(self.alloc, bytes) {

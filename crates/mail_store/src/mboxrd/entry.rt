@@ -3,12 +3,13 @@
 ghost use Rattle.std.specs.Prelude.{◌≡◌, ◌≢◌, ◌↔◌, ◌≤◌, ◌+◌, ◌-◌, ◌++◌, List, ℕ, drop, length, take, IfErr, IfOk};
 ghost use Rattle.std.specs.Prelude.{IsTrue, OnOk};
 ghost use Rattle.mail_terms.specs.FailureCount.{Tallies, refuses};
-ghost use Rattle.mail_store.specs.Durable.{IsDurable, MayLeave};
+ghost use Rattle.mail_store.specs.DiskCalls.{FlushesDisk};
+ghost use Rattle.mail_store.specs.Durable.{IsDurable, IsSure, MayLeave};
 ghost use Rattle.mail_store.specs.Fault.{is_refusal};
 ghost use Rattle.mail_store.specs.FlatFile.{HasBytes, edges_of};
 ghost use Rattle.mail_terms.specs.Text.{IsWhole};
 ghost use Rattle.mail_store.specs.Mboxrd.{MayGoOn, entry_of, separator, EntryAddsText, OneReading, TextsMayGoOn};
-ghost use Rattle.mail_store.specs.Power.{KeepsWhole, LastsWhole, LeavesNoMore};
+ghost use Rattle.mail_store.specs.Power.{KeepsWhole};
 ghost use Rattle.mail_store.specs.MboxCalls.{Looks, Checks, ChecksFront, AppendsEntry, TalliesEntry};
 
 use crate::fault::{EntryFault, StoreFault};
@@ -30,10 +31,7 @@ fn look_at<F: FlatFile>(file: &mut F) -> Result<Edges, StoreFault>
     ensures looks { F.sound file.new → F.sound file.old
         × Looks (F.stored file.old) result (F.stored file.new) }
     ensures fault { IfErr result (λ e. e ≢ StoreFault.NoMemory) }
-    ensures keeps { F.sound file.new → LeavesNoMore (MayLeave (F.disk file.old)) (MayLeave (F.disk file.new)) }
-    ensures lasts { F.sound file.new → F.is_sure file.old
-        → OnOk result (F.is_sure file.new
-        × LastsWhole (F.stored file.new).content (IsDurable (F.disk file.new)) (MayLeave (F.disk file.new))) }
+    ensures durable { F.sound file.new → FlushesDisk (F.disk file.old) result (F.disk file.new) }
     ensures count { Tallies (refuses is_refusal result) (F.stored file.old).failures (F.stored file.new).failures }
 {
     let edges = file.edges()?;
@@ -50,10 +48,7 @@ pub fn check_mbox<F: FlatFile>(file: &mut F) -> Result<(), StoreFault>
     ensures checks { F.sound file.new → F.sound file.old
         × Checks (F.stored file.old) result (F.stored file.new) }
     ensures fault { IfErr result (λ e. e ≢ StoreFault.NoMemory) }
-    ensures keeps { F.sound file.new → LeavesNoMore (MayLeave (F.disk file.old)) (MayLeave (F.disk file.new)) }
-    ensures lasts { F.sound file.new → F.is_sure file.old
-        → OnOk result (F.is_sure file.new
-        × LastsWhole (F.stored file.new).content (IsDurable (F.disk file.new)) (MayLeave (F.disk file.new))) }
+    ensures durable { F.sound file.new → FlushesDisk (F.disk file.old) result (F.disk file.new) }
     ensures count { Tallies (refuses is_refusal result) (F.stored file.old).failures (F.stored file.new).failures }
 {
     look_at(file)?;
@@ -66,8 +61,7 @@ pub fn peek_ends<F: FlatFile>(file: &mut F) -> Result<Edges, StoreFault>
     ensures looks { F.sound file.new → F.sound file.old
         × Looks (F.stored file.old) result (F.stored file.new) }
     ensures fault { IfErr result (λ e. e ≢ StoreFault.NoMemory) }
-    ensures keeps { F.sound file.new → LeavesNoMore (MayLeave (F.disk file.old)) (MayLeave (F.disk file.new)) }
-    ensures sure { F.sound file.new → F.is_sure file.old → F.is_sure file.new }
+    ensures durable { F.sound file.new → F.disk file.new ≡ F.disk file.old }
     ensures count { Tallies (refuses is_refusal result) (F.stored file.old).failures (F.stored file.new).failures }
 {
     let edges = file.peek_edges()?;
@@ -82,8 +76,7 @@ pub fn peek_mbox<F: FlatFile>(file: &mut F) -> Result<(), StoreFault>
     ensures checks { F.sound file.new → F.sound file.old
         × Checks (F.stored file.old) result (F.stored file.new) }
     ensures fault { IfErr result (λ e. e ≢ StoreFault.NoMemory) }
-    ensures keeps { F.sound file.new → LeavesNoMore (MayLeave (F.disk file.old)) (MayLeave (F.disk file.new)) }
-    ensures sure { F.sound file.new → F.is_sure file.old → F.is_sure file.new }
+    ensures durable { F.sound file.new → F.disk file.new ≡ F.disk file.old }
     ensures count { Tallies (refuses is_refusal result) (F.stored file.old).failures (F.stored file.new).failures }
 {
     peek_ends(file)?;
@@ -186,9 +179,7 @@ pub fn append_entry<F: FlatFile>(file: &mut F, text: Vec<u8>) -> Result<(), Entr
         × AppendsEntry (F.stored file.old) text.items result (F.stored file.new) }
     ensures keeps { F.sound file.new
         → KeepsWhole (F.stored file.old).content (MayLeave (F.disk file.old)) (MayLeave (F.disk file.new)) }
-    ensures lasts { F.sound file.new → F.is_sure file.old
-        → OnOk result (F.is_sure file.new
-        × LastsWhole (F.stored file.new).content (IsDurable (F.disk file.new)) (MayLeave (F.disk file.new))) }
+    ensures lasts { F.sound file.new → IsSure (F.disk file.old).now → OnOk result (IsDurable (F.disk file.new)) }
     ensures count { TalliesEntry result (F.stored file.old).failures (F.stored file.new).failures }
 {
     let edges = look_at(file)?;

@@ -3,10 +3,10 @@
 ghost use Rattle.std.specs.Prelude.{◌≡◌, ◌≢◌, ◌==◌, ◌&&◌, ◌+◌, ◌%◌, ◌≤◌, ◌<◌, ◌^◌, ◌∷◌, ℕ, List, true, length};
 ghost use Rattle.std.specs.Prelude.{IfErr, OnOk, drop};
 ghost use Rattle.mail_terms.specs.FailureCount.{Tallies, refuses};
-ghost use Rattle.mail_store.specs.Durable.{IsDurable, MayLeave};
+ghost use Rattle.mail_store.specs.Durable.{IsDurable, IsSure, MayLeave};
 ghost use Rattle.mail_store.specs.Fault.{is_refusal};
 ghost use Rattle.mail_store.specs.Mboxrd.{text_in};
-ghost use Rattle.mail_store.specs.Power.{LastsWhole, LeavesFront, LeavesNoMore};
+ghost use Rattle.mail_store.specs.Power.{LeavesFront, LeavesNoMore};
 ghost use Rattle.mail_store.specs.Settling.{block_size, begin_with, has_size, is_lost, is_one_entry, is_ours, is_torn};
 ghost use Rattle.mail_store.specs.Settling.{is_whole};
 ghost use Rattle.mail_store.specs.Settling.{IsBehind, LeftoversAreSettled, LooksBehind};
@@ -148,6 +148,7 @@ fn judge(start: u64, behind: u64, len: u64, listed: Option<u64>, rest: &[u8]) ->
 }
 
 /// Looks at what stands at `start` in a file.
+#[tactic(auto, using(crate::proofs::DiskLemmas::all_no_more, crate::proofs::DiskLemmas::all_sure, crate::proofs::DiskLemmas::denied_no_more, crate::proofs::DiskLemmas::durable_sure))]
 fn look_behind<F: FlatFile>(
     alloc: Global,
     file: &mut F,
@@ -159,9 +160,7 @@ fn look_behind<F: FlatFile>(
         × LooksBehind (F.stored file.old) start len listed result (F.stored file.new) }
     ensures fault { IfErr result (λ e. e ≢ StoreFault.NotMbox) }
     ensures keeps { F.sound file.new → LeavesNoMore (MayLeave (F.disk file.old)) (MayLeave (F.disk file.new)) }
-    ensures lasts { F.sound file.new → F.is_sure file.old
-        → OnOk result (F.is_sure file.new
-        × LastsWhole (F.stored file.new).content (IsDurable (F.disk file.new)) (MayLeave (F.disk file.new))) }
+    ensures lasts { F.sound file.new → IsSure (F.disk file.old).now → OnOk result (IsDurable (F.disk file.new)) }
     ensures count { Tallies (refuses is_refusal result) (F.stored file.old).failures (F.stored file.new).failures }
 {
     let edges = file.edges()?;
@@ -201,9 +200,7 @@ pub fn settle_file<F: FlatFile>(
     ensures fault { IfErr result (λ e. e ≢ StoreFault.NotMbox) }
     ensures keeps { F.sound file.new
         → LeavesFront (F.stored file.old).content start (MayLeave (F.disk file.old)) (MayLeave (F.disk file.new)) }
-    ensures lasts { F.sound file.new → F.is_sure file.old
-        → OnOk result (F.is_sure file.new
-        × LastsWhole (F.stored file.new).content (IsDurable (F.disk file.new)) (MayLeave (F.disk file.new))) }
+    ensures lasts { F.sound file.new → IsSure (F.disk file.old).now → OnOk result (IsDurable (F.disk file.new)) }
     ensures count { Tallies (refuses is_refusal result) (F.stored file.old).failures (F.stored file.new).failures }
 {
     match look_behind(alloc, file, start, len, listed)? {

@@ -4,10 +4,11 @@ use Rattle.mail_store.specs.Durable.{MayLeave}
 use Rattle.mail_store.specs.FlatFile.{Stored}
 use Rattle.mail_store.specs.Mboxrd.{entry_of}
 use Rattle.mail_store.specs.Power.{KeepsWhole}
+use Rattle.mail_store.proofs.DiskLemmas.{all_sure, durable_sure, flushes_for_good}
 use Rattle.fetch_session.proofs.TalkLemmas.{err_is}
 use Rattle.fetch_session.specs.Mbox.{IsIntended}
 use Rattle.fetch_session.specs.Record.{with_open}
-use Rattle.fetch_session.proofs.SessionLemmas.{no_more_keeps, same_left}
+use Rattle.fetch_session.proofs.SessionLemmas.{durable_safe, no_more_keeps, same_left}
 use Rattle.fetch_session.proofs.TextLemmas.{entry_refused, not_intended, not_measured}
 use Rattle.fetch_session.proofs.appending.append_text.Goals as goal
 use Rattle.fetch_session.proofs.appending.append_text.Goals.{After-append_entry, After-entry_len-len, In_ok-size}
@@ -110,15 +111,18 @@ returns-in-Ok-clause-ledger g c = record {
 
 -- ---- what outlives a loss of power
 
+pub returns-in_err-edges-clause-keeps : goal.returns-in_err-edges-clause-keeps
+returns-in_err-edges-clause-keeps g c = λ m f. (no_more_keeps (g.F.FlatFile.stored c.args.mbox.now).content (flushes_for_good (g.F.FlatFile.disk c.args.mbox.now) (g.F.FlatFile.disk c.edges.new.self) c.edges.result (c.edges.ensures.durable m)).no_more, λ last. last)
+
 pub returns-in_err-size-clause-keeps : goal.returns-in_err-size-clause-keeps
-returns-in_err-size-clause-keeps g c = λ m f. (no_more_keeps (g.F.FlatFile.stored c.args.mbox.now).content (c.edges.ensures.keeps m), (c.intend.ensures.keeps f).0 c.args.ledger.now.seen.rows)
+returns-in_err-size-clause-keeps g c = λ m f. (no_more_keeps (g.F.FlatFile.stored c.args.mbox.now).content (flushes_for_good (g.F.FlatFile.disk c.args.mbox.now) (g.F.FlatFile.disk c.edges.new.self) c.edges.result (c.edges.ensures.durable m)).no_more, (c.intend.ensures.keeps f).0 c.args.ledger.now.seen.rows)
 
 -- the mboxrd file has all its bytes still
 whole : (g : _) (c : After-append_entry g) → (m : g.F.FlatFile.sound c.append_entry.new.file) → g.F.FlatFile.sound c.edges.new.self
     → KeepsWhole (g.F.FlatFile.stored c.args.mbox.now).content (MayLeave (g.F.FlatFile.disk c.args.mbox.now)) (MayLeave (g.F.FlatFile.disk c.append_entry.new.file))
 whole g c m before bytes is front =
     c.append_entry.ensures.keeps m bytes (ap (λ (s : Stored). s.content) (c.in_ok-edges.ensures.measures before).1.1 ∙ is)
-    (no_more_keeps (g.F.FlatFile.stored c.args.mbox.now).content (c.edges.ensures.keeps before) bytes is front)
+    (no_more_keeps (g.F.FlatFile.stored c.args.mbox.now).content (flushes_for_good (g.F.FlatFile.disk c.args.mbox.now) (g.F.FlatFile.disk c.edges.new.self) c.edges.result (c.edges.ensures.durable before)).no_more bytes is front)
 
 pub returns-in-Ok-clause-keeps : goal.returns-in-Ok-clause-keeps
 returns-in-Ok-clause-keeps g c = λ m f.
@@ -135,3 +139,9 @@ returns-in-Err-Nothing-clause-keeps g c = λ m f.
       whole g (goal.at.returns-in-Err-Nothing-clause-keeps g c).After-append_entry m (c.in-Err-Nothing.ensures.appends m).0,
       λ last. c.take_back.ensures.keeps f rows (c.in_ok-size.ensures.steady before).1.1 ((c.intend.ensures.keeps before).0 rows last),
     )
+
+pub returns-in-Ok-clause-lasts : goal.returns-in-Ok-clause-lasts
+returns-in-Ok-clause-lasts g c = λ m f sure safe.
+    let firm = all_sure (g.F.FlatFile.disk c.args.mbox.now) (g.F.FlatFile.disk c.edges.new.self) (c.in_ok-edges.ensures.durable (c.in-Ok.ensures.appends m).0) sure in
+    let durable = c.in-Ok.ensures.lasts m (durable_sure (g.F.FlatFile.disk c.edges.new.self) firm) in
+    (durable_safe g.F.FlatFile c.append_entry.new.file (g.met.F.FlatFile.shown c.append_entry.new.file) durable, c.in_ok-size.ensures.lasts f safe)

@@ -1,7 +1,8 @@
 use Rattle.std.proofs.Common.{inl, inr, List, ℕ, sym, ap, ◌++◌, ◌∙◌, append-nil}
 use Rattle.mail_store.specs.FlatFile.{Stored}
+use Rattle.mail_store.proofs.DiskLemmas.{appends_for_good}
 use Rattle.fetch_session.specs.Record.{bytes_in}
-use Rattle.fetch_session.proofs.SessionLemmas.{longer_rows, part_left, safe_left}
+use Rattle.fetch_session.proofs.SessionLemmas.{grown_safe, leaves_part, longer_rows, part_left, safe_left}
 use Rattle.fetch_session.proofs.SceneLemmas.{all_empty, is_there, not_empty, grown, cut_short, and_so}
 use Rattle.fetch_session.proofs.record.grow.Goals as goal
 
@@ -32,18 +33,22 @@ pub returns-in-Ok-clause-leaves : goal.returns-in-Ok-clause-leaves
 returns-in-Ok-clause-leaves g c = λ kept safe was stood.
     let part = part_left g.F.FlatFile c.append.new.self (g.F.FlatFile.stored c.args.file.now) was c.args.group.now
     (c.requires.begun (c.in-Ok.ensures.appends kept).0 (not_empty c.args.group.now c.is_empty.result c.if-is_empty.false c.is_empty.ensures)) stood
-    ((c.append.ensures.keeps kept).1 safe.1) in
+    (leaves_part g.F.FlatFile c.args.file.now c.append.new.self c.args.group.now c.append.result (g.met.F.FlatFile.shown c.args.file.now) (c.append.ensures.durable kept) safe) in
     (λ bytes is. part, λ left may. inr (part left may))
 
 pub returns-in-Err-clause-leaves : goal.returns-in-Err-clause-leaves
 returns-in-Err-clause-leaves g c = λ kept safe was stood.
     let part = part_left g.F.FlatFile c.append.new.self (g.F.FlatFile.stored c.args.file.now) was c.args.group.now
     (c.requires.begun (c.in-Err.ensures.appends kept).0 (not_empty c.args.group.now c.is_empty.result c.if-is_empty.false c.is_empty.ensures)) stood
-    ((c.append.ensures.keeps kept).1 safe.1) in
+    (leaves_part g.F.FlatFile c.args.file.now c.append.new.self c.args.group.now c.append.result (g.met.F.FlatFile.shown c.args.file.now) (c.append.ensures.durable kept) safe) in
     (λ bytes is. part, λ left may. inr (part left may))
 
 pub returns-in-Ok-clause-keeps : goal.returns-in-Ok-clause-keeps
-returns-in-Ok-clause-keeps g c = λ kept. longer_rows g.F.FlatFile c.args.file.now c.append.new.self (c.append.ensures.keeps kept).0
+returns-in-Ok-clause-keeps g c = λ kept. longer_rows g.F.FlatFile c.args.file.now c.append.new.self (appends_for_good (g.F.FlatFile.disk c.args.file.now) (g.F.FlatFile.disk c.append.new.self) c.args.group.now c.append.result (c.append.ensures.durable kept)).longer
 
 pub returns-in-Err-clause-keeps : goal.returns-in-Err-clause-keeps
-returns-in-Err-clause-keeps g c = λ kept. longer_rows g.F.FlatFile c.args.file.now c.append.new.self (c.append.ensures.keeps kept).0
+returns-in-Err-clause-keeps g c = λ kept. longer_rows g.F.FlatFile c.args.file.now c.append.new.self (appends_for_good (g.F.FlatFile.disk c.args.file.now) (g.F.FlatFile.disk c.append.new.self) c.args.group.now c.append.result (c.append.ensures.durable kept)).longer
+
+pub returns-in-Ok-clause-lasts : goal.returns-in-Ok-clause-lasts
+returns-in-Ok-clause-lasts g c = λ kept. grown_safe g.F.FlatFile c.args.file.now c.append.new.self c.args.group.now (tt {0}) (g.met.F.FlatFile.shown c.args.file.now) (g.met.F.FlatFile.shown c.append.new.self)
+    (c.in-Ok.ensures.durable kept)

@@ -1,7 +1,9 @@
 use Rattle.std.proofs.Common.{List, ℕ, Option, length, ap, sym, ◌∙◌}
 use Rattle.mail_store.specs.declared.file.flat_file.Edges.{Edges}
+use Rattle.mail_store.proofs.DiskLemmas.{all_sure, flushes_for_good}
 use Rattle.fetch_session.specs.Record.{bytes_in}
 use Rattle.fetch_session.proofs.SceneLemmas.{not_there, and_so}
+use Rattle.fetch_session.proofs.SessionLemmas.{durable_safe}
 use Rattle.fetch_session.proofs.record.measure.Goals as goal
 
 pub returns-in-Ok-clause-size : goal.returns-in-Ok-clause-size
@@ -10,3 +12,13 @@ returns-in-Ok-clause-size g c = λ kept. and_so (c.in-Ok.ensures.measures kept) 
 
 pub returns-in-Err-clause-size : goal.returns-in-Err-clause-size
 returns-in-Err-clause-size g c = λ kept. and_so (c.in-Err.ensures.measures kept) (λ sound denies. not_there _ _ c.in-Err.field-0 (c.requires.begun sound) denies)
+
+pub returns-in-Ok-clause-keeps : goal.returns-in-Ok-clause-keeps
+returns-in-Ok-clause-keeps g c = λ kept. (flushes_for_good (g.F.FlatFile.disk c.args.file.now) (g.F.FlatFile.disk c.edges.new.self) c.edges.result (c.edges.ensures.durable kept)).no_more
+
+pub returns-in-Err-clause-keeps : goal.returns-in-Err-clause-keeps
+returns-in-Err-clause-keeps g c = λ kept. (flushes_for_good (g.F.FlatFile.disk c.args.file.now) (g.F.FlatFile.disk c.edges.new.self) c.edges.result (c.edges.ensures.durable kept)).no_more
+
+pub returns-in-Ok-clause-lasts : goal.returns-in-Ok-clause-lasts
+returns-in-Ok-clause-lasts g c = λ kept sure.
+    durable_safe g.F.FlatFile c.edges.new.self (g.met.F.FlatFile.shown c.edges.new.self) (all_sure (g.F.FlatFile.disk c.args.file.now) (g.F.FlatFile.disk c.edges.new.self) (c.in-Ok.ensures.durable kept) sure)

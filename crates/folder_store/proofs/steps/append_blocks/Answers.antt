@@ -1,6 +1,8 @@
-use Rattle.std.proofs.Common.{◌++◌, append_assoc}
+use Rattle.std.proofs.Common.{◌++◌, Err, append_assoc}
 use Rattle.std.proofs.lemmas.Result.{err_from_is_err_and}
-use Rattle.folder_store.proofs.Files.{first_refused, later_refused, later_done, in_parts}
+use Rattle.mail_store.proofs.DiskLemmas.{front_of_all}
+use Rattle.folder_store.specs.PowerLoss.{disk_at}
+use Rattle.folder_store.proofs.Files.{later_refused, later_done, in_parts}
 use Rattle.folder_store.proofs.steps.append_blocks.Goals as goal
 
 pub returns-in_err-append_flushed : goal.returns-in_err-append_flushed
@@ -11,7 +13,7 @@ returns-in_err-append_flushed g c =
     let sized = c.in_ok-size.ensures piece.0 in
     let front = c.split_at.result.0.now in (
       sized.0,
-      first_refused (g.F.FileFolder.directory c.args.folder.now) _ c.args.name.now _ front _ p.0
+      front_of_all {T = Unit {0}} (Unit {0}) (disk_at (g.F.FileFolder.directory c.args.folder.now) c.args.name.now) _ _ front _ (Err p.0) p.0
           (in_parts _ front _ _ c.split_at.ensures.front c.split_at.ensures.back) (rw sized.1.1 at piece.1),
     ))
 
@@ -23,7 +25,7 @@ returns-in_err-append_flushed-2 g c =
     let done = c.loop-rest.invariant in
     let before = done.2 piece.0 in (
       before.0,
-      later_refused (g.F.FileFolder.directory c.args.folder.now) (g.F.FileFolder.directory c.loop-rest.folder) _ _ _ done.0 _ _ p.0 _ done.1
+      later_refused (disk_at (g.F.FileFolder.directory c.args.folder.now) c.args.name.now) (disk_at (g.F.FileFolder.directory c.loop-rest.folder) c.args.name.now) _ _ done.0 _ _ p.0 _ done.1
           (in_parts _ _ _ _ c.split_at-in-loop-rest.ensures.front c.split_at-in-loop-rest.ensures.back) before.1 piece.1,
     ))
 
@@ -36,5 +38,5 @@ loop-rest-preserved g c =
       rw (append_assoc done.0 page after, ← in_parts _ page after _ c.split_at-in-loop-rest.ensures.front c.split_at-in-loop-rest.ensures.back) done.1,
       λ s. let piece = c.in_ok-append_flushed-2.ensures s in
           let before = done.2 piece.0 in
-          (before.0, later_done (g.F.FileFolder.directory c.args.folder.now) (g.F.FileFolder.directory c.loop-rest.folder) _ _ done.0 page before.1 piece.1),
+          (before.0, later_done (disk_at (g.F.FileFolder.directory c.args.folder.now) c.args.name.now) (disk_at (g.F.FileFolder.directory c.loop-rest.folder) c.args.name.now) _ done.0 page before.1 piece.1),
     )

@@ -1,12 +1,13 @@
 use Rattle.std.proofs.Common.{◌≡◌, ◌++◌, ℕ, List, length}
-use Rattle.folder_store.specs.HostFile.{Becomes, IsAppended}
+use Rattle.mail_store.specs.DiskCalls.{Becomes, IsAppended}
+use Rattle.folder_store.specs.PowerLoss.{disk_at}
 use Rattle.folder_store.proofs.steps.append_blocks.Given as goal
 
 abbrev pub invariant-loop-rest : goal.invariant-loop-rest
 invariant-loop-rest g l =
     (done : List ℕ) × (l.bytes ≡ done ++ l.rest)
     × (g.F.FileFolder.sound l.folder → g.F.FileFolder.sound l.fn.folder
-    × Becomes (IsAppended done) (g.F.FileFolder.directory l.fn.folder) l.name (g.F.FileFolder.directory l.folder))
+    × Becomes (IsAppended done) (disk_at (g.F.FileFolder.directory l.fn.folder) l.name) (disk_at (g.F.FileFolder.directory l.folder) l.name))
 
 abbrev pub decreases-loop-rest : goal.decreases-loop-rest
 decreases-loop-rest g l = length l.rest

@@ -1,8 +1,9 @@
 use Rattle.std.proofs.Common.{[], append-nil, inl, sym}
 use Rattle.std.proofs.lemmas.Result.{err_from_is_err_and}
 use Rattle.mail_store.specs.Durable.{Blob}
-use Rattle.folder_store.specs.FileFolder.{appended}
-use Rattle.folder_store.proofs.Files.{flushed_becomes, one_piece, refused_becomes}
+use Rattle.mail_store.specs.DiskCalls.{appended}
+use Rattle.mail_store.proofs.DiskLemmas.{one_piece}
+use Rattle.folder_store.proofs.Files.{flushed_becomes, refused_becomes}
 use Rattle.folder_store.proofs.steps.append_flushed.Goals as goal
 
 pub returns-in_err-append : goal.returns-in_err-append

@@ -1,6 +1,6 @@
 use Rattle.std.proofs.Common.{inl}
 use Rattle.std.proofs.lemmas.Result.{err_from_is_err_and}
-use Rattle.folder_store.specs.FileFolder.{cut}
+use Rattle.mail_store.specs.DiskCalls.{cut}
 use Rattle.folder_store.proofs.Files.{flushed_becomes, refused_becomes}
 use Rattle.folder_store.proofs.steps.cut_flushed.Goals as goal
 

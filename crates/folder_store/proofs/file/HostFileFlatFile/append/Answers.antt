@@ -1,37 +1,18 @@
 use Rattle.std.proofs.Common.{refl, Ok, Err}
-use Rattle.folder_store.proofs.Files.{appends, appends_for_good, told_lasts}
+use Rattle.mail_store.proofs.DiskLemmas.{appends}
+use Rattle.folder_store.specs.PowerLoss.{disk_at}
 use Rattle.folder_store.proofs.file.HostFileFlatFile.append.Goals as goal
 
 pub returns-in-Err-clause-appends : goal.returns-in-Err-clause-appends
-returns-in-Err-clause-appends g c = rw c.doubt.ensures.doubted (λ s.
+returns-in-Err-clause-appends g c = λ s.
     let told = c.in-Err.ensures s.0 in (
       (told.0, c.in_ok-admit.ensures.admitted),
-      appends (g.F.FileFolder.directory c.args.self.now.folder) _ c.args.self.now.name.now _ _ _ (Err c.in-Err.field-0) told.1 refl,
-    ))
+      appends {T = Unit {0}} (disk_at (g.F.FileFolder.directory c.args.self.now.folder) c.args.self.now.name.now) _ _ _ _ (Err c.in-Err.field-0) told.1 c.refuse.ensures.counted,
+    )
 
 pub returns-in-Ok-clause-appends : goal.returns-in-Ok-clause-appends
 returns-in-Ok-clause-appends g c = λ s.
     let told = c.in-Ok.ensures s.0 in (
       (told.0, c.in_ok-admit.ensures.admitted),
-      appends (g.F.FileFolder.directory c.args.self.now.folder) _ c.args.self.now.name.now _ _ _ (Ok tt) told.1 refl,
+      appends {T = Unit {0}} (disk_at (g.F.FileFolder.directory c.args.self.now.folder) c.args.self.now.name.now) _ _ _ _ (Ok (tt {0})) told.1 refl,
     )
-
-pub returns-in-Ok-clause-keeps : goal.returns-in-Ok-clause-keeps
-returns-in-Ok-clause-keeps g c = λ s.
-    let old = g.F.FileFolder.directory c.args.self.now.folder in
-    let new = g.F.FileFolder.directory c.append_noting.new.folder in
-    let told = appends_for_good old new c.args.self.now.name.now _ (Ok tt) (c.in-Ok.ensures s.0).1 in
-    (told.longer, λ lasts was has. told.leaves (lasts was has).0 was has)
-
-pub returns-in-Ok-clause-lasts : goal.returns-in-Ok-clause-lasts
-returns-in-Ok-clause-lasts g c = λ s known on.
-    let old = g.F.FileFolder.directory c.args.self.now.folder in
-    let new = g.F.FileFolder.directory c.append_noting.new.folder in
-    told_lasts _ _ _ ((appends_for_good old new c.args.self.now.name.now c.args.bytes.now (Ok tt) (c.in-Ok.ensures s.0).1).outlives on)
-
-pub returns-in-Err-clause-keeps : goal.returns-in-Err-clause-keeps
-returns-in-Err-clause-keeps g c = rw c.doubt.ensures.doubted (λ s.
-    let old = g.F.FileFolder.directory c.args.self.now.folder in
-    let new = g.F.FileFolder.directory c.append_noting.new.folder in
-    let told = appends_for_good old new c.args.self.now.name.now _ (Err c.in-Err.field-0) (c.in-Err.ensures s.0).1 in
-    (told.longer, λ lasts was has. told.leaves (lasts was has).0 was has))

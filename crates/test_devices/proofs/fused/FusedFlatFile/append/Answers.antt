@@ -2,7 +2,7 @@ use Rattle.std.proofs.Common.{ℕ, ◌+◌, ◌/◌, List, ◌++◌, length, tak
 use Rattle.mail_store.specs.declared.fault.StoreFault.{StoreFault}
 use Rattle.mail_store.specs.declared.fault.StoreFault.TheVariants.{Refused}
 use Rattle.mail_store.specs.FlatFile.{Stored, Appends}
-use Rattle.mail_store.proofs.SettlingLemmas.{part_left}
+use Rattle.mail_store.proofs.DiskLemmas.{front_of_all}
 use Rattle.test_devices.proofs.fused.FusedFlatFile.append.Goals as goal
 
 -- the first half of the bytes was appended, or a front of it: a front of the bytes is there
@@ -20,13 +20,8 @@ returns-then-is_last_effect-clause-appends g c = λ k.
     let inner = c.append.ensures.appends was.0 in
     rw c.blow.ensures.counted ((inner.0, omega (arith, was.1)), front_appended _ _ c.args.bytes.now (length c.args.bytes.now / 2) c.args.self.now.failures c.append.result inner.1)
 
-pub returns-then-is_last_effect-clause-keeps : goal.returns-then-is_last_effect-clause-keeps
-returns-then-is_last_effect-clause-keeps g c = λ k.
+pub returns-then-is_last_effect-clause-durable : goal.returns-then-is_last_effect-clause-durable
+returns-then-is_last_effect-clause-durable g c = λ k.
     let half = length c.args.bytes.now / 2 in
-    let extends = c.append.ensures.keeps (rw c.blow.ensures.counted at k).0 in
-    rw c.blow.ensures.counted (
-      extends.0,
-      λ lasts was is left may.
-          let some = extends.1 lasts was is left may in
-          (some.0, some.1, rw (take-append-drop half c.args.bytes.now) at (part_left (length was) (take half c.args.bytes.now) (drop half c.args.bytes.now) some.0 some.2)),
-    )
+    rw c.blow.ensures.counted (front_of_all (Unit {0}) (g.D.FlatFile.disk c.args.self.now.device) (g.D.FlatFile.disk c.append.new.self) c.args.bytes.now (take half c.args.bytes.now) (drop half c.args.bytes.now) c.append.result Refused
+    (sym (take-append-drop half c.args.bytes.now)) (c.append.ensures.durable (rw c.blow.ensures.counted at k).0))

@@ -1,0 +1,520 @@
+-- What is durable of a file after each call of its device, and what a crash leaves then.
+use Rattle.std.proofs.Common.{◌≡◌, ℕ, ◌+◌, ◌<◌, zero, suc, length, refl, arith, List, [], ◌∷◌, ◌++◌, take, drop, sym, ap, subst, ◌∙◌, Option, Some, None, option_map, Result, Ok, Err, inl, inr, ⊎_elim, append_assoc, append-nil, take-append-drop, ◌⊎◌, ◌-◌, ◌≤◌, min, length-append, slice_index, true, false, ◌==◌, ◌%◌, ◌/◌, OnOk, if◌then◌else◌}
+use Rattle.std.proofs.lemmas.Option.{same_Some}
+use Rattle.std.proofs.lemmas.Bool.{cases_Bool, cases_lt, eq-eqb}
+use Rattle.std.proofs.lemmas.List.{take-append-le, take-take, length-take, get_or-take, get_or_append_left, get_or-append-add}
+use Rattle.std.proofs.lemmas.Grind.{same_number_lists}
+use Rattle.std.proofs.Math.Seq.{take-append-add, take-append_seam, take-length}
+use Rattle.std.specs.List.{list_all}
+use Rattle.mail_terms.specs.FailureCount.{is_refused}
+use Rattle.mail_store.specs.declared.fault.StoreFault.{StoreFault}
+use Rattle.mail_store.specs.declared.fault.StoreFault.TheVariants.{Missing, Refused, NotMbox, NoMemory}
+use Rattle.mail_store.specs.DiskCalls.{appended, cut, flushed, doubted, MayBeFlushed, all_flushed, MayFlush, DeniesDisk, FlushesDisk, Becomes, BecomesInPart, IsSoFar, IsPartAppended, IsFrontAppended, AppendsDisk, CutsDisk, ReplacesDisk, FlushesForGood, AppendsForGood, CutsForGood, ReplacesForGood, FlushesLast, AppendsLast, CutsLast, ReplacesLast}
+use Rattle.mail_store.specs.Durable.{Blob, Disk, IsByteLeft, IsDurable, IsFlushed, IsLeft, IsLeftOf, IsLeftOfOne, IsSure, IsTorn, MayLeave, all_durable, content_in, secured, seen_on}
+use Rattle.mail_store.specs.FlatFile.{Stored, Appends, Cuts, Replaces}
+use Rattle.mail_store.specs.Power.{IsLonger, LeavesNoMore}
+use Rattle.mail_store.specs.Settling.{block_size, MayBeLeft}
+use Rattle.mail_store.proofs.DurableLemmas.{durable_is_left, left_flushed, no_rest, left_of}
+use Rattle.mail_store.proofs.SettlingLemmas.{part_left}
+
+-- ---- flushes
+
+-- a file of which no flush was refused is durable once it is flushed, and another as it was
+flushed_sure : (b : Blob) → b.is_doubted ≡ false → flushed b ≡ secured b.content
+flushed_sure b sure = rw sure refl
+
+flushed_doubted : (b : Blob) → b.is_doubted ≡ true → flushed b ≡ b
+flushed_doubted b doubt = rw doubt refl
+
+flushed_twice : (b : Blob) → flushed (flushed b) ≡ flushed b
+flushed_twice b = ⊎_elim (λ doubt. ap flushed (flushed_doubted b doubt)) (λ sure. ap flushed (flushed_sure b sure) ∙ sym (flushed_sure b sure)) (cases_Bool b.is_doubted)
+
+abbrev pub disk_of : Option Blob → List (Option Blob) → Disk
+disk_of now older = record { now = now; older = older }
+
+-- once all is flushed, another flush changes nothing
+all_flushed_twice : (disk : Disk) → all_flushed (all_flushed disk) ≡ all_flushed disk
+all_flushed_twice disk = ap (λ (o : Option Blob). disk_of o []) (by disk.now)
+  where
+    by : (o : Option Blob) → option_map flushed (option_map flushed o) ≡ option_map flushed o
+    by None = refl
+    by (Some b) = ap Some (flushed_twice b)
+
+pub flushed_settled : (old new : Disk) → new ≡ all_flushed old → all_flushed new ≡ new
+flushed_settled old new e = ap all_flushed e ∙ all_flushed_twice old ∙ sym e
+
+-- nor does it after a write that was flushed
+pub becomes_settled : (f : Blob → Blob) (old new : Disk) → Becomes (λ b c. c ≡ flushed (f b)) old new → all_flushed old ≡ old → all_flushed new ≡ new
+becomes_settled f old new (b, c, at, is, e) settled =
+    let named : [] ≡ old.older = ap (λ (disk : Disk). disk.older) settled in
+    let same : flushed c ≡ c = ap flushed is ∙ flushed_twice (f b) ∙ sym is in
+    ap all_flushed e ∙ ap (λ (x : Blob). disk_of (Some x) []) same ∙ ap (disk_of (Some c)) named ∙ sym e
+
+-- what is left of the second file is so related to what may be left of the first
+abbrev pub Leaves : (Option (List ℕ) → Option (List ℕ) → Type 0) → Blob → Blob → Type 0
+Leaves R b c = (left : Option (List ℕ)) → IsLeftOf (Some c) left → (was : Option (List ℕ)) × IsLeftOf (Some b) was × R was left
+
+-- a flush adds nothing to what may be left
+no_more : (b c : Blob) → MayBeFlushed b c → LeavesNoMore (IsLeftOf (Some b)) (IsLeftOf (Some c))
+no_more b c (inl e) left h = subst (λ (x : Blob). IsLeftOf (Some x) left) e h
+no_more b c is None h = absurd h
+no_more b c (inr (inl e)) (Some left) h = ⊎_elim (λ doubt. rw (e ∙ flushed_doubted b doubt) at h)
+    (λ sure. inr (inl (left_of b.content left (rw (e ∙ flushed_sure b sure) at h)))) (cases_Bool b.is_doubted)
+no_more b c (inr (inr e)) (Some left) h = subst (λ (x : Blob). IsLeft x left) e h
+
+-- what is left of a file that was appended to begins with what could have been left before
+torn_longer : (b : Blob) (bytes left : List ℕ) → IsTorn (b.content ++ bytes) b.flushed b.uncut left → IsLeft b (take (length b.content) left)
+torn_longer b bytes left t = elim (cases_lt (length b.content) b.uncut) [
+  | inl short ↦
+      let more = take (b.uncut - length b.content) bytes in
+      let size : b.uncut ≡ length b.content + (b.uncut - length b.content) = omega (arith, short) in
+      let front : take b.uncut (b.content ++ bytes) ≡ b.content ++ more =
+      ap (λ (n : ℕ). take n (b.content ++ bytes)) size ∙ take-append-add b.content bytes (b.uncut - length b.content) in
+      inr (inl (
+      ap (take (length b.content)) (t.kept ∙ ap (λ (xs : List ℕ). xs ++ t.behind) front ∙ append_assoc b.content more t.behind)
+      ∙ take-append_seam b.content (more ++ t.behind)
+      ))
+  | inr le ↦
+      let front = take b.uncut b.content in
+      let size : length b.content ≡ length front + (length b.content - b.uncut) = omega (arith, le, length-take b.uncut b.content) in
+      inr (inr (record {
+        behind = take (length b.content - b.uncut) t.behind;
+        kept =
+            ap (take (length b.content)) (t.kept ∙ ap (λ (xs : List ℕ). xs ++ t.behind) (take-append-le b.uncut b.content bytes le))
+            ∙ ap (λ (n : ℕ). take n (front ++ t.behind)) size ∙ take-append-add front t.behind (length b.content - b.uncut);
+        most = inl (omega (arith, length-take (length b.content) left));
+        each = λ i from below. byte i (within i below).0 (t.each i from (within i below).1);
+      }))
+]
+  where
+    within : (i : ℕ) → i < length (take (length b.content) left) → (i < length b.content) × (i < length left)
+    within i below = (omega (arith, below, length-take (length b.content) left), omega (arith, below, length-take (length b.content) left))
+
+    same : (i : ℕ) → i < length b.content → slice_index (take (length b.content) left) i ≡ slice_index left i
+    same i below = get_or-take (length b.content) left i 0 below
+
+    byte : (i : ℕ) → i < length b.content → IsByteLeft (b.content ++ bytes) b.flushed left i
+        → IsByteLeft b.content b.flushed (take (length b.content) left) i
+    byte i below (inl (in_all, e)) = inl (below, same i below ∙ e ∙ get_or_append_left b.content bytes 0 i below)
+    byte i below (inr (inl (in_flushed, e))) = inr (inl (in_flushed, same i below ∙ e))
+    byte i below (inr (inr (in_all, zeros))) = inr (inr (below, λ j from in_left block. same j (within j in_left).0 ∙ zeros j from (within j in_left).1 block))
+
+appended_longer : (b : Blob) (bytes : List ℕ) → Leaves IsLonger b (appended b bytes)
+appended_longer b bytes None h = absurd h
+appended_longer b bytes (Some left) (inl e) = (Some left, inl e, inl refl)
+appended_longer b bytes (Some left) (inr (inl e)) = (Some b.content, inr (inl refl), inr (b.content, bytes, refl, ap Some e))
+appended_longer b bytes (Some left) (inr (inr t)) =
+    let size = length b.content in
+    (Some (take size left), torn_longer b bytes left t, inr (take size left, drop size left, refl, ap Some (sym (take-append-drop size left))))
+
+longer_on : (one two three : Option (List ℕ)) → IsLonger one two → IsLonger two three → IsLonger one three
+longer_on one two three (inl e) more = subst (λ (o : Option (List ℕ)). IsLonger o three) e more
+longer_on one two three (inr (bytes, behind, is, e)) (inl f) = inr (bytes, behind, is, f ∙ e)
+longer_on one two three (inr (bytes, behind, is, e)) (inr (all, last, same, f)) = inr (
+  bytes,
+  behind ++ last,
+  is,
+  f ∙ ap (λ (xs : List ℕ). Some (xs ++ last)) (same_Some all (bytes ++ behind) (sym same ∙ e)) ∙ ap Some (append_assoc bytes behind last),
+)
+
+-- bytes were appended to a file, and may have been flushed
+may_longer : (b c : Blob) (bytes : List ℕ) → MayBeFlushed (appended b bytes) c → Leaves IsLonger b c
+may_longer b c bytes is left h = appended_longer b bytes left (no_more (appended b bytes) c is left h)
+
+part_longer : (b c : Blob) (first front : List ℕ) → IsPartAppended first front b c → Leaves IsLonger b c
+part_longer b c first front is left h =
+    let late = may_longer is.so_far c front is.is left h in
+    let before : Leaves IsLonger b is.so_far =
+    ⊎_elim (λ none was k. (was, subst (λ (x : Blob). IsLeftOf (Some x) was) none.1 k, inl refl)) (λ e. may_longer b is.so_far first (inr (inl e))) is.is_flushed in
+    let early = before late.0 late.1 in
+    (early.0, early.1, longer_on early.0 late.0 left early.2 late.2)
+
+torn_front : (b : Blob) (len : ℕ) (left : List ℕ) → b.uncut ≤ len → IsTorn (take len b.content) b.flushed (min len b.uncut) left
+    → IsTorn b.content b.flushed b.uncut left
+torn_front b len left le t = record {
+  behind = t.behind;
+  kept = t.kept ∙ ap (λ (xs : List ℕ). xs ++ t.behind) (ap (λ (n : ℕ). take n (take len b.content)) size ∙ take-take b.uncut len b.content le);
+  most = ⊎_elim (λ short. inl (omega (arith, short, length-take len b.content))) inr t.most;
+  each = λ i from below. byte i (t.each i (omega (arith, from, size)) below);
+}
+  where
+    size : min len b.uncut ≡ b.uncut
+    size = omega (arith, le)
+
+    inside : (i : ℕ) → i < length (take len b.content) → i < length b.content
+    inside i below = omega (arith, below, length-take len b.content)
+
+    byte : (i : ℕ) → IsByteLeft (take len b.content) b.flushed left i → IsByteLeft b.content b.flushed left i
+    byte i (inl (below, e)) = inl (inside i below, e ∙ get_or-take len b.content i 0 (omega (arith, below, length-take len b.content)))
+    byte i (inr (inl p)) = inr (inl p)
+    byte i (inr (inr (below, zeros))) = inr (inr (inside i below, zeros))
+
+-- what is left of a file that was cut could have been left before, or begins with its first bytes
+cut_front : (b : Blob) (len : ℕ) (left : Option (List ℕ)) → IsLeftOf (Some (cut b len)) left
+    → IsLeftOf (Some b) left ⊎ ((behind : List ℕ) × (left ≡ Some (take len b.content ++ behind)))
+cut_front b len None h = absurd h
+cut_front b len (Some left) (inl e) = inl (inl e)
+cut_front b len (Some left) (inr (inl e)) = inr ([], ap Some (e ∙ sym (append-nil (take len b.content))))
+cut_front b len (Some left) (inr (inr t)) = elim (cases_lt len b.uncut) [
+  | inl below ↦
+      let size : min len b.uncut ≡ len = omega (arith, below) in
+      let front : take (min len b.uncut) (take len b.content) ≡ take len b.content =
+      ap (λ (n : ℕ). take n (take len b.content)) size ∙ take-take len len b.content (omega arith) in
+      inr (t.behind, ap Some (t.kept ∙ ap (λ (xs : List ℕ). xs ++ t.behind) front))
+  | inr le ↦ inl (inr (inr (torn_front b len left le t)))
+]
+
+-- ---- the file and its name
+
+may_now : (disk : Disk) (left : Option (List ℕ)) → IsLeftOf disk.now left → MayLeave disk left
+unfolding MayLeave
+may_now disk left now = inl now
+
+may_once : (disk : Disk) (left : Option (List ℕ)) → IsLeftOfOne disk.older left → MayLeave disk left
+unfolding MayLeave
+may_once disk left was = inr was
+
+may_of : (old new : Disk) (left : Option (List ℕ)) → new ≡ old → MayLeave new left → IsLeftOf old.now left ⊎ IsLeftOfOne old.older left
+unfolding MayLeave
+may_of old new left e may = subst (λ (disk : Disk). MayLeave disk left) e may
+
+pub may_arrive : (o : Option Blob) → IsLeftOf o (option_map content_in o)
+may_arrive None = tt
+may_arrive (Some b) = inr (inl refl)
+
+leaves_become : (R : Option (List ℕ) → Option (List ℕ) → Type 0) {S : Blob → Blob → Type 0} (old new : Disk) → ((left : Option (List ℕ)) → R left left)
+    → ((b c : Blob) → S b c → Leaves R b c) → (new ≡ old) ⊎ Becomes S old new
+    → (left : Option (List ℕ)) → MayLeave new left → (was : Option (List ℕ)) × MayLeave old was × R was left
+leaves_become R old new same leaves (inl e) left may = (left, subst (λ (disk : Disk). MayLeave disk left) e may, same left)
+leaves_become R old new same leaves (inr (b, c, at, is, e)) left may =
+    ⊎_elim (λ now. let w = leaves b c is left now in (w.0, may_now old w.0 (subst (λ (o : Option Blob). IsLeftOf o w.0) (sym at) w.1), w.2))
+    (λ was. (left, may_once old left was, same left)) (may_of (record old { now = Some c }) new left e may)
+
+-- what could be left before
+pub same_leaves : {old new : Disk} → new ≡ old → LeavesNoMore (MayLeave old) (MayLeave new)
+same_leaves e left may = subst (λ (disk : Disk). MayLeave disk left) e may
+
+-- no flush was refused of a file that is durable
+pub durable_sure : (disk : Disk) → IsDurable disk → IsSure disk.now
+durable_sure disk is = by disk.now is.flushed
+  where
+    by : (o : Option Blob) → IsFlushed o → IsSure o
+    by None is = tt
+    by (Some b) is = ap (λ (x : Blob). x.is_doubted) is
+
+-- ---- a flush
+
+now_no_more : (o : Option Blob) (f : Blob → Blob) → ((b : Blob) → MayBeFlushed b (f b)) → LeavesNoMore (IsLeftOf o) (IsLeftOf (option_map f o))
+now_no_more None f is left h = h
+now_no_more (Some b) f is left h = no_more b (f b) (is b) left h
+
+flush_no_more : (old new : Disk) (f : Blob → Blob) (older : List (Option Blob)) → ((b : Blob) → MayBeFlushed b (f b))
+    → ((left : Option (List ℕ)) → IsLeftOfOne older left → IsLeftOfOne old.older left) → new ≡ record { now = option_map f old.now; older = older }
+    → LeavesNoMore (MayLeave old) (MayLeave new)
+flush_no_more old new f older is once e left may =
+    ⊎_elim (λ now. may_now old left (now_no_more old.now f is left now)) (λ was. may_once old left (once left was))
+    (may_of (record { now = option_map f old.now; older = older }) new left e may)
+
+pub all_no_more : (old new : Disk) → new ≡ all_flushed old → LeavesNoMore (MayLeave old) (MayLeave new)
+all_no_more old new e = flush_no_more old new flushed [] (λ b. inr (inl refl)) (λ left was. absurd was) e
+
+flushed_now : (o : Option Blob) → IsSure o → IsFlushed (option_map flushed o)
+flushed_now None sure = tt
+flushed_now (Some b) sure = flushed_sure b sure
+
+may_no_more : (old new : Disk) → MayFlush old new → LeavesNoMore (MayLeave old) (MayLeave new)
+may_no_more old new (inl e) = same_leaves e
+may_no_more old new (inr (inl e)) = flush_no_more old new flushed old.older (λ b. inr (inl refl)) (λ left was. was) e
+may_no_more old new (inr (inr (inl e))) = flush_no_more old new doubted old.older (λ b. inr (inr refl)) (λ left was. was) e
+may_no_more old new (inr (inr (inr e))) = all_no_more old new e
+
+pub denied_no_more : (old new : Disk) (fault : StoreFault) → DeniesDisk old fault new → LeavesNoMore (MayLeave old) (MayLeave new)
+denied_no_more old new Missing e = same_leaves e
+denied_no_more old new NotMbox e = all_no_more old new e
+denied_no_more old new Refused t = may_no_more old new t
+denied_no_more old new NoMemory t = may_no_more old new t
+
+-- what calls see is durable then, if no flush was refused before
+pub all_sure : (old new : Disk) → new ≡ all_flushed old → IsSure old.now → IsDurable new
+all_sure old new e sure = subst (λ (disk : Disk). IsDurable disk) (sym e) (record { named = refl; flushed = flushed_now old.now sure })
+
+pub flushes_for_good : {T : Type 0} (old new : Disk) (result : Result T StoreFault) → FlushesDisk old result new → FlushesForGood old result new
+flushes_for_good old new (Ok done) e = record { no_more = all_no_more old new e; durable = all_sure old new e }
+flushes_for_good old new (Err fault) t = record { no_more = denied_no_more old new fault t; durable = λ sure. tt }
+
+-- ---- a write
+
+-- the bytes of the file that is there
+content_is : (disk : Disk) (was : List ℕ) (b : Blob) → disk.now ≡ Some b → seen_on disk ≡ Some was → b.content ≡ was
+content_is disk was b at h = same_Some b.content was (sym (ap (option_map content_in) at) ∙ h)
+
+-- the file that was durable was flushed
+was_secured : (old : Disk) (b : Blob) → old.now ≡ Some b → IsDurable old → b ≡ secured b.content
+was_secured old b at is = subst (λ (o : Option Blob). IsFlushed o) at is.flushed
+
+-- what is left of a file that was durable and became another
+left_become : {R : Blob → Blob → Type 0} (old new : Disk) (was : List ℕ) (left : Option (List ℕ)) → Becomes R old new → IsDurable old
+    → seen_on old ≡ Some was → MayLeave new left → (c : Blob) × R (secured was) c × IsLeftOf (Some c) left
+left_become {R} old new was left (b, c, at, is, e) on has may = (
+  c,
+  subst (λ (x : Blob). R x c) (was_secured old b at on ∙ ap (λ (xs : List ℕ). secured xs) (content_is old was b at has)) is,
+  ⊎_elim (λ now. now) (λ once. absurd (rw on.named at once)) (may_of (record old { now = Some c }) new left e may),
+)
+
+-- the file didn't change, so what was durable is left
+left_kept : (old new : Disk) (left : Option (List ℕ)) → IsDurable old → new ≡ old → MayLeave new left → left ≡ seen_on old
+left_kept old new left is e may = durable_is_left old left is (subst (λ (disk : Disk). MayLeave disk left) e may)
+
+-- a file that became one whose bytes are durable
+now_durable : {T : Type 0} (f : Blob → Blob) → ((was : List ℕ) → IsFlushed (Some (f (secured was))))
+    → (Part : Blob → Blob → Type 0) (old new : Disk)
+    → (r : Result T StoreFault) → BecomesInPart (λ b c. c ≡ f b) Part old r new
+    → OnOk r (IsDurable old → IsDurable new)
+now_durable f each Part old new (Ok done) (b, c, at, is, e) = λ on. subst (λ (disk : Disk). IsDurable disk) (sym e) (record {
+  named = on.named;
+  flushed = subst (λ (o : Option Blob). IsFlushed o) (sym (ap Some (is ∙ ap f (was_secured old b at on)))) (each b.content);
+})
+now_durable f each Part old new (Err fault) t = tt
+
+-- what a call did, whatever it answered
+in_part : {T : Type 0} {Done Part : Blob → Blob → Type 0} → ((b c : Blob) → Done b c → Part b c)
+    → (old new : Disk) (r : Result T StoreFault) → BecomesInPart Done Part old r new → (new ≡ old) ⊎ Becomes Part old new
+in_part also old new (Ok done) (b, c, at, is, e) = inr (b, c, at, also b c is, e)
+in_part also old new (Err fault) t = t
+
+-- ---- `append`
+
+pub one_piece : (bytes front rest : List ℕ) (b c : Blob) → bytes ≡ front ++ rest → MayBeFlushed (appended b front) c
+    → IsFrontAppended bytes b c
+one_piece bytes front rest b c parts is = ([], front, rest, parts, record { so_far = b; is_flushed = inl (refl, refl); is = is })
+
+-- some of the bytes were appended, whatever that answered: a call that was to append all was refused
+pub front_of_all : {T : Type 0} (S : Type 0) (old new : Disk) (bytes piece more : List ℕ) (r : Result T StoreFault) (fault : StoreFault) → bytes ≡ piece ++ more
+    → AppendsDisk old piece r new → AppendsDisk {T = S} old bytes (Err fault) new
+front_of_all S old new bytes piece more (Ok done) fault parts (b, c, at, is, e) = inr (b, c, at, one_piece bytes piece more b c parts (inr (inl is)), e)
+front_of_all S old new bytes piece more (Err why) fault parts (inl same) = inl same
+front_of_all S old new bytes piece more (Err why) fault parts (inr (b, c, at, (first, front, rest, is, part), e)) =
+    inr (b, c, at, (first, front, rest ++ more, rw (parts, is) (simp append_assoc), part), e)
+
+part_later : (place : ℕ) (first more left : List ℕ) → MayBeLeft (place + length first) more left → MayBeLeft place (first ++ more) (first ++ left)
+part_later place [] more left is = subst (λ (n : ℕ). MayBeLeft n more left) (omega arith) is
+part_later place (byte ∷ first) more left is =
+    (inl refl, part_later (place + 1) first more left (subst (λ (n : ℕ). MayBeLeft n more left) (omega arith) is))
+
+-- zeros up to the end of a block, by their places and by recursion
+are_zeros : (n : ℕ) (bytes : List ℕ) → ((j : ℕ) → j < n → j < length bytes → slice_index bytes j ≡ 0) → list_all (λ byte. byte == 0) (take n bytes) ≡ true
+are_zeros zero bytes zeros = refl
+are_zeros (suc n) [] zeros = refl
+are_zeros (suc n) (byte ∷ bytes) zeros =
+    rw (eq-eqb byte 0 (zeros 0 (omega arith) (omega arith)))
+    (are_zeros n bytes (λ j below within. zeros (suc j) (omega (arith, below)) (omega (arith, within))))
+
+abbrev IsZeroBehind : ℕ → List ℕ → ℕ → Type 0
+IsZeroBehind place left i = (j : ℕ) → i ≤ j → j < length left → (place + j) / block_size ≡ (place + i) / block_size → slice_index left j ≡ 0
+
+each_part : (place : ℕ) (bytes left : List ℕ) → length left ≤ length bytes
+    → ((i : ℕ) → i < length left → (slice_index left i ≡ slice_index bytes i) ⊎ IsZeroBehind place left i) → MayBeLeft place bytes left
+each_part place bytes [] le each = tt
+each_part place [] (byte ∷ left) le each = absurd (omega (arith, le))
+each_part place (word ∷ bytes) (byte ∷ left) le each = (
+  ⊎_elim inl (λ zeros. inr (are_zeros (block_size - place % block_size) (byte ∷ left) (λ j below within. zeros j (omega arith) within (omega (arith, below))))) (each 0 (omega arith)),
+  each_part (place + 1) bytes left (omega (arith, le)) (λ i below. ⊎_elim inl
+      (λ zeros. inr (λ j from within block. zeros (suc j) (omega (arith, from)) (omega (arith, within)) (omega (arith, block)))) (each (suc i) (omega (arith, below)))),
+)
+
+-- of a durable file the old bytes are left, and a part of those that were appended
+abbrev LeavesBehind : List ℕ → List ℕ → Option (List ℕ) → Type 0
+LeavesBehind was bytes left = (behind : List ℕ) × (left ≡ Some (was ++ behind)) × MayBeLeft (length was) bytes behind
+
+some_behind : (was bytes left : List ℕ) → IsTorn (was ++ bytes) was (length was) left → LeavesBehind was bytes (Some left)
+some_behind was bytes left t = (
+  t.behind,
+  ap Some parts,
+  each_part (length was) bytes t.behind
+      (⊎_elim (λ le. omega (arith, le, size, length-append was bytes)) (λ same. omega (arith, same, size)) t.most)
+      (λ i below. byte i (t.each (length was + i) (omega arith) (omega (arith, below, size)))),
+)
+  where
+    parts : left ≡ was ++ t.behind
+    parts = t.kept ∙ ap (λ (xs : List ℕ). xs ++ t.behind) (take-append_seam was bytes)
+
+    size : length left ≡ length was + length t.behind
+    size = ap length parts ∙ length-append was t.behind
+
+    at : (i : ℕ) → slice_index left (length was + i) ≡ slice_index t.behind i
+    at i = ap (λ (xs : List ℕ). slice_index xs (length was + i)) parts ∙ get_or-append-add was t.behind i 0
+
+    byte : (i : ℕ) → IsByteLeft (was ++ bytes) was left (length was + i)
+        → (slice_index t.behind i ≡ slice_index bytes i) ⊎ IsZeroBehind (length was) t.behind i
+    byte i (inl (in_content, e)) = inl (sym (at i) ∙ e ∙ get_or-append-add was bytes i 0)
+    byte i (inr (inl (in_flushed, e))) = absurd (omega (arith, in_flushed))
+    byte i (inr (inr (in_content, zeros))) =
+        inr (λ j from within block. sym (at j) ∙ zeros (length was + j) (omega (arith, from)) (omega (arith, within, size)) block)
+
+loose_behind : (was bytes : List ℕ) (left : Option (List ℕ)) → IsLeftOf (Some (appended (secured was) bytes)) left → LeavesBehind was bytes left
+loose_behind was bytes None h = absurd h
+loose_behind was bytes (Some left) (inl e) = ([], ap Some (e ∙ sym (append-nil was)), tt)
+loose_behind was bytes (Some left) (inr (inl e)) = (bytes, ap Some e, rw (append-nil bytes) at (part_later (length was) bytes [] [] tt))
+loose_behind was bytes (Some left) (inr (inr t)) = some_behind was bytes left t
+
+pieces_behind : (was bytes first front rest : List ℕ) (c : Blob) (left : Option (List ℕ)) → bytes ≡ first ++ (front ++ rest)
+    → IsPartAppended first front (secured was) c → IsLeftOf (Some c) left → LeavesBehind was bytes left
+pieces_behind was bytes first front rest c left parts is h =
+    let so_far : is.so_far ≡ secured (was ++ first) = ⊎_elim (λ none. none.1 ∙ rw (none.0, append-nil was) refl) (λ e. e) is.is_flushed in
+    let t = loose_behind (was ++ first) front left
+    (subst (λ (x : Blob). IsLeftOf (Some (appended x front)) left) so_far (no_more (appended is.so_far front) c is.is left h)) in (
+      first ++ t.0,
+      t.1 ∙ ap Some (append_assoc was first t.0),
+      rw parts (part_later (length was) first (front ++ rest) t.0
+          (part_left (length was + length first) front rest t.0 (subst (λ (n : ℕ). MayBeLeft n front t.0) (length-append was first) t.2))),
+    )
+
+pub appends_for_good : {T : Type 0} (old new : Disk) (bytes : List ℕ) (r : Result T StoreFault) → AppendsDisk old bytes r new → AppendsForGood old bytes r new
+appends_for_good old new bytes r t =
+    let part = in_part (λ b c is. one_piece bytes bytes [] b c (sym (append-nil bytes)) (inr (inl is))) old new r t in
+    record {
+      longer = leaves_become IsLonger old new (λ left. inl refl) (λ b c is. part_longer b c is.0 is.1 is.4) part;
+      leaves = λ on was has left may. ⊎_elim (λ e. ([], left_kept old new left on e may ∙ has ∙ ap Some (sym (append-nil was)), tt))
+          (λ t. let k = left_become old new was left t on has may in
+          pieces_behind was bytes k.1.0 k.1.1 k.1.2 k.0 left k.1.3 k.1.4 k.2) part;
+      durable = now_durable (λ b. flushed (appended b bytes)) (λ was. refl) (IsFrontAppended bytes) old new r t;
+    }
+
+-- ---- `cut_to`
+
+loose_cut : (was left : List ℕ) (len : ℕ) → IsTorn (take len was) was (min len (length was)) left → (left ≡ was) ⊎ (left ≡ take len was)
+loose_cut was left len t =
+    let size : length (take len was) ≡ min len (length was) = length-take len was in
+    let front : take (min len (length was)) (take len was) ≡ take len was =
+    subst (λ (n : ℕ). take n (take len was) ≡ take len was) size (take-length (take len was)) in
+    let parts : left ≡ take len was ++ t.behind = t.kept ∙ ap (λ (xs : List ℕ). xs ++ t.behind) front in
+    ⊎_elim
+    (λ le. inr (parts ∙ no_rest (take len was) t.behind (subst (λ (xs : List ℕ). length xs ≤ length (take len was)) parts le)))
+    (λ same. inl (same_number_lists left was same (λ i below. ⊎_elim
+    (λ before. ap (λ (xs : List ℕ). slice_index xs i) parts ∙ get_or_append_left (take len was) t.behind 0 i before
+    ∙ get_or-take len was i 0 (omega (arith, before, length-take len was)))
+    (λ after. ⊎_elim (λ p. absurd (omega (arith, after, p.0))) (⊎_elim (λ p. p.1) (λ p. absurd (omega (arith, after, p.0))))
+    (t.each i (subst (λ (n : ℕ). n ≤ i) size after) below)) (cases_lt i (length (take len was)))))) t.most
+
+left_cut : (was : List ℕ) (len : ℕ) (left : Option (List ℕ)) → IsLeftOf (Some (cut (secured was) len)) left → (left ≡ Some was) ⊎ (left ≡ Some (take len was))
+left_cut was len None h = absurd h
+left_cut was len (Some left) (inl e) = inl (ap Some e)
+left_cut was len (Some left) (inr (inl e)) = inr (ap Some e)
+left_cut was len (Some left) (inr (inr t)) = ⊎_elim (λ e. inl (ap Some e)) (λ e. inr (ap Some e)) (loose_cut was left len t)
+
+front_left : (old new : Disk) (was : List ℕ) (len : ℕ) (left : Option (List ℕ)) → seen_on old ≡ Some was
+    → Becomes (λ b c. MayBeFlushed (cut b len) c) old new → MayLeave new left
+    → MayLeave old left ⊎ ((behind : List ℕ) × (left ≡ Some (take len was ++ behind)))
+front_left old new was len left has (b, c, at, is, e) may = elim (may_of (record old { now = Some c }) new left e may) [
+  | inl now ↦ elim (cut_front b len left (no_more (cut b len) c is left now)) [
+    | inl before ↦ inl (may_now old left (subst (λ (o : Option Blob). IsLeftOf o left) (sym at) before))
+    | inr (behind, f) ↦ inr (behind, f ∙ ap (λ (xs : List ℕ). Some (take len xs ++ behind)) (content_is old was b at has))
+  ]
+  | inr once ↦ inl (may_once old left once)
+]
+
+pub cuts_for_good : {T : Type 0} (old new : Disk) (len : ℕ) (r : Result T StoreFault) → CutsDisk old len r new → CutsForGood old len r new
+cuts_for_good old new len r t =
+    let part = in_part (λ b c is. inr (inl is)) old new r t in
+    record {
+      front = λ was has left may. ⊎_elim (λ e. inl (same_leaves e left may)) (λ t. front_left old new was len left has t may) part;
+      leaves = λ on was has left may. ⊎_elim (λ e. inl (same_leaves e left may))
+          (λ t. let k = left_become old new was left t on has may in
+          ⊎_elim (λ e. inl (may_now old left (subst (λ (o : Option (List ℕ)). IsLeftOf old.now o) (has ∙ sym e) (may_arrive old.now)))) inr
+          (left_cut was len left (no_more (cut (secured was) len) k.0 k.1 left k.2))) part;
+      durable = now_durable (λ b. flushed (cut b len)) (λ was. refl) (λ b c. MayBeFlushed (cut b len) c) old new r t;
+    }
+
+-- ---- `replace`
+
+of_new : {P : Type 0} (new : Disk) (bytes : List ℕ) (older : List (Option Blob)) → new ≡ record { now = Some (secured bytes); older = older }
+    → (left : Option (List ℕ)) → (IsLeftOfOne older left → P) → MayLeave new left → P ⊎ (left ≡ Some bytes)
+of_new new bytes older e left was may =
+    ⊎_elim (λ now. inr (left_flushed (Some (secured bytes)) left refl now)) (λ once. inl (was once)) (may_of (record { now = Some (secured bytes); older = older }) new left e may)
+
+pub replaces_for_good : {T : Type 0} (old new : Disk) (bytes : List ℕ) (r : Result T StoreFault) → ReplacesDisk old bytes r new → ReplacesForGood old bytes r new
+replaces_for_good old new bytes (Ok done) e = record {
+  leaves = λ left. of_new new bytes [] e left (λ was. absurd was);
+  durable = subst (λ (disk : Disk). IsDurable disk) (sym e) (record { named = refl; flushed = refl });
+}
+replaces_for_good old new bytes (Err fault) (inl e) = record { leaves = λ left may. inl (same_leaves e left may); durable = tt }
+replaces_for_good old new bytes (Err fault) (inr (inl e)) =
+    record { leaves = λ left. of_new new bytes (old.now ∷ old.older) e left (⊎_elim (may_now old left) (may_once old left)); durable = tt }
+replaces_for_good old new bytes (Err fault) (inr (inr e)) = record { leaves = λ left. of_new new bytes [] e left (λ was. absurd was); durable = tt }
+
+-- ---- what calls see
+
+-- the bytes of a file stay, whether it is flushed or not
+may_content : (b c : Blob) → MayBeFlushed b c → c.content ≡ b.content
+may_content b c is = ⊎_elim (ap content_in) (⊎_elim (ap content_in) (ap content_in)) is
+
+so_far_content : (b c : Blob) (bytes : List ℕ) → IsSoFar bytes b c → c.content ≡ b.content ++ bytes
+so_far_content b c bytes (inl (none, e)) = rw (e, none, append-nil b.content) refl
+so_far_content b c bytes (inr e) = ap content_in e
+
+part_content : (b c : Blob) (first front : List ℕ) → IsPartAppended first front b c → c.content ≡ b.content ++ (first ++ front)
+part_content b c first front is =
+    may_content (appended is.so_far front) c is.is
+    ∙ ap (λ (xs : List ℕ). xs ++ front) (so_far_content b is.so_far first is.is_flushed)
+    ∙ append_assoc b.content first front
+
+-- the file that calls see
+abbrev pub stored_on : Disk → ℕ → Stored
+stored_on disk failures = record { content = seen_on disk; failures = failures }
+
+pub appends : {T : Type 0} (old new : Disk) (bytes : List ℕ) (n m : ℕ) (r : Result T StoreFault) → AppendsDisk old bytes r new
+    → m ≡ (if is_refused r then n + 1 else n) → Appends (stored_on old n) bytes r (stored_on new m)
+appends old new bytes n m (Ok done) (b, c, at, is, e) up = λ was here. rw (up, e, is, content_is old was b at here) refl
+appends old new bytes n m (Err fault) (inl e) up = λ was is. ([], bytes, refl, rw (up, e, is, append-nil was) refl)
+appends old new bytes n m (Err fault) (inr (b, c, at, (first, front, rest, parts, is), e)) up = λ was here. (
+  first ++ front,
+  rest,
+  parts ∙ sym (append_assoc first front rest),
+  rw (up, e, part_content b c first front is, content_is old was b at here) refl,
+)
+
+pub cuts : {T : Type 0} (old new : Disk) (len n m : ℕ) (r : Result T StoreFault) → CutsDisk old len r new
+    → m ≡ (if is_refused r then n + 1 else n) → Cuts (stored_on old n) len r (stored_on new m)
+cuts old new len n m (Ok done) (b, c, at, is, e) up = λ was here. rw (up, e, is, content_is old was b at here) refl
+cuts old new len n m (Err fault) (inl e) up = λ was is. inl (rw (up, e) refl)
+cuts old new len n m (Err fault) (inr (b, c, at, is, e)) up = λ was here. inr (rw (up, e, may_content (cut b len) c is, content_is old was b at here) refl)
+
+pub replaces : {T : Type 0} (old new : Disk) (bytes : List ℕ) (n m : ℕ) (r : Result T StoreFault) → ReplacesDisk old bytes r new
+    → m ≡ (if is_refused r then n + 1 else n) → Replaces (stored_on old n) bytes r (stored_on new m)
+replaces old new bytes n m (Ok done) e up = rw (up, e) refl
+replaces old new bytes n m (Err fault) (inl e) up = inl (rw (up, e) refl)
+replaces old new bytes n m (Err fault) (inr (inl e)) up = inr (rw (up, e) refl)
+replaces old new bytes n m (Err fault) (inr (inr e)) up = inr (rw (up, e) refl)
+
+-- ---- a file in memory
+
+-- what is durable stays so when it is flushed
+pub all_stay : (content : Option (List ℕ)) → all_durable content ≡ all_flushed (all_durable content)
+all_stay None = refl
+all_stay (Some bytes) = refl
+
+-- whatever a call that flushes it answers
+pub stays_flushed : {T : Type 0} (content : Option (List ℕ)) (result : Result T StoreFault) (new : Disk) → new ≡ all_durable content → FlushesDisk (all_durable content) result new
+stays_flushed content (Ok done) new e = e ∙ all_stay content
+stays_flushed content (Err Missing) new e = e
+stays_flushed content (Err NotMbox) new e = e ∙ all_stay content
+stays_flushed content (Err Refused) new e = inl e
+stays_flushed content (Err NoMemory) new e = inl e
+
+-- so it is after a replacement
+pub replaced_settled : (bytes : List ℕ) (new : Disk) → new ≡ all_durable (Some bytes) → all_flushed new ≡ new
+replaced_settled bytes new e = ap all_flushed e ∙ sym (all_stay (Some bytes)) ∙ sym e
+
+-- ---- the laws
+
+pub flushes_last : FlushesLast
+flushes_last old new result t = flushes_for_good old new result t
+
+pub appends_last : AppendsLast
+appends_last old new bytes result t = appends_for_good old new bytes result t
+
+pub cuts_last : CutsLast
+cuts_last old new len result t = cuts_for_good old new len result t
+
+pub replaces_last : ReplacesLast
+replaces_last old new bytes result t = replaces_for_good old new bytes result t
