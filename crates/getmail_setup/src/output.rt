@@ -5,6 +5,7 @@ ghost use Rattle.std.specs.Io.KnownBytes.{Appends};
 ghost use Rattle.std.specs.IoError.{error_kind};
 ghost use Rattle.getmail_setup.specs.Output.{Puts, number_text};
 
+use pop3_wire::write_whole;
 use std::io::{self, ErrorKind, Write};
 
 /// Why something wasn't written.
@@ -32,14 +33,6 @@ pub fn refusal_of(error: &io::Error) -> OutputRefusal
     } else {
         OutputRefusal::Refused
     }
-}
-
-/// Writes these octets, and flushes the writer.
-fn write_whole<W: Write>(writer: &mut W, octets: &[u8]) -> io::Result<()>
-    ensures { OnOk result (Appends (W.contents writer.old) (W.contents writer.new) octets.now) }
-{
-    writer.write_all(octets)?;
-    writer.flush()
 }
 
 /// Writes a number, and flushes the writer.
