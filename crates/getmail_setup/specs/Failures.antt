@@ -1,8 +1,13 @@
 -- The lines and the exit statuses of runs that end before their session.
-use Rattle.std.specs.Prelude.{◌≡◌, ◌⊎◌, ℕ, List, ◌++◌, codes}
+use Rattle.std.specs.Prelude.{◌≡◌, ◌⊎◌, ℕ, Bool, true, false, List, [], ◌++◌, Option, None, Some, codes}
+use Rattle.std.specs.Fmt.{decimal}
+use Rattle.std.specs.String.{string_bytes}
 use Rattle.rc_file.specs.RcText.{rc_text}
 use Rattle.rc_file.specs.declared.fault.RcFault.{RcFault}
+use Rattle.rc_file.specs.declared.settings.Settings.{Settings}
+use Rattle.getmail_setup.specs.Output.{Puts}
 use Rattle.getmail_setup.specs.Places.{peer_name}
+use Rattle.getmail_setup.specs.declared.errors.Errors.{Errors}
 use Rattle.getmail_setup.specs.declared.failure.Failure.{Failure}
 use Rattle.getmail_setup.specs.declared.failure.Failure.TheVariants.{NoHome, CannotRead, Rc, OtherList, AtWork, CannotConnect}
 use Rattle.getmail_setup.specs.declared.failure.Failure.TheVariants.{NoMemory}
@@ -41,3 +46,30 @@ IsLine (OtherList list path) line = line ≡ other_list_line list.now path.now
 IsLine AtWork line = line ≡ codes "getmail: another getmail is at work for this account\n"
 IsLine (CannotConnect server port) line = line ≡ unconnected_line server.now port
 IsLine NoMemory line = line ≡ out_of_memory
+
+-- the account that a reason is about, if it is known
+abbrev pub account_front : Option Settings → List ℕ
+account_front None = []
+account_front (Some settings) = string_bytes settings.username ++ (codes "@" ++ (string_bytes settings.server
+    ++ (codes ":" ++ (decimal settings.port ++ codes ": "))))
+
+-- a line with a reason after some words
+abbrev pub reason_line : Option Settings → List ℕ → List ℕ → List ℕ
+reason_line account words reason = codes "getmail: " ++ (account_front account ++ (words ++ (reason ++ codes "\n")))
+
+-- what follows a failure's line: one with its reason, if that is known and reasons are asked for
+abbrev pub IsCause : Bool → Option Settings → Failure → List ℕ → Type 0
+IsCause false account failure text = text ≡ []
+IsCause true account NoHome text = text ≡ []
+IsCause true account (OtherList list path) text = text ≡ []
+IsCause true account NoMemory text = text ≡ []
+IsCause true account failure text = (text ≡ []) ⊎ ((reason : List ℕ) × (text ≡ reason_line account [] reason))
+
+-- a failure's line was written, and then what follows it
+pub record TellsFailure {E : Type 0} (contents : E → Option (List ℕ)) (account : Option Settings) (failure : Failure)
+    (old new : Errors E) : Type 0 where
+  pub line : List ℕ
+  pub is_line : IsLine failure line
+  pub cause : List ℕ
+  pub is_cause : IsCause old.says_why account failure cause
+  pub puts : Puts contents old.err (line ++ cause) new.err

@@ -1,6 +1,7 @@
 //! What a run writes to standard error before its session, and what it keeps of refused calls.
-ghost use Rattle.std.specs.Prelude.{◌≡◌, ◌≤◌};
-ghost use Rattle.getmail_setup.specs.Failures.{status_of};
+ghost use Rattle.std.specs.Prelude.{◌≡◌, ◌≤◌, ℕ, List, option_map};
+ghost use Rattle.getmail_setup.specs.Failures.{IsCause, TellsFailure, account_front, reason_line, status_of};
+ghost use Rattle.getmail_setup.specs.Output.{Puts};
 
 use crate::failure::{Failure, tell};
 use crate::journal::{Journal, Subject};
@@ -89,34 +90,52 @@ fn tell_cause<E: Write>(
     failure: Failure<'_>,
     account: Option<&Settings>,
     errors: &mut Errors<'_, E>,
-) {
+)
+    ensures { (text : List ℕ) × IsCause errors.old.says_why (option_map (λ settings. settings.now) account.entry)
+        failure.entry text × Puts E.contents errors.old.err text errors.new.err }
+{
     let reasons = errors.reasons;
-    let reason = match failure {
-        Failure::NoHome | Failure::NoMemory | Failure::OtherList(_, _) => None,
-        Failure::Rc(_) => reasons.rule.take(),
+    let reason = match (errors.says_why, failure) {
+        (false, _) => None,
+        (_, Failure::NoHome | Failure::NoMemory | Failure::OtherList(_, _)) => None,
+        (_, Failure::Rc(_)) => reasons.rule.take(),
         _ => refused_before(alloc, reasons),
     };
-    if let Some(reason) = reason {
-        tell_reason(account, "", &reason, &mut errors.err);
+    match reason {
+        Some(reason) => tell_reason(account, "", &reason, &mut errors.err),
+        None => errors.err.put(b""),
     }
 }
 
+/// Writes the account that a reason is about, if it is known.
+#[tactic(auto, using(crate::proofs::OutputLemmas::puts_six))]
+fn put_account<E: Write>(account: Option<&Settings>, err: &mut Output<E>)
+    ensures { Puts E.contents err.old (account_front (option_map (λ settings. settings.now) account.entry)) err.new }
+{
+    let Some(settings) = account else {
+        return err.put(b"");
+    };
+    err.put(settings.username.as_bytes());
+    err.put(b"@");
+    err.put(settings.server.as_bytes());
+    err.put(b":");
+    err.put_number(Some(u32::from(settings.port)));
+    err.put(b": ");
+}
+
 /// Writes a line with these words and a reason.
+#[tactic(auto, using(crate::proofs::OutputLemmas::puts_five))]
 fn tell_reason<E: Write>(
     account: Option<&Settings>,
     words: &str,
     reason: &[u8],
     err: &mut Output<E>,
-) {
+)
+    ensures { Puts E.contents err.old
+        (reason_line (option_map (λ settings. settings.now) account.entry) words.now reason.now) err.new }
+{
     err.put(b"getmail: ");
-    if let Some(settings) = account {
-        err.put(settings.username.as_bytes());
-        err.put(b"@");
-        err.put(settings.server.as_bytes());
-        err.put(b":");
-        err.put_number(Some(u32::from(settings.port)));
-        err.put(b": ");
-    }
+    put_account(account, err);
     err.put(words.as_bytes());
     err.put(reason);
     err.put(b"\n");
@@ -144,11 +163,11 @@ pub fn fail<E: Write>(
 ) -> u8
     ensures status { result ≡ status_of failure.entry }
     ensures within { result ≤ 2 }
+    ensures told { TellsFailure E.contents (option_map (λ settings. settings.now) account.entry) failure.entry errors.old
+        errors.new }
 {
     let status = tell(alloc, failure, &mut errors.err);
-    if errors.says_why {
-        tell_cause(alloc, failure, account, errors);
-    }
+    tell_cause(alloc, failure, account, errors);
     errors.close(Subject::Fault);
     status
 }

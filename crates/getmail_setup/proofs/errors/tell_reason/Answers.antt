@@ -1,0 +1,7 @@
+use Rattle.getmail_setup.proofs.OutputLemmas.{puts_five}
+use Rattle.getmail_setup.proofs.errors.tell_reason.Goals as goal
+
+pub returns : goal.returns
+returns g c =
+    puts_five g.E.Write.contents _ _ _ _ _ _ _ _ _ _ _ c.put.ensures c.put_account.ensures
+    (rw (c.as_bytes.ensures.value) at c.put-2.ensures) c.put-3.ensures c.put-4.ensures
