@@ -8,10 +8,9 @@ use Rattle.rc_file.specs.declared.fault.RcFault.{RcFault}
 use Rattle.rc_file.specs.declared.fault.RcFault.TheVariants.{Contradiction}
 use Rattle.rc_file.specs.declared.flags.Flags.{Flags}
 use Rattle.rc_file.specs.declared.settings.Settings.{Settings}
-use Rattle.getmail_setup.specs.Places.{AreRead, IsRcPath, Reads, folder_path, path_in, rc_path, whole_path}
+use Rattle.getmail_setup.specs.Places.{AreRead, IsRcPath, Reads, folder_path, path_in, rc_path, rc_room, whole_path}
 use Rattle.getmail_setup.specs.declared.failure.Failure.{Failure}
 use Rattle.getmail_setup.specs.declared.failure.Failure.TheVariants.{CannotRead, NoHome, NoMemory, Rc}
-use Rattle.getmail_setup.specs.declared.setup.TheConstants.{RC_ROOM}
 use Rattle.getmail_setup.specs.declared.words.Words.{Words}
 
 -- memory ran out, or a path isn't known, for want of HOME
@@ -33,7 +32,7 @@ MeansNone flags bytes failure = ⊥
 
 -- memory ran out, or a read of an rc file was refused or gave octets that mean no settings
 abbrev pub GivesNone : Reads → (List ℕ → Type 0) → Flags → List ℕ → Failure → Type 0
-GivesNone gave refused flags path (Rc fault) = (bytes : List ℕ) × gave path RC_ROOM bytes × IsWrong flags bytes fault
+GivesNone gave refused flags path (Rc fault) = (bytes : List ℕ) × gave path rc_room bytes × IsWrong flags bytes fault
 GivesNone gave refused flags path CannotRead = refused path
 GivesNone gave refused flags path NoMemory = Unit {0}
 GivesNone gave refused flags path failure = ⊥

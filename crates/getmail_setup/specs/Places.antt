@@ -1,10 +1,11 @@
 -- Paths of the program's files.
-use Rattle.std.specs.Prelude.{◌≡◌, ℕ, Bool, false, Ok, ◌||◌, nat_eq, List, [], ◌++◌, drop, Option, Some, None}
+use Rattle.std.specs.Prelude.{◌≡◌, ◌+◌, ℕ, Bool, false, Ok, ◌||◌, nat_eq, List, [], ◌++◌, drop, Option, Some, None}
 use Rattle.std.specs.Prelude.{option_map, codes, if◌then◌else◌}
 use Rattle.std.specs.Fmt.{decimal}
 use Rattle.std.specs.List.{starts_with, ends_with}
 use Rattle.std.specs.String.{string_bytes}
 use Rattle.rc_file.specs.RcMeaning.{Warned, rc_meaning}
+use Rattle.rc_file.specs.declared.file.TheConstants.{RC_LIMIT}
 use Rattle.rc_file.specs.Settings.{Content, IsValid, begins_at_home, content_of}
 use Rattle.rc_file.specs.Flags.{is_contradiction, overridden}
 use Rattle.rc_file.specs.declared.flags.Flags.{Flags}
@@ -12,7 +13,6 @@ use Rattle.rc_file.specs.declared.settings.Settings.{Settings}
 use Rattle.rc_file.specs.declared.settings.Dest.{Dest}
 use Rattle.rc_file.specs.declared.settings.Dest.TheVariants.{Maildir, Mboxrd}
 use Rattle.mail_store.specs.FileName.{account_text}
-use Rattle.getmail_setup.specs.declared.setup.TheConstants.{RC_ROOM}
 use Rattle.getmail_setup.specs.declared.setup.Paths.{Paths}
 use Rattle.getmail_setup.specs.declared.setup.Setup.{Setup}
 use Rattle.getmail_setup.specs.declared.words.Words.{Words}
@@ -99,12 +99,16 @@ pub record IsRcPath (home : Option (List ℕ)) (words : Words) (path : List ℕ)
 abbrev pub Reads : Type 1
 Reads = List ℕ → ℕ → List ℕ → Type 0
 
+-- one octet more than an rc file may have
+abbrev pub rc_room : ℕ
+rc_room = RC_LIMIT + 1
+
 -- these settings are what the rc file means that the words name, by the octets that a read of it gave
 pub record AreRead (gave : Reads) (home : Option (List ℕ)) (words : Words) (settings : Settings) : Type 0 where
   pub path : List ℕ
   pub path_is : IsRcPath home words path
   pub bytes : List ℕ
-  pub given : gave path RC_ROOM bytes
+  pub given : gave path rc_room bytes
   pub asked : AreAsked words.flags bytes settings
 
 -- a run's settings and paths are those that the rc file, the words and the home mean

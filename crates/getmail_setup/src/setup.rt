@@ -4,7 +4,7 @@ ghost use Rattle.std.specs.String.{string_bytes};
 ghost use Rattle.rc_file.specs.Settings.{IsValid};
 ghost use Rattle.getmail_setup.specs.NoSetup.{GivesNone, HasNoPath, HasNoSetup, MeansNone};
 ghost use Rattle.getmail_setup.specs.Places.{AreAsked, AreFor, IsSetUp, IsToldPath, account_path, digits_of, path_in};
-ghost use Rattle.getmail_setup.specs.Places.{folder_path, whole_path};
+ghost use Rattle.getmail_setup.specs.Places.{folder_path, rc_room, whole_path};
 
 use crate::connection::is_socket;
 use crate::errors::Errors;
@@ -24,7 +24,7 @@ use std::rt::Files;
 use trace::line_text;
 
 /// One octet more than an rc file may have, so that a longer one is noticed.
-pub const RC_ROOM: u64 = 65_537;
+const RC_ROOM: u64 = 65_537;
 
 /// The warning of a file that others may read, before its path.
 const OTHERS: &str = "warning: others than its owner may read or write ";
@@ -138,7 +138,7 @@ fn settings_of<'a, R: Files + AllocGlobal, S: ReadFile, E: Write>(
     errors: &mut Errors<'_, E>,
 ) -> Result<Settings, Failure<'a>>
     ensures valid { IfOk result IsValid }
-    ensures asked { IfOk result (λ settings. (bytes : List ℕ) × S.gave files.now path.now RC_ROOM bytes
+    ensures asked { IfOk result (λ settings. (bytes : List ℕ) × S.gave files.now path.now rc_room bytes
         × AreAsked words.now.flags bytes settings) }
     ensures err { IfErr result (GivesNone (S.gave files.now) (S.refused files.now) words.now.flags path.now) }
 {
