@@ -122,7 +122,9 @@ fn peer_name(alloc: Global, server: &str, port: u16) -> Result<String, AllocErro
 
 /// What the link needs. It is made before there is a connection, so that want of memory doesn't end one.
 pub fn peer_of(alloc: Global, settings: &Settings) -> Result<Peer, AllocError>
-    ensures { IfOk result (λ peer. peer.password.items ≡ string_bytes settings.now.password) }
+    ensures name { IfOk result (λ peer. string_bytes peer.name
+        ≡ peer_name (string_bytes settings.now.server) settings.now.port) }
+    ensures password { IfOk result (λ peer. peer.password.items ≡ string_bytes settings.now.password) }
 {
     let server = settings.server.as_str();
     let port = settings.port;

@@ -1,5 +1,5 @@
 //! A writer that remembers whether it refused something.
-ghost use Rattle.std.specs.Prelude.{◌≡◌, None, Some, OnOk};
+ghost use Rattle.std.specs.Prelude.{◌≡◌, ◌≢◌, None, Some, OnOk};
 ghost use Rattle.std.specs.Fmt.{decimal};
 ghost use Rattle.std.specs.Io.KnownBytes.{Appends};
 ghost use Rattle.std.specs.IoError.{error_kind};
@@ -26,7 +26,8 @@ pub struct Output<W> {
 
 /// Why an error of the system kept something from being written.
 pub fn refusal_of(error: &io::Error) -> OutputRefusal
-    ensures { error_kind error.now ≡ ErrorKind.OutOfMemory → result ≡ OutputRefusal.NoMemory }
+    ensures memory { error_kind error.now ≡ ErrorKind.OutOfMemory → result ≡ OutputRefusal.NoMemory }
+    ensures other { error_kind error.now ≢ ErrorKind.OutOfMemory → result ≡ OutputRefusal.Refused }
 {
     if error.kind() == ErrorKind::OutOfMemory {
         OutputRefusal::NoMemory
