@@ -1,10 +1,9 @@
 -- Whose mail is served.
-use Rattle.std.specs.Prelude.{◌≡◌, ℕ, true, List, Some, option_map}
+use Rattle.std.specs.Prelude.{◌≡◌, ◌-◌, ◌^◌, ℕ, true, List, Some, option_map}
 use Rattle.std.specs.String.{string_bytes}
 use Rattle.popd_program.specs.Password.{password_of}
 use Rattle.popd_program.specs.Failures.{has_right_count}
 use Rattle.popd_program.specs.declared.account.Account.{Account}
-use Rattle.popd_program.specs.declared.account.TheConstants.{WHOLE_FILE}
 use Rattle.popd_program.specs.declared.words.Words.{Words}
 
 -- the words name this account: its user first and its Maildir last; and its password is in the octets that a read of
@@ -15,6 +14,6 @@ pub record IsAccount (gave : List ℕ → ℕ → List ℕ → Type 0) (words : 
   pub passfile : List ℕ
   pub passfile_is : option_map string_bytes words.passfile ≡ Some passfile
   pub file : List ℕ
-  pub given : gave passfile WHOLE_FILE file
+  pub given : gave passfile (2 ^ 64 - 1) file
   pub password : account.password.items ≡ password_of file
   pub maildir : option_map string_bytes words.maildir ≡ Some (string_bytes account.maildir)

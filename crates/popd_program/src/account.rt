@@ -63,7 +63,7 @@ impl Account {
 }
 
 /// The most octets of a password file.
-pub const WHOLE_FILE: u64 = u64::MAX;
+const WHOLE_FILE: u64 = u64::MAX;
 
 /// The account that the words USER PASSFILE MAILDIR name, with the password from PASSFILE. A wrong
 /// number of words is reported before that file is read.
