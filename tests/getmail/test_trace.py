@@ -1,16 +1,17 @@
 """`--trace`: the conversation and refused calls of the system on standard error, and nothing else."""
 
 import os
-import re
 import shutil
 import subprocess
 import unittest
 from contextlib import contextmanager
 
 from getmail.account import Account
+from getmail.mbox_account import MboxAccount
 from getmail.server import Server
-from harness import preload, programs
+from harness import programs, refused_steps
 from harness.kernel import LOOPBACK
+from harness.mboxrd import entries
 
 TWO = [(b"a", b"one\n"), (b"b", b"two\n.\n")]
 
@@ -162,23 +163,19 @@ class Session(unittest.TestCase):
         self.assertIn(f"trace: open {self.account.record}: Permission denied", lines_of(self.session("--trace")))
 
     def test_each_call_that_is_refused(self):
-        """By its name, and by its path or the link; a rename by the old name and then the new one."""
-        names = {"openat": "open", "statx": "[fl]?stat", "recv": "read", "send": "write", "rename": "rename /.*/tmp/[^/ ]+ to"}
-        with preload.library("refuse_step") as refuse_step:
-            # The first step is the connection, without which the server has no session.
-            for number in range(2, 200):
-                with self.subTest(number), Account(self.server.port) as account, self.server_thread():
-                    note = account.home / "note"
-                    run = account.run("-q", "--trace", LD_PRELOAD=str(refuse_step), STEP_BELOW=str(account.maildir),
-                                      STEP_NOTE=str(note), STEP_REFUSED=str(number))
-                    refused = re.search("^refused (.+)\t(.+)$", note.read_text(), re.MULTILINE)
-                    if not refused:
-                        self.assertGreater(number, 20)
-                        return
-                    step, path = refused.groups()
-                    path = path.replace("the link", f"{LOOPBACK}:{self.server.port}").rstrip("/")
-                    self.assertRegex(run.err.decode(), f"trace: {names.get(step, step)} {path}: Input/output error\n")
-        self.fail("more than 200 steps")
+        """The first step is the connection, without which the server has no session."""
+        def into_a_maildir(**environment):
+            with Account(self.server.port) as account, self.server_thread():
+                return account.run("-q", "--trace", STEP_BELOW=str(account.maildir), **environment).err
+
+        def into_an_mbox_with_an_open_entry(**environment):
+            entry = entries([b"one\n"])
+            with MboxAccount(self.server.port, begun=entry[:-1]) as account, self.server_thread():
+                account.record.write_bytes(b"getmail-seen 2\na 5 0\n! a 0 %d\n" % len(entry))
+                return account.run("-q", "--trace", STEP_BELOW=str(account.mbox), **environment).err
+
+        for run in into_a_maildir, into_an_mbox_with_an_open_entry:
+            refused_steps.check_each_is_traced(self, run, first=2, link=f"{LOOPBACK}:{self.server.port}")
 
     def test_a_path_is_escaped(self):
         name = "\x1b[2J.rc"

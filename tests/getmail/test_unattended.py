@@ -125,6 +125,8 @@ class Unattended(unittest.TestCase):
         self.assertEqual(self.session(), (0, []))
         self.server.messages = [*large, *TWO]
         self.assertEqual(self.session(), (0, [self.line("left out: 3 too large")]))
+        self.server.messages += [(b"c", b"c\n")] * 2
+        self.assertEqual(self.session(), (0, [self.line("left out: 3 too large, 1 with a repeated unique-id")]))
         self.refuse("USER u")
         self.session()
         self.refuse()

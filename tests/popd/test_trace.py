@@ -4,7 +4,7 @@ import os
 import shutil
 import unittest
 
-from harness import programs
+from harness import programs, refused_steps
 from harness.kernel import LOOPBACK
 from popd.service import Maildir, Service
 
@@ -43,8 +43,8 @@ class Trace(unittest.TestCase):
         for name in ("a", "b"):
             self.maildir.add("new", name, b"one\n")
 
-    def run_popd(self, *words, given=GIVEN):
-        return programs.run("popd", *words, "u", self.maildir.passfile, self.maildir.folder, given=given)
+    def run_popd(self, *words, given=GIVEN, **environment):
+        return programs.run("popd", *words, "u", self.maildir.passfile, self.maildir.folder, given=given, **environment)
 
     def test_the_lines_of_a_conversation(self):
         """Commands that come before their turn are shown in their turn."""
@@ -91,6 +91,15 @@ class Trace(unittest.TestCase):
         with open("/dev/full", "wb") as full:
             run = programs.run("popd", "--rehearse", "--trace", out=full)
         self.assertIn("trace: write standard output: No space left on device", lines_of(run))
+
+    def test_each_call_that_is_refused(self):
+        def remove_a_message(**environment):
+            with Maildir() as self.maildir:
+                self.maildir.add("new", "a", b"one\n")
+                return self.run_popd("--trace", given=b"USER u\r\nPASS p\r\nRETR 1\r\nDELE 1\r\nQUIT\r\n", **environment,
+                                     STEP_BELOW=str(self.maildir.folder)).err
+
+        refused_steps.check_each_is_traced(self, remove_a_message)
 
     def test_a_missing_folder(self):
         shutil.rmtree(self.maildir.folder / "cur")

@@ -168,6 +168,11 @@ class OverStandardStreams(unittest.TestCase):
         run = self.run_popd("--verbose")
         self.assertEqual((run.status, run.err.decode()), (0, "".join(told)))
 
+    def test_of_a_rehearsal(self):
+        run = programs.run("popd", "--rehearse", "--verbose", given=b"USER u\r\nPASS p\r\nDELE 1\r\nQUIT\r\n")
+        told = [f"popd: standard input: {line}" for line in ("logged in, 2 messages", "1 messages removed")]
+        self.assertEqual((run.status, run.err.decode().splitlines()), (0, told))
+
     def test_without_it_nothing_is_told(self):
         run = self.run_popd()
         self.assertEqual((run.status, run.err), (0, b""))
