@@ -125,12 +125,15 @@ class Unattended(unittest.TestCase):
         self.assertEqual(self.session(), (0, []))
         self.server.messages = [*large, *TWO]
         self.assertEqual(self.session(), (0, [self.line("left out: 3 too large")]))
-        self.server.messages += [(b"c", b"c\n")] * 2
-        self.assertEqual(self.session(), (0, [self.line("left out: 3 too large, 1 with a repeated unique-id")]))
         self.refuse("USER u")
         self.session()
         self.refuse()
         self.assertEqual(len(self.session()[1]), 1)
+
+    def test_a_repeated_id_is_left_out(self):
+        self.server.messages = TWO[:1] * 2
+        self.assertEqual(self.session(), (0, [self.line("left out: 1 with a repeated unique-id")]))
+        self.assertEqual(self.session(), (0, []))
 
     def test_warnings_are_told_once(self):
         self.account.rcfile.write_bytes(self.account.rcfile.read_bytes() + b"received = true\n")
