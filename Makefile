@@ -52,6 +52,7 @@ quick:
 	@$$(dirname "$$(rt doc)")/bin/rattle fmt --check $$(find crates -name out -prune -o -name '*.rt' -print -o -name '*.antt' -print)
 	@python3 tests/check_edits.py
 	@python3 tests/test_documents.py
+	@python3 tests/test_sources.py
 	@python3 tests/test_tools.py
 
 statement:
@@ -70,6 +71,7 @@ libraries:
 test:
 	@$(need_rt)./build.py getmail popd probe tests
 	python3 tests/test_documents.py
+	python3 tests/test_sources.py
 	python3 tests/test_tools.py
 	python3 tests/run.py
 

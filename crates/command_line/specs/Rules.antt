@@ -11,8 +11,8 @@ abbrev pub program : List ℕ → App
 program name = record { top = record (new_app name).top { has_version = true }; subs = [] }
 
 -- an option with a value, given at most once
-abbrev pub value_rule : List ℕ → ℕ → Rule
-value_rule name short = record (new_rule name) {
+abbrev pub option_rule : List ℕ → ℕ → Rule
+option_rule name short = record (new_rule name) {
   long = Some name;
   short = Some short;
   value_names = 1;
@@ -40,7 +40,7 @@ abbrev pub is_given : List ℕ → List Row → Bool
 is_given name rows = nat_lt 0 (count_of name rows)
 
 -- clap's text is one that was asked for
-abbrev pub is_asked_for : ErrorKind → Bool
-is_asked_for DisplayHelp = true
-is_asked_for DisplayVersion = true
-is_asked_for kind = false
+abbrev pub is_asked_text : ErrorKind → Bool
+is_asked_text DisplayHelp = true
+is_asked_text DisplayVersion = true
+is_asked_text kind = false

@@ -1,7 +1,7 @@
 //! A program's command, options, flags and words, and adding them to a command.
 ghost use Rattle.std.specs.Prelude.{◌≡◌, IfOk, false};
 ghost use Rattle.clap.specs.Words.{app_of, rule_of, with_rule};
-ghost use Rattle.command_line.specs.Rules.{flag_rule, long_flag_rule, long_value_rule, program, value_rule, word_rule};
+ghost use Rattle.command_line.specs.Rules.{flag_rule, long_flag_rule, long_value_rule, program, option_rule, word_rule};
 
 use clap::{Arg, ArgAction, Command};
 use std::alloc::{AllocError, Global};
@@ -36,7 +36,7 @@ pub fn value_option<'a>(
     value: &'a str,
     help: &'a str,
 ) -> Arg<'a>
-    ensures rule { rule_of result ≡ value_rule name.entry.now short }
+    ensures rule { rule_of result ≡ option_rule name.entry.now short }
     ensures local { result.global ≡ false }
 {
     long_value_option(alloc, name, value, help).short(short)

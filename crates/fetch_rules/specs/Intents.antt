@@ -6,11 +6,11 @@ use Rattle.fetch_rules.specs.RecordMeaning.{Means, Rows}
 use Rattle.fetch_rules.specs.Outgrown.{IsOutgrown}
 use Rattle.fetch_rules.specs.declared.seen.OwnedIntent.{OwnedIntent}
 
-abbrev pub intent_of : OwnedIntent → Intent
-intent_of open' = record { uid = open'.uid.items; start = open'.start; len = open'.len }
+abbrev pub intent_from : OwnedIntent → Intent
+intent_from open' = record { uid = open'.uid.items; start = open'.start; len = open'.len }
 
 abbrev pub intent_in : Option OwnedIntent → Option Intent
-intent_in open' = option_map intent_of open'
+intent_in open' = option_map intent_from open'
 
 abbrev pub has_intent : {X : Type 0} → Option X → Bool
 has_intent None = false

@@ -30,8 +30,8 @@ IsPassedOver settings rows fetched front message = (is_asked_for settings rows m
     ⊎ ((has_item front message.1.uid ≡ true)
     ⊎ (((settings.max_count == 0) ≡ false) × (settings.max_count ≤ fetched)))
 
--- each of these steps that doesn't fetch its message has one of these reasons; `front` are the messages before the first
--- step's, and `fetched` of them are fetched
+-- each of these steps that doesn't fetch its message has one of these reasons; `front` are the messages before the
+-- first step's, and `fetched` of them are fetched
 abbrev pub PassesOver : Settings → List Row → ℕ → List Item → List Step → List Item → Type 0
 PassesOver settings rows fetched front [] items = Unit {0}
 PassesOver settings rows fetched front (step ∷ steps) [] = Unit {0}

@@ -43,10 +43,10 @@ abbrev pub IsPlaced : Part → Option Intent → Type 0
 IsPlaced Base intent = intent ≡ None
 IsPlaced _ intent = Unit {0}
 
-abbrev pub is_within : Part → Bool
-is_within Base = false
-is_within Between = false
-is_within (Within more) = true
+abbrev pub is_in_group : Part → Bool
+is_in_group Base = false
+is_in_group Between = false
+is_in_group (Within more) = true
 
 -- the part after a row
 abbrev pub after_row : Part → Part

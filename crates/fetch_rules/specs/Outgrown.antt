@@ -2,16 +2,16 @@
 -- its header.
 use Rattle.std.specs.Prelude.{◌≡◌, ◌≢◌, ◌⊎◌, ℕ, ◌≤◌, ◌<◌, List, ◌++◌, Bool, false, length, flat_map, All, nat_lt}
 use Rattle.fetch_rules.specs.Record.{Row, IsRow}
-use Rattle.fetch_rules.specs.RecordFile.{Version, header, line_of}
+use Rattle.fetch_rules.specs.RecordFile.{Version, header, record_row_line}
 
 -- the bytes begin with no row's line
 abbrev pub BeginsWithNoRow : List ℕ → Type 0
-BeginsWithNoRow rest = (row : Row) (behind : List ℕ) → IsRow row → rest ≢ line_of row ++ behind
+BeginsWithNoRow rest = (row : Row) (behind : List ℕ) → IsRow row → rest ≢ record_row_line row ++ behind
 
 -- the bytes are the lines of these rows, and a rest that begins with no row's line
 pub record RowsThen (bytes : List ℕ) (rows : List Row) (rest : List ℕ) : Type 0 where
   pub each : All IsRow rows
-  pub whole : bytes ≡ flat_map line_of rows ++ rest
+  pub whole : bytes ≡ flat_map record_row_line rows ++ rest
   pub ends : BeginsWithNoRow rest
 
 -- the rows after a file's header, and what was appended since
@@ -31,4 +31,4 @@ IsOutgrown bytes outgrown =
     ((length bytes ≤ small_file) × (outgrown ≡ false))
     ⊎ ((((version : Version) (rest : List ℕ) → bytes ≢ header version ++ rest) × (outgrown ≡ false))
     ⊎ ((small_file < length bytes) × ((rows : List Row) × (appended : List ℕ) × IsBase bytes rows appended
-    × (outgrown ≡ nat_lt (length (flat_map line_of rows)) (length appended)))))
+    × (outgrown ≡ nat_lt (length (flat_map record_row_line rows)) (length appended)))))

@@ -15,13 +15,14 @@ abbrev pub header : Version → List ℕ
 header One = codes "getmail-seen 1\n"
 header Two = codes "getmail-seen 2\n"
 
-abbrev pub state_of : Bool → List ℕ
-state_of true = codes "1\n"
-state_of false = codes "0\n"
+abbrev pub delivered_octets : Bool → List ℕ
+delivered_octets true = codes "1\n"
+delivered_octets false = codes "0\n"
 
 -- the line of a row, its LF included; the second is in decimal, without leading zeros
-abbrev pub line_of : Row → List ℕ
-line_of row = row.uid ++ (codes " " ++ (decimal row.first_seen ++ (codes " " ++ state_of row.delivered)))
+abbrev pub record_row_line : Row → List ℕ
+record_row_line row = row.uid
+    ++ (codes " " ++ (decimal row.first_seen ++ (codes " " ++ delivered_octets row.delivered)))
 
 -- the line that begins a group of this many rows
 abbrev pub group_line : ℕ → List ℕ
@@ -33,17 +34,17 @@ intent_line intent =
     codes "! " ++ (intent.uid ++
     (codes " " ++ (decimal intent.start ++ (codes " " ++ (decimal intent.len ++ codes "\n")))))
 
-abbrev pub last_line : Option Intent → List ℕ
-last_line None = []
-last_line (Some intent) = intent_line intent
+abbrev pub last_intent_line : Option Intent → List ℕ
+last_intent_line None = []
+last_intent_line (Some intent) = intent_line intent
 
 -- the file without groups
 abbrev pub file_of : List Row → Option Intent → List ℕ
-file_of rows intent = header Two ++ (flat_map line_of rows ++ last_line intent)
+file_of rows intent = header Two ++ (flat_map record_row_line rows ++ last_intent_line intent)
 
 -- a group of rows
 abbrev pub group_of : List Row → List ℕ
-group_of group = group_line (length group) ++ flat_map line_of group
+group_of group = group_line (length group) ++ flat_map record_row_line group
 
 -- the rows of a record that an older one lacks, or that were delivered since; rows keep their places
 abbrev pub changed : List Row → List Row → List Row
@@ -68,12 +69,12 @@ pub data Line : Type 0 where
   GroupLine : (count : ℕ) → Line
   IntentLine : (intent : Intent) → Line
 
-abbrev pub text_of : Line → List ℕ
-text_of (RowLine row) = line_of row
-text_of (GroupLine count) = group_line count
-text_of (IntentLine intent) = intent_line intent
+abbrev pub record_line : Line → List ℕ
+record_line (RowLine row) = record_row_line row
+record_line (GroupLine count) = group_line count
+record_line (IntentLine intent) = intent_line intent
 
-abbrev pub IsLine : Line → Type 0
-IsLine (RowLine row) = IsRow row
-IsLine (GroupLine count) = (1 ≤ count) × (count ≤ message_limit)
-IsLine (IntentLine intent) = IsIntent intent
+abbrev pub IsRecordLine : Line → Type 0
+IsRecordLine (RowLine row) = IsRow row
+IsRecordLine (GroupLine count) = (1 ≤ count) × (count ≤ message_limit)
+IsRecordLine (IntentLine intent) = IsIntent intent

@@ -4,17 +4,17 @@ use Rattle.std.specs.Prelude.{IsTrue}
 use Rattle.mail_terms.specs.Listing.{message_limit}
 use Rattle.fetch_rules.specs.Record.{Row, Intent, IsRow, IsIntent, IsRecord, IntentHasRow, has_row}
 use Rattle.fetch_rules.specs.RecordFile.{Version, One, Two, header, file_of, group_of, intent_line}
-use Rattle.fetch_rules.specs.RecordMeaning.{Meaning, Rows, Means, FileStandsFor, may_take, taken, has_bytes}
+use Rattle.fetch_rules.specs.RecordMeaning.{Meaning, Rows, Means, FileStandsFor, may_take, with_taken, has_bytes}
 
 -- the rows after a whole group
 abbrev pub taken_all : List Row → List Row → List Row
 taken_all rows [] = rows
-taken_all rows (row ∷ more) = taken_all (taken rows row) more
+taken_all rows (row ∷ more) = taken_all (with_taken rows row) more
 
 -- each row of a group may follow those before it
 abbrev pub MayFollow : List Row → List Row → Type 0
 MayFollow rows [] = Unit {0}
-MayFollow rows (row ∷ more) = IsTrue (may_take Two rows row) × MayFollow (taken rows row) more
+MayFollow rows (row ∷ more) = IsTrue (may_take Two rows row) × MayFollow (with_taken rows row) more
 
 -- a group that may follow these rows
 pub record IsGroup (rows group : List Row) : Type 0 where
@@ -30,7 +30,7 @@ Updates old before bytes new after =
     ⊎ ((group : List Row) × IsGroup old group × (bytes ≡ group_of group) × (new ≡ taken_all old group) × (after ≡ None))
 
 -- what is appended when an intent is opened: its line
-pub record Opens (old : List Row) (before : Option Intent) (bytes : List ℕ) (new : List Row)
+pub record OpensIntent (old : List Row) (before : Option Intent) (bytes : List ℕ) (new : List Row)
     (after : Option Intent) : Type 0 where
   pub intent : Intent
   pub is_one : IsIntent intent
@@ -41,7 +41,7 @@ pub record Opens (old : List Row) (before : Option Intent) (bytes : List ℕ) (n
   pub opened : after ≡ Some intent
 
 abbrev pub Grows : List Row → Option Intent → List ℕ → List Row → Option Intent → Type 0
-Grows old before bytes new after = Updates old before bytes new after ⊎ Opens old before bytes new after
+Grows old before bytes new after = Updates old before bytes new after ⊎ OpensIntent old before bytes new after
 
 -- a law: bytes have one meaning
 abbrev pub OneMeaning : Type 0

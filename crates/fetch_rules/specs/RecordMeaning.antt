@@ -7,8 +7,8 @@ use Rattle.std.specs.Prelude.{◌≡◌, ◌≢◌, ◌⊎◌, ℕ, zero, suc, �
 use Rattle.std.specs.Prelude.{not, ◌&&◌, ◌||◌, if◌then◌else◌, Option, Some, None, length, min, flat_map, All}
 use Rattle.std.specs.List.{list_any}
 use Rattle.fetch_rules.specs.Record.{Row, Intent, is_of, has_row, marked}
-use Rattle.fetch_rules.specs.RecordFile.{Version, One, Two, header, Line, RowLine, GroupLine, IntentLine, IsLine}
-use Rattle.fetch_rules.specs.RecordFile.{text_of}
+use Rattle.fetch_rules.specs.RecordFile.{Version, One, Two, header, Line, RowLine, GroupLine, IntentLine, IsRecordLine}
+use Rattle.fetch_rules.specs.RecordFile.{record_line}
 use Rattle.fetch_rules.specs.declared.seen.SeenFault.{SeenFault}
 use Rattle.fetch_rules.specs.declared.seen.SeenFault.TheVariants.{BadHeader, BadRow, RepeatedId}
 
@@ -27,8 +27,8 @@ abbrev pub may_take : Version → List Row → Row → Bool
 may_take version rows row = not (has_row rows row.uid) || delivers version rows row
 
 -- the rows after a group's row: it is added, or its id is delivered
-abbrev pub taken : List Row → Row → List Row
-taken rows row = if has_row rows row.uid then marked rows row.uid else (rows ++ row ∷ [])
+abbrev pub with_taken : List Row → Row → List Row
+with_taken rows row = if has_row rows row.uid then marked rows row.uid else (rows ++ row ∷ [])
 
 -- how far the lines have come
 pub data Progress : Type 0 where
@@ -66,9 +66,9 @@ after_line version n (BetweenGroups rows before) (RowLine row) = Fails (BadRow (
 after_line version n (BetweenGroups rows before) (GroupLine count) = Stands (InGroup rows before rows (count - 1))
 after_line version n (BetweenGroups rows before) (IntentLine intent) = after_intent version n rows before intent
 after_line version n (InGroup old before rows zero) (RowLine row) = if may_take version rows row
-    then Stands (BetweenGroups (taken rows row) None) else Fails (RepeatedId (line_after n))
+    then Stands (BetweenGroups (with_taken rows row) None) else Fails (RepeatedId (line_after n))
 after_line version n (InGroup old before rows (suc more)) (RowLine row) = if may_take version rows row
-    then Stands (InGroup old before (taken rows row) more) else Fails (RepeatedId (line_after n))
+    then Stands (InGroup old before (with_taken rows row) more) else Fails (RepeatedId (line_after n))
 after_line version n (InGroup old before rows more) (GroupLine count) = Fails (BadRow (line_after n))
 after_line version n (InGroup old before rows more) (IntentLine intent) = Fails (BadRow (line_after n))
 
@@ -91,10 +91,10 @@ left_open (BetweenGroups rows intent) = intent
 left_open (InGroup before intent rows more) = intent
 
 -- whether a group lacks rows
-abbrev pub is_open : Progress → Bool
-is_open (InBase rows) = false
-is_open (BetweenGroups rows intent) = false
-is_open (InGroup before intent rows more) = true
+abbrev pub lacks_rows : Progress → Bool
+lacks_rows (InBase rows) = false
+lacks_rows (BetweenGroups rows intent) = false
+lacks_rows (InGroup before intent rows more) = true
 
 abbrev pub has_line_feed : List ℕ → Bool
 has_line_feed bytes = list_any (λ byte. byte == 10) bytes
@@ -110,13 +110,13 @@ pub data Meaning : Type 0 where
 
 -- the bytes begin with no line
 abbrev pub BeginsWithNoLine : List ℕ → Type 0
-BeginsWithNoLine rest = (line : Line) (behind : List ℕ) → IsLine line → rest ≢ text_of line ++ behind
+BeginsWithNoLine rest = (line : Line) (behind : List ℕ) → IsRecordLine line → rest ≢ record_line line ++ behind
 
 -- the end after n lines: it has a line that is of no kind, or it counts for nothing
 abbrev pub at_end : Version → ℕ → Progress → List ℕ → Meaning
 at_end version n progress rest =
     if has_line_feed rest then Fault (BadRow (line_after n))
-    else Rows version (counted progress) (left_open progress) (is_open progress || has_bytes rest)
+    else Rows version (counted progress) (left_open progress) (lacks_rows progress || has_bytes rest)
 
 -- what n lines and the rest mean: the first line that fails decides; if none does, the rest
 -- begins with no line
@@ -126,8 +126,8 @@ Ends version n (Stands progress) rest meaning = BeginsWithNoLine rest × (meanin
 
 -- the bytes are the header, these lines, and a rest
 pub record IsCut (version : Version) (bytes : List ℕ) (lines : List Line) (rest : List ℕ) : Type 0 where
-  pub each : All IsLine lines
-  pub whole : bytes ≡ header version ++ (flat_map text_of lines ++ rest)
+  pub each : All IsRecordLine lines
+  pub whole : bytes ≡ header version ++ (flat_map record_line lines ++ rest)
 
 pub record ByLines (bytes : List ℕ) (meaning : Meaning) : Type 0 where
   pub version : Version

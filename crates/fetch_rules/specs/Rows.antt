@@ -8,12 +8,12 @@ use Rattle.fetch_rules.specs.declared.seen.row_map.State.{State}
 abbrev pub row_from : List ℕ → State → Row
 row_from uid state = record { uid = uid; first_seen = state.first_seen; delivered = state.delivered }
 
-abbrev pub row_of : String Global × State → Row
-row_of entry = row_from (string_bytes entry.0) entry.1
+abbrev pub row_of_state : String Global × State → Row
+row_of_state entry = row_from (string_bytes entry.0) entry.1
 
 -- the entries of the map, as rows
-abbrev pub rows_of : List (String Global × State) → List Row
-rows_of entries = map row_of entries
+abbrev pub rows_of_states : List (String Global × State) → List Row
+rows_of_states entries = map row_of_state entries
 
 -- what is known of a row's message
 abbrev pub state_of : Row → State

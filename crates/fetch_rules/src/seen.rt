@@ -5,7 +5,7 @@ ghost use Rattle.std.specs.Prelude.{IfOk, IfErr};
 ghost use Rattle.std.specs.Bool.{OnTrue, OnFalse};
 ghost use Rattle.fetch_rules.specs.Record.{IsRecord, IntentHasRow, Loaded, empty, has_row, is_delivered, first_seen_of};
 ghost use Rattle.fetch_rules.specs.Record.{marked, merged};
-ghost use Rattle.fetch_rules.specs.Intents.{ReadAs, IsNoneOrOf, intent_of, intent_in, has_intent, is_older};
+ghost use Rattle.fetch_rules.specs.Intents.{ReadAs, IsNoneOrOf, intent_from, intent_in, has_intent, is_older};
 ghost use Rattle.fetch_rules.specs.Intents.{closed_rows};
 ghost use Rattle.fetch_rules.specs.Lines.{open_seen, intent_seen, version_of};
 ghost use Rattle.fetch_rules.specs.RecordFile.{changed, marking, written, file_of, intent_line};
@@ -74,7 +74,7 @@ pub(crate) struct OwnedIntent {
 
 impl OwnedIntent {
     fn as_intent(&self) -> Intent<'_>
-        ensures { intent_seen result ≡ intent_of self.now }
+        ensures { intent_seen result ≡ intent_from self.now }
     {
         Intent {
             uid: &self.uid,

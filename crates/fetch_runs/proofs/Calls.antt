@@ -1,6 +1,7 @@
--- Each call of `session` is a session over accounts, and lists of calls and what else happens keep what is promised; what is promised of
--- any list, and the order of the maildrops, give the headlines.
-use Rattle.std.proofs.Common.{◌≡◌, ◌⊎◌, inl, inr, ℕ, true, List, [], ◌∷◌, ◌++◌, refl, sym, ap, subst, ◌∙◌, arith, length, ◌≤◌, false, Bool, length-append, not, ◌&&◌, ◌||◌, map}
+-- Each call of `session` is a session over accounts, and lists of calls and what else happens keep what is promised;
+-- what is promised of any list, and the order of the maildrops, give the headlines.
+use Rattle.std.proofs.Common.{◌≡◌, ◌⊎◌, inl, inr, ℕ, true, List, [], ◌∷◌, ◌++◌, refl, sym, ap, subst, ◌∙◌, arith}
+use Rattle.std.proofs.Common.{length, ◌≤◌, false, Bool, length-append, not, ◌&&◌, ◌||◌, map}
 use Rattle.std.proofs.Math.Logic.{⊎_elim}
 use Rattle.pop3_wire.specs.declared.wire.Wire.{Ghosts as WireGhosts}
 use Rattle.mail_store.specs.declared.maildir.disk.MaildirDisk.{Ghosts as DiskGhosts}
@@ -14,25 +15,35 @@ use Rattle.mail_store.specs.Maildir.{Maildir, WereTaken}
 use Rattle.fetch_session.specs.Account.{digits_of}
 use Rattle.fetch_session.specs.Laws.{MboxSessions}
 use Rattle.fetch_session.specs.Session.{account_files, mbox_account_files}
-use Rattle.fetch_runs.specs.Accounts.{AccountMail, files, ids_of, is_selected, without, texts_of, copies, has_named, selected, without_flags}
-use Rattle.fetch_runs.specs.Promises.{Mail, State, state_with, IsBetween, Kept, Call, Devices, AppendsMail, Base, HoldsEntries, IsMaildrop, IsSafe, IsFront, ShowsNext, is_safe, IsMboxFront}
-use Rattle.fetch_runs.specs.Sessions.{Session, MboxMail}
+use Rattle.fetch_runs.specs.Accounts.{AccountMail, files, message_ids, is_selected, without, texts_of, copies}
+use Rattle.fetch_runs.specs.Accounts.{has_named, selected, without_flags}
+use Rattle.fetch_runs.specs.Promises.{Mail, State, state_with, IsBetween, Kept, Call, Devices, AppendsMail, Base}
+use Rattle.fetch_runs.specs.Promises.{HoldsEntries, IsMaildrop, IsSafe, IsFront, ShowsNext, is_safe, IsMboxFront}
+use Rattle.fetch_runs.specs.Sessions.{SessionOverLink, MboxMail}
 use Rattle.fetch_runs.specs.Steps.{holds}
-use Rattle.fetch_runs.specs.Calls.{Called, CallsKeepPromises, EmptyAccountsAreKept, Left, with_left, IsCall, Shows, MboxCallsKeepPromises, ShowsMbox}
+use Rattle.fetch_runs.specs.Calls.{Called, CallsKeepPromises, EmptyAccountsAreKept, Left, with_left, IsCall, Shows}
+use Rattle.fetch_runs.specs.Calls.{MboxCallsKeepPromises, ShowsMbox}
 use Rattle.fetch_runs.proofs.LeftRecords.{LeavesDurably, leaves_durably}
-use Rattle.fetch_runs.proofs.Losses.{all_left_durable, calls_keep_order, calls_keep_safe, durable_is_safe, left_keeps_front, left_keeps_safe, losses_keep_order, losses_leave_kept, others_keep_order, others_keep_safe, front_stays, left_front}
-use Rattle.fetch_runs.proofs.Lists.{left_or_none, all_filter, all_ids_at, all_map, all_front, are_distinct, distinct_filter, distinct_is, front_is, is_some, no_texts, all_at, bytes_self, ids_both, all_mapped}
+use Rattle.fetch_runs.proofs.Losses.{all_left_durable, calls_keep_order, calls_keep_safe, durable_is_safe}
+use Rattle.fetch_runs.proofs.Losses.{left_keeps_front, left_keeps_safe, losses_keep_order, losses_leave_kept}
+use Rattle.fetch_runs.proofs.Losses.{others_keep_order, others_keep_safe, front_stays, left_front}
+use Rattle.fetch_runs.proofs.Lists.{left_or_none, all_filter, all_ids_at, all_map, all_front, are_distinct}
+use Rattle.fetch_runs.proofs.Lists.{distinct_filter, distinct_is, front_is, is_some, no_texts, all_at, bytes_self}
+use Rattle.fetch_runs.proofs.Lists.{ids_both, all_mapped}
 use Rattle.fetch_session.specs.declared.account.Store.TheVariants.{Maildir as InMaildir, Mboxrd as InMbox}
 use Rattle.fetch_runs.specs.Below.{Below}
 use Rattle.fetch_runs.proofs.MboxPromised.{appends, starts, ends_whole, open_row}
-use Rattle.fetch_runs.proofs.Promised.{IsSession, others_leave_kept, sessions_keep_promises, copies_came, copies_messages, held_copies, named_messages, one_text}
+use Rattle.fetch_runs.proofs.Promised.{IsSession, others_leave_kept, sessions_keep_promises, copies_came}
+use Rattle.fetch_runs.proofs.Promised.{copies_messages, held_copies, named_messages, one_text}
 use Rattle.fetch_runs.proofs.Steps.{mbox_session_is_a_step, session_is_a_step, texts_stand}
 use Rattle.std.specs.List.{AllByRecursion}
 use Rattle.std.proofs.lemmas.Bool.{both_ways, false_from_ne_true, or_left, cases_Bool}
 use Rattle.std.proofs.lemmas.List.{append-nil}
 use Rattle.mail_terms.specs.UniqueId.{is_legal_id, has_id}
 use Rattle.fetch_rules.specs.Record.{is_delivered}
-use Rattle.fetch_runs.specs.Headline.{World, IsSound, HoldsAPrefix, EmptyFrontsBegin, NoneTaken, StaysAway, selected_of, MboxStartsInOrder, EntriesMeanTexts, IsInOrder, world_without, Headline, MboxHeadline, HoldsAMboxPrefix, IsUnbegun}
+use Rattle.fetch_runs.specs.Headline.{World, IsSound, HoldsAPrefix, EmptyFrontsBegin, NoneTaken, StaysAway, selected_of}
+use Rattle.fetch_runs.specs.Headline.{MboxStartsInOrder, EntriesMeanTexts, IsInOrder, world_without, Headline}
+use Rattle.fetch_runs.specs.Headline.{MboxHeadline, HoldsAMboxPrefix, IsUnbegun}
 use Rattle.fetch_runs.proofs.Core.{next_here, prefix_left, done_legal, done_distinct}
 use Rattle.mail_terms.specs.Text.{IsWhole}
 use Rattle.rc_file.specs.declared.settings.Settings.{Settings}
@@ -41,8 +52,10 @@ use Rattle.mail_store.specs.Mboxrd.{entry_of}
 
 -- ---- with a Maildir
 
--- what a call left, once readers took some files away while it was under way: it was a session, which took none away, and what it shows is durable
-pub record IsLeft {W D F : Type 0} (link : WireGhosts W) (disk : DiskGhosts D) (file : FileGhosts F) (mail : Mail) (account : AccountMail) (devices : Devices D F) (call : Call W D F) : Type 0 where
+-- what a call left, once readers took some files away while it was under way: it was a session, which took none away,
+-- and what it shows is durable
+pub record IsLeft {W D F : Type 0} (link : WireGhosts W) (disk : DiskGhosts D) (file : FileGhosts F) (mail : Mail)
+    (account : AccountMail) (devices : Devices D F) (call : Call W D F) : Type 0 where
   pub left : Maildir
   pub taken : WereTaken account.maildir left
   pub sent : List ℕ
@@ -53,14 +66,18 @@ pub record IsLeft {W D F : Type 0} (link : WireGhosts W) (disk : DiskGhosts D) (
   pub taken_is : after.maildir.taken ≡ left.taken
   pub leaves : LeavesDurably file mail.account devices.file call.after.file (record account { maildir = left }) after
 
-calls_leave : Below → {W D F : Type 0} (link : WireGhosts W) (disk : DiskGhosts D) (file : FileGhosts F) (mail : Mail) (account : AccountMail) (devices : Devices D F) (call : Call W D F)
-    → Shows disk file devices account → digits_of call.settings ≡ mail.account → IsCall link disk file InMaildir disk.sound mail.text devices call → IsLeft link disk file mail account devices call
+calls_leave : Below → {W D F : Type 0} (link : WireGhosts W) (disk : DiskGhosts D) (file : FileGhosts F) (mail : Mail)
+    (account : AccountMail) (devices : Devices D F) (call : Call W D F)
+    → Shows disk file devices account → digits_of call.settings ≡ mail.account
+    → IsCall link disk file InMaildir disk.sound mail.text devices call
+    → IsLeft link disk file mail account devices call
 calls_leave laws link disk file mail account devices call shows account_is is =
     let met = is.made.2 is.link_sound is.store_sound is.file_sound in
     let left : Maildir = met.4.0 in
     let s = (session_is_a_step laws call.settings (digits_of call.settings) call.now (link.history call.wire)
     (account_files left (file.stored devices.file)) account.rows call.report (link.history call.wire')
-    (account_files (disk.maildir call.after.store) (file.stored call.after.file)) is.made.0 (shows.intent, shows.record_is) met.4.2.0).0 in
+    (account_files (disk.maildir call.after.store) (file.stored call.after.file)) is.made.0
+    (shows.intent, shows.record_is) met.4.2.0).0 in
     let after : AccountMail = holds s.rows' (disk.maildir call.after.store) in
     let mid : AccountMail = holds account.rows left in
     let here : mid ≡ record account { maildir = left } = refl in
@@ -76,15 +93,21 @@ calls_leave laws link disk file mail account devices call shows account_is is =
         maildrop = is.maildrop;
         served = is.served s.sent s.got s.sent_is s.got_is;
         effect = s.effect;
-        session = subst (λ (k : AccountMail). Session call.settings mail.account k s.sent s.got call.report s.effect after) here
-            (subst (λ (a : List ℕ). Session call.settings a mid s.sent s.got call.report s.effect after) account_is s.session);
+        session = subst (λ (k : AccountMail). SessionOverLink call.settings mail.account k s.sent s.got
+            call.report s.effect after) here
+            (subst (λ (a : List ℕ). SessionOverLink call.settings a mid s.sent s.got call.report s.effect after)
+            account_is s.session);
       };
-      taken_is = (laws.kept call.settings (digits_of call.settings) call.now (link.history call.wire) (account_files left (file.stored devices.file)) call.report
-          (link.history call.wire') (account_files (disk.maildir call.after.store) (file.stored call.after.file)) met.4.2.0).2;
+      taken_is = (laws.kept call.settings (digits_of call.settings) call.now (link.history call.wire)
+          (account_files left (file.stored devices.file)) call.report
+          (link.history call.wire') (account_files (disk.maildir call.after.store) (file.stored call.after.file))
+          met.4.2.0).2;
       leaves = subst (λ (a : List ℕ). LeavesDurably file a devices.file call.after.file mid after) account_is
           (leaves_durably laws file devices.store call.after.store call.settings (digits_of call.settings)
-          (laws.digits (string_bytes call.settings.server) call.settings.port (string_bytes call.settings.username)) call.now (link.history call.wire)
-          left devices.file call.after.file call.report (link.history call.wire') (disk.maildir call.after.store) met.4.2.0 account.rows s.rows'
+          (laws.digits (string_bytes call.settings.server) call.settings.port (string_bytes call.settings.username))
+          call.now (link.history call.wire)
+          left devices.file call.after.file call.report (link.history call.wire') (disk.maildir call.after.store)
+          met.4.2.0 account.rows s.rows'
           (shows.intent, shows.record_is) s.keeps met.4.2.1);
     }
 
@@ -93,7 +116,8 @@ left_between : (mail : Mail) (state : State) (left : Maildir) → Kept mail stat
     → IsBetween mail state.account (record state.account { maildir = left })
 left_between mail state left kept taken = record {
   holds = λ id l. ⊎_elim (λ same. rw same (kept.holds id l)) (λ (none, some). inl none)
-      (left_or_none (stem_of mail.account id) (files state.account) left.files (taken.gone, taken.files) (at_most_one (kept.holds id l)));
+      (left_or_none (stem_of mail.account id) (files state.account) left.files (taken.gone, taken.files)
+      (at_most_one (kept.holds id l)));
   shows_no_more = λ id d. d;
 }
   where
@@ -101,11 +125,14 @@ left_between mail state left kept taken = record {
     at_most_one (inl none) = rw none (omega arith)
     at_most_one (inr one) = rw one (omega arith)
 
-pub calls_keep_promises : Below → {W D F : Type 0} (link : WireGhosts W) (disk : DiskGhosts D) (file : FileGhosts F) → CallsKeepPromises link disk file
+pub calls_keep_promises : Below → {W D F : Type 0} (link : WireGhosts W) (disk : DiskGhosts D) (file : FileGhosts F)
+    → CallsKeepPromises link disk file
 calls_keep_promises laws {W} {D} {F} link disk file = keep
   where
-    own : (account : List ℕ) → IsAccountText account → (m : Message) → names_id account m.uid (name_of account m.uid (length m.text)) ≡ true
-    own account text m = (bytes_eq-Decides (stem_of account m.uid) _).1 (sym (laws.stems account m.uid (length m.text) text))
+    own : (account : List ℕ) → IsAccountText account → (m : Message)
+        → names_id account m.uid (name_of account m.uid (length m.text)) ≡ true
+    own account text m = (bytes_eq-Decides (stem_of account m.uid) _).1
+        (sym (laws.stems account m.uid (length m.text) text))
 
     keep : CallsKeepPromises link disk file
     keep mail state devices [] shows kept = (shows, kept)
@@ -115,10 +142,12 @@ calls_keep_promises laws {W} {D} {F} link disk file = keep
       λ account_is is.
           let it = calls_leave laws link disk file mail state.account devices call shows account_is is in
           let here : Kept mail (with_left mail state it.left) =
-          others_leave_kept mail state (record state.account { maildir = it.left }) kept (left_between mail state it.left kept it.taken) in
+          others_leave_kept mail state (record state.account { maildir = it.left }) kept
+          (left_between mail state it.left kept it.taken) in
           let account = subst IsAccountText account_is
           (laws.digits (string_bytes call.settings.server) call.settings.port (string_bytes call.settings.username)) in
-          let done = sessions_keep_promises laws mail (with_left mail state it.left) call it.sent it.after account here it.session in (
+          let done = sessions_keep_promises laws mail (with_left mail state it.left) call it.sent it.after
+          account here it.session in (
             record {
               left = it.left;
               taken = it.taken;
@@ -128,10 +157,13 @@ calls_keep_promises laws {W} {D} {F} link disk file = keep
               shows = it.shows;
               taken_is = it.taken_is;
               promises = done.0;
-              safe = λ sure safe. calls_keep_safe laws file devices.file call.after.file mail (with_left mail state it.left) call it.sent it.after here it.session
+              safe = λ sure safe. calls_keep_safe laws file devices.file call.after.file mail
+                  (with_left mail state it.left) call it.sent it.after here it.session
                   it.leaves sure (left_keeps_safe (file.disk devices.file) mail state it.left kept it.taken safe);
-              in_order = λ all legal front next. calls_keep_order mail (own mail.account account) file devices.file call.after.file
-                  (with_left mail state it.left) call it.sent it.after done.0 it.leaves all legal (left_keeps_front mail state it.left kept it.taken all legal front) next;
+              in_order = λ all legal front next. calls_keep_order mail (own mail.account account) file
+                  devices.file call.after.file
+                  (with_left mail state it.left) call it.sent it.after done.0 it.leaves all legal
+                  (left_keeps_front mail state it.left kept it.taken all legal front) next;
             },
             keep mail _ call.after later it.shows done.1,
           ),
@@ -141,16 +173,22 @@ calls_keep_promises laws {W} {D} {F} link disk file = keep
       kept,
       λ then between. (
         λ keeps. (
-          λ safe. others_keep_safe laws file devices.file left.file mail state account then.intent kept then.record_is between keeps safe,
-          λ back all legal front. others_keep_order file devices.file left.file mail state account keeps back all legal front,
+          λ safe. others_keep_safe laws file devices.file left.file mail state account then.intent kept
+              then.record_is between keeps safe,
+          λ back all legal front. others_keep_order file devices.file left.file mail state account
+              keeps back all legal front,
         ),
-        keep mail (state_with mail state [] account) left later then (others_leave_kept mail state account kept between),
+        keep mail (state_with mail state [] account) left later then
+            (others_leave_kept mail state account kept between),
       ),
       λ safe lost.
-          let loses : LosesPower state.account.maildir account.maildir = rw (shows.maildir, lost.shows.maildir) lost.maildir in
-          let now = losses_leave_kept (file.disk devices.file) mail state account (file.stored left.file).content lost.shows.intent kept safe
+          let loses : LosesPower state.account.maildir account.maildir =
+          rw (shows.maildir, lost.shows.maildir) lost.maildir in
+          let now = losses_leave_kept (file.disk devices.file) mail state account (file.stored left.file).content
+          lost.shows.intent kept safe
           loses lost.record_is lost.shows.record_is in (
-            durable_is_safe laws file left.file mail (record state { account = account }) lost.shows.intent now lost.shows.record_is
+            durable_is_safe laws file left.file mail (record state { account = account }) lost.shows.intent
+                now lost.shows.record_is
                 (all_left_durable mail.account state.account.maildir account.maildir loses) lost.durable,
             λ all legal front. losses_keep_order mail state account all legal front loses,
             keep mail (record state { account = account }) left later lost.shows now,
@@ -167,25 +205,35 @@ empty_is_kept mail state none none_gone no_file = record {
 -- ---- with an mboxrd file
 
 -- each call is a session, which appends
-pub mbox_calls_append : Below → {W D F : Type 0} (link : WireGhosts W) (disk : DiskGhosts D) (file : FileGhosts F) → MboxSessions link disk file → (base : Base) (done : List Message) (account : MboxMail)
-    (devices : Devices F F) (call : Call W F F) → ShowsMbox file devices account → (holds : HoldsEntries base done account) → call.settings.read_all ≡ false
-    → IsCall link disk file InMbox file.sound base.text devices call → (sent : List ℕ) × (after : MboxMail) × ((link.history call.wire').sent ≡ (link.history call.wire).sent ++ sent)
+pub mbox_calls_append : Below → {W D F : Type 0} (link : WireGhosts W) (disk : DiskGhosts D) (file : FileGhosts F)
+    → MboxSessions link disk file → (base : Base) (done : List Message) (account : MboxMail)
+    (devices : Devices F F) (call : Call W F F) → ShowsMbox file devices account
+    → (holds : HoldsEntries base done account) → call.settings.read_all ≡ false
+    → IsCall link disk file InMbox file.sound base.text devices call → (sent : List ℕ) × (after : MboxMail)
+    × ((link.history call.wire').sent ≡ (link.history call.wire).sent ++ sent)
     × ShowsMbox file call.after after × AppendsMail base holds call sent after
 mbox_calls_append laws link disk file sessions base done account devices call shows holds only_new is =
     let met = sessions call.now (record { settings = call.settings; store = _; file = devices.file })
-    (record { settings = call.settings; store = _; file = call.after.file }) call.wire call.wire' call.report is.made.1 is.made.2
+    (record { settings = call.settings; store = _; file = call.after.file }) call.wire call.wire'
+    call.report is.made.1 is.made.2
     is.link_sound is.store_sound is.file_sound in
-    let s = (mbox_session_is_a_step laws call.settings call.now (link.history call.wire) (mbox_account_files (file.stored devices.store) (file.stored devices.file))
+    let s = (mbox_session_is_a_step laws call.settings call.now (link.history call.wire)
+    (mbox_account_files (file.stored devices.store) (file.stored devices.file))
     (record { rows = account.rows; intent = account.intent }) call.report (link.history call.wire')
-    (mbox_account_files (file.stored call.after.store) (file.stored call.after.file)) is.made.0 shows.record_is met.4).0 in (
+    (mbox_account_files (file.stored call.after.store) (file.stored call.after.file)) is.made.0 shows.record_is met.4).0
+    in (
       s.sent,
       _,
       s.sent_is,
       record { record_is = s.keeps; bytes = refl },
-      appends base laws holds (open_row laws (file.stored devices.file).content account.rows account.intent shows.record_is) call s.sent _ s.effect is.maildrop only_new (is.served s.sent s.got s.sent_is s.got_is) (rw (← shows.bytes) at s.session),
+      appends base laws holds (open_row laws (file.stored devices.file).content account.rows account.intent
+          shows.record_is) call s.sent _ s.effect is.maildrop only_new (is.served s.sent s.got s.sent_is s.got_is)
+          (rw (← shows.bytes) at s.session),
     )
 
-pub mbox_calls_keep_promises : Below → {W D F : Type 0} (link : WireGhosts W) (disk : DiskGhosts D) (file : FileGhosts F) → MboxSessions link disk file → MboxCallsKeepPromises link disk file
+pub mbox_calls_keep_promises : Below
+    → {W D F : Type 0} (link : WireGhosts W) (disk : DiskGhosts D) (file : FileGhosts F) → MboxSessions link disk file
+    → MboxCallsKeepPromises link disk file
 mbox_calls_keep_promises laws link disk file sessions = keep
   where
     keep : MboxCallsKeepPromises link disk file
@@ -194,44 +242,57 @@ mbox_calls_keep_promises laws link disk file sessions = keep
       shows,
       holds,
       λ only_new is.
-          let (sent, after, sent_is, shows', one) = mbox_calls_append laws link disk file sessions base done account devices call shows holds only_new is in
+          let (sent, after, sent_is, shows', one) = mbox_calls_append laws link disk file sessions base done account
+          devices call shows holds only_new is in
           (sent, after, sent_is, shows', one, keep base (done ++ one.more) after call.after later shows' one.kept),
     )
-    keep base done account devices (Left left now ∷ later) shows holds = (shows, holds, λ then from first there. keep from first now left later then there)
+    keep base done account devices (Left left now ∷ later) shows holds =
+        (shows, holds, λ then from first there. keep from first now left later then there)
 
 -- all mail is a world
 pub as_world : (text : List ℕ → List ℕ) (all : List Message) → IsMaildrop text all → IsWorld all
-as_world text all is = record { messages = all_map all is.each (λ m h. record { legal = h.legal; whole = h.whole }); distinct = is.distinct }
-
--- what is left of it is
-pub withdrawn : (text : List ℕ → List ℕ) (ids : List (List ℕ)) (all : List Message) → IsMaildrop text all → IsMaildrop text (without ids all)
-withdrawn text ids all is = record {
-  each = all_filter _ (λ (m : Message). not (has_id ids m.uid)) all is.each;
-  distinct = are_distinct _ (distinct_filter (λ (m : Message). not (has_id ids m.uid)) all (distinct_is all is.distinct));
+as_world text all is = record {
+  messages = all_map all is.each (λ m h. record { legal = h.legal; whole = h.whole });
+  distinct = is.distinct;
 }
 
-module _ (world : World Mail) (state : State) (sound : IsSound world) (front : IsFront world.start state (selected_of world)) where
+-- what is left of it is
+pub withdrawn : (text : List ℕ → List ℕ) (ids : List (List ℕ)) (all : List Message) → IsMaildrop text all
+    → IsMaildrop text (without ids all)
+withdrawn text ids all is = record {
+  each = all_filter _ (λ (m : Message). not (has_id ids m.uid)) all is.each;
+  distinct = are_distinct _ (distinct_filter (λ (m : Message). not (has_id ids m.uid)) all
+      (distinct_is all is.distinct));
+}
+
+module _ (world : World Mail) (state : State) (sound : IsSound world)
+    (front : IsFront world.start state (selected_of world)) where
   open world use {start as mail, max_size, all}
 
   mail_is : IsWorld all
   mail_is = as_world mail.text all sound.all
 
-  done_safe : (id : List ℕ) → has_id (ids_of front.done) id ≡ true → IsSafe mail state id
-  done_safe id e = let l = done_legal max_size front.done front.rest mail_is front.prefix id e in (l, sym (front.is_done id l) ∙ e)
+  done_safe : (id : List ℕ) → has_id (message_ids front.done) id ≡ true → IsSafe mail state id
+  done_safe id e = let l = done_legal max_size front.done front.rest mail_is front.prefix id e
+      in (l, sym (front.is_done id l) ∙ e)
 
-  safe_done : (id : List ℕ) → IsSafe mail state id → has_id (ids_of front.done) id ≡ true
+  safe_done : (id : List ℕ) → IsSafe mail state id → has_id (message_ids front.done) id ≡ true
   safe_done id (l, safe) = front.is_done id l ∙ safe
 
-  texts_done : (id : List ℕ) → has_id (ids_of front.done) id ≡ true → texts_of front.done id ≡ mail.text id ∷ []
+  texts_done : (id : List ℕ) → has_id (message_ids front.done) id ≡ true → texts_of front.done id ≡ mail.text id ∷ []
   texts_done = one_text mail.text front.done (done_distinct max_size front.done front.rest mail_is front.prefix)
       (all_front _ front.done _ (rw front.prefix at (all_filter _ (is_selected max_size) _ sound.all.each)))
 
-  holds_done : Kept mail state → (id : List ℕ) → is_legal_id id ≡ true → (copies (files state.account) (stem_of mail.account id) ≡ texts_of front.done id)
+  holds_done : Kept mail state → (id : List ℕ) → is_legal_id id ≡ true
+      → (copies (files state.account) (stem_of mail.account id) ≡ texts_of front.done id)
       ⊎ ((state.taken id ≡ true) × (copies (files state.account) (stem_of mail.account id) ≡ []))
   holds_done kept id l = elim (kept.holds id l) [
-    | inl none ↦ ⊎_elim (λ taken. inr (taken, none)) (λ (untaken : state.taken id ≡ false). inl (none ∙ sym (no_texts front.done id (front.is_done id l
-        ∙ ap (λ b. b || state.taken id) (held_copies mail.account state.account id ∙ ap is_some none) ∙ untaken)))) (cases_Bool (state.taken id))
-    | inr text ↦ inl (text ∙ sym (texts_done id (safe_done id (l, or_left _ _ (held_copies mail.account state.account id ∙ ap is_some text)))))
+    | inl none ↦ ⊎_elim (λ taken. inr (taken, none)) (λ (untaken : state.taken id ≡ false). inl (none
+        ∙ sym (no_texts front.done id (front.is_done id l
+        ∙ ap (λ b. b || state.taken id) (held_copies mail.account state.account id ∙ ap is_some none) ∙ untaken))))
+        (cases_Bool (state.taken id))
+    | inr text ↦ inl (text ∙ sym
+        (texts_done id (safe_done id (l, or_left _ _ (held_copies mail.account state.account id ∙ ap is_some text)))))
   ]
 
   -- exactly the first of the selected messages are held
@@ -245,68 +306,95 @@ module _ (world : World Mail) (state : State) (sound : IsSound world) (front : I
   }
 
 pub empty_fronts_begin : EmptyFrontsBegin
-empty_fronts_begin mail state all none = record { done = []; rest = all; prefix = refl; is_done = λ id l. sym (none id l) }
+empty_fronts_begin mail state all none = record {
+  done = [];
+  rest = all;
+  prefix = refl;
+  is_done =
+      λ id l. sym (none id l);
+}
 
 -- so it is without messages that are neither held nor were taken away
-withdrawn_leave_fronts : (world : World Mail) (state : State) (ids : List (List ℕ)) → IsSound world → (front : IsFront world.start state (selected_of world))
+withdrawn_leave_fronts : (world : World Mail) (state : State) (ids : List (List ℕ)) → IsSound world
+    → (front : IsFront world.start state (selected_of world))
     → AllByRecursion (λ id. is_safe world.start state id ≡ false) ids
-    → IsSound (world_without ids world) × (later : IsFront world.start state (selected_of (world_without ids world))) × (later.done ≡ front.done)
+    → IsSound (world_without ids world) × (later : IsFront world.start state (selected_of (world_without ids world)))
+    × (later.done ≡ front.done)
 withdrawn_leave_fronts world state ids sound front none = (
   record { account = sound.account; all = withdrawn world.start.text ids world.all sound.all },
   record {
     done = front.done;
     rest = without ids front.rest;
-    prefix = prefix_left world.max_size world.all front.done front.rest ids front.prefix (λ id done gone. both_ways _ (all_ids_at _ _ none gone) (done_safe world state sound front id done).1);
+    prefix = prefix_left world.max_size world.all front.done front.rest ids front.prefix
+        (λ id done gone. both_ways _ (all_ids_at _ _ none gone) (done_safe world state sound front id done).1);
     is_done = front.is_done;
   },
   refl,
 )
 
 -- a maildrop in order shows what is next, if these are done
-order_shows_next : (text_of : List ℕ → List ℕ) (limit : ℕ) (all done rest : List Message) (settings : Settings) (maildrop : List Message) → IsMaildrop text_of all → selected limit all ≡ done ++ rest
-    → IsInOrder limit all (λ id. has_id (ids_of done) id ≡ true) settings maildrop → ShowsNext settings maildrop done rest
+order_shows_next : (text_of : List ℕ → List ℕ) (limit : ℕ) (all done rest : List Message) (settings : Settings)
+    (maildrop : List Message) → IsMaildrop text_of all → selected limit all ≡ done ++ rest
+    → IsInOrder limit all (λ id. has_id (message_ids done) id ≡ true) settings maildrop
+    → ShowsNext settings maildrop done rest
 order_shows_next text_of limit all done rest settings maildrop are prefix order =
-    rw (order.max_size, order.shown) (next_here limit order.come order.gone done rest (as_world text_of all are) prefix order.done)
+    rw (order.max_size, order.shown) (next_here limit order.come order.gone done rest
+    (as_world text_of all are) prefix order.done)
 
 -- ---- what is taken away
 
 pub none_taken : NoneTaken
 none_taken mail state after none stays id =
-    untaken (is_held mail.account state.account.maildir id) (state.taken id) (is_held mail.account after.maildir id) (has_named mail.account after.maildir id) (none id) (stays id)
+    untaken (is_held mail.account state.account.maildir id) (state.taken id) (is_held mail.account after.maildir id)
+    (has_named mail.account after.maildir id) (none id) (stays id)
   where
-    untaken : (held taken held' named : Bool) → taken ≡ false → (held ≡ true → held' ≡ true) → (((held || taken) && not held') || (taken && not named)) ≡ false
+    untaken : (held taken held' named : Bool) → taken ≡ false → (held ≡ true → held' ≡ true)
+        → (((held || taken) && not held') || (taken && not named)) ≡ false
     untaken held taken held' named none stays = grind (arith, none, stays)
 
-pub stays_away : Below → {W D F : Type 0} (link : WireGhosts W) (disk : DiskGhosts D) (file : FileGhosts F) → StaysAway link disk file
+pub stays_away : Below → {W D F : Type 0} (link : WireGhosts W) (disk : DiskGhosts D) (file : FileGhosts F)
+    → StaysAway link disk file
 stays_away laws link disk file mail state devices call id account drop is new legal recorded unheld =
     let promises = is.promises in
-    let legal_came = all_map _ promises.new (λ m h. all_at (λ x. is_legal_id x ≡ true) call.maildrop (all_map _ drop.each (λ n k. k.legal)) h.shown) in
-    let unlike = no_texts promises.came id (none_has promises.came (all_map _ promises.new (λ m h. h.unrecorded new))) in
+    let legal_came = all_map _ promises.new
+    (λ m h. all_at (λ x. is_legal_id x ≡ true) call.maildrop (all_map _ drop.each (λ n k. k.legal)) h.shown) in
+    let unlike = no_texts promises.came id (none_has promises.came (all_map _ promises.new (λ m h. h.unrecorded new)))
+    in
     let before = copies is.left.files (stem_of mail.account id) in (
       promises.recorded id recorded,
-      held_copies mail.account is.after id ∙ ap is_some (copies_came is.left.files (files is.after) _ (stem_of mail.account id)
-          (promises.added ∙ ap (λ fs. without_flags is.left.files ++ fs) (sym (named_messages laws mail.account account promises.came)))
-          ∙ ap (λ c. before ++ c) (copies_messages laws mail.account account promises.came id legal legal_came ∙ unlike) ∙ append-nil before)
+      held_copies mail.account is.after id
+          ∙ ap is_some (copies_came is.left.files (files is.after) _ (stem_of mail.account id)
+          (promises.added ∙ ap (λ fs. without_flags is.left.files ++ fs)
+          (sym (named_messages laws mail.account account promises.came)))
+          ∙ ap (λ c. before ++ c) (copies_messages laws mail.account account promises.came id legal legal_came ∙ unlike)
+          ∙ append-nil before)
           ∙ sym (held_copies mail.account (record state.account { maildir = is.left }) id) ∙ unheld,
     )
   where
-    none_has : (ms : List Message) → AllByRecursion (λ (m : Message). is_delivered state.account.rows m.uid ≡ false) ms → has_id (ids_of ms) id ≡ false
-    none_has ms all = false_from_ne_true _ (λ there. both_ways _ (all_at (λ x. is_delivered state.account.rows x ≡ false) ms all there) recorded)
+    none_has : (ms : List Message) → AllByRecursion (λ (m : Message). is_delivered state.account.rows m.uid ≡ false) ms
+        → has_id (message_ids ms) id ≡ false
+    none_has ms all = false_from_ne_true _
+        (λ there. both_ways _ (all_at (λ x. is_delivered state.account.rows x ≡ false) ms all there) recorded)
 
 -- what is entered is recorded, so it isn't withdrawn; nor is the next message, if its intent is open
-withdrawn_leave_prefixes : (world : World Base) (done : List Message) (account : MboxMail) (ids : List (List ℕ)) → IsMaildrop world.start.text world.all → (is : HoldsAMboxPrefix world done account)
-    → AllByRecursion (IsUnbegun account) ids → IsMaildrop world.start.text (without ids world.all) × IsMboxFront world.start is.holds (selected world.max_size (without ids world.all))
+withdrawn_leave_prefixes : (world : World Base) (done : List Message) (account : MboxMail) (ids : List (List ℕ))
+    → IsMaildrop world.start.text world.all → (is : HoldsAMboxPrefix world done account)
+    → AllByRecursion (IsUnbegun account) ids → IsMaildrop world.start.text (without ids world.all)
+    × IsMboxFront world.start is.holds (selected world.max_size (without ids world.all))
 withdrawn_leave_prefixes world done account ids sound is unbegun = (
   withdrawn base.text ids all sound,
   record {
     first = is.front.first;
     rest = without ids is.front.rest;
     prefix = prefix_left max_size all (is.front.first ++ done) is.front.rest ids is.front.prefix
-        (λ id there gone. both_ways (is_delivered account.rows id) (all_ids_at _ _ unbegun gone).0 (recorded_is id ∙ there));
+        (λ id there gone. both_ways (is_delivered account.rows id) (all_ids_at _ _ unbegun gone).0
+        (recorded_is id ∙ there));
     had = is.front.had;
     next = λ o e.
         let (more, first) = is.front.next o e in
-        let out : has_id ids o.next.uid ≡ false = false_from_ne_true _ (λ gone. both_ways _ ((all_ids_at _ _ unbegun gone).1 _ o.intent) (bytes_self o.next.uid)) in
+        let out : has_id ids o.next.uid ≡ false =
+        false_from_ne_true _ (λ gone. both_ways _ ((all_ids_at _ _ unbegun gone).1 _ o.intent)
+        (bytes_self o.next.uid)) in
         (without ids more, ap (without ids) first ∙ rw out refl);
   },
 )
@@ -314,30 +402,51 @@ withdrawn_leave_prefixes world done account ids sound is unbegun = (
     open world use {start as base, max_size, all}
 
     -- what is recorded is the first of the selected messages
-    recorded_is : (id : List ℕ) → is_delivered account.rows id ≡ has_id (ids_of (is.front.first ++ done)) id
-    recorded_is id = is.holds.recorded id ∙ ap (λ b. b || has_id (ids_of done) id) (is.front.had id) ∙ sym (ids_both is.front.first done id)
+    recorded_is : (id : List ℕ) → is_delivered account.rows id ≡ has_id (message_ids (is.front.first ++ done)) id
+    recorded_is id = is.holds.recorded id ∙ ap (λ b. b || has_id (message_ids done) id) (is.front.had id)
+        ∙ sym (ids_both is.front.first done id)
 
 pub starts_in_order : MboxStartsInOrder
 starts_in_order world account first rest closed prefix recorded = record {
   holds = starts world.start account closed;
-  front = record { first = first; rest = rest; prefix = rw append-nil prefix; had = recorded; next = λ o e. absurd (let never = sym closed ∙ o.intent in cc) };
+  front = record {
+    first = first;
+    rest = rest;
+    prefix = rw append-nil prefix;
+    had = recorded;
+    next =
+        λ o e. absurd (let never = sym closed ∙ o.intent in cc);
+  };
 }
 
 -- ---- what the file means
 
 pub entries_mean_texts : Below → EntriesMeanTexts
 entries_mean_texts laws base done account first holds closed stands =
-    rw (ends_whole base done account holds closed, ← flat_map-map entry_of (λ (m : Message). m.text) done) (texts_stand laws.adds base.start first (map (λ (m : Message). m.text) done) (all_mapped IsWhole _ done (all_map _ holds.are.each (λ m h. h.whole))) stands)
+    rw (ends_whole base done account holds closed, ← flat_map-map entry_of (λ (m : Message). m.text) done)
+    (texts_stand laws.adds base.start first (map (λ (m : Message). m.text) done)
+    (all_mapped IsWhole _ done (all_map _ holds.are.each (λ m h. h.whole))) stands)
 
 -- what is done is among these, by whichever test
-in_order : {limit : ℕ} {all : List Message} {P Q : List ℕ → Type 0} {settings : Settings} {maildrop : List Message} → ((id : List ℕ) → P id → Q id)
+in_order : {limit : ℕ} {all : List Message} {P Q : List ℕ → Type 0} {settings : Settings} {maildrop : List Message}
+    → ((id : List ℕ) → P id → Q id)
     → IsInOrder limit all P settings maildrop → IsInOrder limit all Q settings maildrop
-in_order f order = record { max_size = order.max_size; come = order.come; gone = order.gone; done = all_map order.gone order.done f; shown = order.shown }
+in_order f order = record {
+  max_size = order.max_size;
+  come = order.come;
+  gone = order.gone;
+  done =
+      all_map order.gone order.done f;
+  shown = order.shown;
+}
 
-legal_selected : (world : World Mail) → IsSound world → AllByRecursion (λ (m : Message). is_legal_id m.uid ≡ true) (selected_of world)
-legal_selected world sound = all_filter (λ (m : Message). is_legal_id m.uid ≡ true) (is_selected world.max_size) world.all (all_map world.all sound.all.each (λ m is. is.legal))
+legal_selected : (world : World Mail) → IsSound world
+    → AllByRecursion (λ (m : Message). is_legal_id m.uid ≡ true) (selected_of world)
+legal_selected world sound = all_filter (λ (m : Message). is_legal_id m.uid ≡ true) (is_selected world.max_size)
+    world.all (all_map world.all sound.all.each (λ m is. is.legal))
 
-pub headline : {W D F : Type 0} (link : WireGhosts W) (disk : DiskGhosts D) (file : FileGhosts F) → CallsKeepPromises link disk file → Headline link disk file
+pub headline : {W D F : Type 0} (link : WireGhosts W) (disk : DiskGhosts D) (file : FileGhosts F)
+    → CallsKeepPromises link disk file → Headline link disk file
 headline link disk file promised = all_hold
   where
     all_hold : Headline link disk file
@@ -346,19 +455,31 @@ headline link disk file promised = all_hold
       shows,
       holds_a_prefix world state sound front kept,
       λ withdrawn none order account_is is.
-          let (promises, (after_shows, after_kept)) = (promised world.start state devices (Called call ∷ []) shows kept).2 account_is is in
+          let (promises, (after_shows, after_kept)) =
+          (promised world.start state devices (Called call ∷ []) shows kept).2 account_is is in
           let (sound', front', same) = withdrawn_leave_fronts world state withdrawn sound front none in
           let legal = legal_selected (world_without withdrawn world) sound' in
-          let shown : (f : IsFront world.start state (selected_of (world_without withdrawn world))) → ShowsNext call.settings call.maildrop f.done f.rest =
-          λ f. order_shows_next world.start.text world.max_size (world_without withdrawn world).all f.done f.rest call.settings call.maildrop sound'.all f.prefix
+          let shown : (f : IsFront world.start state (selected_of (world_without withdrawn world)))
+          → ShowsNext call.settings call.maildrop f.done f.rest =
+          λ f. order_shows_next world.start.text world.max_size (world_without withdrawn world).all f.done f.rest
+          call.settings call.maildrop sound'.all f.prefix
           (in_order (λ id (l, safe). f.is_done id l ∙ safe) order) in (
             promises,
             λ durable.
                 let (sound'', is', done_is) = withdrawn_leave_fronts world state withdrawn sound durable.is none in
                 promises.in_order (selected_of (world_without withdrawn world)) legal
-                (record { is = is'; first = durable.first; last = durable.last; done = done_is ∙ durable.done; at_most_one = durable.at_most_one; named = durable.named }) (shown is'),
+                (record {
+                  is = is';
+                  first = durable.first;
+                  last = durable.last;
+                  done = done_is
+                      ∙ durable.done;
+                  at_most_one = durable.at_most_one;
+                  named = durable.named;
+                }) (shown is'),
             all_hold (world_without withdrawn world) _ call.after later sound' after_shows after_kept
-                (promises.promises.in_order _ legal (left_front world.start state promises.left kept promises.taken _ front') (shown front')).0,
+                (promises.promises.in_order _ legal (left_front world.start state promises.left kept promises.taken _
+                front') (shown front')).0,
           ),
     )
     all_hold world state devices (Left left account ∷ later) sound shows kept front =
@@ -367,13 +488,16 @@ headline link disk file promised = all_hold
           holds_a_prefix world state sound front kept,
           λ then between back.
               let (safe, (after_shows, after_kept)) = others then between in
-              all_hold world _ left later sound after_shows after_kept (front_stays world.start state account _ front back),
+              all_hold world _ left later sound after_shows after_kept
+              (front_stays world.start state account _ front back),
           λ safe durable lost.
               let (safe', fronts, (after_shows, after_kept)) = loss safe lost in
-              all_hold world _ left later sound after_shows after_kept (fronts (selected_of world) (legal_selected world sound) durable).is,
+              all_hold world _ left later sound after_shows after_kept
+              (fronts (selected_of world) (legal_selected world sound) durable).is,
         )
 
-pub mbox_headline : Below → {W D F : Type 0} (link : WireGhosts W) (disk : DiskGhosts D) (file : FileGhosts F) → MboxSessions link disk file → MboxHeadline link disk file
+pub mbox_headline : Below → {W D F : Type 0} (link : WireGhosts W) (disk : DiskGhosts D) (file : FileGhosts F)
+    → MboxSessions link disk file → MboxHeadline link disk file
 mbox_headline laws link disk file sessions = all_hold
   where
     all_hold : MboxHeadline link disk file
@@ -383,9 +507,12 @@ mbox_headline laws link disk file sessions = all_hold
       is,
       λ withdrawn unbegun order only_new called.
           let (sound', front) = withdrawn_leave_prefixes world done account withdrawn sound is unbegun in
-          let (sent, after, sent_is, shows', one) = mbox_calls_append laws link disk file sessions world.start done account devices call shows is.holds only_new called in
-          let shown = order_shows_next world.start.text world.max_size (world_without withdrawn world).all (front.first ++ done) front.rest call.settings call.maildrop sound' front.prefix
-          (in_order (λ id entered. ids_both front.first done id ∙ ap (λ (b : Bool). b || has_id (ids_of done) id) (sym (front.had id)) ∙ entered) order) in (
+          let (sent, after, sent_is, shows', one) = mbox_calls_append laws link disk file sessions world.start done
+          account devices call shows is.holds only_new called in
+          let shown = order_shows_next world.start.text world.max_size (world_without withdrawn world).all
+          (front.first ++ done) front.rest call.settings call.maildrop sound' front.prefix
+          (in_order (λ id entered. ids_both front.first done id
+          ∙ ap (λ (b : Bool). b || has_id (message_ids done) id) (sym (front.had id)) ∙ entered) order) in (
             sent,
             after,
             sent_is,
@@ -395,5 +522,9 @@ mbox_headline laws link disk file sessions = all_hold
                 (record { holds = one.kept; front = one.in_order _ front shown }),
           ),
     )
-    all_hold world done account devices (Left left now ∷ later) sound shows is =
-        (shows, is, λ then from held sound' there. all_hold (record world { start = from }) held now left later sound' then there)
+    all_hold world done account devices (Left left now ∷ later) sound shows is = (
+      shows,
+      is,
+      λ then from held sound' there. all_hold (record world { start = from }) held now left
+          later sound' then there,
+    )

@@ -1,5 +1,8 @@
--- Which messages are wanted, and that a session fetches the next of the selected ones if a prefix of them is done. Stores don't come in here.
-use Rattle.std.proofs.Common.{◌≡◌, ◌≤◌, ◌<◌, ◌+◌, ◌-◌, ℕ, zero, suc, List, [], ◌∷◌, ◌++◌, Bool, not, ◌&&◌, ◌==◌, length, take, drop, map, refl, sym, ◌∙◌, ap, arith, append_assoc, take-append-drop, length-take, length-append, Some, slice_get, ◌⊎◌, inl, inr, true, false}
+-- Which messages are wanted, and that a session fetches the next of the selected ones if a prefix of them is done.
+-- Stores don't come in here.
+use Rattle.std.proofs.Common.{◌≡◌, ◌≤◌, ◌<◌, ◌+◌, ◌-◌, ℕ, zero, suc, List, [], ◌∷◌, ◌++◌, Bool, not, ◌&&◌, ◌==◌, length}
+use Rattle.std.proofs.Common.{take, drop, map, refl, sym, ◌∙◌, ap, arith, append_assoc, take-append-drop, length-take}
+use Rattle.std.proofs.Common.{length-append, Some, slice_get, ◌⊎◌, inl, inr, true, false}
 use Rattle.std.specs.Prelude.{bytes_eq, if◌then◌else◌, nat_le, zip}
 use Rattle.std.specs.List.{filter, enumerate_from, AllByRecursion}
 use Rattle.std.proofs.lemmas.Bool.{both_ways, cond_both, or_left, or_right, cases_Bool, false_from_ne_true}
@@ -17,15 +20,20 @@ use Rattle.rc_file.specs.declared.settings.Settings.{Settings}
 use Rattle.mail_store.specs.Maildir.{File, Maildir}
 use Rattle.mail_store.specs.FileName.{is_held, mail_file}
 use Rattle.mail_terms.specs.UniqueId.{has_id, is_legal_id}
-use Rattle.fetch_runs.specs.Accounts.{ids_of, item_of, listing_of, is_selected, selected, without, AccountMail}
-use Rattle.fetch_runs.specs.Sessions.{AreTexts, file_for, is_unheld, Effect, IsHonest, ids_wanted, Stores, MboxMail, MboxStores}
+use Rattle.fetch_runs.specs.Accounts.{message_ids, item_of, listing_of, is_selected, selected, without, AccountMail}
+use Rattle.fetch_runs.specs.Sessions.{AreTexts, file_for, is_unheld, Effect, IsHonest, ids_wanted, StoresTexts, MboxMail, MboxStores}
 use Rattle.fetch_runs.specs.Promises.{may_fetch, IsPastCount}
-use Rattle.fetch_runs.proofs.Lists.{filter-map, filter-swap, any-map, all_map, all_take, all_filter, Distinct, are_distinct, front_is, filter-filter, filter_all, all_both, all_passing, all_front, distinct_is, distinct_take, distinct_filter, ids_both, all_at, all_ids_at, bytes_self, bytes_same, members, other_id}
+use Rattle.fetch_runs.proofs.Lists.{filter-map, filter-swap, any-map, all_map, all_take, all_filter, Distinct}
+use Rattle.fetch_runs.proofs.Lists.{are_distinct, front_is, filter-filter, filter_all, all_both, all_passing, all_front}
+use Rattle.fetch_runs.proofs.Lists.{distinct_is, distinct_take, distinct_filter, ids_both, all_at, all_ids_at}
+use Rattle.fetch_runs.proofs.Lists.{bytes_self, bytes_same, members, other_id}
 use Rattle.fetch_session.specs.declared.report.Report.{Report}
 use Rattle.pop3_wire.specs.declared.command.Command.{Command}
 
-pub has_listed : {listing : List Item} (ms : List Message) → listing ≡ listing_of ms → (id : List ℕ) → has_item listing id ≡ has_id (ids_of ms) id
-has_listed ms e id = rw e (any-map (λ (i : Item). bytes_eq id i.uid) item_of ms ∙ sym (any-map (bytes_eq id) (λ (m : Message). m.uid) ms))
+pub has_listed : {listing : List Item} (ms : List Message) → listing ≡ listing_of ms → (id : List ℕ)
+    → has_item listing id ≡ has_id (message_ids ms) id
+has_listed ms e id = rw e (any-map (λ (i : Item). bytes_eq id i.uid) item_of ms
+    ∙ sym (any-map (bytes_eq id) (λ (m : Message). m.uid) ms))
 
 -- ---- numbered messages
 
@@ -54,28 +62,36 @@ at_most-map : {X Y : Type 0} (f : X → Y) (n : ℕ) (xs : List X) → at_most n
 at_most-map f n xs = grind (arith, take-map f n xs)
 
 module _ (settings : Settings) (rows : List Row) where
-  pub candidates_are : DistinctAreFiltered → {listing : List Item} (ms : List Message) → listing ≡ listing_of ms → Distinct (ids_of ms)
+  pub candidates_are : DistinctAreFiltered → {listing : List Item} (ms : List Message) → listing ≡ listing_of ms
+      → Distinct (message_ids ms)
       → candidates settings rows listing ≡ map num_item (offered_by_number settings rows ms)
-  candidates_are filtered ms e d = rw e (filtered settings rows (listing_of ms) (rw map-map (are_distinct (ids_of ms) d))
-      ∙ ap (filter (is_asked_for settings rows)) (enumerated 1 ms) ∙ filter-map (is_asked_for settings rows) num_item (enumerate_from 1 ms))
+  candidates_are filtered ms e d =
+      rw e (filtered settings rows (listing_of ms) (rw map-map (are_distinct (message_ids ms) d))
+      ∙ ap (filter (is_asked_for settings rows)) (enumerated 1 ms)
+      ∙ filter-map (is_asked_for settings rows) num_item (enumerate_from 1 ms))
     where
       enumerated : (n : ℕ) (ms : List Message) → enumerate_from n (listing_of ms) ≡ map num_item (enumerate_from n ms)
       enumerated n [] = refl
       enumerated n (m ∷ ms) = ap (λ (l : List (ℕ × Item)). (n, item_of m) ∷ l) (enumerated (n + 1) ms)
 
-  pub wanted_are : DistinctAreFiltered → {listing : List Item} (ms : List Message) → listing ≡ listing_of ms → Distinct (ids_of ms)
+  pub wanted_are : DistinctAreFiltered → {listing : List Item} (ms : List Message) → listing ≡ listing_of ms
+      → Distinct (message_ids ms)
       → wanted settings rows listing ≡ map num_item (wants_by_number settings rows ms)
-  wanted_are filtered ms e d = rw (candidates_are filtered ms e d) (at_most-map num_item settings.max_count (offered_by_number settings rows ms))
+  wanted_are filtered ms e d =
+      rw (candidates_are filtered ms e d) (at_most-map num_item settings.max_count (offered_by_number settings rows ms))
 
   pub offered_snd : (ms : List Message) → map snd (offered_by_number settings rows ms) ≡ offered settings rows ms
   offered_snd ms = snds 1 ms
     where
-      snds : (n : ℕ) (ms : List Message) → map snd (filter (λ (q : ℕ × Message). asked settings rows q.1) (enumerate_from n ms)) ≡ offered settings rows ms
+      snds : (n : ℕ) (ms : List Message)
+          → map snd (filter (λ (q : ℕ × Message). asked settings rows q.1) (enumerate_from n ms))
+          ≡ offered settings rows ms
       snds n [] = refl
       snds n (m ∷ ms) = grind (arith, snds (n + 1) ms)
 
   pub wants_snd : (ms : List Message) → map snd (wants_by_number settings rows ms) ≡ wants settings rows ms
-  wants_snd ms = sym (at_most-map snd settings.max_count (offered_by_number settings rows ms)) ∙ ap (at_most settings.max_count) (offered_snd ms)
+  wants_snd ms = sym (at_most-map snd settings.max_count (offered_by_number settings rows ms))
+      ∙ ap (at_most settings.max_count) (offered_snd ms)
 
 -- ---- each is at its number
 
@@ -87,12 +103,18 @@ pub are_numbered : {X : Type 0} (xs : List X) → AllByRecursion (IsNumbered xs)
 are_numbered xs = recursion_from_All (IsNumbered xs) (enumerate_from 1 xs) (λ k d l.
     let inside : k < length xs = omega (arith, l, length-enumerate_from 1 xs) in
     let place : 1 + k - 1 ≡ k = omega arith in
-    rw (get_or-enumerate_from 1 xs k d inside) (omega arith, ap (slice_get xs) place ∙ slice_get-get_or xs k d.1 inside))
+    rw (get_or-enumerate_from 1 xs k d inside) (
+      omega arith,
+      ap (slice_get xs) place
+          ∙ slice_get-get_or xs k d.1 inside,
+    ))
 
-pub all_at_most : {X : Type 0} (P : X → Type 0) (n : ℕ) (xs : List X) → AllByRecursion P xs → AllByRecursion P (at_most n xs)
+pub all_at_most : {X : Type 0} (P : X → Type 0) (n : ℕ) (xs : List X) → AllByRecursion P xs
+    → AllByRecursion P (at_most n xs)
 all_at_most P n xs h = cond_both (n == 0) xs (take n xs) (AllByRecursion P) (λ e. h) (λ e. all_take P n xs h)
 
-pub wants_placed : (settings : Settings) (rows : List Row) (ms : List Message) → AllByRecursion (IsNumbered ms) (wants_by_number settings rows ms)
+pub wants_placed : (settings : Settings) (rows : List Row) (ms : List Message)
+    → AllByRecursion (IsNumbered ms) (wants_by_number settings rows ms)
 wants_placed settings rows ms = all_at_most _ _ _ (all_filter _ _ _ (are_numbered ms))
 
 -- ---- texts
@@ -100,8 +122,10 @@ wants_placed settings rows ms = all_at_most _ _ _ (all_filter _ _ _ (are_numbere
 abbrev pub with_text : ℕ × Message → (ℕ × Item) × List ℕ
 with_text q = (num_item q, q.1.text)
 
-pub first_texts : (drop' : List Message) (qs : List (ℕ × Message)) (texts : List (List ℕ)) (n : ℕ) → AllByRecursion (IsNumbered drop') qs → AreTexts drop' (map num_item qs) texts → n ≤ length texts
-    → (zip (take n (map num_item qs)) texts ≡ map with_text (take n qs)) × (take n texts ≡ map (λ (m : Message). m.text) (map snd (take n qs)))
+pub first_texts : (drop' : List Message) (qs : List (ℕ × Message)) (texts : List (List ℕ)) (n : ℕ)
+    → AllByRecursion (IsNumbered drop') qs → AreTexts drop' (map num_item qs) texts → n ≤ length texts
+    → (zip (take n (map num_item qs)) texts ≡ map with_text (take n qs))
+    × (take n texts ≡ map (λ (m : Message). m.text) (map snd (take n qs)))
 first_texts drop' qs texts zero h t l = (refl, refl)
 first_texts drop' (q ∷ qs) (text ∷ texts) (suc n) h t l =
     let same : t.0.0 ≡ q.1 = same_Some _ _ (sym t.0.1 ∙ h.0.1) in
@@ -134,31 +158,51 @@ past_limit limit xs = if limit == 0 then [] else drop limit xs
 pub both_parts : {X : Type 0} (limit : ℕ) (xs : List X) → at_most limit xs ++ past_limit limit xs ≡ xs
 both_parts limit xs = grind (arith, append-nil xs, take-append-drop limit xs)
 
-pub begins : {X : Type 0} (n limit : ℕ) (xs : List X) → take n (at_most limit xs) ++ (drop n (at_most limit xs) ++ past_limit limit xs) ≡ xs
+pub begins : {X : Type 0} (n limit : ℕ) (xs : List X)
+    → take n (at_most limit xs) ++ (drop n (at_most limit xs) ++ past_limit limit xs) ≡ xs
 begins n limit xs =
-    rw (← append_assoc (take n (at_most limit xs)) (drop n (at_most limit xs)) (past_limit limit xs), take-append-drop n (at_most limit xs)) (both_parts limit xs)
+    rw (
+      ← append_assoc (take n (at_most limit xs)) (drop n (at_most limit xs)) (past_limit limit xs),
+      take-append-drop n
+          (at_most limit xs),
+    ) (both_parts limit xs)
 
 -- the ids of the second part are distinct, and none is among those of the first
-pub parts_apart : (front rest : List Message) → Distinct (ids_of (front ++ rest))
-    → Distinct (ids_of rest) × ((m : Message) → has_id (ids_of rest) m.uid ≡ true → has_id (ids_of front) m.uid ≡ false)
+pub parts_apart : (front rest : List Message) → Distinct (message_ids (front ++ rest))
+    → Distinct (message_ids rest) × ((m : Message) → has_id (message_ids rest) m.uid ≡ true
+    → has_id (message_ids front) m.uid ≡ false)
 parts_apart [] rest d = (d, λ m there. refl)
-parts_apart (f ∷ front) rest d = let more = parts_apart front rest d.1 in
-    (more.0, λ m there. grind (arith, there, d.0, ids_both front rest f.uid, more.1 m there, λ (e : bytes_eq m.uid f.uid ≡ true). bytes_same m.uid f.uid e))
+parts_apart (f ∷ front) rest d = let more = parts_apart front rest d.1 in (
+  more.0,
+  λ m there. grind (
+    arith,
+    there,
+    d.0,
+    ids_both front rest f.uid,
+    more.1 m there,
+    λ (e : bytes_eq m.uid f.uid
+        ≡ true). bytes_same m.uid f.uid e,
+  ),
+)
 
 -- ---- the messages that are left
 
 -- the messages that are left, which are those that fit and aren't done, are the next of those that fit
-pub bridge : (fit left : Message → Bool) (done ms later rest : List Message) → Distinct (ids_of ms) → filter fit ms ++ later ≡ done ++ rest
-    → AllByRecursion (λ (m : Message). left m ≡ (fit m && not (has_id (ids_of done) m.uid))) ms → BeginsWith (filter left ms) rest
+pub bridge : (fit left : Message → Bool) (done ms later rest : List Message) → Distinct (message_ids ms)
+    → filter fit ms ++ later ≡ done ++ rest
+    → AllByRecursion (λ (m : Message). left m ≡ (fit m && not (has_id (message_ids done) m.uid))) ms
+    → BeginsWith (filter left ms) rest
 bridge fit left done [] later rest d e h = (rest, refl)
 bridge fit left [] (m ∷ ms) later rest d e h =
-    let more = bridge fit left [] ms later (filter fit ms ++ later) d.1 refl h.1 in (more.0, grind (arith, e, h.0, more.1))
+    let more = bridge fit left [] ms later (filter fit ms ++ later) d.1 refl h.1
+    in (more.0, grind (arith, e, h.0, more.1))
 bridge fit left (x ∷ xs) (m ∷ ms) later rest d e h = elim (cases_Bool (fit m)) [
   | inl t ↦
       let e' : m ∷ (filter fit ms ++ later) ≡ x ∷ (xs ++ rest) = rw t at e in
       let same : m ≡ x = cc in
       let tail : filter fit ms ++ later ≡ xs ++ rest = cc in
-      let more = bridge fit left xs ms later rest d.1 tail (all_both _ h.1 (members ms) (λ y l there. grind (arith, l, there, same, other_id m ms y.uid d.0))) in
+      let more = bridge fit left xs ms later rest d.1 tail
+      (all_both _ h.1 (members ms) (λ y l there. grind (arith, l, there, same, other_id m ms y.uid d.0))) in
       (more.0, grind (arith, t, h.0, same, bytes_self x.uid, more.1))
   | inr f ↦
       let more = bridge fit left (x ∷ xs) ms later rest d.1 (rw f at e) h.1 in
@@ -171,32 +215,46 @@ abbrev pub IsLegal : Message → Type 0
 IsLegal m = is_legal_id m.uid ≡ true
 
 -- they have distinct and legal ids
-module _ (limit : ℕ) {all : List Message} (done rest : List Message) (mail : IsWorld all) (prefix : selected limit all ≡ done ++ rest) where
-  pub done_distinct : Distinct (ids_of done)
-  done_distinct = rw (← front_is done rest prefix) (distinct_take (length done) (selected limit all) (distinct_filter (is_selected limit) all (distinct_is all mail.distinct)))
+module _ (limit : ℕ) {all : List Message} (done rest : List Message) (mail : IsWorld all)
+    (prefix : selected limit all ≡ done ++ rest) where
+  pub done_distinct : Distinct (message_ids done)
+  done_distinct = rw (← front_is done rest prefix) (distinct_take (length done) (selected limit all)
+      (distinct_filter (is_selected limit) all (distinct_is all mail.distinct)))
 
-  pub done_legal : (id : List ℕ) → has_id (ids_of done) id ≡ true → is_legal_id id ≡ true
-  done_legal id = all_at (λ x. is_legal_id x ≡ true) done (all_front _ done _ (rw prefix at (all_filter _ (is_selected limit) _ (all_map _ mail.messages (λ m h. h.legal)))))
+  pub done_legal : (id : List ℕ) → has_id (message_ids done) id ≡ true → is_legal_id id ≡ true
+  done_legal id = all_at (λ x. is_legal_id x ≡ true) done
+      (all_front _ done _ (rw prefix at
+      (all_filter _ (is_selected limit) _ (all_map _ mail.messages (λ m h. h.legal)))))
 
 -- ---- messages that are withdrawn
 
 -- if none of these is done, the same messages are done
-pub prefix_left : (limit : ℕ) (all done rest : List Message) (ids : List (List ℕ)) → selected limit all ≡ done ++ rest → ((id : List ℕ) → has_id (ids_of done) id ≡ true → has_id ids id ≡ true → ⊥)
+pub prefix_left : (limit : ℕ) (all done rest : List Message) (ids : List (List ℕ)) → selected limit all ≡ done ++ rest
+    → ((id : List ℕ) → has_id (message_ids done) id ≡ true → has_id ids id ≡ true → ⊥)
     → selected limit (without ids all) ≡ done ++ without ids rest
-prefix_left limit all done rest ids prefix stays = let stay = λ (m : Message). not (has_id ids m.uid) in filter-swap (is_selected limit) stay all
-    ∙ rw (prefix, filter-append stay done rest, filter_all stay done (all_map _ (members done) (λ m is. ap not (false_from_ne_true _ (stays m.uid is)))))
+prefix_left limit all done rest ids prefix stays = let stay = λ (m : Message). not (has_id ids m.uid)
+    in filter-swap (is_selected limit) stay all
+    ∙ rw (
+      prefix,
+      filter-append stay done rest,
+      filter_all stay done
+          (all_map _ (members done) (λ m is. ap not (false_from_ne_true _ (stays m.uid is)))),
+    )
 
 -- ---- how many messages a session stored
 
-pub order : {settings : Settings} {account : List ℕ} {before : AccountMail} {effect : Effect} {after : AccountMail} {report : Report} {commands : List Command} {part : List ℕ}
-    (s : Stores settings account before effect after report commands part) → s.recorded ≤ s.stored
+pub order : {settings : Settings} {account : List ℕ} {before : AccountMail} {effect : Effect} {after : AccountMail}
+    {report : Report} {commands : List Command} {part : List ℕ}
+    (s : StoresTexts settings account before effect after report commands part) → s.recorded ≤ s.stored
 order s = grind (arith, s.kept, s.marks)
 
-pub fetched : {settings : Settings} {account : List ℕ} {before : AccountMail} {effect : Effect} {after : AccountMail} {report : Report} {commands : List Command} {part : List ℕ}
-    (s : Stores settings account before effect after report commands part) → s.stored ≤ length effect.texts
+pub fetched : {settings : Settings} {account : List ℕ} {before : AccountMail} {effect : Effect} {after : AccountMail}
+    {report : Report} {commands : List Command} {part : List ℕ}
+    (s : StoresTexts settings account before effect after report commands part) → s.stored ≤ length effect.texts
 fetched s = grind (arith, s.kept, s.number)
 
-pub mbox_fetched : {settings : Settings} {before : MboxMail} {effect : Effect} {after : MboxMail} {report : Report} (s : MboxStores settings before effect after report) → s.stored ≤ length effect.texts
+pub mbox_fetched : {settings : Settings} {before : MboxMail} {effect : Effect} {after : MboxMail} {report : Report}
+    (s : MboxStores settings before effect after report) → s.stored ≤ length effect.texts
 mbox_fetched s = grind (arith, s.marks, s.number)
 
 -- ---- a session over a maildrop
@@ -204,17 +262,18 @@ mbox_fetched s = grind (arith, s.marks, s.number)
 -- no two messages of the maildrop share an id, and the server was honest
 pub record Fetch (settings : Settings) (rows : List Row) (drop' : List Message) (effect : Effect) : Type 0 where
   pub filtered : DistinctAreFiltered
-  pub distinct : Distinct (ids_of drop')
+  pub distinct : Distinct (message_ids drop')
   pub honest : IsHonest (wanted settings rows effect.listing) drop' effect
 
 -- ---- places in a filtered list
 
 -- it fails the test, or is one of the first n that pass, or n that pass come before it
 abbrev IsPlaced : (Message → Bool) → ℕ → List Message → Message → Type 0
-IsPlaced p n ms m = (p m ≡ false) ⊎ (has_id (ids_of (take n (filter p ms))) m.uid ≡ true)
+IsPlaced p n ms m = (p m ≡ false) ⊎ (has_id (message_ids (take n (filter p ms))) m.uid ≡ true)
     ⊎ ((front behind : List Message) × (ms ≡ front ++ m ∷ behind) × (p m ≡ true) × (n ≤ length (filter p front)))
 
-in_first : (n : ℕ) (front behind : List Message) (m : Message) → length front < n → has_id (ids_of (take n (front ++ m ∷ behind))) m.uid ≡ true
+in_first : (n : ℕ) (front behind : List Message) (m : Message) → length front < n
+    → has_id (message_ids (take n (front ++ m ∷ behind))) m.uid ≡ true
 in_first zero front behind m l = absurd (omega (arith, l))
 in_first (suc n) [] behind m l = or_left _ _ (bytes_self m.uid)
 in_first (suc n) (x ∷ front) behind m l = or_right _ _ (in_first n front behind m (omega (arith, l)))
@@ -226,17 +285,23 @@ placed p n front (m ∷ ms) = let later = placed p n (front ++ m ∷ []) ms in (
     | inr fails ↦ inl fails
     | inl passes ↦ elim (cases_Bool (nat_le n (length (filter p front)))) [
       | inl enough ↦ inr (inr (front, ms, refl, passes, grind (arith, nat_tests, enough)))
-      | inr few ↦ inr (inl (rw (filter-append, passes) (in_first n (filter p front) (filter p ms) m (grind (arith, nat_tests, few)))))
+      | inr few ↦ inr (inl (rw (filter-append, passes)
+          (in_first n (filter p front) (filter p ms) m (grind (arith, nat_tests, few)))))
     ]
   ],
   rw (append_assoc front (m ∷ []) ms) at later,
 )
 
-more_pass : (p q : Message → Bool) (ms : List Message) → AllByRecursion (λ (m : Message). p m ≡ true → q m ≡ true) ms → length (filter p ms) ≤ length (filter q ms)
+more_pass : (p q : Message → Bool) (ms : List Message) → AllByRecursion (λ (m : Message). p m ≡ true → q m ≡ true) ms
+    → length (filter p ms) ≤ length (filter q ms)
 more_pass p q [] h = omega arith
 more_pass p q (m ∷ ms) h = let more = more_pass p q ms h.1 in elim (cases_Bool (p m)) [
   | inl passes ↦ rw (passes, h.0 passes) (omega (arith, more))
-  | inr fails ↦ elim (cases_Bool (q m)) [ inl yes' ↦ rw (fails, yes') (omega (arith, more)) | inr misses ↦ rw (fails, misses) more ]
+  | inr fails ↦ elim (cases_Bool (q m)) [
+    | inl yes' ↦ rw (fails, yes') (omega (arith, more))
+    | inr misses ↦
+        rw (fails, misses) more
+  ]
 ]
 
 positive : (n : ℕ) → (n == 0) ≡ false → 0 < n
@@ -244,11 +309,17 @@ positive zero e = absurd (both_ways _ refl (sym e))
 positive (suc n) e = omega arith
 
 -- a message that passes a test keeps its id in the filtered list
-passing_in : (p : Message → Bool) (ms : List Message) → AllByRecursion (λ (m : Message). p m ≡ true → has_id (ids_of (filter p ms)) m.uid ≡ true) ms
+passing_in : (p : Message → Bool) (ms : List Message)
+    → AllByRecursion (λ (m : Message). p m ≡ true → has_id (message_ids (filter p ms)) m.uid ≡ true) ms
 passing_in p [] = tt
-passing_in p (m ∷ ms) = (λ e. rw e (or_left _ _ (bytes_self m.uid)), all_map _ (passing_in p ms) (λ x h e. grind (arith, h, e)))
+passing_in p (m ∷ ms) = (
+  λ e. rw e (or_left _ _ (bytes_self m.uid)),
+  all_map _ (passing_in p ms)
+      (λ x h e. grind (arith, h, e)),
+)
 
-module _ {settings : Settings} {rows : List Row} {drop' : List Message} {effect : Effect} (is : Fetch settings rows drop' effect) where
+module _ {settings : Settings} {rows : List Row} {drop' : List Message} {effect : Effect}
+    (is : Fetch settings rows drop' effect) where
   abbrev os : List Message
   os = offered settings rows drop'
 
@@ -262,13 +333,15 @@ module _ {settings : Settings} {rows : List Row} {drop' : List Message} {effect 
   pub all_wanted : (P : Message → Type 0) → AllByRecursion P drop' → AllByRecursion P ws
   all_wanted P h = all_at_most P settings.max_count os (all_filter P (asked settings rows) drop' h)
 
-  pub distinct_wanted : (n : ℕ) → Distinct (ids_of (take n ws))
+  pub distinct_wanted : (n : ℕ) → Distinct (message_ids (take n ws))
   distinct_wanted n = let distinct = distinct_filter (asked settings rows) drop' is.distinct in
-      distinct_take n ws (cond_both (settings.max_count == 0) os (take settings.max_count os) (λ l. Distinct (ids_of l)) (λ e. distinct) (λ e. distinct_take settings.max_count os distinct))
+      distinct_take n ws (cond_both (settings.max_count == 0) os (take settings.max_count os)
+      (λ l. Distinct (message_ids l)) (λ e. distinct) (λ e. distinct_take settings.max_count os distinct))
 
   -- if only what is new is read, no message that is wanted is recorded
   pub none_recorded : settings.read_all ≡ false → AllByRecursion (λ (m : Message). is_delivered rows m.uid ≡ false) ws
-  none_recorded only_new = all_at_most _ _ _ (all_map _ (all_passing (asked settings rows) drop') (λ m a. grind (arith, a, only_new)))
+  none_recorded only_new = all_at_most _ _ _ (all_map _ (all_passing (asked settings rows) drop')
+      (λ m a. grind (arith, a, only_new)))
 
   -- ---- numbers and texts
 
@@ -279,22 +352,27 @@ module _ {settings : Settings} {rows : List Row} {drop' : List Message} {effect 
   taken_is n = sym (take-map snd n qs) ∙ ap (take n) (wants_snd settings rows drop')
 
   -- the first texts, and these messages
-  pub texts_are : {n : ℕ} → n ≤ length effect.texts → (zip (take n (wanted settings rows effect.listing)) effect.texts ≡ map with_text (take n qs))
+  pub texts_are : {n : ℕ} → n ≤ length effect.texts
+      → (zip (take n (wanted settings rows effect.listing)) effect.texts ≡ map with_text (take n qs))
       × (take n effect.texts ≡ map (λ (m : Message). m.text) (take n ws))
   texts_are {n} l =
-      let both = first_texts drop' qs effect.texts n (wants_placed settings rows drop') (rw wanted_is at is.honest.texts) l in
+      let both = first_texts drop' qs effect.texts n (wants_placed settings rows drop')
+      (rw wanted_is at is.honest.texts) l in
       (rw wanted_is both.0, rw (← taken_is n) both.1)
 
-  pub wanted_ids : (n : ℕ) → ids_wanted (take n (wanted settings rows effect.listing)) ≡ ids_of (take n ws)
+  pub wanted_ids : (n : ℕ) → ids_wanted (take n (wanted settings rows effect.listing)) ≡ message_ids (take n ws)
   wanted_ids n = rw (wanted_is, ← wants_snd settings rows drop') (simp (take-map, map-map))
 
   -- ---- what an uncut session leaves out
 
   -- each message is among what was fetched, or is recorded, or too large, or past the limit on the number
-  module _ (is_known : List ℕ → Bool) (known : AllByRecursion (λ (m : Message). is_known m.uid ≡ true → is_delivered rows m.uid ≡ true) drop') (n retrieved : ℕ)
-      (l : length (wanted settings rows effect.listing) ≤ n) (counted : retrieved ≡ length (wanted settings rows effect.listing)) where
+  module _ (is_known : List ℕ → Bool) (known : AllByRecursion (λ (m : Message). is_known m.uid ≡ true
+      → is_delivered rows m.uid ≡ true) drop') (n retrieved : ℕ)
+      (l : length (wanted settings rows effect.listing) ≤ n)
+      (counted : retrieved ≡ length (wanted settings rows effect.listing)) where
     abbrev Out : Message → Type 0
-    Out m = (has_id (ids_of (take n ws)) m.uid ≡ true) ⊎ (is_delivered rows m.uid ≡ true) ⊎ (is_within settings.max_size m.size ≡ false) ⊎ IsPastCount settings is_known drop' retrieved m
+    Out m = (has_id (message_ids (take n ws)) m.uid ≡ true) ⊎ (is_delivered rows m.uid ≡ true)
+        ⊎ (is_within settings.max_size m.size ≡ false) ⊎ IsPastCount settings is_known drop' retrieved m
 
     length_is : length (wanted settings rows effect.listing) ≡ length ws
     length_is = rw (wanted_is, length-map, ← wants_snd settings rows drop', length-map) refl
@@ -311,11 +389,13 @@ module _ {settings : Settings} {rows : List Row} {drop' : List Message} {effect 
     may : AllByRecursion (λ (m : Message). asked settings rows m ≡ true → may_fetch settings is_known m ≡ true) drop'
     may = all_map drop' known (λ m h asks. grind (arith, h, asks))
 
-    past : settings.max_count == 0 ≡ false → (m : Message) → IsPlaced (asked settings rows) settings.max_count drop' m → (asked settings rows m ≡ true → may_fetch settings is_known m ≡ true) → Out m
+    past : settings.max_count == 0 ≡ false → (m : Message) → IsPlaced (asked settings rows) settings.max_count drop' m
+        → (asked settings rows m ≡ true → may_fetch settings is_known m ≡ true) → Out m
     past some m (inl none) may_m = unasked m none
     past some m (inr (inl got)) may_m = inl (rw (all_fetched, some) got)
     past some m (inr (inr (front, behind, place, asks, enough))) may_m =
-        let more : length (filter (asked settings rows) front) ≤ length os = rw (place, filter-append, length-append) (omega arith) in
+        let more : length (filter (asked settings rows) front) ≤ length os =
+        rw (place, filter-append, length-append) (omega arith) in
         let all : length ws ≡ settings.max_count = rw (some, length-take) (omega (arith, enough, more)) in
         inr (inr (inr (record {
           may = may_m asks;
@@ -324,15 +404,17 @@ module _ {settings : Settings} {rows : List Row} {drop' : List Message} {effect 
           front = front;
           behind = behind;
           place = place;
-          before = let both = more_pass (asked settings rows) (may_fetch settings is_known) front (all_front _ front _ (rw place at may)) in omega (arith, enough, both);
+          before = let both = more_pass (asked settings rows) (may_fetch settings is_known) front
+              (all_front _ front _ (rw place at may)) in omega (arith, enough, both);
         })))
 
     pub left_out : AllByRecursion Out drop'
     left_out = elim (cases_Bool (settings.max_count == 0)) [
-      | inl none ↦ all_map drop' (passing_in (asked settings rows) drop') (λ m h. elim (cases_Bool (asked settings rows m)) [
-        | inr none' ↦ unasked m none'
-        | inl asks ↦ inl (rw (all_fetched, none) (h asks))
-      ])
+      | inl none ↦ all_map drop' (passing_in (asked settings rows) drop')
+          (λ m h. elim (cases_Bool (asked settings rows m)) [
+            | inr none' ↦ unasked m none'
+            | inl asks ↦ inl (rw (all_fetched, none) (h asks))
+          ])
       | inr some ↦ all_both drop' (placed (asked settings rows) settings.max_count [] drop') may (past some)
     ]
 
@@ -340,49 +422,65 @@ module _ {settings : Settings} {rows : List Row} {drop' : List Message} {effect 
 
 -- what is selected and isn't done
 abbrev pub next_in : ℕ → List Message → List Message → List Message
-next_in limit done ms = filter (λ (m : Message). is_selected limit m && not (has_id (ids_of done) m.uid)) ms
+next_in limit done ms = filter (λ (m : Message). is_selected limit m && not (has_id (message_ids done) m.uid)) ms
 
 -- of a maildrop that keeps its order it is the first of what is left
-pub next_here : (limit : ℕ) {all : List Message} (come : ℕ) (gone : List (List ℕ)) (done rest : List Message) → IsWorld all → selected limit all ≡ done ++ rest
-    → AllByRecursion (λ id. has_id (ids_of done) id ≡ true) gone → BeginsWith (next_in limit done (maildrop_of all come gone)) rest
-next_here limit {all} come gone done rest mail prefix all_gone = simp filter-filter (bridge fit (λ (m : Message). not (has_id gone m.uid) && (fit m && not (has_id (ids_of done) m.uid))) done (take come all) (filter fit (drop come all)) rest
+pub next_here : (limit : ℕ) {all : List Message} (come : ℕ) (gone : List (List ℕ)) (done rest : List Message)
+    → IsWorld all → selected limit all ≡ done ++ rest
+    → AllByRecursion (λ id. has_id (message_ids done) id ≡ true) gone
+    → BeginsWith (next_in limit done (maildrop_of all come gone)) rest
+next_here limit {all} come gone done rest mail prefix all_gone =
+    simp filter-filter (bridge fit
+    (λ (m : Message). not (has_id gone m.uid) && (fit m && not (has_id (message_ids done) m.uid))) done (take come all)
+    (filter fit (drop come all)) rest
     (distinct_take come all (distinct_is all mail.distinct))
     (sym (filter-append fit (take come all) (drop come all)) ∙ ap (filter fit) (take-append-drop come all) ∙ prefix)
-    (all_map _ (all_take _ come all mail.messages) (λ m _. grind (arith, λ (g : has_id gone m.uid ≡ true). all_ids_at _ _ all_gone g))))
+    (all_map _ (all_take _ come all mail.messages)
+    (λ m _. grind (arith, λ (g : has_id gone m.uid ≡ true). all_ids_at _ _ all_gone g))))
   where
     fit : Message → Bool
     fit m = is_selected limit m
 
-module _ {settings : Settings} {rows : List Row} {drop' : List Message} {effect : Effect} (is : Fetch settings rows drop' effect) (done rest : List Message)
-    (known : AllByRecursion (λ (m : Message). is_delivered rows m.uid ≡ true → has_id (ids_of done) m.uid ≡ true) drop') (next : BeginsWith (next_in settings.max_size done drop') rest) where
-  abbrev undone : Message → Bool
-  undone m = not (has_id (ids_of done) m.uid)
+module _ {settings : Settings} {rows : List Row} {drop' : List Message} {effect : Effect}
+    (is : Fetch settings rows drop' effect) (done rest : List Message)
+    (known : AllByRecursion (λ (m : Message). is_delivered rows m.uid ≡ true
+    → has_id (message_ids done) m.uid ≡ true) drop') (next : BeginsWith (next_in settings.max_size done drop') rest)
+  where
+    abbrev undone : Message → Bool
+    undone m = not (has_id (message_ids done) m.uid)
 
-  -- the first n of what is wanted, without those that are done already
-  abbrev pub added : ℕ → List Message
-  added n = filter undone (take n (wants settings rows drop'))
+    -- the first n of what is wanted, without those that are done already
+    abbrev pub added : ℕ → List Message
+    added n = filter undone (take n (wants settings rows drop'))
 
-  abbrev some' : List Message
-  some' = offered settings rows drop'
+    abbrev some' : List Message
+    some' = offered settings rows drop'
 
-  abbrev behind : ℕ → List Message
-  behind n = drop n (wants settings rows drop') ++ past_limit settings.max_count some'
+    abbrev behind : ℕ → List Message
+    behind n = drop n (wants settings rows drop') ++ past_limit settings.max_count some'
 
-  undone_offered : (ms : List Message) → AllByRecursion (λ (m : Message). is_delivered rows m.uid ≡ true → has_id (ids_of done) m.uid ≡ true) ms
-      → next_in settings.max_size done ms ≡ filter undone (offered settings rows ms)
-  undone_offered [] h = refl
-  undone_offered (m ∷ ms) h = grind (arith, h.0, undone_offered ms h.1)
+    undone_offered : (ms : List Message) → AllByRecursion (λ (m : Message). is_delivered rows m.uid ≡ true
+        → has_id (message_ids done) m.uid ≡ true) ms
+        → next_in settings.max_size done ms ≡ filter undone (offered settings rows ms)
+    undone_offered [] h = refl
+    undone_offered (m ∷ ms) h = grind (arith, h.0, undone_offered ms h.1)
 
-  pub added_begins : (n : ℕ) → BeginsWith (added n) rest
-  added_begins n = (
-    filter undone (behind n) ++ next.0,
-    next.1 ∙ ap (λ l. l ++ next.0) (undone_offered drop' known ∙ ap (filter undone) (sym (begins n settings.max_count some')) ∙ filter-append undone (take n (wants settings rows drop')) (behind n))
-        ∙ append_assoc (added n) (filter undone (behind n)) next.0,
-  )
+    pub added_begins : (n : ℕ) → BeginsWith (added n) rest
+    added_begins n = (
+      filter undone (behind n) ++ next.0,
+      next.1 ∙ ap (λ l. l ++ next.0) (undone_offered drop' known
+          ∙ ap (filter undone) (sym (begins n settings.max_count some'))
+          ∙ filter-append undone (take n (wants settings rows drop')) (behind n))
+          ∙ append_assoc (added n) (filter undone (behind n)) next.0,
+    )
 
-  pub prefix_after : {chosen : List Message} → chosen ≡ done ++ rest → (n : ℕ) → chosen ≡ (done ++ added n) ++ (added_begins n).0
-  prefix_after prefix n = prefix ∙ ap (λ l. done ++ l) (added_begins n).1 ∙ sym (append_assoc done (added n) (added_begins n).0)
+    pub prefix_after : {chosen : List Message} → chosen ≡ done ++ rest → (n : ℕ)
+        → chosen ≡ (done ++ added n) ++ (added_begins n).0
+    prefix_after prefix n = prefix ∙ ap (λ l. done ++ l) (added_begins n).1
+        ∙ sym (append_assoc done (added n) (added_begins n).0)
 
-  -- if all that is done is recorded, and only what is new is read, none is done
-  pub all_added : ((id : List ℕ) → is_delivered rows id ≡ has_id (ids_of done) id) → settings.read_all ≡ false → (n : ℕ) → added n ≡ take n (wants settings rows drop')
-  all_added exact only_new n = filter_all undone (take n (wants settings rows drop')) (all_take _ _ _ (all_map _ (none_recorded is only_new) (λ m k. ap not (sym (exact m.uid) ∙ k))))
+    -- if all that is done is recorded, and only what is new is read, none is done
+    pub all_added : ((id : List ℕ) → is_delivered rows id ≡ has_id (message_ids done) id) → settings.read_all ≡ false
+        → (n : ℕ) → added n ≡ take n (wants settings rows drop')
+    all_added exact only_new n = filter_all undone (take n (wants settings rows drop'))
+        (all_take _ _ _ (all_map _ (none_recorded is only_new) (λ m k. ap not (sym (exact m.uid) ∙ k))))

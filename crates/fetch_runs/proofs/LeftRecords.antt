@@ -1,15 +1,19 @@
 -- Each id that a record's file delivers is legal.
--- What a session leaves of a record's file, and what a loss of power may leave of that, shows as delivered only what it showed or
--- could show before, and messages of which a file is there whose name is durable.
-use Rattle.std.proofs.Common.{◌≡◌, inl, inr, ℕ, suc, List, [], ◌∷◌, ◌++◌, true, Option, arith, Bool, zero, not, ◌+◌, None, Some, ◌⊎◌, false, length, subst, bytes_eq, sym, ⊎_elim, ap, ◌∙◌, Contains, length-append, Result, Ok, Err, refl, All, ◌-◌, ◌%◌, ◌==◌, take, ◌&&◌}
+-- What a session leaves of a record's file, and what a loss of power may leave of that, shows as delivered only what it
+-- showed or could show before, and messages of which a file is there whose name is durable.
+use Rattle.std.proofs.Common.{◌≡◌, inl, inr, ℕ, suc, List, [], ◌∷◌, ◌++◌, true, Option, arith, Bool, zero, not, ◌+◌}
+use Rattle.std.proofs.Common.{None, Some, ◌⊎◌, false, length, subst, bytes_eq, sym, ⊎_elim, ap, ◌∙◌, Contains}
+use Rattle.std.proofs.Common.{length-append, Result, Ok, Err, refl, All, ◌-◌, ◌%◌, ◌==◌, take, ◌&&◌}
 use Rattle.std.specs.List.{AllByRecursion, list_all, list_any}
 use Rattle.std.proofs.lemmas.Bool.{cond_both, both_ways, cases_Bool, and_parts, or_cases}
 use Rattle.fetch_rules.specs.Record.{Row, is_delivered, Intent, has_row, marked, marked_all, merged, none_open}
 use Rattle.fetch_session.specs.Record.{KeepsRows}
 use Rattle.mail_terms.specs.UniqueId.{is_legal_id}
 use Rattle.std.proofs.lemmas.List.Elements.{recursion_from_All, Contains-push}
-use Rattle.fetch_rules.specs.RecordFile.{Version, Two, Line, RowLine, IsLine, GroupLine, file_of}
-use Rattle.fetch_rules.specs.RecordMeaning.{Ends, Fails, Judged, InBase, InGroup, Means, Progress, Rows, Stands, after_intent, after_line, counted, judged, may_take, taken, BetweenGroups, Fault, FileStandsFor}
+use Rattle.fetch_rules.specs.RecordFile.{Version, Two, Line, RowLine, IsRecordLine, GroupLine, file_of}
+use Rattle.fetch_rules.specs.RecordMeaning.{Ends, Fails, Judged, InBase, InGroup, Means, Progress, Rows, Stands}
+use Rattle.fetch_rules.specs.RecordMeaning.{after_intent, after_line, counted, judged, may_take, with_taken}
+use Rattle.fetch_rules.specs.RecordMeaning.{BetweenGroups, Fault, FileStandsFor}
 use Rattle.mail_store.specs.Durable.{MayLeave}
 use mathlib.Core.Logic.{⊎_map}
 use Rattle.std.proofs.lemmas.Bool.Decides.{nat_tests}
@@ -22,15 +26,17 @@ use Rattle.fetch_rules.specs.RecordGrowth.{AppendedCounts, OneMeaning, OneRecord
 use Rattle.fetch_rules.specs.RecordTorn.{IsPartOf, TornIsIgnoredOrSeen, ends_at_zero}
 use Rattle.fetch_rules.specs.declared.steps.Step.{Step}
 use Rattle.fetch_rules.specs.declared.seen.SeenFault.TheVariants.{BadRow}
-use Rattle.fetch_session.specs.Lasting.{AreLeft, CarriedLasts, CarriesLast, IsUntouched, Lasts, Leaves, LeavesMerged, ProceedsLast, SessionLasts, UnlessQuiet, UnreadyLasts, IsSafe}
+use Rattle.fetch_session.specs.Lasting.{AreLeft, CarriedLasts, CarriesLast, IsRecordUntouched, Lasts, LeavesFile}
+use Rattle.fetch_session.specs.Lasting.{LeavesMerged, ProceedsLast, SessionLasts, UnlessQuiet, UnreadyLasts, IsSafeFile}
 use Rattle.fetch_session.specs.Laws.{LeavesDurable}
 use Rattle.fetch_session.specs.Plan.{Carried, Carries, tasks_ahead}
 use Rattle.fetch_session.specs.Readiness.{AreDurable, IsMerged, IsMergedAtMost, IsAnew, IsFileKept}
 use Rattle.fetch_session.specs.Scene.{Does, FileNotSaved, NoFile, Scene, Stops, Went, scene}
 use Rattle.fetch_session.specs.Session.{Keeping, Proceeds, Session, account_files, keeps_files}
 use Rattle.fetch_session.specs.Store.{RefusesText}
-use Rattle.fetch_session.specs.Target.{AsFiles, Stores, flags_in, in_maildir}
-use Rattle.fetch_session.specs.Task.{Done, Task, file_from, files_in, files_of, ids_ahead, ids_in, ids_of, stores, tasks_of, tasks_planned}
+use Rattle.fetch_session.specs.Target.{AsFiles, Stores, held_flags, in_maildir}
+use Rattle.fetch_session.specs.Task.{Done, Task, file_from, files_in, files_of, ids_ahead, ids_in, marked_ids, stores}
+use Rattle.fetch_session.specs.Task.{tasks_of, tasks_planned}
 use Rattle.fetch_session.specs.declared.account.Store.TheVariants.{Maildir as InMaildir}
 use Rattle.fetch_session.specs.declared.fault.Cut.{Cut}
 use Rattle.fetch_session.specs.declared.report.Report.{Report}
@@ -60,7 +66,8 @@ marked_legal : (rows : List Row) (uid : List ℕ) → AreLegal rows → AreLegal
 marked_legal [] uid all = tt
 marked_legal (r ∷ rows) uid all = (all.0, marked_legal rows uid all.1)
 
-taken_legal : (rows : List Row) (row : Row) → AreLegal rows → is_legal_id row.uid ≡ true → AreLegal (taken rows row)
+taken_legal : (rows : List Row) (row : Row) → AreLegal rows → is_legal_id row.uid ≡ true
+    → AreLegal (with_taken rows row)
 taken_legal rows row all one = cond_both (has_row rows row.uid) (marked rows row.uid) (rows ++ row ∷ []) AreLegal
     (λ there. marked_legal rows row.uid all) (λ absent. all_append _ rows (row ∷ []) all (one, tt))
 
@@ -69,57 +76,76 @@ Legal (Stands (InGroup before intent rows more)) = AreLegal before × AreLegal r
 Legal (Stands progress) = AreLegal (counted progress)
 Legal (Fails fault) = Unit {0}
 
-intent_legal : (version : Version) (n : ℕ) (rows : List Row) (before : Option Intent) (intent : Intent) → AreLegal rows → Legal (after_intent version n rows before intent)
+intent_legal : (version : Version) (n : ℕ) (rows : List Row) (before : Option Intent) (intent : Intent) → AreLegal rows
+    → Legal (after_intent version n rows before intent)
 intent_legal Two n rows None intent all = cond_both (has_row rows intent.uid) _ _ Legal (λ there. all) (λ absent. tt)
 intent_legal version n rows before intent all = tt
 
-line_legal : (version : Version) (n : ℕ) (progress : Progress) (line : Line) → Legal (Stands progress) → IsLine line → Legal (after_line version n progress line)
-line_legal version n (InBase rows) (RowLine row) all is = cond_both (has_row rows row.uid) _ _ Legal (λ there. tt) (λ absent. all_append _ rows (row ∷ []) all (is.legal, tt))
-line_legal version n (InGroup old before rows zero) (RowLine row) all is = cond_both (may_take version rows row) _ _ Legal (λ may. taken_legal rows row all.1 is.legal) (λ not. tt)
-line_legal version n (InGroup old before rows (suc more)) (RowLine row) all is = cond_both (may_take version rows row) _ _ Legal (λ may. (all.0, taken_legal rows row all.1 is.legal)) (λ not. tt)
+line_legal : (version : Version) (n : ℕ) (progress : Progress) (line : Line) → Legal (Stands progress)
+    → IsRecordLine line → Legal (after_line version n progress line)
+line_legal version n (InBase rows) (RowLine row) all is = cond_both (has_row rows row.uid) _ _ Legal (λ there. tt)
+    (λ absent. all_append _ rows (row ∷ []) all (is.legal, tt))
+line_legal version n (InGroup old before rows zero) (RowLine row) all is =
+    cond_both (may_take version rows row) _ _ Legal (λ may. taken_legal rows row all.1 is.legal) (λ not. tt)
+line_legal version n (InGroup old before rows (suc more)) (RowLine row) all is =
+    cond_both (may_take version rows row) _ _ Legal (λ may. (all.0, taken_legal rows row all.1 is.legal)) (λ not. tt)
 line_legal version n (BetweenGroups rows before) (GroupLine count) all is = (all, all)
 line_legal version n progress line all is = search intent_legal
 
-lines_legal : (version : Version) (n : ℕ) (so_far : Judged) (lines : List Line) → Legal so_far → AllByRecursion IsLine lines → Legal (judged version n so_far lines)
+lines_legal : (version : Version) (n : ℕ) (so_far : Judged) (lines : List Line) → Legal so_far
+    → AllByRecursion IsRecordLine lines → Legal (judged version n so_far lines)
 lines_legal version n so_far [] legal each = legal
 lines_legal version n (Fails fault) (line ∷ lines) legal each = tt
 lines_legal version n (Stands progress) (line ∷ lines) legal each =
-    lines_legal version (n + 1) (after_line version n progress line) lines (line_legal version n progress line legal each.0) each.1
+    lines_legal version (n + 1) (after_line version n progress line) lines
+    (line_legal version n progress line legal each.0) each.1
 
 counted_legal : (progress : Progress) → Legal (Stands progress) → AreLegal (counted progress)
 counted_legal (InGroup before intent rows more) all = all.0
 counted_legal progress all = all
 
-ends_legal : (version : Version) (rows : List Row) (intent : Option Intent) (torn : Bool) (of : Version) (n : ℕ) (end : Judged) (rest : List ℕ) → Legal end
+ends_legal : (version : Version) (rows : List Row) (intent : Option Intent) (torn : Bool) (of : Version) (n : ℕ)
+    (end : Judged) (rest : List ℕ) → Legal end
     → Ends of n end rest (Rows version rows intent torn) → AreLegal rows
 ends_legal version rows intent torn of n (Fails fault) rest legal never = absurd cc
 ends_legal version rows intent torn of n (Stands progress) rest legal (none, is) =
     let same : rows ≡ counted progress = grind (arith, is) in rw same (counted_legal progress legal)
 
-means_legal : (bytes : List ℕ) (version : Version) (rows : List Row) (intent : Option Intent) (torn : Bool) → Means bytes (Rows version rows intent torn) → AreLegal rows
+means_legal : (bytes : List ℕ) (version : Version) (rows : List Row) (intent : Option Intent) (torn : Bool)
+    → Means bytes (Rows version rows intent torn) → AreLegal rows
 means_legal bytes version rows intent torn (inl (none, is)) = let same : rows ≡ [] = cc in rw same tt
 means_legal bytes version rows intent torn (inr (inl (some, other, never))) = absurd cc
 means_legal bytes version rows intent torn (inr (inr by_lines)) =
-    ends_legal version rows intent torn by_lines.version _ (judged by_lines.version 0 (Stands (InBase [])) by_lines.lines) by_lines.rest
-    (lines_legal by_lines.version 0 (Stands (InBase [])) by_lines.lines tt (recursion_from_All IsLine by_lines.lines by_lines.cut.each)) by_lines.ends
+    ends_legal version rows intent torn by_lines.version _
+    (judged by_lines.version 0 (Stands (InBase [])) by_lines.lines) by_lines.rest
+    (lines_legal by_lines.version 0 (Stands (InBase [])) by_lines.lines tt
+    (recursion_from_All IsRecordLine by_lines.lines by_lines.cut.each)) by_lines.ends
 
 delivered_legal : (rows : List Row) (id : List ℕ) → AreLegal rows → is_delivered rows id ≡ true → is_legal_id id ≡ true
 delivered_legal [] id all never = absurd cc
-delivered_legal (row ∷ rows) id all delivered = grind (arith, delivered, all.0, bytes_same id row.uid, delivered_legal rows id all.1)
+delivered_legal (row ∷ rows) id all delivered =
+    grind (arith, delivered, all.0, bytes_same id row.uid, delivered_legal rows id all.1)
 
-pub kept_legal : (content : Option (List ℕ)) (rows : List Row) → KeepsRows content rows → (id : List ℕ) → is_delivered rows id ≡ true → is_legal_id id ≡ true
+pub kept_legal : (content : Option (List ℕ)) (rows : List Row) → KeepsRows content rows → (id : List ℕ)
+    → is_delivered rows id ≡ true → is_legal_id id ≡ true
 kept_legal None rows (intent, stands) id delivered = absurd (let never = rw stands.0 at delivered in cc)
-kept_legal (Some bytes) rows keeps id delivered = delivered_legal rows id (means_legal bytes keeps.1.0 rows keeps.0 keeps.1.1 keeps.1.2) delivered
+kept_legal (Some bytes) rows keeps id delivered =
+    delivered_legal rows id (means_legal bytes keeps.1.0 rows keeps.0 keeps.1.1 keeps.1.2) delivered
 
--- what a call leaves. No file came, or each name was durable before; and what the record shows as delivered, or may show after a loss of power, it showed or could show
--- before, or it has a file whose name is durable
-pub record LeavesDurably {F : Type 0} (file : FileGhosts F) (account : List ℕ) (from f : F) (before after : AccountMail) : Type 0 where
-  pub is : LeavesDurable account (account_files before.maildir (file.stored from)) (account_files after.maildir (file.stored f))
+-- what a call leaves. No file came, or each name was durable before; and what the record shows as delivered, or may
+-- show after a loss of power, it showed or could show before, or it has a file whose name is durable
+pub record LeavesDurably {F : Type 0} (file : FileGhosts F) (account : List ℕ) (from f : F)
+    (before after : AccountMail) : Type 0 where
+  pub is : LeavesDurable account (account_files before.maildir (file.stored from))
+      (account_files after.maildir (file.stored f))
   pub open is use {came, last, files, durable, flushed, at_most_one}
   pub named : (came ++ last ≡ []) ⊎ AllNamed before.maildir.files
-  pub shown : (id : List ℕ) → is_delivered after.rows id ≡ true → (is_delivered before.rows id ≡ true) ⊎ (has_named account after.maildir id ≡ true)
-  pub left : RecordIsSure file from f → (bytes : Option (List ℕ)) (rows : List Row) (intent : Option Intent) → MayLeave (file.disk f) bytes → FileStandsFor bytes rows intent → (id : List ℕ)
-      → is_delivered rows id ≡ true → (is_delivered before.rows id ≡ true) ⊎ ((has_named account after.maildir id ≡ true) ⊎ MayLeave (file.disk from) bytes)
+  pub shown : (id : List ℕ) → is_delivered after.rows id ≡ true → (is_delivered before.rows id ≡ true)
+      ⊎ (has_named account after.maildir id ≡ true)
+  pub left : RecordIsSure file from f → (bytes : Option (List ℕ)) (rows : List Row) (intent : Option Intent)
+      → MayLeave (file.disk f) bytes → FileStandsFor bytes rows intent → (id : List ℕ)
+      → is_delivered rows id ≡ true → (is_delivered before.rows id ≡ true)
+      ⊎ ((has_named account after.maildir id ≡ true) ⊎ MayLeave (file.disk from) bytes)
 
 -- ---- what is left of an append
 
@@ -128,25 +154,40 @@ part_of place added [] is = tt
 part_of place [] (byte ∷ left) never = absurd never
 part_of place (word ∷ words) (byte ∷ left) (is, more) =
     let some : block_size - place % block_size ≡ suc (511 - place % block_size) = omega arith in
-    let zero_byte : is_lost place (byte ∷ left) ≡ true → byte ≡ 0 = λ lost. grind (arith, nat_tests, subst (λ k. list_all (λ b. b == 0) (take k (byte ∷ left)) ≡ true) some lost) in
+    let zero_byte : is_lost place (byte ∷ left) ≡ true
+    → byte ≡ 0 = λ lost. grind
+    (arith, nat_tests, subst (λ k. list_all (λ b. b == 0) (take k (byte ∷ left)) ≡ true) some lost) in
     (⊎_map (λ same. same) zero_byte is, part_of (place + 1) words left more)
 
 -- ---- the rows that are left
 
-pub left_stands : OneRecord → OneMeaning → AppendedCounts → TornIsIgnoredOrSeen → (rows others now : List Row) (left : Option (List ℕ)) → AreLeft rows others left → KeepsRows left now
+pub left_stands : OneRecord → OneMeaning → AppendedCounts → TornIsIgnoredOrSeen
+    → (rows others now : List Row) (left : Option (List ℕ)) → AreLeft rows others left → KeepsRows left now
     → (now ≡ rows) ⊎ (now ≡ others)
 left_stands one meaning counts torn rows others now left is (intent, stands) = elim is.file.begun [
-  | inl none ↦ inl (same_rows one (Some is.file.bytes) now rows (intent, rw (none, append-nil) at there) (is.before, (Two, false, is.file.stands)))
+  | inl none ↦ inl (same_rows one (Some is.file.bytes) now rows (intent, rw (none, append-nil) at there)
+      (is.before, (Two, false, is.file.stands)))
   | inr some ↦ elim (cases_Bool (bytes_eq is.file.behind is.added)) [
-    | inl same ↦ rw (same_rows one (Some (is.file.bytes ++ is.added)) now is.next (intent, rw ((bytes_eq-Decides is.file.behind is.added).0 same) at there)
-        (is.after, (Two, false, counts is.file.bytes is.added rows is.next is.before is.after some is.file.stands is.grows))) is.next_is
+    | inl same ↦ rw (same_rows one (Some (is.file.bytes ++ is.added)) now is.next
+        (intent, rw ((bytes_eq-Decides is.file.behind is.added).0 same) at there) (
+          is.after,
+          (
+            Two,
+            false,
+            counts is.file.bytes is.added rows is.next is.before is.after some
+                is.file.stands is.grows,
+          ),
+        )) is.next_is
     | inr apart ↦
-        let ignored = torn is.file.bytes is.added is.file.behind rows is.next is.before is.after some is.file.stands is.grows
+        let ignored = torn is.file.bytes is.added is.file.behind rows is.next is.before is.after some
+        is.file.stands is.grows
         (part_of (length is.file.bytes) is.added is.file.behind is.file.part)
         (λ same. both_ways _ apart ((bytes_eq-Decides is.file.behind is.added).1 same)) in
         elim (cases_Bool (ends_at_zero is.file.behind)) [
-          | inl zeros ↦ inl (same_rows one (Some (is.file.bytes ++ is.file.behind)) now rows (intent, there) (is.before, (Two, _, ignored.0 zeros)))
-          | inr line ↦ absurd (cc (meaning (is.file.bytes ++ is.file.behind) (Fault (BadRow (ignored.1 line).0)) (Rows there.0 now intent there.1) (ignored.1 line).1 there.2))
+          | inl zeros ↦ inl (same_rows one (Some (is.file.bytes ++ is.file.behind)) now rows (intent, there)
+              (is.before, (Two, _, ignored.0 zeros)))
+          | inr line ↦ absurd (cc (meaning (is.file.bytes ++ is.file.behind) (Fault (BadRow (ignored.1 line).0))
+              (Rows there.0 now intent there.1) (ignored.1 line).1 there.2))
         ]
   ]
 ]
@@ -160,17 +201,22 @@ pub no_more : {A : Type 0} (xs ys : List A) (x : A) → ys ≡ xs → ys ≡ xs 
 no_more xs ys x same more = absurd (omega (arith, ap length same, ap length more, length-append xs (x ∷ [])))
 
 -- what is flagged is held
-pub flag_held : (account : List ℕ) (maildir : Maildir) (items : List Item) (id : List ℕ) → is_flagged items (flags_of account maildir items) id ≡ true → is_held account maildir id ≡ true
+pub flag_held : (account : List ℕ) (maildir : Maildir) (items : List Item) (id : List ℕ)
+    → is_flagged items (flags_of account maildir items) id ≡ true → is_held account maildir id ≡ true
 flag_held account maildir [] id never = absurd (both_ways false refl never)
-flag_held account maildir (i ∷ items) id flagged = grind (arith, flagged, bytes_same i.uid id, flag_held account maildir items id)
+flag_held account maildir (i ∷ items) id flagged =
+    grind (arith, flagged, bytes_same i.uid id, flag_held account maildir items id)
 
 -- a file of the id that is there and whose name is durable
-has_file : (account : List ℕ) (maildir : Maildir) (id : List ℕ) (g : File) → Contains maildir.files g → names_id account id g.name ≡ true → IsNamed g → has_named account maildir id ≡ true
+has_file : (account : List ℕ) (maildir : Maildir) (id : List ℕ) (g : File) → Contains maildir.files g
+    → names_id account id g.name ≡ true → IsNamed g → has_named account maildir id ≡ true
 has_file account maildir id g (k, below, is) names named =
-    list_any_at (λ (h : File). names_id account id h.name && h.is_named) maildir.files k g below (ap (λ (h : File). names_id account id h.name && h.is_named) is ∙ grind (arith, names, named))
+    list_any_at (λ (h : File). names_id account id h.name && h.is_named) maildir.files k g below
+    (ap (λ (h : File). names_id account id h.name && h.is_named) is ∙ grind (arith, names, named))
 
 -- what is held has one if all names are durable
-pub all_named : (account : List ℕ) (files : List File) (id : List ℕ) → AllNamed files → list_any (λ (h : File). names_id account id h.name) files ≡ true
+pub all_named : (account : List ℕ) (files : List File) (id : List ℕ) → AllNamed files
+    → list_any (λ (h : File). names_id account id h.name) files ≡ true
     → list_any (λ (h : File). names_id account id h.name && h.is_named) files ≡ true
 all_named account [] id named never = never
 all_named account (g ∷ files) id (one, named) held = grind (arith, one, held, all_named account files id named)
@@ -188,24 +234,33 @@ no_files account (d ∷ dones) none =
     by (stores number uid) never = absurd cc
     by other none = refl
 
-pub quiet_ids : (steps : List Step) (items : List Item) (held : List Bool) → AllByRecursion IsQuiet steps → ids_ahead (tasks_planned steps items held) ≡ []
+pub quiet_ids : (steps : List Step) (items : List Item) (held : List Bool) → AllByRecursion IsQuiet steps
+    → ids_ahead (tasks_planned steps items held) ≡ []
 quiet_ids (s ∷ ss) (i ∷ is) (h ∷ hs) quiet = grind (arith, quiet.0.0, quiet.0.1, quiet_ids ss is hs quiet.1)
 quiet_ids steps items held quiet = refl
 
-module _ (account : List ℕ) (settings : Settings) (items : List Item) (now : ℕ) (place : Place) (left : Maildir) (file : Stored) where
+module _ (account : List ℕ) (settings : Settings) (items : List Item) (now : ℕ) (place : Place)
+    (left : Maildir) (file : Stored) where
   -- no file came
-  quiet_came : (result : Result (Unit {0}) Cut) (new : Scene) (skipped : Skips) → (c : Carried settings (AsFiles account) items now place (in_maildir left) file [] result new skipped)
+  quiet_came : (result : Result (Unit {0}) Cut) (new : Scene) (skipped : Skips)
+      → (c : Carried settings (AsFiles account) items now place (in_maildir left) file [] result new skipped)
       → All IsQuiet (planned settings c.mid.rows items now) → new.store.maildir.files ≡ left.files
   quiet_came result new skipped c quiet = by result c.does
     where
       none : ids_ahead (tasks_ahead settings (AsFiles account) items now (in_maildir left) c.mid.rows) ≡ []
       none = simp (flat_map-append, append-nil)
-          (quiet_ids (planned settings c.mid.rows items now) items (flags_in (AsFiles account) (in_maildir left) items) (recursion_from_All IsQuiet _ quiet))
+          (quiet_ids (planned settings c.mid.rows items now) items
+          (held_flags (AsFiles account) (in_maildir left) items) (recursion_from_All IsQuiet _ quiet))
 
-      none_came : {later : Scene} (dones : List Done) → Went (AsFiles account) dones c.mid later → ids_ahead (tasks_of dones) ≡ [] → later.store.maildir.files ≡ left.files
-      none_came dones went none = went.stored.came ∙ ap (λ (s : Stores). s.maildir.files ++ files_of account dones) c.prepared.settles ∙ rw (no_files account dones none) (append-nil left.files)
+      none_came : {later : Scene} (dones : List Done) → Went (AsFiles account) dones c.mid later
+          → ids_ahead (tasks_of dones) ≡ [] → later.store.maildir.files ≡ left.files
+      none_came dones went none = went.stored.came
+          ∙ ap (λ (s : Stores). s.maildir.files ++ files_of account dones) c.prepared.settles
+          ∙ rw (no_files account dones none) (append-nil left.files)
 
-      by : (result : Result (Unit {0}) Cut) → Does (AsFiles account) (tasks_ahead settings (AsFiles account) items now (in_maildir left) c.mid.rows) c.mid result new → new.store.maildir.files ≡ left.files
+      by : (result : Result (Unit {0}) Cut)
+          → Does (AsFiles account) (tasks_ahead settings (AsFiles account) items now (in_maildir left) c.mid.rows) c.mid
+          result new → new.store.maildir.files ≡ left.files
       by (Ok done) all = none_came all.dones all.went (rw all.all at none)
       by (Err cut) fell = stopped fell.stops ∙ none_came fell.dones fell.went parts.0
         where
@@ -215,56 +270,71 @@ module _ (account : List ℕ) (settings : Settings) (items : List Item) (now : �
               (rw (fell.split, flat_map-append ids_in (tasks_of fell.dones) (fell.next ∷ fell.later)) at none) in
               (both.0, (both_none (ids_in fell.next) (ids_ahead fell.later) both.1).0)
 
-          stopped : Stops (AsFiles account) fell.next fell.mid cut new → new.store.maildir.files ≡ fell.mid.store.maildir.files
+          stopped : Stops (AsFiles account) fell.next fell.mid cut new
+              → new.store.maildir.files ≡ fell.mid.store.maildir.files
           stopped (inl broken) = ap (λ (s : Stores). s.maildir.files) broken.store
           stopped (inr (inl n)) = absurd (cc (rw n.is at parts.1))
           stopped (inr (inr u)) = absurd (cc (rw u.is at parts.1))
 
 -- ---- a session
 
-module _ (laws : Below) {D F : Type 0} (files : FileGhosts F) (device device' : D) (settings : Settings) (account : List ℕ) (text : IsAccountText account) (now : ℕ) (link : Link) (left : Maildir) (from f : F)
-    (report : Report) (link' : Link) (maildir : Maildir) (session : Session settings account now link (account_files left (files.stored from)) report link' (account_files maildir (files.stored f)))
-    (was rows : List Row) (stood : KeepsRows (files.stored from).content was) (keeps : KeepsRows (files.stored f).content rows) where
+module _ (laws : Below) {D F : Type 0} (files : FileGhosts F) (device device' : D) (settings : Settings)
+    (account : List ℕ) (text : IsAccountText account) (now : ℕ) (link : Link) (left : Maildir) (from f : F)
+    (report : Report) (link' : Link) (maildir : Maildir)
+    (session : Session settings account now link (account_files left (files.stored from)) report link'
+    (account_files maildir (files.stored f)))
+    (was rows : List Row) (stood : KeepsRows (files.stored from).content was)
+    (keeps : KeepsRows (files.stored f).content rows) where
   pub durable : LeavesDurable account (account_files left (files.stored from)) (account_files maildir (files.stored f))
-  durable = laws.durable settings account now link (account_files left (files.stored from)) report link' (account_files maildir (files.stored f)) text session
+  durable = laws.durable settings account now link (account_files left (files.stored from)) report link'
+      (account_files maildir (files.stored f)) text session
 
   has_is : (id : List ℕ) → HasDurable account maildir id → has_named account maildir id ≡ true
   has_is id (g, there, names, is) = has_file account maildir id g there names is.0
 
-  pub shown : (id : List ℕ) → is_delivered rows id ≡ true → (is_delivered was id ≡ true) ⊎ (has_named account maildir id ≡ true)
+  pub shown : (id : List ℕ) → is_delivered rows id ≡ true → (is_delivered was id ≡ true)
+      ⊎ (has_named account maildir id ≡ true)
   shown id d = ⊎_map (λ x. x) (has_is id) (durable.shown was rows id stood keeps d)
 
   abbrev Said : Option (List ℕ) → List ℕ → Type 0
-  Said could id = (is_delivered was id ≡ true) ⊎ ((has_named account maildir id ≡ true) ⊎ MayLeave (files.disk from) could)
+  Said could id = (is_delivered was id ≡ true)
+      ⊎ ((has_named account maildir id ≡ true) ⊎ MayLeave (files.disk from) could)
 
   abbrev pub Answered : Type 0
-  Answered = (could : Option (List ℕ)) (then : List Row) → MayLeave (files.disk f) could → KeepsRows could then → (id : List ℕ) → is_delivered then id ≡ true → Said could id
+  Answered = (could : Option (List ℕ)) (then : List Row) → MayLeave (files.disk f) could → KeepsRows could then
+      → (id : List ℕ) → is_delivered then id ≡ true → Said could id
 
   by_rows : (could : Option (List ℕ)) (id : List ℕ) → is_delivered rows id ≡ true → Said could id
   by_rows could id d = ⊎_map (λ x. x) inl (shown id d)
 
-  by_was : (could : Option (List ℕ)) (id : List ℕ) (old : List Row) → KeepsRows (files.stored from).content old → is_delivered old id ≡ true → Said could id
-  by_was could id old keeps_old d = inl (rw (same_rows laws.one (files.stored from).content old was keeps_old stood) at d)
+  by_was : (could : Option (List ℕ)) (id : List ℕ) (old : List Row) → KeepsRows (files.stored from).content old
+      → is_delivered old id ≡ true → Said could id
+  by_was could id old keeps_old d =
+      inl (rw (same_rows laws.one (files.stored from).content old was keeps_old stood) at d)
 
-  untouched : IsUntouched files from f → Answered
+  untouched : IsRecordUntouched files from f → Answered
   untouched un could then may k id d = inr (inr (un.no_more could may))
 
   module _ (sure : RecordIsSure files from f) where
-    shown_by : (had others : List Row) → Leaves files f (AreLeft had others) → ((id : List ℕ) → is_delivered had id ≡ true → is_delivered rows id ≡ true)
+    shown_by : (had others : List Row) → LeavesFile files f (AreLeft had others)
+        → ((id : List ℕ) → is_delivered had id ≡ true → is_delivered rows id ≡ true)
         → ((could : Option (List ℕ)) (id : List ℕ) → is_delivered others id ≡ true → Said could id) → Answered
     shown_by had others leaves within more could then may k id d = by (files.stored f).content refl
       where
         by : (content : Option (List ℕ)) → (files.stored f).content ≡ content → Said could id
         by None none = absurd (cc (rw (rw (sure.1 none could may) at k).1.0 at d))
-        by (Some bytes) some = elim (left_stands laws.one laws.meaning laws.counts laws.torn had others then could (leaves bytes some could may) k) [
-          | inl same ↦ by_rows could id (within id (rw same at d))
-          | inr same ↦ more could id (rw same at d)
-        ]
+        by (Some bytes) some = elim (left_stands laws.one laws.meaning laws.counts laws.torn had others then could
+            (leaves bytes some could may) k) [
+              | inl same ↦ by_rows could id (within id (rw same at d))
+              | inr same ↦ more could id (rw same at d)
+            ]
 
     -- the record was written anew, and this alone may be left
-    anew : (now_rows : List Row) (kept : Stored) → files.stored f ≡ kept → IsAnew now_rows (files.stored from) kept → IsSafe files f → Answered
+    anew : (now_rows : List Row) (kept : Stored) → files.stored f ≡ kept → IsAnew now_rows (files.stored from) kept
+        → IsSafeFile files f → Answered
     anew now_rows kept same is_anew safe could then may k id d =
-        let whole : (files.stored f).content ≡ Some (file_of now_rows None) = ap (λ (s : Stored). s.content) (same ∙ is_anew.2) in
+        let whole : (files.stored f).content ≡ Some (file_of now_rows None) =
+        ap (λ (s : Stored). s.content) (same ∙ is_anew.2) in
         let is : could ≡ (files.stored f).content = (safe.1 (file_of now_rows None) whole).1 could may ∙ sym whole in
         by_rows could id (rw (same_rows laws.one (files.stored f).content then rows (rw is at k) keeps) at d)
 
@@ -272,31 +342,40 @@ module _ (laws : Below) {D F : Type 0} (files : FileGhosts F) (device device' : 
 
     module _ (items : List Item) (same : maildir.files ≡ left.files) where
       -- the record was merged, or was about to be
-      module _ (m : IsMerged (AsFiles account) items now (in_maildir left) (files.stored from) (in_maildir maildir) (files.stored f)) where
+      module _ (m : IsMerged (AsFiles account) items now (in_maildir left) (files.stored from) (in_maildir maildir)
+          (files.stored f)) where
         abbrev here : List Row
         here = merged m.was.rows items (flags_of account left items) now
 
-        stands : (could : Option (List ℕ)) (then : List Row) → KeepsRows could then → AreLeft m.was.rows here could ⊎ AreLeft here here could → (then ≡ m.was.rows) ⊎ (then ≡ here)
-        stands could then k (inl are) = left_stands laws.one laws.meaning laws.counts laws.torn m.was.rows here then could are k
-        stands could then k (inr are) = ⊎_elim inr inr (left_stands laws.one laws.meaning laws.counts laws.torn here here then could are k)
+        stands : (could : Option (List ℕ)) (then : List Row) → KeepsRows could then → AreLeft m.was.rows here could
+            ⊎ AreLeft here here could → (then ≡ m.was.rows) ⊎ (then ≡ here)
+        stands could then k (inl are) = left_stands laws.one laws.meaning laws.counts laws.torn
+            m.was.rows here then could are k
+        stands could then k (inr are) =
+            ⊎_elim inr inr (left_stands laws.one laws.meaning laws.counts laws.torn here here then could are k)
 
         of_was : (could : Option (List ℕ)) (id : List ℕ) → is_delivered m.was.rows id ≡ true → Said could id
         of_was could id = by_was could id m.was.rows (m.was.intent, m.stood)
 
         of_merged : (could : Option (List ℕ)) (id : List ℕ) → is_delivered here id ≡ true → Said could id
         of_merged could id delivered = elim m.durable [
-          | inl same_merged ↦ of_was could id (subst (λ (some : List Row). is_delivered some id ≡ true) same_merged delivered)
-          | inr durable ↦ ⊎_elim (of_was could id) (λ flagged. inr (inl (rw same (all_named account left.files id durable.0 (flag_held account left items id flagged)))))
+          | inl same_merged ↦ of_was could id
+              (subst (λ (some : List Row). is_delivered some id ≡ true) same_merged delivered)
+          | inr durable ↦ ⊎_elim (of_was could id)
+              (λ flagged. inr (inl (rw same
+              (all_named account left.files id durable.0 (flag_held account left items id flagged)))))
               (or_cases _ _ (sym (laws.merges m.was.rows items (flags_of account left items) now id) ∙ delivered))
         ]
 
         merged_left : LeavesMerged files m.was.rows here from f → Answered
         merged_left leaves could then may k id d = elim (leaves could may) [
           | inl before ↦ inr (inr before)
-          | inr are ↦ ⊎_elim (λ is. of_was could id (rw is at d)) (λ is. of_merged could id (rw is at d)) (stands could then k are)
+          | inr are ↦ ⊎_elim (λ is. of_was could id (rw is at d)) (λ is. of_merged could id (rw is at d))
+              (stands could then k are)
         ]
 
-      unready : (content : IsMergedAtMost (AsFiles account) items now (in_maildir left) (files.stored from) (in_maildir maildir) (files.stored f)) → UnreadyLasts files from content f → Answered
+      unready : (content : IsMergedAtMost (AsFiles account) items now (in_maildir left) (files.stored from)
+          (in_maildir maildir) (files.stored f)) → UnreadyLasts files from content f → Answered
       unready (inl same_content) no_more could then may k id d = inr (inr (no_more could may))
       unready (inr m) leaves could then may k id d = merged_left m leaves could then may k id d
 
@@ -307,27 +386,41 @@ module _ (laws : Below) {D F : Type 0} (files : FileGhosts F) (device device' : 
       end_with = scene session.mid (in_maildir maildir) (files.stored f) rows' session.notes.lines
 
       abbrev CarriedTo : Result (Unit {0}) Cut → Type 0
-      CarriedTo result = Carried settings (AsFiles account) items now place (in_maildir left) (files.stored from) [] result end_with session.notes.skipped
+      CarriedTo result = Carried settings (AsFiles account) items now place (in_maildir left) (files.stored from) []
+          result end_with session.notes.skipped
 
       -- it did all its tasks
-      answer_ok : (c : CarriedTo (Ok tt)) → CarriedLasts files (InMaildir device) from c (InMaildir device') f → Answered
+      answer_ok : (c : CarriedTo (Ok tt)) → CarriedLasts files (InMaildir device) from c (InMaildir device') f
+          → Answered
       answer_ok c lasts = by c.prepared.durable (lasts (tt, sure.0))
         where
-          within : (id : List ℕ) → is_delivered (marked_all c.mid.rows (ids_of c.does.dones)) id ≡ true → is_delivered rows id ≡ true
+          within : (id : List ℕ) → is_delivered (marked_all c.mid.rows (marked_ids c.does.dones)) id ≡ true
+              → is_delivered rows id ≡ true
           within id d =
-              rw (same_rows laws.one (files.stored f).content rows rows' keeps (None, laws.steady (files.stored f).content (none_open rows') (c.does.went.saved c.prepared.saved)), c.does.went.rows) d
+              rw (
+                same_rows laws.one (files.stored f).content rows rows' keeps
+                    (None, laws.steady (files.stored f).content (none_open rows') (c.does.went.saved c.prepared.saved)),
+                c.does.went.rows,
+              ) d
 
-          by : (durable : (All IsQuiet (planned settings c.mid.rows items now) × IsFileKept c.mid.rows (files.stored from) c.mid.file) ⊎ AreDurable (AsFiles account) c.prepared.was.rows items (in_maildir left))
-              → UnlessQuiet files from c.mid.rows (files.stored from) c.mid.file durable (Lasts files (AsFiles account) (tasks_ahead settings (AsFiles account) items now (in_maildir left) c.mid.rows) c.mid (Ok tt) end_with c.does (InMaildir device') f) f → Answered
+          by : (durable : (All IsQuiet (planned settings c.mid.rows items now)
+              × IsFileKept c.mid.rows (files.stored from) c.mid.file)
+              ⊎ AreDurable (AsFiles account) c.prepared.was.rows items (in_maildir left))
+              → UnlessQuiet files from c.mid.rows (files.stored from) c.mid.file durable
+              (Lasts files (AsFiles account) (tasks_ahead settings (AsFiles account) items now (in_maildir left)
+              c.mid.rows) c.mid (Ok tt) end_with c.does (InMaildir device') f) f → Answered
           by (inl (quiet, inl kept)) un = untouched un
           by (inl (quiet, inr is_anew)) safe = anew c.mid.rows c.mid.file safe.0 is_anew safe.1
-          by (inr durable) lasts = shown_by (marked_all c.mid.rows (ids_of c.does.dones)) (marked_all c.mid.rows (ids_of c.does.dones)) lasts.left within (λ could id d. by_rows could id (within id d))
+          by (inr durable) lasts = shown_by (marked_all c.mid.rows (marked_ids c.does.dones))
+              (marked_all c.mid.rows (marked_ids c.does.dones)) lasts.left within
+              (λ could id d. by_rows could id (within id d))
 
       -- it was cut
       module _ {cut : Cut} (c : CarriedTo (Err cut))
-          (lasts : Lasts files (AsFiles account) (tasks_ahead settings (AsFiles account) items now (in_maildir left) c.mid.rows) c.mid (Err cut) end_with c.does (InMaildir device') f) where
+          (lasts : Lasts files (AsFiles account) (tasks_ahead settings (AsFiles account) items now (in_maildir left)
+          c.mid.rows) c.mid (Err cut) end_with c.does (InMaildir device') f) where
         abbrev rows_then : List Row
-        rows_then = marked_all c.mid.rows (ids_of c.does.dones)
+        rows_then = marked_all c.mid.rows (marked_ids c.does.dones)
 
         abbrev Has : List Row → Type 0
         Has old = (id : List ℕ) → is_delivered old id ≡ true → is_delivered rows id ≡ true
@@ -335,47 +428,81 @@ module _ (laws : Below) {D F : Type 0} (files : FileGhosts F) (device device' : 
         -- the record's file is as it was after the tasks that were done
         same_has : files.stored f ≡ c.does.mid.file → Has rows_then
         same_has same id d =
-            rw (same_rows laws.one c.does.mid.file.content rows c.does.mid.rows (rw same at keeps) (None, laws.steady c.does.mid.file.content (none_open c.does.mid.rows) (c.does.went.saved c.prepared.saved)), c.does.went.rows) d
+            rw (
+              same_rows laws.one c.does.mid.file.content rows c.does.mid.rows (rw same at keeps) (
+                None,
+                laws.steady c.does.mid.file.content (none_open c.does.mid.rows)
+                    (c.does.went.saved c.prepared.saved),
+              ),
+              c.does.went.rows,
+            ) d
 
-        unmarked : Leaves files f (AreLeft c.does.mid.rows c.does.mid.rows) → files.stored f ≡ c.does.mid.file → Answered
-        unmarked leaves same = shown_by rows_then rows_then (rw c.does.went.rows at leaves) (same_has same) (λ could id d. by_rows could id (same_has same id d))
+        unmarked : LeavesFile files f (AreLeft c.does.mid.rows c.does.mid.rows)
+            → files.stored f ≡ c.does.mid.file → Answered
+        unmarked leaves same = shown_by rows_then rows_then (rw c.does.went.rows at leaves) (same_has same)
+            (λ could id d. by_rows could id (same_has same id d))
 
-        marked_one : (number : ℕ) (uid : List ℕ) → c.does.next ≡ stores number uid → (g : File) → maildir.files ≡ c.does.mid.store.maildir.files ++ g ∷ [] → names_id account uid g.name ≡ true
+        marked_one : (number : ℕ) (uid : List ℕ) → c.does.next ≡ stores number uid → (g : File)
+            → maildir.files ≡ c.does.mid.store.maildir.files ++ g ∷ [] → names_id account uid g.name ≡ true
             → IsNamed g → Has rows_then → Answered
         marked_one number uid is g came names named within =
-            shown_by rows_then (marked rows_then uid) (subst (λ (t : Task). Leaves files f (AreLeft rows_then (marked_all rows_then (ids_in t)))) is lasts.0.left) within
+            shown_by rows_then (marked rows_then uid)
+            (subst (λ (t : Task). LeavesFile files f (AreLeft rows_then (marked_all rows_then (ids_in t))))
+            is lasts.0.left) within
             (λ could id d. ⊎_elim (λ had. by_rows could id (within id had))
-            (λ both. inr (inl (has_file account maildir id g (rw came (Contains-push c.does.mid.store.maildir.files g)) (rw (bytes_same uid id (and_parts (has_row rows_then id) (bytes_eq uid id) both).1) at names) named)))
+            (λ both. inr (inl (has_file account maildir id g (rw came (Contains-push c.does.mid.store.maildir.files g))
+            (rw (bytes_same uid id (and_parts (has_row rows_then id) (bytes_eq uid id) both).1) at names) named)))
             (or_cases _ _ (sym (laws.marks rows_then uid id) ∙ d)))
 
         -- the file that came is this one
-        same_one : (g h : File) → maildir.files ≡ c.does.mid.store.maildir.files ++ h ∷ [] → maildir.files ≡ c.does.mid.store.maildir.files ++ g ∷ [] → h ≡ g
-        same_one g h came came' = cc (append_cancel_left c.does.mid.store.maildir.files (h ∷ []) (g ∷ []) (sym came ∙ came'))
+        same_one : (g h : File) → maildir.files ≡ c.does.mid.store.maildir.files ++ h ∷ []
+            → maildir.files ≡ c.does.mid.store.maildir.files ++ g ∷ [] → h ≡ g
+        same_one g h came came' =
+            cc (append_cancel_left c.does.mid.store.maildir.files (h ∷ []) (g ∷ []) (sym came ∙ came'))
 
         named_one : (uid written : List ℕ) → names_id account uid (sized_file (stem_of account uid) written).name ≡ true
-        named_one uid written = (bytes_eq-Decides (stem_of account uid) _).1 (sym (ap stem (laws.bases account uid (length written) text) ∙ laws.stems account uid (length written) text))
+        named_one uid written = (bytes_eq-Decides (stem_of account uid) _).1
+            (sym (ap stem (laws.bases account uid (length written) text)
+            ∙ laws.stems account uid (length written) text))
 
         -- nothing came
         nothing : maildir.files ≡ c.does.mid.store.maildir.files → files.stored f ≡ c.does.mid.file → Answered
-        nothing same same_record = ⊎_elim (λ un. unmarked un same_record) (λ (g, came, is). absurd (no_more c.does.mid.store.maildir.files maildir.files g same came)) lasts.1
+        nothing same same_record = ⊎_elim (λ un. unmarked un same_record)
+            (λ (g, came, is). absurd (no_more c.does.mid.store.maildir.files maildir.files g same came)) lasts.1
 
-        refused : (n : NoFile account c.does.next c.does.mid end_with cut) → RefusesText c.does.mid.store.maildir (stem_of account n.uid) n.rest n.text cut.fault maildir → Answered
+        refused : (n : NoFile account c.does.next c.does.mid end_with cut)
+            → RefusesText c.does.mid.store.maildir (stem_of account n.uid) n.rest n.text cut.fault maildir → Answered
         refused n (inl missing) = nothing (ap (λ (m : Maildir). m.files) missing.2) n.file
         refused n (inr (is, inl same)) = nothing (ap (λ (m : Maildir). m.files) same) n.file
         refused n (inr (is, inr (done, (is_named, there)))) = elim lasts.1 [
           | inl un ↦ unmarked un n.file
           | inr (g, came', durable) ↦
-              marked_one n.number n.uid n.is g came' (rw (← same_one g (record (sized_file (stem_of account n.uid) n.text) { is_named = is_named }) (ap (λ (m : Maildir). m.files) there) came') (named_one n.uid n.text)) durable.0 (same_has n.file)
+              marked_one n.number n.uid n.is g came'
+              (rw (← same_one g (record (sized_file (stem_of account n.uid) n.text) { is_named = is_named })
+              (ap (λ (m : Maildir). m.files) there) came') (named_one n.uid n.text)) durable.0 (same_has n.file)
         ]
 
         unsaved : (u : FileNotSaved account c.does.next c.does.mid end_with cut) → Answered
-        unsaved u = marked_one u.number u.uid u.is (file_from account u.uid u.reply) u.stored.came (named_one u.uid _) refl within
+        unsaved u = marked_one u.number u.uid u.is (file_from account u.uid u.reply) u.stored.came
+            (named_one u.uid _) refl within
           where
             within : Has rows_then
-            within id d = elim (laws.unsaved c.does.mid.file (none_open c.does.mid.rows) (none_open (marked c.does.mid.rows u.uid)) cut.fault (files.stored f) u.saves (c.does.went.saved c.prepared.saved)) [
-              | inl old ↦ rw (same_rows laws.one (files.stored f).content rows c.does.mid.rows keeps (None, old), c.does.went.rows) d
-              | inr new ↦ rw (same_rows laws.one (files.stored f).content rows (marked c.does.mid.rows u.uid) keeps (None, new), c.does.went.rows, laws.marks rows_then u.uid id, d) refl
-            ]
+            within id d = elim (laws.unsaved c.does.mid.file (none_open c.does.mid.rows)
+                (none_open (marked c.does.mid.rows u.uid)) cut.fault (files.stored f) u.saves
+                (c.does.went.saved c.prepared.saved)) [
+                  | inl old ↦ rw (
+                    same_rows laws.one (files.stored f).content rows c.does.mid.rows keeps
+                        (None, old),
+                    c.does.went.rows,
+                  ) d
+                  | inr new ↦ rw (
+                    same_rows laws.one (files.stored f).content rows (marked c.does.mid.rows u.uid) keeps
+                        (None, new),
+                    c.does.went.rows,
+                    laws.marks rows_then u.uid id,
+                    d,
+                  ) refl
+                ]
 
         answer_cut : Answered
         answer_cut = elim c.does.stops [
@@ -388,22 +515,33 @@ module _ (laws : Below) {D F : Type 0} (files : FileGhosts F) (device device' : 
     records_left lasts = by session.result session.proceeds lasts
       where
         by : (result : Result (Unit {0}) Cut)
-            → (proceeds : Proceeds settings (AsFiles account) now (at link []) (keeps_files (account_files left (files.stored from))) result session.mid (keeps_files (account_files maildir (files.stored f))) session.notes)
+            → (proceeds : Proceeds settings (AsFiles account) now (at link [])
+            (keeps_files (account_files left (files.stored from))) result session.mid
+            (keeps_files (account_files maildir (files.stored f))) session.notes)
             → ProceedsLast files (InMaildir device) from _ _ _ _ _ _ _ _ _ proceeds (InMaildir device') f → Answered
         by (Ok done) dealt lasts = answer_ok dealt.items dealt.mid dealt.carries.0 dealt.carries.1 lasts
         by (Err cut) (inl stopped) un = untouched un
         by (Err cut) (inr (inl wanting)) un = untouched un
         by (Err cut) (inr (inr dealt)) lasts = of dealt.carries lasts
           where
-            of : (carries : Carries settings (AsFiles account) dealt.items now dealt.mid (in_maildir left) (files.stored from) [] (Err cut) session.mid (in_maildir maildir) (files.stored f) session.notes.lines session.notes.skipped)
-                → CarriesLast files (InMaildir device) from settings (AsFiles account) dealt.items now dealt.mid (in_maildir left) (files.stored from) [] (Err cut) session.mid (in_maildir maildir) (files.stored f)
+            of : (carries : Carries settings (AsFiles account) dealt.items now dealt.mid (in_maildir left)
+                (files.stored from) [] (Err cut) session.mid (in_maildir maildir) (files.stored f)
+                session.notes.lines session.notes.skipped)
+                → CarriesLast files (InMaildir device) from settings (AsFiles account) dealt.items now dealt.mid
+                (in_maildir left) (files.stored from) [] (Err cut) session.mid (in_maildir maildir) (files.stored f)
                 session.notes.lines session.notes.skipped carries (InMaildir device') f → Answered
             of (rows', inl (none_said, unprepared)) all =
-                unready dealt.items (unready_files cut.fault left (files.stored from) maildir (files.stored f) unprepared.unready.cause) unprepared.unready.content (all (tt, sure.0))
+                unready dealt.items (unready_files cut.fault left (files.stored from) maildir (files.stored f)
+                unprepared.unready.cause) unprepared.unready.content (all (tt, sure.0))
             of (rows', inr c) all = by_plan c.prepared.durable (all (tt, sure.0))
               where
-                by_plan : (durable : (All IsQuiet (planned settings c.mid.rows dealt.items now) × IsFileKept c.mid.rows (files.stored from) c.mid.file) ⊎ AreDurable (AsFiles account) c.prepared.was.rows dealt.items (in_maildir left))
-                    → UnlessQuiet files from c.mid.rows (files.stored from) c.mid.file durable (Lasts files (AsFiles account) (tasks_ahead settings (AsFiles account) dealt.items now (in_maildir left) c.mid.rows) c.mid (Err cut) (end_with dealt.items dealt.mid rows') c.does (InMaildir device') f) f → Answered
+                by_plan : (durable : (All IsQuiet (planned settings c.mid.rows dealt.items now)
+                    × IsFileKept c.mid.rows (files.stored from) c.mid.file)
+                    ⊎ AreDurable (AsFiles account) c.prepared.was.rows dealt.items (in_maildir left))
+                    → UnlessQuiet files from c.mid.rows (files.stored from) c.mid.file durable
+                    (Lasts files (AsFiles account) (tasks_ahead settings (AsFiles account) dealt.items now
+                    (in_maildir left) c.mid.rows) c.mid (Err cut) (end_with dealt.items dealt.mid rows') c.does
+                    (InMaildir device') f) f → Answered
                 by_plan (inl (quiet, inl kept)) un = untouched un
                 by_plan (inl (quiet, inr is_anew)) safe = anew c.mid.rows c.mid.file safe.0 is_anew safe.1
                 by_plan (inr is) lasts = answer_cut dealt.items dealt.mid rows' c lasts
@@ -413,29 +551,36 @@ module _ (laws : Below) {D F : Type 0} (files : FileGhosts F) (device device' : 
   none_or_named = by session.result session.proceeds
     where
       same : maildir.files ≡ left.files → (durable.came ++ durable.last ≡ []) ⊎ AllNamed left.files
-      same alike = inl (append_cancel_left left.files (durable.came ++ durable.last) [] (sym durable.files ∙ alike ∙ sym (append-nil left.files)))
+      same alike = inl (append_cancel_left left.files (durable.came ++ durable.last) [] (sym durable.files ∙ alike
+          ∙ sym (append-nil left.files)))
 
       of : {items : List Item} {place : Place} {rows' : List Row} {result : Result (Unit {0}) Cut}
-          → Carried settings (AsFiles account) items now place (in_maildir left) (files.stored from) [] result (scene session.mid (in_maildir maildir) (files.stored f) rows' session.notes.lines) session.notes.skipped
+          → Carried settings (AsFiles account) items now place (in_maildir left) (files.stored from) [] result
+          (scene session.mid (in_maildir maildir) (files.stored f) rows' session.notes.lines) session.notes.skipped
           → (durable.came ++ durable.last ≡ []) ⊎ AllNamed left.files
       of {items} {place} {rows'} {result} c = elim c.prepared.durable [
-        | inl quiet ↦ same (quiet_came account settings items now place left (files.stored from) result (scene session.mid (in_maildir maildir) (files.stored f) rows' session.notes.lines) session.notes.skipped c quiet.0)
+        | inl quiet ↦ same (quiet_came account settings items now place left (files.stored from) result
+            (scene session.mid (in_maildir maildir) (files.stored f) rows' session.notes.lines)
+            session.notes.skipped c quiet.0)
         | inr found ↦ inr found.0
       ]
 
       by : (result : Result (Unit {0}) Cut)
-          → Proceeds settings (AsFiles account) now (at link []) (keeps_files (account_files left (files.stored from))) result session.mid (keeps_files (account_files maildir (files.stored f))) session.notes
+          → Proceeds settings (AsFiles account) now (at link []) (keeps_files (account_files left (files.stored from)))
+          result session.mid (keeps_files (account_files maildir (files.stored f))) session.notes
           → (durable.came ++ durable.last ≡ []) ⊎ AllNamed left.files
       by (Ok done) dealt = of dealt.carries.1
       by (Err cut) (inl stopped) = same (ap (λ (k : Keeping). k.store.maildir.files) stopped.same)
       by (Err cut) (inr (inl wanting)) = same (ap (λ (k : Keeping). k.store.maildir.files) wanting.same)
       by (Err cut) (inr (inr dealt)) = elim dealt.carries.1 [
-        | inl (none_said, unprepared) ↦ same (unready_files cut.fault left (files.stored from) maildir (files.stored f) unprepared.unready.cause)
+        | inl (none_said, unprepared) ↦ same (unready_files cut.fault left (files.stored from) maildir (files.stored f)
+            unprepared.unready.cause)
         | inr c ↦ of c
       ]
 
   -- what it leaves, over what its devices show
-  pub leaves_durably : SessionLasts files (InMaildir device) from session (InMaildir device') f → LeavesDurably files account from f (holds was left) (holds rows maildir)
+  pub leaves_durably : SessionLasts files (InMaildir device) from session (InMaildir device') f
+      → LeavesDurably files account from f (holds was left) (holds rows maildir)
   leaves_durably lasts = record {
     is = durable;
     named = none_or_named;

@@ -1,5 +1,7 @@
 -- What was got splits into replies in one way only, so what was read is what an honest server said of its maildrop.
-use Rattle.std.proofs.Common.{◌≡◌, ◌-◌, ◌+◌, ◌<◌, ℕ, take_while, List, [], ◌∷◌, ◌++◌, Bool, rules, length, map, get_or, refl, sym, ◌∙◌, ap, arith, Ok, Result, Option, Contains, inl, inr, append_assoc, Some, None}
+use Rattle.std.proofs.Common.{◌≡◌, ◌-◌, ◌+◌, ◌<◌, ℕ, take_while, List, [], ◌∷◌, ◌++◌, Bool, rules, length, map, get_or}
+use Rattle.std.proofs.Common.{refl, sym, ◌∙◌, ap, arith, Ok, Result, Option, Contains, inl, inr, append_assoc, Some}
+use Rattle.std.proofs.Common.{None}
 use Rattle.std.specs.List.{All, AllByRecursion, AllZip, HoldsAt, enumerate_from, filter, flat_map}
 use Rattle.std.specs.Char.{is_ascii_digit}
 use Rattle.std.specs.Str.Parse.{digits_value}
@@ -19,27 +21,36 @@ use Rattle.mail_terms.specs.declared.listing.ScanRow.{ScanRow}
 use Rattle.pop3_wire.specs.Reply.{IsFirstLine, without_space, indicator}
 use Rattle.pop3_wire.specs.Fields.{is_space, number_and_size, number_and_id}
 use Rattle.pop3_wire.specs.World.{Message}
-use Rattle.pop3_wire.specs.Honest.{SaysAnything, fields, IsUidRow, IsScanRow, UidRowsHaveFields, ScanRowsHaveFields, ListsAll, Grants, no_marks, Reply, Replies}
+use Rattle.pop3_wire.specs.Honest.{SaysAnything, fields, IsUidRow, IsScanRow, UidRowsHaveFields, ScanRowsHaveFields}
+use Rattle.pop3_wire.specs.Honest.{ListsAll, Grants, no_marks, Reply, Replies}
 use Rattle.mail_terms.specs.Listing.{Item, UidRow}
 use Rattle.fetch_runs.specs.Accounts.{item_of, listing_of}
-use Rattle.pop3_wire.specs.Reading.{WholeReply, body_bytes, reply_bytes, HasListing, OneListOfLines, GivesCount, has_body, IsBodyIf, IsReplyTo, OneReading}
-use Rattle.fetch_runs.specs.Sessions.{IsGood, AreGood, AreGranted, HonestIsGranted, IsListed, IsNumbered, Retrieves}
+use Rattle.pop3_wire.specs.Reading.{WholeReply, body_bytes, reply_bytes, HasListing, OneListOfLines, GivesCount}
+use Rattle.pop3_wire.specs.Reading.{has_body, IsBodyIf, IsReplyTo, OneReading}
+use Rattle.fetch_runs.specs.Sessions.{IsGoodReply, AreGood, AreGranted, HonestIsGranted, IsListed, IsNumbered, Retrieves}
 use Rattle.pop3_wire.specs.declared.command.Command.{Command}
 use Rattle.fetch_runs.specs.Below.{Below}
 
 -- a reply's body is what follows its first line
-body_is : OneLine → (reply : WholeReply) (first body : List ℕ) → IsLine reply.first → SaysAnything Positive first → reply_bytes reply ≡ first ++ body → body ≡ body_bytes reply.body
-body_is one reply first body line says whole = (one (indicator Positive ++ says.0) reply.first body (body_bytes reply.body) says.1.0 line (ap (λ (l : List ℕ). l ++ body) (sym says.1.1) ∙ sym whole)).1
+body_is : OneLine → (reply : WholeReply) (first body : List ℕ) → IsLine reply.first → SaysAnything Positive first
+    → reply_bytes reply ≡ first ++ body → body ≡ body_bytes reply.body
+body_is one reply first body line says whole =
+    (one (indicator Positive ++ says.0) reply.first body (body_bytes reply.body) says.1.0 line
+    (ap (λ (l : List ℕ). l ++ body) (sym says.1.1) ∙ sym whole)).1
 
 -- ---- texts
 
-pub texts_are_messages : Below → (drop : List Message) (marks : List Bool) (commands : List Command) (replies : List WholeReply) (found : List (ℕ × List ℕ))
-    → AreGood commands replies → AreGranted drop marks commands replies → Retrieves commands replies found → AllByRecursion (IsNumbered drop) found
+pub texts_are_messages : Below
+    → (drop : List Message) (marks : List Bool) (commands : List Command) (replies : List WholeReply)
+    (found : List (ℕ × List ℕ))
+    → AreGood commands replies → AreGranted drop marks commands replies → Retrieves commands replies found
+    → AllByRecursion (IsNumbered drop) found
 texts_are_messages laws drop marks commands [] found good are found_is = rw found_is tt
 texts_are_messages laws drop marks [] (reply ∷ replies) found good are found_is = absurd good
 texts_are_messages laws drop marks (Retr number ∷ commands) (reply ∷ replies) found good are (text, more, body, is, later) =
     let (first, rest, message, says, whole, there, body', _) = are.1 in
-    let same = laws.body (body_bytes reply.body) (body_bytes reply.body) text message.text [] [] body (rw (body_is laws.line reply first rest good.0.line says whole) at body') refl in
+    let same = laws.body (body_bytes reply.body) (body_bytes reply.body) text message.text [] [] body
+    (rw (body_is laws.line reply first rest good.0.line says whole) at body') refl in
     rw is ((message, there, same.1), texts_are_messages laws drop are.0 commands replies more good.1 are.2 later)
 texts_are_messages laws drop marks (other ∷ commands) (reply ∷ replies) found good are found_is =
     texts_are_messages laws drop are.0 commands replies found good.1 are.2 found_is
@@ -47,27 +58,34 @@ texts_are_messages laws drop marks (other ∷ commands) (reply ∷ replies) foun
 -- ---- rows
 
 -- what an honest server says in a row is what is read of it
-uid_agrees : UidRowsHaveFields → (row : List ℕ) (q : ℕ × Message) (uid : UidRow) → IsUidRow q row → number_and_id row ≡ Ok (uid.number, uid.uid) → (uid.number ≡ q.0) × (uid.uid ≡ q.1.uid)
+uid_agrees : UidRowsHaveFields → (row : List ℕ) (q : ℕ × Message) (uid : UidRow) → IsUidRow q row
+    → number_and_id row ≡ Ok (uid.number, uid.uid) → (uid.number ≡ q.0) × (uid.uid ≡ q.1.uid)
 uid_agrees law row (n, m) uid (word, are, value) e =
     let (word', are', value') = law row uid.number (record { uid = uid.uid; size = 0; text = [] }) e in
     let same : word' ∷ uid.uid ∷ [] ≡ word ∷ m.uid ∷ [] = sym are' ∙ are in
     let first : word' ≡ word = cc in
     (sym value' ∙ ap (digits_value 10) first ∙ value, cc)
 
-scan_agrees : ScanRowsHaveFields → (row : List ℕ) (q : ℕ × Message) (scan : ScanRow) → IsScanRow q row → number_and_size row ≡ Ok (scan.number, scan.size) → (scan.number ≡ q.0) × (scan.size ≡ q.1.size)
+scan_agrees : ScanRowsHaveFields → (row : List ℕ) (q : ℕ × Message) (scan : ScanRow) → IsScanRow q row
+    → number_and_size row ≡ Ok (scan.number, scan.size) → (scan.number ≡ q.0) × (scan.size ≡ q.1.size)
 scan_agrees law row (n, m) scan (field, more, (word, are, value), size) e =
     let (field', more', (word', are', value'), size') = law row scan.number (record { uid = []; size = scan.size; text = [] }) e in
     let same : word' ∷ field' ∷ more' ≡ word ∷ field ∷ more = sym are' ∙ are in
     let first : word' ≡ word = cc in
-    let second : field' ≡ field = cc in
-    (sym value' ∙ ap (digits_value 10) first ∙ value, sym size' ∙ ap (λ (l : List ℕ). digits_value 10 (take_while is_ascii_digit l)) second ∙ size)
+    let second : field' ≡ field = cc in (
+      sym value' ∙ ap (digits_value 10) first ∙ value,
+      sym size'
+          ∙ ap (λ (l : List ℕ). digits_value 10 (take_while is_ascii_digit l)) second ∙ size,
+    )
 
 nobody : Message
 nobody = record { uid = []; size = 0; text = [] }
 
 -- the replies to UIDL and to LIST: how a row is read, its number and value, and what of a message and of an item the value is
-module _ {R V : Type 0} (read : List ℕ → Result (ℕ × V) WireFault) (number : R → ℕ) (value : R → V) (of : Message → V) (what : Item → V) (IsRow : ℕ × Message → List ℕ → Type 0)
-    (agrees : (line : List ℕ) (q : ℕ × Message) (row : R) → IsRow q line → read line ≡ Ok (number row, value row) → (number row ≡ q.0) × (value row ≡ of q.1)) (items : List Item) where
+module _ {R V : Type 0} (read : List ℕ → Result (ℕ × V) WireFault) (number : R → ℕ) (value : R → V) (of : Message
+    → V) (what : Item → V) (IsRow : ℕ × Message → List ℕ → Type 0)
+    (agrees : (line : List ℕ) (q : ℕ × Message) (row : R) → IsRow q line → read line ≡ Ok (number row, value row)
+    → (number row ≡ q.0) × (value row ≡ of q.1)) (items : List Item) where
   -- a line as the session reads it
   abbrev IsRead : List ℕ → R → Type 0
   IsRead line row = read (unstuffed line) ≡ Ok (number row, value row)
@@ -77,7 +95,8 @@ module _ {R V : Type 0} (read : List ℕ → Result (ℕ × V) WireFault) (numbe
   Has n x = HoldsAt (λ (item : Item). what item ≡ x) items (n - 1)
 
   -- over the same lines
-  each_has : (numbered : List (ℕ × Message)) (lines : List (List ℕ)) (rows : List R) → AllZip IsRow numbered (map unstuffed lines) → AllZip IsRead lines rows
+  each_has : (numbered : List (ℕ × Message)) (lines : List (List ℕ)) (rows : List R)
+      → AllZip IsRow numbered (map unstuffed lines) → AllZip IsRead lines rows
       → AllByRecursion (λ row. Has (number row) (value row)) rows → AllByRecursion (λ (q : ℕ × Message). Has q.0 (of q.1)) numbered
   each_has [] lines rows h k a = tt
   each_has (q ∷ qs) (line ∷ lines) (row ∷ rows) h k a =
@@ -85,12 +104,16 @@ module _ {R V : Type 0} (read : List ℕ → Result (ℕ × V) WireFault) (numbe
   each_has qs lines rows h k a = search rules
 
   -- so the item at each place has the value of the message there
-  value_at : OneLine → OneListOfLines → (drop : List Message) (marks : List Bool) (reply : WholeReply) (rows : List R) → marks ≡ no_marks drop → IsLine reply.first
+  value_at : OneLine → OneListOfLines → (drop : List Message) (marks : List Bool) (reply : WholeReply) (rows : List R)
+      → marks ≡ no_marks drop → IsLine reply.first
       → (listing : HasListing IsRead reply rows) → AllByRecursion IsContent listing.0
       → ListsAll IsRow drop marks (reply_bytes reply)
-      → All (λ row. Has (number row) (value row)) rows → (k : ℕ) → k < length drop → what (get_or items k (item_of nobody)) ≡ of (get_or drop k nobody)
+      → All (λ row. Has (number row) (value row)) rows → (k : ℕ) → k < length drop
+      → what (get_or items k (item_of nobody)) ≡ of (get_or drop k nobody)
   value_at one lists drop marks reply rows none line (lines, is, are) content l all k inside =
-      let same : l.lines ≡ lines = (lists l.lines lines [] [] l.content content (ap (λ b. b ++ []) (body_is one reply l.first (body_of l.lines) line l.says l.whole ∙ ap body_bytes is))).0 in
+      let same : l.lines ≡ lines =
+      (lists l.lines lines [] [] l.content content
+      (ap (λ b. b ++ []) (body_is one reply l.first (body_of l.lines) line l.says l.whole ∙ ap body_bytes is))).0 in
       let (numbered, permuted, said) = l.rows none in
       let each = All-from_recursion _ numbered (each_has numbered lines rows (rw same at said) are (recursion_from_All _ rows all)) in
       let q : ℕ × Message = (1 + k, get_or drop k nobody) in
@@ -111,14 +134,18 @@ fields_without (byte ∷ rest) = elim (eqb_tells byte 32) [
 ]
 
 -- STAT's count
-count_same : OneLine → ScanRowsHaveFields → (drop : List Message) (marks next : List Bool) (stat : WholeReply) (count : ℕ) → IsGood Stat stat → Grants drop marks Stat (reply_bytes stat) next
+count_same : OneLine → ScanRowsHaveFields
+    → (drop : List Message) (marks next : List Bool) (stat : WholeReply) (count : ℕ) → IsGoodReply Stat stat
+    → Grants drop marks Stat (reply_bytes stat) next
     → marks ≡ no_marks drop → GivesCount stat count → count ≡ length drop
 count_same one law drop marks next stat count good (after, more, (line, said), rows, stays) none (rest, size, (after', is, rest_is), read) =
-    let first = (one (indicator Positive ++ after) stat.first [] (body_bytes stat.body) line good.line (append-nil (ended (indicator Positive ++ after)) ∙ sym said)).0 in
+    let first = (one (indicator Positive ++ after) stat.first [] (body_bytes stat.body) line good.line
+    (append-nil (ended (indicator Positive ++ after)) ∙ sym said)).0 in
     let same_after : after ≡ after' = append_cancel_left (indicator Positive) after after' (first ∙ is) in
     let (field', more', (word', are', value'), _) = law rest count (record { uid = []; size = size; text = [] }) read in
     let (word, are, value) = rows none in
-    let same : word' ∷ field' ∷ more' ≡ word ∷ more = sym are' ∙ ap fields rest_is ∙ fields_without after' ∙ ap fields (sym same_after) ∙ are in
+    let same : word' ∷ field' ∷ more' ≡ word ∷ more = sym are' ∙ ap fields rest_is ∙ fields_without after'
+    ∙ ap fields (sym same_after) ∙ are in
     let number : word' ≡ word = cc in
     sym value' ∙ ap (digits_value 10) number ∙ value
 
@@ -126,22 +153,30 @@ same_item : (i : Item) (m : Message) → i.uid ≡ m.uid → i.size ≡ m.size �
 same_item i m p q = λ t. record { uid = p t; size = q t }
 
 -- a joined listing is the maildrop's
-pub listing_is_maildrop : Below → (drop : List Message) (name word : List ℕ) (commands : List Command) (user pass stat uidl list : WholeReply) (replies : List WholeReply) (items : List Item)
+pub listing_is_maildrop : Below
+    → (drop : List Message) (name word : List ℕ) (commands : List Command) (user pass stat uidl list : WholeReply)
+    (replies : List WholeReply) (items : List Item)
     → AreGood (User name ∷ Pass word ∷ Stat ∷ UidlAll ∷ ListAll ∷ commands) (user ∷ pass ∷ stat ∷ uidl ∷ list ∷ replies)
-    → AreGranted drop (no_marks drop) (User name ∷ Pass word ∷ Stat ∷ UidlAll ∷ ListAll ∷ commands) (user ∷ pass ∷ stat ∷ uidl ∷ list ∷ replies)
+    → AreGranted drop (no_marks drop) (User name ∷ Pass word ∷ Stat ∷ UidlAll ∷ ListAll ∷ commands)
+    (user ∷ pass ∷ stat ∷ uidl ∷ list ∷ replies)
     → IsListed stat uidl list items → items ≡ listing_of drop
 listing_is_maildrop laws drop name word commands user pass stat uidl list replies items good are listed =
     let marks : are.2.0 ≡ no_marks drop = are.2.1.1 ∙ are.1.1 in
     let stays : are.2.2.0 ≡ no_marks drop = are.2.2.1.4 ∙ marks in
-    let total = listed.joined.count ∙ count_same laws.line laws.scans drop are.2.0 are.2.2.0 stat listed.count good.1.1.0 are.2.2.1 marks listed.counts in
+    let total = listed.joined.count
+    ∙ count_same laws.line laws.scans drop are.2.0 are.2.2.0 stat listed.count good.1.1.0
+    are.2.2.1 marks listed.counts in
     let g = are.2.2.2.1 in
     let h = are.2.2.2.2.1 in
     ext_get_or (item_of nobody) items (listing_of drop) (total ∙ sym (length-map drop item_of)) (λ k l.
     let inside : k < length drop = omega (arith, l, total) in
     same_item (get_or items k (item_of nobody)) (get_or drop k nobody)
-    (value_at number_and_id (λ row. row.number) (λ row. row.uid) (λ m. m.uid) (λ i. i.uid) IsUidRow (uid_agrees laws.uids) items laws.line laws.lines drop are.2.2.0 uidl listed.uids stays good.1.1.1.0.line
+    (value_at number_and_id (λ row. row.number) (λ row. row.uid) (λ m. m.uid) (λ i. i.uid) IsUidRow
+    (uid_agrees laws.uids) items laws.line laws.lines drop are.2.2.0 uidl listed.uids stays good.1.1.1.0.line
     listed.named (rw listed.named.1 at good.1.1.1.0.body) g.0 listed.joined.ids k inside)
-    (value_at number_and_size (λ row. row.number) (λ row. row.size) (λ m. m.size) (λ i. i.size) IsScanRow (scan_agrees laws.scans) items laws.line laws.lines drop are.2.2.2.0 list listed.sizes (g.1 ∙ stays) good.1.1.1.1.0.line
+    (value_at number_and_size (λ row. row.number) (λ row. row.size) (λ m. m.size) (λ i. i.size) IsScanRow
+    (scan_agrees laws.scans) items laws.line laws.lines drop are.2.2.2.0 list listed.sizes (g.1
+    ∙ stays) good.1.1.1.1.0.line
     listed.sized (rw listed.sized.1 at good.1.1.1.1.0.body) h.0 listed.joined.octets k inside)
     ∙ sym (get_or-map item_of drop k nobody (item_of nobody) inside))
 
@@ -158,7 +193,8 @@ pub record Looks (command : Command) (bytes : List ℕ) : Type 0 where
   pub is : IsReplyTo (Some command) reply
   pub whole : bytes ≡ reply_bytes reply
 
-look : (command : Command) {bytes first body : List ℕ} (lines : Option (List (List ℕ))) → IsBodyIf (has_body command) lines → bytes ≡ first ++ body → SaysAnything Positive first → body ≡ body_bytes lines
+look : (command : Command) {bytes first body : List ℕ} (lines : Option (List (List ℕ)))
+    → IsBodyIf (has_body command) lines → bytes ≡ first ++ body → SaysAnything Positive first → body ≡ body_bytes lines
     → Looks command bytes
 look command lines has whole (after, (line, said)) is = record {
   reply = record { first = indicator Positive ++ after; body = lines };
@@ -170,7 +206,8 @@ plain_look : (command : Command) (bytes : List ℕ) → IsBodyIf (has_body comma
 plain_look command bytes none says = look command None none (sym (append-nil bytes)) says refl
 
 -- what a positive reply looks like
-looks : (drop : List Message) (marks : List Bool) (command : Command) (bytes : List ℕ) (next : List Bool) → Grants drop marks command bytes next → Looks command bytes
+looks : (drop : List Message) (marks : List Bool) (command : Command) (bytes : List ℕ) (next : List Bool)
+    → Grants drop marks command bytes next → Looks command bytes
 looks drop marks UidlAll bytes next g = look UidlAll (Some g.0.lines) g.0.content g.0.whole g.0.says refl
 looks drop marks ListAll bytes next g = look ListAll (Some g.0.lines) g.0.content g.0.whole g.0.says refl
 looks drop marks (Retr number) bytes next g = look (Retr number) (Some g.6.lines) g.6.content g.4 g.3 g.6.whole
@@ -179,16 +216,19 @@ looks drop marks other bytes next g = search (rules, plain_look)
 
 module _ (law : OneReading) (drop : List Message) where
   -- what was read of a reply is what was said
-  same_reply : {command : Command} {bytes : List ℕ} (reply : WholeReply) (more tail : List ℕ) → (look : Looks command bytes) → IsGood command reply
+  same_reply : {command : Command} {bytes : List ℕ} (reply : WholeReply) (more tail : List ℕ)
+      → (look : Looks command bytes) → IsGoodReply command reply
       → bytes ++ more ≡ reply_bytes reply ++ tail → (look.reply ≡ reply) × (more ≡ tail)
   same_reply {command} reply more tail look good e =
-      let same = law (Some command ∷ []) (look.reply ∷ []) (reply ∷ []) more tail (look.is, tt) (record { line = good.line; status = inr ((good.rest, good.positive), good.body) }, tt)
+      let same = law (Some command ∷ []) (look.reply ∷ []) (reply ∷ []) more tail (look.is, tt)
+      (record { line = good.line; status = inr ((good.rest, good.positive), good.body) }, tt)
       (rw (append-nil, append-nil, ← look.whole) e) in
       ((let are : look.reply ∷ [] ≡ reply ∷ [] = same.0 in cc), same.1)
 
   -- a positive reply was granted
   granted : (marks : List Bool) (command : Command) (bytes : List ℕ) (next : List Bool) (reply : WholeReply) (more tail : List ℕ)
-      → Reply drop marks command bytes next → IsGood command reply → bytes ++ more ≡ reply_bytes reply ++ tail → Grants drop marks command (reply_bytes reply) next × (more ≡ tail)
+      → Reply drop marks command bytes next → IsGoodReply command reply → bytes ++ more ≡ reply_bytes reply ++ tail
+      → Grants drop marks command (reply_bytes reply) next × (more ≡ tail)
   granted marks command bytes next reply more tail (inl ((after, (line, said)), stays)) good e =
       let refused : Looks command bytes = record {
         reply = record { first = indicator Negative ++ after; body = None };
@@ -196,14 +236,16 @@ module _ (law : OneReading) (drop : List Message) where
         whole = said ∙ sym (append-nil (ended (indicator Negative ++ after)));
       } in
       let no : IsFirstLine (indicator Negative ++ after) Negative (without_space after) = (after, refl, refl) in
-      absurd (not_both reply.first good.rest (without_space after) good.positive (rw (ap (λ (r : WholeReply). r.first) (same_reply reply more tail refused good e).0) at no))
+      absurd (not_both reply.first good.rest (without_space after) good.positive
+      (rw (ap (λ (r : WholeReply). r.first) (same_reply reply more tail refused good e).0) at no))
   granted marks command bytes next reply more tail (inr grants) good e =
       let look = looks drop marks command bytes next grants in
       let same = same_reply reply more tail look good e in
       (rw (look.whole, same.0) at grants, same.1)
 
   walk : (marks last : List Bool) (commands : List Command) (replies : List WholeReply) (bytes later tail : List ℕ)
-      → Replies drop marks commands bytes last → AreGood commands replies → bytes ++ later ≡ flat_map reply_bytes replies ++ tail → AreGranted drop marks commands replies
+      → Replies drop marks commands bytes last → AreGood commands replies
+      → bytes ++ later ≡ flat_map reply_bytes replies ++ tail → AreGranted drop marks commands replies
   walk marks last commands [] bytes later tail said good e = tt
   walk marks last [] (reply ∷ replies) bytes later tail said good e = absurd good
   walk marks last (command ∷ commands) (reply ∷ replies) bytes later tail said good e =
@@ -214,7 +256,10 @@ module _ (law : OneReading) (drop : List Message) where
 pub honest_is_granted : Below → HonestIsGranted
 honest_is_granted laws drop sent got marks commands replies honest talked =
     let same = laws.commands commands honest.commands sent talked.asked honest.asked in
-    let behind = laws.line (indicator honest.status ++ honest.greets.0) talked.hello honest.replies ((flat_map reply_bytes replies ++ talked.rest) ++ honest.later) honest.greets.1.0 talked.line
-    (rw (← honest.greets.1.1, honest.begins, talked.whole) (append_assoc (ended talked.hello) (flat_map reply_bytes replies ++ talked.rest) honest.later)) in
-    rw same (walk laws.reading drop (no_marks drop) marks honest.commands replies honest.replies [] (talked.rest ++ honest.later) honest.replied
+    let behind = laws.line (indicator honest.status ++ honest.greets.0) talked.hello honest.replies
+    ((flat_map reply_bytes replies ++ talked.rest) ++ honest.later) honest.greets.1.0 talked.line
+    (rw (← honest.greets.1.1, honest.begins, talked.whole)
+    (append_assoc (ended talked.hello) (flat_map reply_bytes replies ++ talked.rest) honest.later)) in
+    rw same (walk laws.reading drop (no_marks drop) marks honest.commands replies honest.replies []
+    (talked.rest ++ honest.later) honest.replied
     (rw same at talked.good) (rw append-nil (behind.1 ∙ append_assoc (flat_map reply_bytes replies) talked.rest honest.later)))

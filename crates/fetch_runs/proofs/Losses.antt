@@ -1,5 +1,7 @@
 -- A loss of power between two calls leaves a kept state, if what is recorded or gone is durable; and calls and others keep that.
-use Rattle.std.proofs.Common.{◌≡◌, ◌⊎◌, inl, inr, ℕ, List, [], ◌∷◌, ◌++◌, true, false, length, Option, refl, sym, ◌∙◌, arith, bytes_eq, ⊎_elim, Bool, ap, subst, map, append_assoc, ◌≤◌, ◌<◌, not, ◌+◌, ◌||◌, ◌&&◌}
+use Rattle.std.proofs.Common.{◌≡◌, ◌⊎◌, inl, inr, ℕ, List, [], ◌∷◌, ◌++◌, true, false, length, Option, refl, sym, ◌∙◌}
+use Rattle.std.proofs.Common.{arith, bytes_eq, ⊎_elim, Bool, ap, subst, map, append_assoc, ◌≤◌, ◌<◌, not, ◌+◌, ◌||◌}
+use Rattle.std.proofs.Common.{◌&&◌}
 use Rattle.mail_store.specs.Durable.{Disk, MayLeave}
 use Rattle.std.specs.List.{AllByRecursion, filter, list_any}
 use Rattle.std.proofs.lemmas.Bool.{both_ways, cases_Bool, or_left, or_right, or_cases}
@@ -10,17 +12,20 @@ use Rattle.mail_terms.specs.UniqueId.{has_id, is_legal_id}
 use Rattle.pop3_wire.specs.World.{Message}
 use Rattle.mail_store.specs.FileName.{is_held, name_of, names_id, stem, stem_of}
 use Rattle.mail_store.specs.Loss.{AreLeftAs, LosesPower}
-use Rattle.mail_store.specs.Maildir.{AllNamed, AreReached, File, IsDurable, IsWithout, Maildir, WereTaken, file}
+use Rattle.mail_store.specs.Maildir.{AllNamed, AreReached, File, IsDurableFile, IsWithout, Maildir, WereTaken, file}
 use Rattle.mail_store.specs.declared.file.flat_file.FlatFile.{Ghosts as FileGhosts}
 use Rattle.fetch_rules.specs.Record.{Intent, is_delivered}
 use Rattle.fetch_rules.specs.RecordMeaning.{FileStandsFor}
-use Rattle.fetch_runs.specs.Accounts.{AccountMail, copies, has_named, without_flags, ids_of}
+use Rattle.fetch_runs.specs.Accounts.{AccountMail, copies, has_named, without_flags, message_ids}
 use Rattle.fetch_runs.specs.Promises.{IsBetween, Mail, State, is_safe, state_with, IsFront, Kept, Promises, ShowsNext, Call}
 use Rattle.fetch_runs.proofs.Promised.{IsSession}
-use Rattle.fetch_runs.specs.Sessions.{IsHonest, Leaves, Stores, wanted_at}
-use Rattle.fetch_runs.specs.Losses.{DurableAccountsAreSafe, DurableFrontsBegin, IsCrashSafe, IsDurableFront, IsDurableFor, IsFlushedFor, RecordIsSure, KeepsDurable, lasts}
+use Rattle.fetch_runs.specs.Sessions.{IsHonest, Leaves, StoresTexts, wanted_at}
+use Rattle.fetch_runs.specs.Losses.{DurableAccountsAreSafe, DurableFrontsBegin, IsCrashSafe, IsDurableFront}
+use Rattle.fetch_runs.specs.Losses.{IsDurableFor, IsFlushedFor, RecordIsSure, KeepsDurable, lasts}
 use Rattle.fetch_runs.proofs.LeftRecords.{LeavesDurably, all_named, kept_legal}
-use Rattle.fetch_runs.proofs.Lists.{fewer_copies, held_some, part_copies, reached_copies, some_held, all_append, all_both, all_filter, all_front, all_ids_at, all_map, bytes_same, same_rows, all_at, ids_both, members}
+use Rattle.fetch_runs.proofs.Lists.{fewer_copies, held_some, part_copies, reached_copies, some_held, all_append}
+use Rattle.fetch_runs.proofs.Lists.{all_both, all_filter, all_front, all_ids_at, all_map, bytes_same, same_rows, all_at}
+use Rattle.fetch_runs.proofs.Lists.{ids_both, members}
 use Rattle.fetch_runs.specs.Below.{Below}
 use Rattle.fetch_runs.proofs.Steps.{served_session}
 
@@ -34,29 +39,35 @@ named_any p [] never = never
 named_any p (f ∷ fs) any = grind (arith, any, named_any p fs)
 
 -- a loss of power leaves them, and all that it leaves is durable
-any_left : (p : List ℕ → Bool) (fs left : List File) → AreLeftAs fs left → any_named p fs ≡ true → list_any (λ (f : File). p f.name) left ≡ true
+any_left : (p : List ℕ → Bool) (fs left : List File) → AreLeftAs fs left → any_named p fs ≡ true
+    → list_any (λ (f : File). p f.name) left ≡ true
 any_left p [] left is never = absurd (both_ways false refl never)
 any_left p (f ∷ fs) left (inl (gone, rest)) any = grind (arith, gone, any, any_left p fs left rest)
 any_left p (f ∷ fs) left (inr (g, rest, is, like, more)) any = rw is (grind (arith, like.name, any, any_left p fs rest more))
 
 -- nothing comes by it
-any_before : (p : List ℕ → Bool) (fs left : List File) → AreLeftAs fs left → list_any (λ (f : File). p f.name) left ≡ true → list_any (λ (f : File). p f.name) fs ≡ true
+any_before : (p : List ℕ → Bool) (fs left : List File) → AreLeftAs fs left
+    → list_any (λ (f : File). p f.name) left ≡ true → list_any (λ (f : File). p f.name) fs ≡ true
 any_before p [] left is any = rw is at any
 any_before p (f ∷ fs) left (inl (gone, rest)) any = or_right _ _ (any_before p fs left rest any)
-any_before p (f ∷ fs) left (inr (g, rest, is, like, more)) any = ⊎_elim (λ here. or_left _ _ (ap p (sym like.name) ∙ here)) (λ later. or_right _ _ (any_before p fs rest more later)) (or_cases _ _ (rw is at any))
+any_before p (f ∷ fs) left (inr (g, rest, is, like, more)) any =
+    ⊎_elim (λ here. or_left _ _ (ap p (sym like.name) ∙ here)) (λ later. or_right _ _ (any_before p fs rest more later))
+    (or_cases _ _ (rw is at any))
 
-left_durable : (fs left : List File) → AreLeftAs fs left → AllByRecursion IsDurable left
+left_durable : (fs left : List File) → AreLeftAs fs left → AllByRecursion IsDurableFile left
 left_durable [] left is = rw is tt
 left_durable (f ∷ fs) left (inl (gone, rest)) = left_durable fs left rest
 left_durable (f ∷ fs) left (inr (g, rest, is, like, more)) = rw is (like.durable, left_durable fs rest more)
 
-copies_yes : (front : List ℕ) (f : File) (fs : List File) → bytes_eq front (stem f.name) ≡ true → copies (f ∷ fs) front ≡ f.content ∷ copies fs front
+copies_yes : (front : List ℕ) (f : File) (fs : List File) → bytes_eq front (stem f.name) ≡ true
+    → copies (f ∷ fs) front ≡ f.content ∷ copies fs front
 copies_yes front f fs same = grind (arith, same)
 
 copies_no : (front : List ℕ) (f : File) (fs : List File) → bytes_eq front (stem f.name) ≡ false → copies (f ∷ fs) front ≡ copies fs front
 copies_no front f fs apart = grind (arith, apart)
 
-left_step : (front : List ℕ) (f g : File) (fs rest : List File) → g.name ≡ f.name → (bytes_eq front (stem f.name) ≡ true → g.content ≡ f.content)
+left_step : (front : List ℕ) (f g : File) (fs rest : List File) → g.name ≡ f.name
+    → (bytes_eq front (stem f.name) ≡ true → g.content ≡ f.content)
     → (copies rest front ≡ copies fs front) ⊎ (length (copies rest front) < length (copies fs front))
     → (copies (g ∷ rest) front ≡ copies (f ∷ fs) front) ⊎ (length (copies (g ∷ rest) front) < length (copies (f ∷ fs) front))
 left_step front f g fs rest name content less = ⊎_elim by_same by_apart (cases_Bool (bytes_eq front (stem f.name)))
@@ -64,17 +75,21 @@ left_step front f g fs rest name content less = ⊎_elim by_same by_apart (cases
     too : {b : Bool} → bytes_eq front (stem f.name) ≡ b → bytes_eq front (stem g.name) ≡ b
     too same = ap (λ name. bytes_eq front (stem name)) name ∙ same
 
-    by_same : bytes_eq front (stem f.name) ≡ true → (copies (g ∷ rest) front ≡ copies (f ∷ fs) front) ⊎ (length (copies (g ∷ rest) front) < length (copies (f ∷ fs) front))
+    by_same : bytes_eq front (stem f.name) ≡ true → (copies (g ∷ rest) front ≡ copies (f ∷ fs) front)
+        ⊎ (length (copies (g ∷ rest) front) < length (copies (f ∷ fs) front))
     by_same same = elim less [
-      | inl e ↦ inl (copies_yes front g rest (too same) ∙ ap (λ first. first ∷ copies rest front) (content same) ∙ ap (λ more. f.content ∷ more) e ∙ sym (copies_yes front f fs same))
+      | inl e ↦ inl (copies_yes front g rest (too same) ∙ ap (λ first. first ∷ copies rest front) (content same)
+          ∙ ap (λ more. f.content ∷ more) e ∙ sym (copies_yes front f fs same))
       | inr fewer ↦ inr (grind (arith, fewer, copies_yes front g rest (too same), copies_yes front f fs same))
     ]
 
-    by_apart : bytes_eq front (stem f.name) ≡ false → (copies (g ∷ rest) front ≡ copies (f ∷ fs) front) ⊎ (length (copies (g ∷ rest) front) < length (copies (f ∷ fs) front))
+    by_apart : bytes_eq front (stem f.name) ≡ false → (copies (g ∷ rest) front ≡ copies (f ∷ fs) front)
+        ⊎ (length (copies (g ∷ rest) front) < length (copies (f ∷ fs) front))
     by_apart apart = rw (copies_no front g rest (too apart), copies_no front f fs apart) less
 
 -- of an id's files, if their bytes are durable, it leaves all that they held, or less
-left_copies : (front : List ℕ) (fs left : List File) → AreLeftAs fs left → AllByRecursion (λ (f : File). bytes_eq front (stem f.name) ≡ true → f.is_flushed ≡ true) fs
+left_copies : (front : List ℕ) (fs left : List File) → AreLeftAs fs left
+    → AllByRecursion (λ (f : File). bytes_eq front (stem f.name) ≡ true → f.is_flushed ≡ true) fs
     → (copies left front ≡ copies fs front) ⊎ (length (copies left front) < length (copies fs front))
 left_copies front [] left is flushed = inl (rw is refl)
 left_copies front (f ∷ fs) left (inl (gone, rest)) flushed = let less = left_copies front fs left rest flushed.1 in grind (arith, less)
@@ -85,7 +100,9 @@ left_copies front (f ∷ fs) left (inr (g, rest, is, like, more)) flushed =
 durable_named : (account : List ℕ) (fs : List File) (id : List ℕ) → is_legal_id id ≡ true → AllByRecursion (IsDurableFor account) fs
     → list_any (λ (f : File). names_id account id f.name) fs ≡ true → any_named (names_id account id) fs ≡ true
 durable_named account [] id legal all never = never
-durable_named account (f ∷ fs) id legal all held = let here : names_id account id f.name ≡ true → f.is_named ≡ true = λ names. (all.0 id legal names).0 in grind (arith, here, held, durable_named account fs id legal all.1)
+durable_named account (f ∷ fs) id legal all held = let here : names_id account id f.name ≡ true
+    → f.is_named ≡ true = λ names. (all.0 id legal names).0
+    in grind (arith, here, held, durable_named account fs id legal all.1)
 
 -- ---- readers
 
@@ -95,7 +112,8 @@ any_reached p [] (g ∷ left) never any = absurd never
 any_reached p (f ∷ fs) [] never any = absurd never
 any_reached p (f ∷ fs) (g ∷ left) (same, are) any = grind (arith, same.name, same.named, any, any_reached p fs left are)
 
-one_fewer : (front : List ℕ) (a b : List File) (f : File) → bytes_eq front (stem f.name) ≡ true → length (copies (a ++ b) front) < length (copies (a ++ f ∷ b) front)
+one_fewer : (front : List ℕ) (a b : List File) (f : File) → bytes_eq front (stem f.name) ≡ true
+    → length (copies (a ++ b) front) < length (copies (a ++ f ∷ b) front)
 one_fewer front [] b f is = grind (arith, is)
 one_fewer front (x ∷ a) b f is = grind (arith, one_fewer front a b f is)
 
@@ -118,26 +136,38 @@ named_stays front (f ∷ gone) fs left (a, b, are, is) once named held =
     (cases_Bool (has front (a ++ b)))
   where
     its_name : has front (a ++ f ∷ b) ≡ true → has front (a ++ b) ≡ false → bytes_eq front (stem f.name) ≡ true
-    its_name mid none = grind (arith, mid, none, list_any-append (λ (g : File). bytes_eq front (stem g.name) && g.is_named) a (f ∷ b), list_any-append (λ (g : File). bytes_eq front (stem g.name) && g.is_named) a b)
+    its_name mid none = grind (
+      arith,
+      mid,
+      none,
+      list_any-append
+          (λ (g : File). bytes_eq front (stem g.name) && g.is_named) a (f ∷ b),
+      list_any-append
+          (λ (g : File). bytes_eq front (stem g.name) && g.is_named) a b,
+    )
 
 all_cut : (P : File → Type 0) (a b : List File) (f : File) → AllByRecursion P (a ++ f ∷ b) → AllByRecursion P (a ++ b)
 all_cut P [] b f all = all.1
 all_cut P (x ∷ a) b f all = (all.0, all_cut P a b f all.1)
 
-flushed_reached : (account : List ℕ) (fs left : List File) → AreReached fs left → AllByRecursion (IsFlushedFor account) fs → AllByRecursion (IsFlushedFor account) left
+flushed_reached : (account : List ℕ) (fs left : List File) → AreReached fs left
+    → AllByRecursion (IsFlushedFor account) fs → AllByRecursion (IsFlushedFor account) left
 flushed_reached account [] [] are all = tt
 flushed_reached account [] (g ∷ left) never all = absurd never
 flushed_reached account (f ∷ fs) [] never all = absurd never
-flushed_reached account (f ∷ fs) (g ∷ left) (same, are) all = (λ id legal names. same.flushed (all.0 id legal (rw same.name at names)), flushed_reached account fs left are all.1)
+flushed_reached account (f ∷ fs) (g ∷ left) (same, are) all =
+    (λ id legal names. same.flushed (all.0 id legal (rw same.name at names)), flushed_reached account fs left are all.1)
 
-flushed_stays : (account : List ℕ) (gone fs left : List File) → IsWithout fs gone left → AllByRecursion (IsFlushedFor account) fs → AllByRecursion (IsFlushedFor account) left
+flushed_stays : (account : List ℕ) (gone fs left : List File) → IsWithout fs gone left
+    → AllByRecursion (IsFlushedFor account) fs → AllByRecursion (IsFlushedFor account) left
 flushed_stays account [] fs left are all = flushed_reached account fs left are all
 flushed_stays account (f ∷ gone) fs left (a, b, are, is) all =
     flushed_stays account gone (a ++ b) left is (all_cut (IsFlushedFor account) a b f (flushed_reached account fs (a ++ f ∷ b) are all))
 
 -- ---- what lasts
 
-lasts_bits : (named held taken named' held' : Bool) → (named ≡ true → held ≡ true) → (named ≡ true → held' ≡ true → named' ≡ true) → (named || taken) ≡ true
+lasts_bits : (named held taken named' held' : Bool) → (named ≡ true → held ≡ true)
+    → (named ≡ true → held' ≡ true → named' ≡ true) → (named || taken) ≡ true
     → (named' || (((held || taken) && not held') || (taken && not named'))) ≡ true
 lasts_bits true held taken named' true is stays some = or_left _ _ (stays refl refl)
 lasts_bits true held taken named' false is stays some = let there = is refl in grind (arith, there)
@@ -145,15 +175,21 @@ lasts_bits false held taken named' held' is stays some = grind (arith, some)
 
 -- it still does, if a durable name stays while the message is held
 lasts_on : (mail : Mail) (state : State) (after : AccountMail) (id : List ℕ)
-    → (has_named mail.account state.account.maildir id ≡ true → is_held mail.account after.maildir id ≡ true → has_named mail.account after.maildir id ≡ true)
+    → (has_named mail.account state.account.maildir id ≡ true → is_held mail.account after.maildir id ≡ true
+    → has_named mail.account after.maildir id ≡ true)
     → lasts mail state id ≡ true → lasts mail (state_with mail state [] after) id ≡ true
-lasts_on mail state after id stays = lasts_bits (has_named mail.account state.account.maildir id) (is_held mail.account state.account.maildir id) (state.taken id)
-    (has_named mail.account after.maildir id) (is_held mail.account after.maildir id) (named_any (names_id mail.account id) state.account.maildir.files) stays
+lasts_on mail state after id stays = lasts_bits (has_named mail.account state.account.maildir id)
+    (is_held mail.account state.account.maildir id) (state.taken id)
+    (has_named mail.account after.maildir id) (is_held mail.account after.maildir id)
+    (named_any (names_id mail.account id) state.account.maildir.files) stays
 
 -- ---- others, and readers
 
-pub others_keep_safe : Below → {F : Type 0} (file : FileGhosts F) (from f : F) (mail : Mail) (state : State) (after : AccountMail) (intent : Option Intent) → Kept mail state
-    → FileStandsFor (file.stored f).content after.rows intent → IsBetween mail state.account after → KeepsDurable file mail.account state.account from f after
+pub others_keep_safe : Below
+    → {F : Type 0} (file : FileGhosts F) (from f : F) (mail : Mail) (state : State) (after : AccountMail)
+    (intent : Option Intent) → Kept mail state
+    → FileStandsFor (file.stored f).content after.rows intent → IsBetween mail state.account after
+    → KeepsDurable file mail.account state.account from f after
     → IsCrashSafe (file.disk from) mail state → IsCrashSafe (file.disk f) mail (state_with mail state [] after)
 others_keep_safe laws file from f mail state after intent kept stands between keeps safe = record {
   flushed = keeps.flushed;
@@ -178,7 +214,8 @@ module _ (mail : Mail) (state : State) (left : Maildir) (kept : Kept mail state)
   once (inl none) = rw none (omega arith)
   once (inr one) = rw one (omega arith)
 
-  pub lasts_left : (id : List ℕ) → is_legal_id id ≡ true → lasts mail state id ≡ true → lasts mail (state_with mail state [] (record state.account { maildir = left })) id ≡ true
+  pub lasts_left : (id : List ℕ) → is_legal_id id ≡ true → lasts mail state id ≡ true
+      → lasts mail (state_with mail state [] (record state.account { maildir = left })) id ≡ true
   lasts_left id legal = lasts_on mail state (record state.account { maildir = left }) id
       (named_stays (stem_of mail.account id) taken.gone state.account.maildir.files left.files taken.files (once (kept.holds id legal)))
 
@@ -189,8 +226,11 @@ module _ (mail : Mail) (state : State) (left : Maildir) (kept : Kept mail state)
       let some = held_some (stem_of mail.account id) left.files held in
       some_held mail.account id state.account.maildir.files (λ none. some (by_none none part))
     where
-      by_none : copies state.account.maildir.files (stem_of mail.account id) ≡ [] → (copies left.files (stem_of mail.account id) ≡ copies state.account.maildir.files (stem_of mail.account id))
-          ⊎ (length (copies left.files (stem_of mail.account id)) < length (copies state.account.maildir.files (stem_of mail.account id))) → copies left.files (stem_of mail.account id) ≡ []
+      by_none : copies state.account.maildir.files (stem_of mail.account id) ≡ []
+          → (copies left.files (stem_of mail.account id) ≡ copies state.account.maildir.files (stem_of mail.account id))
+          ⊎ (length (copies left.files (stem_of mail.account id)) < length
+          (copies state.account.maildir.files (stem_of mail.account id)))
+          → copies left.files (stem_of mail.account id) ≡ []
       by_none none (inl same) = same ∙ none
       by_none none (inr fewer) = nil_from_length (copies left.files (stem_of mail.account id)) (omega (arith, rw none at fewer))
 
@@ -212,9 +252,14 @@ left_keeps_safe disk mail state left kept taken safe = record {
 
 -- ---- a call
 
-module _ {F : Type 0} (file : FileGhosts F) (from f : F) (mail : Mail) (state : State) (vanished : List (List ℕ)) (after : AccountMail) (leaves : LeavesDurably file mail.account from f state.account after) where
+module _ {F : Type 0} (file : FileGhosts F) (from f : F) (mail : Mail) (state : State) (vanished : List (List ℕ))
+    (after : AccountMail) (leaves : LeavesDurably file mail.account from f state.account after) where
   stays : (id : List ℕ) → has_named mail.account state.account.maildir id ≡ true → has_named mail.account after.maildir id ≡ true
-  stays id named = rw (leaves.files, list_any-append (λ (g : File). names_id mail.account id g.name && g.is_named) state.account.maildir.files (leaves.came ++ leaves.last)) (or_left _ _ named)
+  stays id named = rw (
+    leaves.files,
+    list_any-append (λ (g : File). names_id mail.account id g.name && g.is_named)
+        state.account.maildir.files (leaves.came ++ leaves.last),
+  ) (or_left _ _ named)
 
   -- a file that came is there
   came_there : (id : List ℕ) → any_named (names_id mail.account id) leaves.came ≡ true → has_named mail.account after.maildir id ≡ true
@@ -227,7 +272,9 @@ module _ {F : Type 0} (file : FileGhosts F) (from f : F) (mail : Mail) (state : 
   lasts_call : (id : List ℕ) → lasts mail state id ≡ true → lasts mail (state_with mail state vanished after) id ≡ true
   lasts_call id = lasts_on mail state after id (λ named held. stays id named)
 
-pub calls_keep_safe : Below → {W S F G : Type 0} (file : FileGhosts F) (from f : F) (mail : Mail) (state : State) (call : Call W S G) (sent : List ℕ) (now : AccountMail) → Kept mail state
+pub calls_keep_safe : Below
+    → {W S F G : Type 0} (file : FileGhosts F) (from f : F) (mail : Mail) (state : State) (call : Call W S G)
+    (sent : List ℕ) (now : AccountMail) → Kept mail state
     → IsSession mail state.account call sent now → LeavesDurably file mail.account from f state.account now → RecordIsSure file from f
     → IsCrashSafe (file.disk from) mail state → IsCrashSafe (file.disk f) mail (state_with mail state call.vanished now)
 calls_keep_safe laws file from f mail state call sent now kept is leaves sure safe = record {
@@ -248,12 +295,16 @@ calls_keep_safe laws file from f mail state call sent now kept is leaves sure sa
     after : State
     after = state_with mail state call.vanished now
 
-    went : (Leaves state.account is.effect now ⊎ (Stores call.settings mail.account state.account is.effect now call.report is.session.sends.commands is.session.sends.asked.part
-        × IsHonest (wanted_at call.settings mail.account state.account is.effect) call.maildrop is.effect)) × AllByRecursion (λ id. has_id is.effect.begun id ≡ true) call.vanished
+    went : (Leaves state.account is.effect now
+        ⊎ (StoresTexts call.settings mail.account state.account is.effect now call.report is.session.sends.commands
+        is.session.sends.asked.part
+        × IsHonest (wanted_at call.settings mail.account state.account is.effect) call.maildrop is.effect))
+        × AllByRecursion (λ id. has_id is.effect.begun id ≡ true) call.vanished
     went = served_session laws call.settings mail.account state.account is.effect is.session is.served
 
     flushed_after : AllByRecursion (IsFlushedFor mail.account) now.maildir.files
-    flushed_after = rw leaves.files (all_append (IsFlushedFor mail.account) state.account.maildir.files (leaves.came ++ leaves.last) safe.flushed (all_append (IsFlushedFor mail.account) leaves.came leaves.last
+    flushed_after = rw leaves.files (all_append (IsFlushedFor mail.account) state.account.maildir.files
+        (leaves.came ++ leaves.last) safe.flushed (all_append (IsFlushedFor mail.account) leaves.came leaves.last
         (all_map leaves.came leaves.durable (λ g durable id legal names. durable.1))
         (all_map leaves.last leaves.flushed (λ g flushed id legal names. flushed))))
 
@@ -271,39 +322,49 @@ calls_keep_safe laws file from f mail state call sent now kept is leaves sure sa
 
 -- ---- a loss of power
 
-pub losses_leave_kept : (disk : Disk) (mail : Mail) (state : State) (after : AccountMail) (left : Option (List ℕ)) (intent : Option Intent) → Kept mail state
-    → IsCrashSafe disk mail state → LosesPower state.account.maildir after.maildir → MayLeave disk left → FileStandsFor left after.rows intent → Kept mail (record state { account = after })
+pub losses_leave_kept : (disk : Disk) (mail : Mail) (state : State) (after : AccountMail) (left : Option (List ℕ))
+    (intent : Option Intent) → Kept mail state
+    → IsCrashSafe disk mail state → LosesPower state.account.maildir after.maildir → MayLeave disk left
+    → FileStandsFor left after.rows intent → Kept mail (record state { account = after })
 losses_leave_kept disk mail state after left intent kept safe loses may stands = record {
-  holds = λ id legal. same_or_none (kept.holds id legal) (left_copies (stem_of mail.account id) state.account.maildir.files after.maildir.files loses.files
+  holds = λ id legal. same_or_none (kept.holds id legal)
+      (left_copies (stem_of mail.account id) state.account.maildir.files after.maildir.files loses.files
       (all_map state.account.maildir.files safe.flushed (λ f flushed. flushed id legal)));
   recorded = λ id d. let was = safe.left left after.rows intent may stands id d in (was.0, still id was.1);
   gone = all_both state.gone kept.gone safe.gone (λ id is last. (is.0, still id last));
 }
   where
-    same_or_none : {was now : List (List ℕ)} {text : List ℕ} → (was ≡ []) ⊎ (was ≡ text ∷ []) → (now ≡ was) ⊎ (length now < length was) → (now ≡ []) ⊎ (now ≡ text ∷ [])
+    same_or_none : {was now : List (List ℕ)} {text : List ℕ} → (was ≡ []) ⊎ (was ≡ text ∷ [])
+        → (now ≡ was) ⊎ (length now < length was) → (now ≡ []) ⊎ (now ≡ text ∷ [])
     same_or_none {was} {now} {text} once less = grind (arith, once, less, nil_from_length now)
 
     still : (id : List ℕ) → lasts mail state id ≡ true → is_safe mail (record state { account = after }) id ≡ true
-    still id last = ⊎_elim (λ named. or_left _ _ (any_left (names_id mail.account id) state.account.maildir.files after.maildir.files loses.files named)) (or_right _ _) (or_cases _ _ last)
+    still id last = ⊎_elim (λ named. or_left _ _ (any_left (names_id mail.account id) state.account.maildir.files
+        after.maildir.files loses.files named)) (or_right _ _) (or_cases _ _ last)
 
 pub durable_is_safe : Below → {F : Type 0} (file : FileGhosts F) → DurableAccountsAreSafe file
 durable_is_safe laws file f mail state intent kept stands durable same = record {
   flushed = all_map state.account.maildir.files durable (λ g is id legal names. (is id legal names).1);
   recorded = λ id d. let is = kept.recorded id d in on id is.0 is.1;
   left = λ left rows opened may is id d.
-      let here = kept.recorded id (rw (same_rows laws.one (file.stored f).content rows state.account.rows (opened, rw (same left may) at is) (intent, stands)) at d) in (here.0, on id here.0 here.1);
+      let here = kept.recorded id
+      (rw (same_rows laws.one (file.stored f).content rows state.account.rows (opened, rw (same left may) at is)
+      (intent, stands)) at d) in (here.0, on id here.0 here.1);
   gone = all_map state.gone kept.gone (λ id is. on id is.0 is.1);
 }
   where
     on : (id : List ℕ) → is_legal_id id ≡ true → is_safe mail state id ≡ true → lasts mail state id ≡ true
-    on id legal safe = ⊎_elim (λ held. or_left _ _ (durable_named mail.account state.account.maildir.files id legal durable held)) (or_right _ _) (or_cases _ _ safe)
+    on id legal safe = ⊎_elim
+        (λ held. or_left _ _ (durable_named mail.account state.account.maildir.files id legal durable held))
+        (or_right _ _) (or_cases _ _ safe)
 
 pub all_left_durable : (account : List ℕ) (old new : Maildir) → LosesPower old new → AllByRecursion (IsDurableFor account) new.files
 all_left_durable account old new loses = all_map new.files (left_durable old.files new.files loses.files) (λ g is id legal names. is)
 
 -- ---- in order
 
-pub safe_bits : (held taken held' named : Bool) → (held' ≡ true → (held || taken) ≡ true) → (held || taken) ≡ (held' || (((held || taken) && not held') || (taken && not named)))
+pub safe_bits : (held taken held' named : Bool) → (held' ≡ true → (held || taken) ≡ true)
+    → (held || taken) ≡ (held' || (((held || taken) && not held') || (taken && not named)))
 safe_bits held taken held' named back = grind (arith, back)
 
 same_bits : (a b : Bool) → (a ≡ true → b ≡ true) → (b ≡ true → a ≡ true) → a ≡ b
@@ -321,30 +382,38 @@ durable_fronts_begin mail state all legal front durable = record {
   last = [];
   done = sym (append-nil front.done);
   at_most_one = omega arith;
-  named = all_both front.done (all_front (λ (m : Message). is_legal_id m.uid ≡ true) front.done front.rest (rw front.prefix at legal)) (members front.done) (λ m l there. on m.uid l (sym (front.is_done m.uid l) ∙ there));
+  named = all_both front.done (all_front (λ (m : Message). is_legal_id m.uid ≡ true) front.done front.rest
+      (rw front.prefix at legal)) (members front.done) (λ m l there. on m.uid l (sym (front.is_done m.uid l) ∙ there));
 }
   where
     on : (id : List ℕ) → is_legal_id id ≡ true → is_safe mail state id ≡ true → lasts mail state id ≡ true
-    on id legal safe = ⊎_elim (λ held. or_left _ _ (durable_named mail.account state.account.maildir.files id legal durable held)) (or_right _ _) (or_cases _ _ safe)
+    on id legal safe = ⊎_elim
+        (λ held. or_left _ _ (durable_named mail.account state.account.maildir.files id legal durable held))
+        (or_right _ _) (or_cases _ _ safe)
 
 -- ---- what others and readers leave
 
 abbrev pub front_stays : (mail : Mail) (state : State) (after : AccountMail) (all : List Message) → IsFront mail state all
-    → ((id : List ℕ) → is_legal_id id ≡ true → is_held mail.account after.maildir id ≡ true → is_safe mail state id ≡ true) → IsFront mail (state_with mail state [] after) all
+    → ((id : List ℕ) → is_legal_id id ≡ true → is_held mail.account after.maildir id ≡ true
+    → is_safe mail state id ≡ true) → IsFront mail (state_with mail state [] after) all
 front_stays mail state after all front back = record {
   done = front.done;
   rest = front.rest;
   prefix = front.prefix;
-  is_done = λ id l. front.is_done id l ∙ safe_bits (is_held mail.account state.account.maildir id) (state.taken id) (is_held mail.account after.maildir id) (has_named mail.account after.maildir id) (back id l);
+  is_done = λ id l. front.is_done id l ∙ safe_bits (is_held mail.account state.account.maildir id) (state.taken id)
+      (is_held mail.account after.maildir id) (has_named mail.account after.maildir id) (back id l);
 }
 
 -- readers put nothing else there
-abbrev pub left_front : (mail : Mail) (state : State) (left : Maildir) → Kept mail state → WereTaken state.account.maildir left → (all : List Message) → IsFront mail state all
+abbrev pub left_front : (mail : Mail) (state : State) (left : Maildir) → Kept mail state
+    → WereTaken state.account.maildir left → (all : List Message) → IsFront mail state all
     → IsFront mail (state_with mail state [] (record state.account { maildir = left })) all
 left_front mail state left kept taken all front =
-    front_stays mail state (record state.account { maildir = left }) all front (λ id l held. or_left _ _ (held_back mail state left kept taken id held))
+    front_stays mail state (record state.account { maildir = left }) all front
+    (λ id l held. or_left _ _ (held_back mail state left kept taken id held))
 
-module _ (mail : Mail) (state : State) (after : AccountMail) (all : List Message) (legal : AreLegal all) (front : IsDurableFront mail state all)
+module _ (mail : Mail) (state : State) (after : AccountMail) (all : List Message) (legal : AreLegal all)
+    (front : IsDurableFront mail state all)
     (back : (id : List ℕ) → is_legal_id id ≡ true → is_held mail.account after.maildir id ≡ true → is_safe mail state id ≡ true)
     (on : (id : List ℕ) → is_legal_id id ≡ true → lasts mail state id ≡ true → lasts mail (state_with mail state [] after) id ≡ true) where
   legal_done : AreLegal front.is.done
@@ -363,15 +432,19 @@ module _ (mail : Mail) (state : State) (after : AccountMail) (all : List Message
     named = all_both front.first legal_first front.named (λ m l last. on m.uid l last);
   }
 
-abbrev pub left_keeps_front : (mail : Mail) (state : State) (left : Maildir) (kept : Kept mail state) (taken : WereTaken state.account.maildir left) (all : List Message) → AreLegal all
+abbrev pub left_keeps_front : (mail : Mail) (state : State) (left : Maildir) (kept : Kept mail state)
+    (taken : WereTaken state.account.maildir left) (all : List Message) → AreLegal all
     → IsDurableFront mail state all → IsDurableFront mail (state_with mail state [] (record state.account { maildir = left })) all
-left_keeps_front mail state left kept taken all legal front = others_keep_front mail state (record state.account { maildir = left }) all legal front
+left_keeps_front mail state left kept taken all legal front =
+    others_keep_front mail state (record state.account { maildir = left }) all legal front
     (λ id l held. or_left _ _ (held_back mail state left kept taken id held)) (lasts_left mail state left kept taken)
 
-pub others_keep_order : {F : Type 0} (file : FileGhosts F) (from f : F) (mail : Mail) (state : State) (after : AccountMail) → KeepsDurable file mail.account state.account from f after
+pub others_keep_order : {F : Type 0} (file : FileGhosts F) (from f : F) (mail : Mail) (state : State)
+    (after : AccountMail) → KeepsDurable file mail.account state.account from f after
     → ((id : List ℕ) → is_legal_id id ≡ true → is_held mail.account after.maildir id ≡ true → is_safe mail state id ≡ true)
     → (all : List Message) → AreLegal all → IsDurableFront mail state all → IsDurableFront mail (state_with mail state [] after) all
-others_keep_order file from f mail state after keeps back all legal front = others_keep_front mail state after all legal front back (λ id l. lasts_on mail state after id (keeps.named id l))
+others_keep_order file from f mail state after keeps back all legal front =
+    others_keep_front mail state after all legal front back (λ id l. lasts_on mail state after id (keeps.named id l))
 
 -- ---- what a call leaves
 
@@ -381,7 +454,8 @@ same_cons x y xs ys e = (cc, cc)
 never_cons : {A : Type 0} (x : A) (xs : List A) → [] ≡ x ∷ xs → ⊥
 never_cons x xs e = cc
 
-split_map : {A B : Type 0} (g : A → B) (xs : List A) (front back : List B) → map g xs ≡ front ++ back → (ys : List A) × (zs : List A) × (xs ≡ ys ++ zs) × (map g ys ≡ front) × (map g zs ≡ back)
+split_map : {A B : Type 0} (g : A → B) (xs : List A) (front back : List B) → map g xs ≡ front ++ back → (ys : List A)
+    × (zs : List A) × (xs ≡ ys ++ zs) × (map g ys ≡ front) × (map g zs ≡ back)
 split_map g xs [] back e = ([], xs, refl, refl, e)
 split_map g [] (y ∷ front) back e = absurd (never_cons y (front ++ back) e)
 split_map g (x ∷ xs) (y ∷ front) back e =
@@ -406,37 +480,47 @@ module _ (mail : Mail) (own : (m : Message) → names_id mail.account m.uid (nam
   same_length [] (g ∷ fs) e = absurd (never_cons (file g.name g.content) (without_flags fs) e)
   same_length (m ∷ ms) [] e = absurd (never_cons (its_file m) (map its_file ms) (sym e))
   same_length (m ∷ ms) (g ∷ fs) e =
-      let rest = same_length ms fs (same_cons (its_file m) (file g.name g.content) (map its_file ms) (without_flags fs) e).1 in omega (arith, rest)
+      let rest = same_length ms fs (same_cons (its_file m) (file g.name g.content) (map its_file ms) (without_flags fs)
+      e).1 in omega (arith, rest)
 
   both_true : {a b : Bool} → a ≡ true → b ≡ true → (a && b) ≡ true
   both_true is also = rw (is, also) refl
 
-  has_come : (came : List File) (ms : List Message) → map its_file ms ≡ without_flags came → AllByRecursion IsDurable came → AllByRecursion (λ (m : Message). any_named (names_id mail.account m.uid) came ≡ true) ms
+  has_come : (came : List File) (ms : List Message) → map its_file ms ≡ without_flags came
+      → AllByRecursion IsDurableFile came
+      → AllByRecursion (λ (m : Message). any_named (names_id mail.account m.uid) came ≡ true) ms
   has_come came [] e all = tt
   has_come [] (m ∷ ms) e all = absurd (never_cons (its_file m) (map its_file ms) (sym e))
   has_come (g ∷ came) (m ∷ ms) e all =
       let (head, tail) = same_cons (its_file m) (file g.name g.content) (map its_file ms) (without_flags came) e in
-      let name : names_id mail.account m.uid g.name ≡ true = subst (λ (h : File). names_id mail.account m.uid h.name ≡ true) head (own m) in (
+      let name : names_id mail.account m.uid g.name ≡ true =
+      subst (λ (h : File). names_id mail.account m.uid h.name ≡ true) head (own m) in (
         or_left _ _ (both_true name all.0.0),
         all_map ms (has_come came ms tail all.1) (λ x there. or_right _ _ there),
       )
 
-  module _ {W S F G : Type 0} (store : FileGhosts F) (from f : F) (state : State) (call : Call W S G) (sent : List ℕ) (now : AccountMail) (promises : Promises mail state call sent now) (leaves : LeavesDurably store mail.account from f state.account now)
-      (all : List Message) (legal : AreLegal all) (front : IsDurableFront mail state all) (next : ShowsNext call.settings call.maildrop front.is.done front.is.rest) where
+  module _ {W S F G : Type 0} (store : FileGhosts F) (from f : F) (state : State) (call : Call W S G) (sent : List ℕ)
+      (now : AccountMail) (promises : Promises mail state call sent now)
+      (leaves : LeavesDurably store mail.account from f state.account now)
+      (all : List Message) (legal : AreLegal all) (front : IsDurableFront mail state all)
+      (next : ShowsNext call.settings call.maildrop front.is.done front.is.rest) where
     abbrev after : State
     after = state_with mail state call.vanished now
 
     abbrev new : Message → Bool
-    new m = not (has_id (ids_of front.is.done) m.uid)
+    new m = not (has_id (message_ids front.is.done) m.uid)
 
-    later : (later : IsFront mail after all) × (later.done ≡ front.is.done ++ filter (λ (m : Message). not (has_id (ids_of front.is.done) m.uid)) promises.came)
+    later : (later : IsFront mail after all)
+        × (later.done ≡ front.is.done ++ filter
+        (λ (m : Message). not (has_id (message_ids front.is.done) m.uid)) promises.came)
     later = promises.in_order all legal front.is next
 
     on : (id : List ℕ) → lasts mail state id ≡ true → lasts mail after id ≡ true
     on = lasts_call store from f mail state call.vanished now leaves
 
     came_are : map its_file promises.came ≡ without_flags leaves.came ++ without_flags leaves.last
-    came_are = append_cancel_left (without_flags state.account.maildir.files) (map its_file promises.came) (without_flags leaves.came ++ without_flags leaves.last)
+    came_are = append_cancel_left (without_flags state.account.maildir.files) (map its_file promises.came)
+        (without_flags leaves.came ++ without_flags leaves.last)
         (sym promises.added ∙ ap without_flags leaves.files ∙ without_append state.account.maildir.files (leaves.came ++ leaves.last)
         ∙ ap (λ (l : List File). without_flags state.account.maildir.files ++ l) (without_append leaves.came leaves.last))
 
@@ -459,28 +543,38 @@ module _ (mail : Mail) (own : (m : Message) → names_id mail.account m.uid (nam
 
     by_named : AllNamed state.account.maildir.files → IsDurableFront mail after all
     by_named named =
-        let (first, last, are, came, ended) = split_map its_file promises.came (without_flags leaves.came) (without_flags leaves.last) came_are in
+        let (first, last, are, came, ended) = split_map its_file promises.came (without_flags leaves.came)
+        (without_flags leaves.last) came_are in
         record {
           is = later.0;
           first = front.is.done ++ filter new first;
           last = filter new last;
-          done = later.1 ∙ ap (λ (ms : List Message). front.is.done ++ filter new ms) are ∙ ap (λ (l : List Message). front.is.done ++ l) (filter-append new first last)
+          done = later.1 ∙ ap (λ (ms : List Message). front.is.done ++ filter new ms) are
+              ∙ ap (λ (l : List Message). front.is.done ++ l) (filter-append new first last)
               ∙ sym (append_assoc front.is.done (filter new first) (filter new last));
-          at_most_one = let short = shorter new last in let same = same_length last leaves.last ended in let most = leaves.at_most_one in omega (arith, short, same, most);
+          at_most_one = let short = shorter new last in let same = same_length last leaves.last ended in let most =
+              leaves.at_most_one in omega (arith, short, same, most);
           named = all_append (λ (m : Message). lasts mail after m.uid ≡ true) front.is.done (filter new first)
-              (all_both front.is.done (all_front (λ (m : Message). is_legal_id m.uid ≡ true) front.is.done front.is.rest (rw front.is.prefix at legal)) (members front.is.done) (λ m l there. on m.uid (safe_lasts m.uid (sym (front.is.is_done m.uid l) ∙ there))))
-              (all_filter (λ (m : Message). lasts mail after m.uid ≡ true) new first (all_map first (has_come leaves.came first came leaves.durable) (λ m there. or_left _ _ (came_there store from f mail state call.vanished now leaves m.uid there))));
+              (all_both front.is.done (all_front (λ (m : Message). is_legal_id m.uid ≡ true) front.is.done front.is.rest
+              (rw front.is.prefix at legal)) (members front.is.done)
+              (λ m l there. on m.uid (safe_lasts m.uid (sym (front.is.is_done m.uid l) ∙ there))))
+              (all_filter (λ (m : Message). lasts mail after m.uid ≡ true) new first
+              (all_map first (has_come leaves.came first came leaves.durable)
+              (λ m there. or_left _ _ (came_there store from f mail state call.vanished now leaves m.uid there))));
         }
       where
         safe_lasts : (id : List ℕ) → is_safe mail state id ≡ true → lasts mail state id ≡ true
-        safe_lasts id safe = ⊎_elim (λ held. or_left _ _ (all_named mail.account state.account.maildir.files id named held)) (or_right _ _) (or_cases _ _ safe)
+        safe_lasts id safe = ⊎_elim
+            (λ held. or_left _ _ (all_named mail.account state.account.maildir.files id named held))
+            (or_right _ _) (or_cases _ _ safe)
 
     pub calls_keep_order : IsDurableFront mail after all
     calls_keep_order = ⊎_elim by_none by_named leaves.named
 
 -- ---- what a loss of power leaves
 
-module _ (mail : Mail) (state : State) (after : AccountMail) (all : List Message) (legal : AreLegal all) (front : IsDurableFront mail state all) (loses : LosesPower state.account.maildir after.maildir) where
+module _ (mail : Mail) (state : State) (after : AccountMail) (all : List Message) (legal : AreLegal all)
+    (front : IsDurableFront mail state all) (loses : LosesPower state.account.maildir after.maildir) where
   abbrev next_state : State
   next_state = record state { account = after }
 
@@ -488,29 +582,41 @@ module _ (mail : Mail) (state : State) (after : AccountMail) (all : List Message
   safe_next id = is_held mail.account after.maildir id || state.taken id
 
   still_safe : (id : List ℕ) → lasts mail state id ≡ true → safe_next id ≡ true
-  still_safe id last = ⊎_elim (λ named. or_left _ _ (any_left (names_id mail.account id) state.account.maildir.files after.maildir.files loses.files named)) (or_right _ _) (or_cases _ _ last)
+  still_safe id last = ⊎_elim
+      (λ named. or_left _ _ (any_left (names_id mail.account id) state.account.maildir.files after.maildir.files
+      loses.files named)) (or_right _ _) (or_cases _ _ last)
 
   safe_before : (id : List ℕ) → is_legal_id id ≡ true → safe_next id ≡ true → is_safe mail state id ≡ true
-  safe_before id l safe = ⊎_elim (λ held. or_left _ _ (any_before (names_id mail.account id) state.account.maildir.files after.maildir.files loses.files held)) (or_right _ _) (or_cases _ _ safe)
+  safe_before id l safe = ⊎_elim
+      (λ held. or_left _ _ (any_before (names_id mail.account id) state.account.maildir.files after.maildir.files
+      loses.files held)) (or_right _ _) (or_cases _ _ safe)
 
   now_lasts : (id : List ℕ) → is_legal_id id ≡ true → safe_next id ≡ true → lasts mail next_state id ≡ true
-  now_lasts id l safe = ⊎_elim (λ held. or_left _ _ (durable_named mail.account after.maildir.files id l (all_left_durable mail.account state.account.maildir after.maildir loses) held)) (or_right _ _) (or_cases _ _ safe)
+  now_lasts id l safe = ⊎_elim
+      (λ held. or_left _ _ (durable_named mail.account after.maildir.files id l
+      (all_left_durable mail.account state.account.maildir after.maildir loses) held))
+      (or_right _ _) (or_cases _ _ safe)
 
-  made : (done rest : List Message) → all ≡ done ++ rest → ((id : List ℕ) → is_legal_id id ≡ true → has_id (ids_of done) id ≡ safe_next id) → IsDurableFront mail next_state all
+  made : (done rest : List Message) → all ≡ done ++ rest
+      → ((id : List ℕ) → is_legal_id id ≡ true → has_id (message_ids done) id ≡ safe_next id)
+      → IsDurableFront mail next_state all
   made done rest prefix is_done = record {
     is = record { done = done; rest = rest; prefix = prefix; is_done = is_done };
     first = done;
     last = [];
     done = sym (append-nil done);
     at_most_one = omega arith;
-    named = all_both done (all_front (λ (m : Message). is_legal_id m.uid ≡ true) done rest (rw prefix at legal)) (members done) (λ m l there. now_lasts m.uid l (sym (is_done m.uid l) ∙ there));
+    named = all_both done (all_front (λ (m : Message). is_legal_id m.uid ≡ true) done rest (rw prefix at legal))
+        (members done) (λ m l there. now_lasts m.uid l (sym (is_done m.uid l) ∙ there));
   }
 
-  in_first : (id : List ℕ) → has_id (ids_of front.first) id ≡ true → safe_next id ≡ true
+  in_first : (id : List ℕ) → has_id (message_ids front.first) id ≡ true → safe_next id ≡ true
   in_first id there = still_safe id (all_at (λ x. lasts mail state x ≡ true) front.first front.named there)
 
-  in_done : (id : List ℕ) → is_legal_id id ≡ true → safe_next id ≡ true → (has_id (ids_of front.first) id || has_id (ids_of front.last) id) ≡ true
-  in_done id l safe = sym (ids_both front.first front.last id) ∙ ap (λ ms. has_id (ids_of ms) id) (sym front.done) ∙ front.is.is_done id l ∙ safe_before id l safe
+  in_done : (id : List ℕ) → is_legal_id id ≡ true → safe_next id ≡ true
+      → (has_id (message_ids front.first) id || has_id (message_ids front.last) id) ≡ true
+  in_done id l safe = sym (ids_both front.first front.last id) ∙ ap (λ ms. has_id (message_ids ms) id) (sym front.done)
+      ∙ front.is.is_done id l ∙ safe_before id l safe
 
   prefix_is : all ≡ front.first ++ (front.last ++ front.is.rest)
   prefix_is = front.is.prefix ∙ ap (λ l. l ++ front.is.rest) front.done ∙ append_assoc front.first front.last front.is.rest
@@ -518,19 +624,26 @@ module _ (mail : Mail) (state : State) (after : AccountMail) (all : List Message
   pub losses_keep_order : IsDurableFront mail next_state all
   losses_keep_order = by front.last refl
     where
-      without : (last : List Message) → front.last ≡ last → ((id : List ℕ) → has_id (ids_of last) id ≡ true → safe_next id ≡ false) → IsDurableFront mail next_state all
-      without last is lost = made front.first (front.last ++ front.is.rest) prefix_is (λ id l. same_bits (has_id (ids_of front.first) id) (safe_next id) (in_first id)
-          (λ safe. ⊎_elim (λ first. first) (λ there. absurd (both_ways (safe_next id) (lost id (rw is at there)) safe)) (or_cases _ _ (in_done id l safe))))
+      without : (last : List Message) → front.last ≡ last → ((id : List ℕ) → has_id (message_ids last) id ≡ true
+          → safe_next id ≡ false) → IsDurableFront mail next_state all
+      without last is lost = made front.first (front.last ++ front.is.rest) prefix_is
+          (λ id l. same_bits (has_id (message_ids front.first) id) (safe_next id) (in_first id)
+          (λ safe. ⊎_elim (λ first. first) (λ there. absurd (both_ways (safe_next id) (lost id (rw is at there)) safe))
+          (or_cases _ _ (in_done id l safe))))
 
       by : (last : List Message) → front.last ≡ last → IsDurableFront mail next_state all
       by [] is = without [] is (λ id never. absurd (both_ways false refl never))
       by (m ∷ []) is = elim (cases_Bool (safe_next m.uid)) [
-        | inl safe ↦ made front.is.done front.is.rest front.is.prefix (λ id l. same_bits (has_id (ids_of front.is.done) id) (safe_next id)
-            (λ there. ⊎_elim (in_first id) (λ at_last. subst (λ x. safe_next x ≡ true) (sym (its_id id m (rw is at at_last))) safe) (or_cases _ _ (sym (ids_both front.first front.last id) ∙ ap (λ ms. has_id (ids_of ms) id) (sym front.done) ∙ there)))
+        | inl safe ↦ made front.is.done front.is.rest front.is.prefix
+            (λ id l. same_bits (has_id (message_ids front.is.done) id) (safe_next id)
+            (λ there. ⊎_elim (in_first id)
+            (λ at_last. subst (λ x. safe_next x ≡ true) (sym (its_id id m (rw is at at_last))) safe)
+            (or_cases _ _ (sym (ids_both front.first front.last id)
+            ∙ ap (λ ms. has_id (message_ids ms) id) (sym front.done) ∙ there)))
             (λ safe. front.is.is_done id l ∙ safe_before id l safe))
         | inr lost ↦ without (m ∷ []) is (λ id there. subst (λ x. safe_next x ≡ false) (sym (its_id id m there)) lost)
       ]
         where
-          its_id : (id : List ℕ) (m : Message) → has_id (ids_of (m ∷ [])) id ≡ true → id ≡ m.uid
+          its_id : (id : List ℕ) (m : Message) → has_id (message_ids (m ∷ [])) id ≡ true → id ≡ m.uid
           its_id id m there = ⊎_elim (bytes_same id m.uid) (λ never. absurd (both_ways false refl never)) (or_cases _ _ there)
       by (m ∷ n ∷ ms) is = absurd (omega (arith, rw is at front.at_most_one))

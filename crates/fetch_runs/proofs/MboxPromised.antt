@@ -1,5 +1,6 @@
 -- With an mboxrd file, each session that reads only what is new appends entries and keeps its promises.
-use Rattle.std.proofs.Common.{subst, not, length, None, Option, Some, map, ◌⊎◌, slice_get, zero, ◌≡◌, inl, inr, ℕ, List, [], ◌∷◌, ◌++◌, true, false, refl, sym, ◌∙◌, ap, suc, ◌||◌, take, arith, append_assoc}
+use Rattle.std.proofs.Common.{subst, not, length, None, Option, Some, map, ◌⊎◌, slice_get, zero, ◌≡◌, inl, inr, ℕ, List}
+use Rattle.std.proofs.Common.{[], ◌∷◌, ◌++◌, true, false, refl, sym, ◌∙◌, ap, suc, ◌||◌, take, arith, append_assoc}
 use Rattle.std.specs.Prelude.{bytes_eq, ◌↔◌}
 use Rattle.std.specs.List.{AllByRecursion, count_by, filter}
 use Rattle.std.proofs.lemmas.Bool.{both_ways, false_from_ne_true, or_left, or_right, or_parts}
@@ -13,16 +14,24 @@ use Rattle.mail_store.specs.Settling.{MayBeLeft, listed_size}
 use Rattle.mail_store.proofs.SettlingLemmas.{all_left, part_left}
 use Rattle.std.proofs.lemmas.Grind.{flat_map-append}
 use Rattle.std.proofs.lemmas.Option.{same_Some}
-use Rattle.fetch_runs.specs.Sessions.{AreTexts, Effect, IsHonest, SendsOnly, IsBegun, Served, is_retr, MboxMail, settled, mbox_rows, mbox_wanted, entries, IsBroken, MboxLeaves, MboxStores, entries_of, MboxSession}
+use Rattle.fetch_runs.specs.Sessions.{AreTexts, Effect, IsHonest, SendsOnly, IsBegun, Served, is_retr, MboxMail}
+use Rattle.fetch_runs.specs.Sessions.{settled, mbox_rows, mbox_wanted, entries, IsBroken, MboxLeaves, MboxStores}
+use Rattle.fetch_runs.specs.Sessions.{entries_of, MboxSessionOverLink}
 use Rattle.fetch_rules.specs.Record.{Intent, marked, is_delivered, Row, has_row, marked_all}
 use Rattle.fetch_rules.specs.RecordMeaning.{FileStandsFor}
 use Rattle.pop3_wire.specs.World.{Message}
-use Rattle.fetch_runs.specs.Accounts.{ids_of}
+use Rattle.fetch_runs.specs.Accounts.{message_ids}
 use Rattle.fetch_runs.specs.Below.{Below}
-use Rattle.fetch_runs.specs.Promises.{IsOf, IsMaildrop, ShowsNext, Call, Base, is_entered, IsOpenFor, Stands, HoldsEntries, IsMboxFront, MboxPromises, MboxStarts, AppendsMail}
+use Rattle.fetch_runs.specs.Promises.{IsOf, IsMaildrop, ShowsNext, Call, Base, is_entered, IsOpenFor, Stands}
+use Rattle.fetch_runs.specs.Promises.{HoldsEntries, IsMboxFront, MboxPromises, MboxStarts, AppendsMail}
 use Rattle.fetch_runs.proofs.Promised.{sends_such}
-use Rattle.fetch_runs.proofs.Core.{BeginsWith, next_in, added, added_begins, prefix_after, all_added, parts_apart, IsNumbered, num_item, Fetch, all_wanted, distinct_wanted, wanted_is, taken_is, texts_are, wanted_ids, none_recorded, left_out, qs, wants, wants_placed, has_listed, mbox_fetched}
-use Rattle.fetch_runs.proofs.Lists.{all_ids_at, distinct_filter, filter_all, other_id, bytes_self, Distinct, distinct_is, are_distinct, all_map, all_take, all_append, all_back, all_mapped, members, ids_both, bytes_swap, delivered_unheld, delivered_one, delivered_all}
+use Rattle.fetch_runs.proofs.Core.{BeginsWith, next_in, added, added_begins, prefix_after, all_added, parts_apart}
+use Rattle.fetch_runs.proofs.Core.{IsNumbered, num_item, Fetch, all_wanted, distinct_wanted, wanted_is, taken_is}
+use Rattle.fetch_runs.proofs.Core.{texts_are, wanted_ids, none_recorded, left_out, qs, wants, wants_placed, has_listed}
+use Rattle.fetch_runs.proofs.Core.{mbox_fetched}
+use Rattle.fetch_runs.proofs.Lists.{all_ids_at, distinct_filter, filter_all, other_id, bytes_self, Distinct}
+use Rattle.fetch_runs.proofs.Lists.{distinct_is, are_distinct, all_map, all_take, all_append, all_back, all_mapped}
+use Rattle.fetch_runs.proofs.Lists.{members, ids_both, bytes_swap, delivered_unheld, delivered_one, delivered_all}
 use Rattle.fetch_session.specs.Target.{none_held}
 use Rattle.fetch_session.specs.declared.report.Outcome.TheVariants.{Ended}
 use Rattle.fetch_runs.proofs.Steps.{mbox_served_session}
@@ -30,12 +39,14 @@ use Rattle.std.proofs.lemmas.List.Folds.{flat_map-map}
 
 -- ---- distinct lists of messages
 
-absent : (ns : List Message) (id : List ℕ) → AllByRecursion (λ (n : Message). bytes_eq n.uid id ≡ false) ns → has_id (ids_of ns) id ≡ false
+absent : (ns : List Message) (id : List ℕ) → AllByRecursion (λ (n : Message). bytes_eq n.uid id ≡ false) ns
+    → has_id (message_ids ns) id ≡ false
 absent [] id h = refl
 absent (n ∷ ns) id h = grind (arith, h.0, bytes_swap n.uid id, absent ns id h.1)
 
-distinct_both : (ms ns : List Message) → Distinct (ids_of ms) → Distinct (ids_of ns) → AllByRecursion (λ (n : Message). has_id (ids_of ms) n.uid ≡ false) ns
-    → Distinct (ids_of (ms ++ ns))
+distinct_both : (ms ns : List Message) → Distinct (message_ids ms) → Distinct (message_ids ns)
+    → AllByRecursion (λ (n : Message). has_id (message_ids ms) n.uid ≡ false) ns
+    → Distinct (message_ids (ms ++ ns))
 distinct_both [] ns d e h = e
 distinct_both (m ∷ ms) ns d e h = (
   grind (arith, d.0, ids_both ms ns m.uid, absent ns m.uid (all_map ns h (λ x k. (or_parts _ _ k).0))),
@@ -48,7 +59,8 @@ pub entries-append : (ms ns : List Message) → entries_of (ms ++ ns) ≡ entrie
 entries-append ms ns = flat_map-append (λ (m : Message). entry_of m.text) ms ns
 
 -- an open intent has a row
-pub open_row : Below → (content : Option (List ℕ)) (rows : List Row) (intent : Option Intent) → FileStandsFor content rows intent → (i : Intent) → intent ≡ Some i → has_row rows i.uid ≡ true
+pub open_row : Below → (content : Option (List ℕ)) (rows : List Row) (intent : Option Intent)
+    → FileStandsFor content rows intent → (i : Intent) → intent ≡ Some i → has_row rows i.uid ≡ true
 open_row laws None rows intent stands i is = absurd (let never = sym stands.1 ∙ is in cc)
 open_row laws (Some bytes) rows intent (version, torn, means) i is = (rw is at (laws.rowed bytes version rows intent torn means)).1
 
@@ -56,11 +68,18 @@ open_row laws (Some bytes) rows intent (version, torn, means) i is = (rw is at (
 pub settled_is : Below → {base : Base} {bytes : List ℕ} {account : MboxMail} (listing : List Item) (o : IsOpenFor base bytes account)
     → (((settled listing account).rows ≡ marked account.rows o.next.uid) × ((settled listing account).file ≡ bytes ++ entry_of o.next.text))
     ⊎ (((settled listing account).rows ≡ account.rows) × ((settled listing account).file ≡ bytes))
-settled_is laws {bytes = bytes} listing o = ⊎_map (λ counts. (rw (o.intent, o.file, counts.0), rw (o.intent, o.file) (counts.1 ∙ ap (λ l. bytes ++ l) counts.2)))
-    (λ cut. (rw (o.intent, o.file, cut.0), rw (o.intent, o.file) cut.1)) (laws.leftovers bytes o.next.text o.part (listed_size listing o.next.uid) o.is.whole o.left)
+settled_is laws {bytes = bytes} listing o =
+    ⊎_map (λ counts. (
+      rw (o.intent, o.file, counts.0),
+      rw (o.intent, o.file) (counts.1
+          ∙ ap (λ l. bytes ++ l) counts.2),
+    ))
+    (λ cut. (rw (o.intent, o.file, cut.0), rw (o.intent, o.file) cut.1))
+    (laws.leftovers bytes o.next.text o.part (listed_size listing o.next.uid) o.is.whole o.left)
 
 -- the message and the text at one place
-pub at_place : (drop' : List Message) (qs : List (ℕ × Message)) (texts : List (List ℕ)) (n : ℕ) {message : ℕ × Item} {text : List ℕ} → AllByRecursion (IsNumbered drop') qs
+pub at_place : (drop' : List Message) (qs : List (ℕ × Message)) (texts : List (List ℕ)) (n : ℕ) {message : ℕ
+    × Item} {text : List ℕ} → AllByRecursion (IsNumbered drop') qs
     → AreTexts drop' (map num_item qs) texts → slice_get (map num_item qs) n ≡ Some message → slice_get texts n ≡ Some text
     → (q : ℕ × Message) × (message ≡ num_item q) × (text ≡ q.1.text) × (take (suc n) qs ≡ take n qs ++ q ∷ [])
 at_place drop' qs [] n h t w g = absurd cc
@@ -74,16 +93,19 @@ at_place drop' (q ∷ qs) (x ∷ texts) (suc n) h t w g =
 -- ---- what is next
 
 -- all but one
-without_one : (n : Message) (ms later : List Message) → Distinct (ids_of ms) → BeginsWith ms (n ∷ later) → BeginsWith (filter (λ (m : Message). not (bytes_eq m.uid n.uid)) ms) later
+without_one : (n : Message) (ms later : List Message) → Distinct (message_ids ms) → BeginsWith ms (n ∷ later)
+    → BeginsWith (filter (λ (m : Message). not (bytes_eq m.uid n.uid)) ms) later
 without_one n [] later d begins = (later, refl)
 without_one n (x ∷ xs) later d (more, e) =
     let same : n ≡ x = cc in
     let tail : later ≡ xs ++ more = cc in
-    let apart = all_map _ (members xs) (λ m there. ap not (false_from_ne_true _ (λ equal. both_ways _ (other_id x xs m.uid d.0 equal) there))) in
+    let apart = all_map _ (members xs)
+    (λ m there. ap not (false_from_ne_true _ (λ equal. both_ways _ (other_id x xs m.uid d.0 equal) there))) in
     subst (λ (k : Message). BeginsWith (filter (λ (m : Message). not (bytes_eq m.uid k.uid)) (x ∷ xs)) later) (sym same)
     (more, rw (bytes_self x.uid) (tail ∙ ap (λ l. l ++ more) (sym (filter_all (λ (m : Message). not (bytes_eq m.uid x.uid)) xs apart))))
 
-next_less : (limit : ℕ) (done : List Message) (n : Message) (ms : List Message) → next_in limit (done ++ n ∷ []) ms ≡ filter (λ (m : Message). not (bytes_eq m.uid n.uid)) (next_in limit done ms)
+next_less : (limit : ℕ) (done : List Message) (n : Message) (ms : List Message)
+    → next_in limit (done ++ n ∷ []) ms ≡ filter (λ (m : Message). not (bytes_eq m.uid n.uid)) (next_in limit done ms)
 next_less limit done n [] = refl
 next_less limit done n (m ∷ ms) = grind (arith, ids_both done (n ∷ []) m.uid, next_less limit done n ms)
 
@@ -94,20 +116,24 @@ of_right P {a = a} {b = b} is holds other = let same : a ≡ b = cc in subst P s
 -- ---- a kept state
 
 module _ (base : Base) where
-  pub in_more : (done more : List Message) (id : List ℕ) → is_entered base (done ++ more) id ≡ (is_entered base done id || has_id (ids_of more) id)
-  in_more done more id = ap (λ b. base.had id || b) (ids_both done more id) ∙ sym (or_assoc (base.had id) (has_id (ids_of done) id) (has_id (ids_of more) id))
+  pub in_more : (done more : List Message) (id : List ℕ)
+      → is_entered base (done ++ more) id ≡ (is_entered base done id || has_id (message_ids more) id)
+  in_more done more id = ap (λ b. base.had id || b) (ids_both done more id)
+      ∙ sym (or_assoc (base.had id) (has_id (message_ids done) id) (has_id (message_ids more) id))
 
   -- a maildrop, and none of it was recorded before the first session
   abbrev AreEntered : List Message → Type 0
   AreEntered done = IsMaildrop base.text done × AllByRecursion (λ (m : Message). base.had m.uid ≡ false) done
 
   -- more messages that aren't recorded
-  grown : (done more : List Message) → AreEntered done → AllByRecursion (IsOf base.text) more → Distinct (ids_of more) → AllByRecursion (λ (m : Message). is_entered base done m.uid ≡ false) more
+  grown : (done more : List Message) → AreEntered done → AllByRecursion (IsOf base.text) more
+      → Distinct (message_ids more) → AllByRecursion (λ (m : Message). is_entered base done m.uid ≡ false) more
       → AreEntered (done ++ more)
   grown done more are each distinct fresh = (
     record {
       each = all_append _ _ _ are.0.each each;
-      distinct = are_distinct _ (distinct_both done more (distinct_is done are.0.distinct) distinct (all_map more fresh (λ m f. (or_parts _ _ f).1)));
+      distinct = are_distinct _ (distinct_both done more (distinct_is done are.0.distinct) distinct
+          (all_map more fresh (λ m f. (or_parts _ _ f).1)));
     },
     all_append _ _ _ are.1 (all_map more fresh (λ m f. (or_parts _ _ f).0)),
   )
@@ -116,7 +142,8 @@ module _ (base : Base) where
   bytes_of done = base.start ++ entries_of done
 
   bytes_more : (done more : List Message) → bytes_of (done ++ more) ≡ bytes_of done ++ entries_of more
-  bytes_more done more = ap (λ l. base.start ++ l) (entries-append done more) ∙ sym (append_assoc base.start (entries_of done) (entries_of more))
+  bytes_more done more = ap (λ l. base.start ++ l) (entries-append done more)
+      ∙ sym (append_assoc base.start (entries_of done) (entries_of more))
 
   -- nothing more, or the message whose intent was open
   abbrev pub IsMore : (bytes : List ℕ) (account : MboxMail) → Stands base bytes account → List Message → Type 0
@@ -124,48 +151,73 @@ module _ (base : Base) where
   IsMore bytes account (inr o) more = (more ≡ []) ⊎ (more ≡ o.next ∷ [])
 
   -- without an open intent the file ends after these entries
-  pub ends_whole : (done : List Message) (account : MboxMail) → HoldsEntries base done account → account.intent ≡ None → account.file ≡ bytes_of done
+  pub ends_whole : (done : List Message) (account : MboxMail) → HoldsEntries base done account → account.intent ≡ None
+      → account.file ≡ bytes_of done
   ends_whole done account holds closed = ⊎_elim (λ c. c.1) (λ o. absurd (let never = sym closed ∙ o.intent in cc)) holds.stands
 
   -- an open intent is that of the first of these
   abbrev pub IsNext : (bytes : List ℕ) (account : MboxMail) → List Message → Stands base bytes account → Type 0
   IsNext bytes account rest stands = (o : IsOpenFor base bytes account) → stands ≡ inr o → (more : List Message) × (rest ≡ o.next ∷ more)
 
-  next_is : {bytes : List ℕ} {account : MboxMail} {rest : List Message} (o : IsOpenFor base bytes account) (more : List Message) → rest ≡ o.next ∷ more → IsNext bytes account rest (inr o)
-  next_is {bytes} {account} o more first = λ p same. let is : o ≡ p = cc in (more, first ∙ ap (λ (q : IsOpenFor base bytes account). q.next ∷ more) is)
+  next_is : {bytes : List ℕ} {account : MboxMail} {rest : List Message} (o : IsOpenFor base bytes account)
+      (more : List Message) → rest ≡ o.next ∷ more → IsNext bytes account rest (inr o)
+  next_is {bytes} {account} o more first = λ p same. let is : o ≡ p = cc
+      in (more, first ∙ ap (λ (q : IsOpenFor base bytes account). q.next ∷ more) is)
 
   -- after it was settled the next are these
-  ahead : (limit : ℕ) (done ms : List Message) → Distinct (ids_of ms) → (bytes : List ℕ) (account : MboxMail) (stands : Stands base bytes account) (rest more : List Message) → IsNext bytes account rest stands
+  ahead : (limit : ℕ) (done ms : List Message) → Distinct (message_ids ms)
+      → (bytes : List ℕ) (account : MboxMail) (stands : Stands base bytes account) (rest more : List Message)
+      → IsNext bytes account rest stands
       → IsMore bytes account stands more → BeginsWith (next_in limit done ms) rest
       → (later : List Message) × (rest ≡ more ++ later) × BeginsWith (next_in limit (done ++ more) ms) later
   ahead limit done ms d bytes account (inl closed) rest more next is begins = (rest, rw is refl, rw (is, append-nil) begins)
   ahead limit done ms d bytes account (inr o) rest more next (inl is) begins = (rest, rw is refl, rw (is, append-nil) begins)
-  ahead limit done ms d bytes account (inr o) rest more next (inr is) begins = let (later, first) = next o refl in
-      (later, rw is first, rw (is, next_less limit done o.next ms) (without_one o.next (next_in limit done ms) later (distinct_filter _ ms d) (rw first at begins)))
+  ahead limit done ms d bytes account (inr o) rest more next (inr is) begins = let (later, first) = next o refl in (
+    later,
+    rw is first,
+    rw (is, next_less limit done o.next ms) (without_one o.next (next_in limit done ms) later
+        (distinct_filter _ ms d) (rw first at begins)),
+  )
 
   -- a closed account whose file is these bytes, with some more entries perhaps
   abbrev pub Settled : (done : List Message) (bytes : List ℕ) (before : MboxMail) → Stands base bytes before → MboxMail → Type 0
-  Settled done bytes before stands account = (more : List Message) × HoldsEntries base (done ++ more) account × (account.file ≡ bytes_of (done ++ more)) × IsMore bytes before stands more
+  Settled done bytes before stands account = (more : List Message) × HoldsEntries base (done ++ more) account
+      × (account.file ≡ bytes_of (done ++ more)) × IsMore bytes before stands more
 
   module _ (laws : Below) {done : List Message} {before : MboxMail} (kept : HoldsEntries base done before)
       (rowed : (i : Intent) → before.intent ≡ Some i → has_row before.rows i.uid ≡ true) where
     no_more : (listing : List Item) → (settled listing before).rows ≡ before.rows → (settled listing before).file ≡ bytes_of done
         → HoldsEntries base (done ++ []) (settled listing before) × ((settled listing before).file ≡ bytes_of (done ++ []))
-    no_more listing rows file = (rw append-nil (record { are = kept.are; new = kept.new; recorded = rw rows kept.recorded; stands = inl (refl, file) }), rw append-nil file)
+    no_more listing rows file = (
+      rw append-nil (record {
+        are = kept.are;
+        new = kept.new;
+        recorded = rw rows kept.recorded;
+        stands =
+            inl (refl, file);
+      }),
+      rw append-nil file,
+    )
 
-    settle_by : (listing : List Item) (stands : Stands base (bytes_of done) before) → Settled done (bytes_of done) before stands (settled listing before)
+    settle_by : (listing : List Item) (stands : Stands base (bytes_of done) before)
+        → Settled done (bytes_of done) before stands (settled listing before)
     settle_by listing (inl closed) = let same = no_more listing (rw closed.0 refl) (rw closed.0 closed.1) in ([], same.0, same.1, refl)
     settle_by listing (inr o) = elim (settled_is laws listing o) [
       | inr (rows, file) ↦ let same = no_more listing rows file in ([], same.0, same.1, inl refl)
       | inl (rows, file) ↦
-          let longer : (settled listing before).file ≡ bytes_of (done ++ o.next ∷ []) = file ∙ rw (bytes_more done (o.next ∷ [])) (simp append-nil) in (
+          let longer : (settled listing before).file ≡ bytes_of (done ++ o.next ∷ []) = file
+          ∙ rw (bytes_more done (o.next ∷ [])) (simp append-nil) in (
             o.next ∷ [],
-            let more = grown done (o.next ∷ []) (kept.are, kept.new) (o.is, tt) (refl, tt) (sym (kept.recorded o.next.uid) ∙ o.unrecorded, tt) in
+            let more = grown done (o.next ∷ []) (kept.are, kept.new) (o.is, tt) (refl, tt)
+                (sym (kept.recorded o.next.uid) ∙ o.unrecorded, tt) in
                 record {
                   are = more.0;
                   new = more.1;
-                  recorded = λ id. ap (λ r. is_delivered r id) rows ∙ delivered_one laws before.rows o.next.uid id (rowed _ o.intent) ∙ ap (λ b. b || bytes_eq id o.next.uid) (kept.recorded id)
-                      ∙ ap (λ b. is_entered base done id || b) (sym (or-false (bytes_eq id o.next.uid))) ∙ sym (in_more done (o.next ∷ []) id);
+                  recorded = λ id. ap (λ r. is_delivered r id) rows
+                      ∙ delivered_one laws before.rows o.next.uid id (rowed _ o.intent)
+                      ∙ ap (λ b. b || bytes_eq id o.next.uid) (kept.recorded id)
+                      ∙ ap (λ b. is_entered base done id || b) (sym (or-false (bytes_eq id o.next.uid)))
+                      ∙ sym (in_more done (o.next ∷ []) id);
                   stands = inl (refl, longer);
                 },
             longer,
@@ -182,22 +234,47 @@ module _ (base : Base) where
 
     -- an account that is left, its file perhaps cut back
     module _ (now : MboxMail) (did : Effect) (h : MboxLeaves before did now) where
-      pub reopened : (o : IsOpenFor base (bytes_of done) before) → (part : List ℕ) × MayBeLeft (length (bytes_of done)) (entry_of o.next.text) part × (now.file ≡ bytes_of done ++ part) × IsPart now o.next part
+      pub reopened : (o : IsOpenFor base (bytes_of done) before) → (part : List ℕ)
+          × MayBeLeft (length (bytes_of done)) (entry_of o.next.text) part × (now.file ≡ bytes_of done ++ part)
+          × IsPart now o.next part
       reopened o = elim h.file [
         | inl same ↦ (o.part, o.left, same ∙ o.file, inl same)
         | inr cut ↦ elim (settled_is laws did.listing o) [
-          | inl whole ↦ let entry = entry_of o.next.text in (entry, all_left (length (bytes_of done)) entry, cut ∙ whole.1, inr ([], sym (append-nil entry)))
+          | inl whole ↦ let entry = entry_of o.next.text in (
+            entry,
+            all_left (length (bytes_of done)) entry,
+            cut
+                ∙ whole.1,
+            inr ([], sym (append-nil entry)),
+          )
           | inr none ↦ ([], tt, cut ∙ none.1 ∙ sym (append-nil (bytes_of done)), inr (entry_of o.next.text, refl))
         ]
       ]
 
       abbrev pub left_stands : Stands base (bytes_of done) before → Stands base (bytes_of done) now
-      left_stands (inl closed) = inl (h.intent ∙ closed.0, elim h.file [ inl same ↦ same ∙ closed.1 | inr cut ↦ cut ∙ rw closed.0 closed.1 ])
+      left_stands (inl closed) = inl (
+        h.intent ∙ closed.0,
+        elim h.file [
+          | inl same ↦ same ∙ closed.1
+          | inr cut ↦ cut
+              ∙ rw closed.0 closed.1
+        ],
+      )
       left_stands (inr o) =
           let again = reopened o in
-          inr (record { next = o.next; is = o.is; unrecorded = rw h.rows o.unrecorded; intent = h.intent ∙ o.intent; part = again.0; left = again.1; file = again.2 })
+          inr (record {
+            next = o.next;
+            is = o.is;
+            unrecorded = rw h.rows o.unrecorded;
+            intent = h.intent
+                ∙ o.intent;
+            part = again.0;
+            left = again.1;
+            file = again.2;
+          })
 
-      part_stands : (stands : Stands base (bytes_of done) before) (o : IsOpenFor base (bytes_of done) now) → left_stands stands ≡ inr o → IsPart now o.next o.part
+      part_stands : (stands : Stands base (bytes_of done) before) (o : IsOpenFor base (bytes_of done) now)
+          → left_stands stands ≡ inr o → IsPart now o.next o.part
       part_stands (inl closed) o is = absurd cc
       part_stands (inr was) o is = of_right (λ (p : IsOpenFor base (bytes_of done) now). IsPart now p.next p.part) refl (reopened was).3 is
 
@@ -210,7 +287,8 @@ module _ (base : Base) where
 
     -- ---- one session that stored something
 
-    module _ {W S F : Type 0} (v : Call W S F) (now : MboxMail) (did : Effect) (is : IsMaildrop base.text v.maildrop) (only_new : v.settings.read_all ≡ false) (s : MboxStores v.settings before did now v.report)
+    module _ {W S F : Type 0} (v : Call W S F) (now : MboxMail) (did : Effect) (is : IsMaildrop base.text v.maildrop)
+        (only_new : v.settings.read_all ≡ false) (s : MboxStores v.settings before did now v.report)
         (honest : IsHonest (mbox_wanted v.settings before did) v.maildrop did) where
       abbrev pub rows : List Row
       rows = mbox_rows before did
@@ -244,20 +322,30 @@ module _ (base : Base) where
 
       has_rows : (n : ℕ) → AllByRecursion (λ (m : Message). has_row rows m.uid ≡ true) (new n)
       has_rows n = all_new _ n (all_map _ (members v.maildrop) (λ m e.
-          laws.listed account.rows did.listing (none_held did.listing) did.now m.uid ∙ or_right _ _ (has_listed v.maildrop honest.listing m.uid ∙ e)))
+          laws.listed account.rows did.listing (none_held did.listing) did.now m.uid
+          ∙ or_right _ _ (has_listed v.maildrop honest.listing m.uid ∙ e)))
 
-      rows_are : now.rows ≡ marked_all rows (ids_of (new s.stored))
+      rows_are : now.rows ≡ marked_all rows (message_ids (new s.stored))
       rows_are = s.rows ∙ ap (marked_all rows) (wanted_ids fetch s.stored)
 
       pub recorded_after : (id : List ℕ) → is_delivered now.rows id ≡ is_entered base (was ++ new s.stored) id
-      recorded_after id = ap (λ r. is_delivered r id) rows_are ∙ delivered_all laws rows (ids_of (new s.stored)) id (all_mapped (λ id. has_row rows id ≡ true) _ _ (has_rows s.stored))
-          ∙ ap (λ b. b || has_id (ids_of (new s.stored)) id) (known id) ∙ sym (in_more was (new s.stored) id)
+      recorded_after id = ap (λ r. is_delivered r id) rows_are
+          ∙ delivered_all laws rows (message_ids (new s.stored)) id
+          (all_mapped (λ id. has_row rows id ≡ true) _ _ (has_rows s.stored))
+          ∙ ap (λ b. b || has_id (message_ids (new s.stored)) id) (known id) ∙ sym (in_more was (new s.stored) id)
 
       pub bytes_are : account.file ++ entries (take s.stored did.texts) ≡ bytes_of (was ++ new s.stored)
-      bytes_are = rw (origin.2, (texts_are fetch (mbox_fetched s)).1, flat_map-map entry_of (λ (m : Message). m.text) (new s.stored)) (sym (bytes_more was (new s.stored)))
+      bytes_are = rw (
+        origin.2,
+        (texts_are fetch (mbox_fetched s)).1,
+        flat_map-map entry_of (λ (m : Message). m.text)
+            (new s.stored),
+      ) (sym (bytes_more was (new s.stored)))
 
-      placed : (b : IsBroken v.settings before did s.stored now) → (q : ℕ × Message) × (b.message ≡ num_item q) × (b.text ≡ q.1.text) × (take (suc s.stored) (qs fetch) ≡ take s.stored (qs fetch) ++ q ∷ [])
-      placed b = at_place v.maildrop (qs fetch) did.texts s.stored (wants_placed v.settings rows v.maildrop) (rw (wanted_is fetch) at honest.texts) (rw (wanted_is fetch) at b.wanted) b.got
+      placed : (b : IsBroken v.settings before did s.stored now) → (q : ℕ × Message) × (b.message ≡ num_item q)
+          × (b.text ≡ q.1.text) × (take (suc s.stored) (qs fetch) ≡ take s.stored (qs fetch) ++ q ∷ [])
+      placed b = at_place v.maildrop (qs fetch) did.texts s.stored (wants_placed v.settings rows v.maildrop)
+          (rw (wanted_is fetch) at honest.texts) (rw (wanted_is fetch) at b.wanted) b.got
 
       broken_taken : (b : IsBroken v.settings before did s.stored now) → new (suc s.stored) ≡ new s.stored ++ (placed b).0.1 ∷ []
       broken_taken b = rw (← taken_is fetch (suc s.stored), (placed b).3, map-append, taken_is fetch s.stored)
@@ -276,8 +364,10 @@ module _ (base : Base) where
             ) refl;
             intent = b.opened.intent ∙ simp (bytes_are, place.1, place.2);
             part = b.opened.front;
-            left = subst (λ l. MayBeLeft (length (bytes_of (was ++ new s.stored))) l b.opened.front) (sym (ap entry_of (sym place.2) ∙ b.opened.entry))
-                (part_left (length (bytes_of (was ++ new s.stored))) b.opened.front b.opened.behind b.opened.front (all_left (length (bytes_of (was ++ new s.stored))) b.opened.front));
+            left = subst (λ l. MayBeLeft (length (bytes_of (was ++ new s.stored))) l b.opened.front)
+                (sym (ap entry_of (sym place.2) ∙ b.opened.entry))
+                (part_left (length (bytes_of (was ++ new s.stored))) b.opened.front b.opened.behind b.opened.front
+                (all_left (length (bytes_of (was ++ new s.stored))) b.opened.front));
             file = b.opened.file ∙ rw bytes_are;
           }
 
@@ -291,23 +381,27 @@ module _ (base : Base) where
 
       -- how the file stands once the session ended so
       abbrev Ending : Type 0
-      Ending = ((now.intent ≡ None) × (now.file ≡ account.file ++ entries (take s.stored did.texts))) ⊎ IsBroken v.settings before did s.stored now
+      Ending = ((now.intent ≡ None) × (now.file ≡ account.file ++ entries (take s.stored did.texts)))
+          ⊎ IsBroken v.settings before did s.stored now
 
       abbrev stands_at : Ending → Stands base (bytes_of (was ++ new s.stored)) now
       stands_at (inl (closed, file)) = inl (closed, file ∙ bytes_are)
       stands_at (inr b) = inr (broken b)
 
       holds_after : HoldsEntries base (was ++ new s.stored) now
-      holds_after = let more = grown was (new s.stored) (origin.1.are, origin.1.new) (all_new (IsOf base.text) s.stored is.each) (distinct_wanted fetch s.stored) (fresh s.stored) in record {
-        are = more.0;
-        new = more.1;
-        recorded = recorded_after;
-        stands = stands_at s.ending;
-      }
+      holds_after = let more = grown was (new s.stored) (origin.1.are, origin.1.new)
+          (all_new (IsOf base.text) s.stored is.each) (distinct_wanted fetch s.stored) (fresh s.stored) in record {
+            are = more.0;
+            new = more.1;
+            recorded = recorded_after;
+            stands = stands_at s.ending;
+          }
 
-      part_of : (ending : Ending) (o : IsOpenFor base (bytes_of (was ++ new s.stored)) now) → stands_at ending ≡ inr o → IsPart now o.next o.part
+      part_of : (ending : Ending) (o : IsOpenFor base (bytes_of (was ++ new s.stored)) now) → stands_at ending ≡ inr o
+          → IsPart now o.next o.part
       part_of (inl c) o is = absurd cc
-      part_of (inr b) o is = of_right (λ (p : IsOpenFor base (bytes_of (was ++ new s.stored)) now). IsPart now p.next p.part) refl (broken_part b) is
+      part_of (inr b) o is = of_right (λ (p : IsOpenFor base (bytes_of (was ++ new s.stored)) now). IsPart now p.next
+          p.part) refl (broken_part b) is
 
       part_after : (o : IsOpenFor base (bytes_of (was ++ new s.stored)) now) → holds_after.stands ≡ inr o → IsPart now o.next o.part
       unfolding holds_after
@@ -317,20 +411,27 @@ module _ (base : Base) where
       all_retrieved : did.ended ≡ true → v.report.outcome ≡ Ended → v.report.retrieved ≡ length (mbox_wanted v.settings before did)
       all_retrieved ended uncut = elim s.marks [
         | inl same ↦ sym same ∙ sym (s.ended ended).0
-        | inr (less, unsaved, last) ↦ ⊎_elim (λ cut. absurd (let never = sym uncut ∙ cut in cc)) (λ cut. absurd (let never = sym uncut ∙ cut in cc)) unsaved
+        | inr (less, unsaved, last) ↦ ⊎_elim (λ cut. absurd (let never = sym uncut ∙ cut in cc))
+            (λ cut. absurd (let never = sym uncut ∙ cut in cc)) unsaved
       ]
 
-      promises_after : (did.ended ≡ true) ↔ (v.report.outcome ≡ Ended) → {sent : List ℕ} (sends : SendsOnly (IsBegun did.listing did.begun) sent) → (did.ended ≡ true → v.report.retrieved ≡ count_by is_retr sends.commands)
+      promises_after : (did.ended ≡ true) ↔ (v.report.outcome ≡ Ended)
+          → {sent : List ℕ} (sends : SendsOnly (IsBegun did.listing did.begun) sent)
+          → (did.ended ≡ true → v.report.retrieved ≡ count_by is_retr sends.commands)
           → AllByRecursion (λ id. has_id did.begun id ≡ true) v.vanished → MboxPromises base done (was ++ new s.stored) v sent now
       promises_after ended sends retrieves vanished = record {
         closed = λ uncut. (s.ended (ended.1 uncut)).1;
         whole = λ uncut. ends_whole (was ++ new s.stored) now holds_after (s.ended (ended.1 uncut)).1;
-        left_out = λ uncut. all_map _ (left_out fetch (is_entered base done) (all_map _ (members v.maildrop) (λ m _. entered_known m.uid)) s.stored v.report.retrieved (let all = (s.ended (ended.1 uncut)).0 in omega (arith, all)) (all_retrieved (ended.1 uncut) uncut)) (λ m out. elim out [
-          | inl got ↦ inl (in_more was (new s.stored) m.uid ∙ or_right _ _ got)
-          | inr (inl old) ↦ inl (in_more was (new s.stored) m.uid ∙ or_left _ _ (sym (known m.uid) ∙ old))
-          | inr (inr out) ↦ inr out
-        ]);
-        deletes = sends_such (λ id. is_entered base (was ++ new s.stored) id ≡ true) v.maildrop did (inl honest.listing) begun_entered sends;
+        left_out = λ uncut. all_map _
+            (left_out fetch (is_entered base done) (all_map _ (members v.maildrop) (λ m _. entered_known m.uid))
+            s.stored v.report.retrieved (let all = (s.ended (ended.1 uncut)).0 in omega (arith, all))
+            (all_retrieved (ended.1 uncut) uncut)) (λ m out. elim out [
+              | inl got ↦ inl (in_more was (new s.stored) m.uid ∙ or_right _ _ got)
+              | inr (inl old) ↦ inl (in_more was (new s.stored) m.uid ∙ or_left _ _ (sym (known m.uid) ∙ old))
+              | inr (inr out) ↦ inr out
+            ]);
+        deletes = sends_such (λ id. is_entered base (was ++ new s.stored) id ≡ true) v.maildrop did
+            (inl honest.listing) begun_entered sends;
         retrieved = λ uncut. retrieves (ended.1 uncut);
         vanished = all_map _ vanished (λ id b. all_ids_at _ _ begun_entered b);
       }
@@ -340,22 +441,27 @@ module _ (base : Base) where
 
       -- ---- in order
 
-      module _ (all : List Message) (front : IsMboxFront base kept all) (next : ShowsNext v.settings v.maildrop (front.first ++ done) front.rest) where
+      module _ (all : List Message) (front : IsMboxFront base kept all)
+          (next : ShowsNext v.settings v.maildrop (front.first ++ done) front.rest) where
         abbrev Next : Stands base (bytes_of (was ++ new s.stored)) now → Type 0
-        Next stands = (rest : List Message) × (all ≡ (front.first ++ (was ++ new s.stored)) ++ rest) × IsNext (bytes_of (was ++ new s.stored)) now rest stands
+        Next stands = (rest : List Message) × (all ≡ (front.first ++ (was ++ new s.stored)) ++ rest)
+            × IsNext (bytes_of (was ++ new s.stored)) now rest stands
 
-        later : (rest : List Message) × (front.rest ≡ origin.0 ++ rest) × BeginsWith (next_in v.settings.max_size (front.first ++ was) v.maildrop) rest
+        later : (rest : List Message) × (front.rest ≡ origin.0 ++ rest)
+            × BeginsWith (next_in v.settings.max_size (front.first ++ was) v.maildrop) rest
         later =
-            let l = ahead v.settings.max_size (front.first ++ done) v.maildrop (distinct_is v.maildrop is.distinct) (bytes_of done) before kept.stands front.rest origin.0 front.next origin.3 next in
+            let l = ahead v.settings.max_size (front.first ++ done) v.maildrop (distinct_is v.maildrop is.distinct)
+            (bytes_of done) before kept.stands front.rest origin.0 front.next origin.3 next in
             (l.0, l.1, rw (append_assoc front.first done origin.0) at l.2)
 
         prefix_was : all ≡ (front.first ++ was) ++ later.0
         prefix_was = front.prefix ∙ ap (λ (l : List Message). (front.first ++ done) ++ l) later.1 ∙ simp append_assoc
 
-        known_was : (id : List ℕ) → is_delivered rows id ≡ has_id (ids_of (front.first ++ was)) id
-        known_was id = known id ∙ ap (λ b. b || has_id (ids_of was) id) (front.had id) ∙ sym (ids_both front.first was id)
+        known_was : (id : List ℕ) → is_delivered rows id ≡ has_id (message_ids (front.first ++ was)) id
+        known_was id = known id ∙ ap (λ b. b || has_id (message_ids was) id) (front.had id) ∙ sym (ids_both front.first was id)
 
-        done_known : AllByRecursion (λ (m : Message). is_delivered rows m.uid ≡ true → has_id (ids_of (front.first ++ was)) m.uid ≡ true) v.maildrop
+        done_known : AllByRecursion (λ (m : Message). is_delivered rows m.uid ≡ true
+            → has_id (message_ids (front.first ++ was)) m.uid ≡ true) v.maildrop
         done_known = all_map _ (members v.maildrop) (λ m _ d. sym (known_was m.uid) ∙ d)
 
         abbrev rest_after : (n : ℕ) → BeginsWith (added fetch (front.first ++ was) later.0 done_known later.2 n) later.0
@@ -363,13 +469,19 @@ module _ (base : Base) where
 
         prefix_new : (n : ℕ) → all ≡ (front.first ++ (was ++ new n)) ++ (rest_after n).0
         prefix_new n = prefix_after fetch (front.first ++ was) later.0 done_known later.2 prefix_was n
-            ∙ ap (λ (l : List Message). l ++ (rest_after n).0) (rw (all_added fetch (front.first ++ was) later.0 done_known later.2 known_was only_new n) (append_assoc front.first was (new n)))
+            ∙ ap (λ (l : List Message). l ++ (rest_after n).0)
+            (rw (all_added fetch (front.first ++ was) later.0 done_known later.2 known_was only_new n)
+            (append_assoc front.first was (new n)))
 
         next_open : (b : IsBroken v.settings before did s.stored now) → Next (inr (broken b))
         next_open b =
             let o = broken b in
-            let taken : new (suc s.stored) ≡ new s.stored ++ o.next ∷ [] = broken_more b in
-            (o.next ∷ (rest_after (suc s.stored)).0, prefix_new (suc s.stored) ∙ rw taken (simp append_assoc), next_is o (rest_after (suc s.stored)).0 refl)
+            let taken : new (suc s.stored) ≡ new s.stored ++ o.next ∷ [] = broken_more b in (
+              o.next ∷ (rest_after (suc s.stored)).0,
+              prefix_new (suc s.stored)
+                  ∙ rw taken (simp append_assoc),
+              next_is o (rest_after (suc s.stored)).0 refl,
+            )
 
         next_after : (ending : Ending) → Next (stands_at ending)
         next_after (inl c) = ((rest_after s.stored).0, prefix_new s.stored, λ o e. absurd cc)
@@ -377,13 +489,23 @@ module _ (base : Base) where
 
         front_after : IsMboxFront base holds_after all
         unfolding holds_after
-        front_after = let next' = next_after s.ending in record { first = front.first; rest = next'.0; prefix = next'.1; had = front.had; next = next'.2 }
+        front_after = let next' = next_after s.ending
+            in record { first = front.first; rest = next'.0; prefix = next'.1; had = front.had; next = next'.2 }
 
-    left_front : (now : MboxMail) (did : Effect) (h : MboxLeaves before did now) (all : List Message) → IsMboxFront base kept all → IsMboxFront base (left_kept now did h) all
+    left_front : (now : MboxMail) (did : Effect) (h : MboxLeaves before did now) (all : List Message)
+        → IsMboxFront base kept all → IsMboxFront base (left_kept now did h) all
     unfolding left_kept
-    left_front now did h all front = record { first = front.first; rest = front.rest; prefix = front.prefix; had = front.had; next = go kept.stands front.next }
+    left_front now did h all front = record {
+      first = front.first;
+      rest = front.rest;
+      prefix = front.prefix;
+      had =
+          front.had;
+      next = go kept.stands front.next;
+    }
       where
-        go : (stands : Stands base (bytes_of done) before) → IsNext (bytes_of done) before front.rest stands → IsNext (bytes_of done) now front.rest (left_stands now did h stands)
+        go : (stands : Stands base (bytes_of done) before) → IsNext (bytes_of done) before front.rest stands
+            → IsNext (bytes_of done) now front.rest (left_stands now did h stands)
         go (inl closed) next = λ o e. absurd cc
         go (inr o) next = let (more, first) = next o refl in next_is _ more first
 
@@ -393,11 +515,13 @@ module _ (base : Base) where
       -- what it leaves, with the entries of these messages
       abbrev Leaves : List Message → Type 0
       Leaves now = (holds : HoldsEntries base now after) × MboxPromises base done now v sent after
-          × ((all : List Message) → (front : IsMboxFront base kept all) → ShowsNext v.settings v.maildrop (front.first ++ done) front.rest → IsMboxFront base holds all)
+          × ((all : List Message) → (front : IsMboxFront base kept all)
+          → ShowsNext v.settings v.maildrop (front.first ++ done) front.rest → IsMboxFront base holds all)
           × ((o : IsOpenFor base (bytes_of now) after) → holds.stands ≡ inr o → IsPart after o.next o.part)
 
-      pub appends : {got : List ℕ} (effect : Effect) → IsMaildrop base.text v.maildrop → v.settings.read_all ≡ false → Served v.maildrop sent got v.vanished
-          → MboxSession v.settings before sent got v.report effect after → AppendsMail base kept v sent after
+      pub appends : {got : List ℕ} (effect : Effect) → IsMaildrop base.text v.maildrop → v.settings.read_all ≡ false
+          → Served v.maildrop sent got v.vanished
+          → MboxSessionOverLink v.settings before sent got v.report effect after → AppendsMail base kept v sent after
       appends effect maildrop only_new served session =
           let step = mbox_served_session laws v.settings before effect session served in
           elim step.0 [
@@ -407,7 +531,8 @@ module _ (base : Base) where
                 closed = λ uncut. absurd (both_ways effect.ended left.ended (session.ended.1 uncut));
                 whole = λ uncut. absurd (both_ways effect.ended left.ended (session.ended.1 uncut));
                 left_out = λ uncut. absurd (both_ways effect.ended left.ended (session.ended.1 uncut));
-                deletes = sends_such (λ id. is_entered base done id ≡ true) v.maildrop effect (inr left.begun) (rw left.begun tt) session.sends;
+                deletes = sends_such (λ id. is_entered base done id ≡ true) v.maildrop effect (inr left.begun)
+                    (rw left.begun tt) session.sends;
                 retrieved = λ uncut. session.retrieves (session.ended.1 uncut);
                 vanished = all_map _ step.1 (λ id b. absurd (both_ways false refl (rw left.begun at b)));
               },
@@ -426,7 +551,14 @@ module _ (base : Base) where
           ]
         where
           by : (more : List Message) → Leaves (done ++ more) → AppendsMail base kept v sent after
-          by more (holds, promises, in_order, part) = record { more = more; promises = promises; kept = holds; part = part; in_order = in_order }
+          by more (holds, promises, in_order, part) = record {
+            more = more;
+            promises = promises;
+            kept = holds;
+            part =
+                part;
+            in_order = in_order;
+          }
 
 pub starts : MboxStarts
 starts base account closed = record {

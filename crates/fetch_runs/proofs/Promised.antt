@@ -1,5 +1,6 @@
 -- One session of an account with a Maildir, from a kept state, keeps its promises and leaves a kept state, and so do others.
-use Rattle.std.proofs.Common.{◌≡◌, ◌⊎◌, inl, inr, ◌-◌, ℕ, List, [], ◌∷◌, ◌++◌, Bool, true, false, length, map, refl, sym, subst, ◌∙◌, ap, ap₂, arith, not, cond, ◌&&◌, ◌||◌, take, drop}
+use Rattle.std.proofs.Common.{◌≡◌, ◌⊎◌, inl, inr, ◌-◌, ℕ, List, [], ◌∷◌, ◌++◌, Bool, true, false, length, map, refl}
+use Rattle.std.proofs.Common.{sym, subst, ◌∙◌, ap, ap₂, arith, not, cond, ◌&&◌, ◌||◌, take, drop}
 use Rattle.std.specs.Prelude.{bytes_eq, ◌↔◌}
 use Rattle.std.specs.List.{AllByRecursion, count_by, filter}
 use Rattle.std.proofs.lemmas.Bool.{cases_Bool, both_ways, or_left, or_right, or_cases, and_parts, false_from_ne_true}
@@ -15,25 +16,35 @@ use Rattle.fetch_rules.specs.Record.{is_delivered, Row}
 use Rattle.mail_store.specs.Maildir.{File, file as file_of}
 use Rattle.mail_terms.specs.MaildirName.{base}
 use Rattle.mail_store.specs.FileName.{names_id, name_of, stem, is_held, stem_of, IsAccountText}
-use Rattle.fetch_runs.specs.Accounts.{ids_of, item_of, listing_of, texts_of, AccountMail, copies, files, has_named, without_flags}
-use Rattle.fetch_runs.specs.Sessions.{Effect, Leaves, Stores, IsHonest, wanted_at, merged_rows, ids_wanted, SendsOnly, IsBegun, Served, Session, is_retr}
+use Rattle.fetch_runs.specs.Accounts.{message_ids, item_of, listing_of, texts_of, AccountMail, copies, files, has_named, without_flags}
+use Rattle.fetch_runs.specs.Sessions.{Effect, Leaves, StoresTexts, IsHonest, wanted_at, merged_rows, ids_wanted}
+use Rattle.fetch_runs.specs.Sessions.{SendsOnly, IsBegun, Served, SessionOverLink, is_retr}
 use Rattle.fetch_runs.specs.Below.{Below}
-use Rattle.fetch_runs.specs.Promises.{Mail, IsOf, IsMaildrop, State, is_safe, IsSafe, state_with, DeletesOneOf, ShowsNext, IsFront, Promises, Kept, Call, IsBetween}
-use Rattle.fetch_runs.proofs.Core.{added, added_begins, prefix_after, Fetch, all_wanted, distinct_wanted, texts_are, taken_is, wanted_ids, none_recorded, left_out, IsLegal, wants, stored_files, message_file, has_listed, fetched, order}
-use Rattle.fetch_runs.proofs.Lists.{ids_both, ids_filtered, any_filter, same_tests, is_some, Distinct, distinct_is, each_text, all_map, all_filter, all_take, all_append, all_at, all_both, all_ids_at, all_passing, members, no_texts, has_texts, texts_filtered, taken_more, delivered_marked, delivered_merged, marks_stay, mapped_at}
+use Rattle.fetch_runs.specs.Promises.{Mail, IsOf, IsMaildrop, State, is_safe, IsSafe, state_with, DeletesOneOf}
+use Rattle.fetch_runs.specs.Promises.{ShowsNext, IsFront, Promises, Kept, Call, IsBetween}
+use Rattle.fetch_runs.proofs.Core.{added, added_begins, prefix_after, Fetch, all_wanted, distinct_wanted, texts_are}
+use Rattle.fetch_runs.proofs.Core.{taken_is, wanted_ids, none_recorded, left_out, IsLegal, wants, stored_files}
+use Rattle.fetch_runs.proofs.Core.{message_file, has_listed, fetched, order}
+use Rattle.fetch_runs.proofs.Lists.{ids_both, ids_filtered, any_filter, same_tests, is_some, Distinct, distinct_is}
+use Rattle.fetch_runs.proofs.Lists.{each_text, all_map, all_filter, all_take, all_append, all_at, all_both, all_ids_at}
+use Rattle.fetch_runs.proofs.Lists.{all_passing, members, no_texts, has_texts, texts_filtered, taken_more}
+use Rattle.fetch_runs.proofs.Lists.{delivered_marked, delivered_merged, marks_stay, mapped_at}
 use Rattle.fetch_session.specs.declared.report.Outcome.TheVariants.{Ended}
 use Rattle.fetch_runs.proofs.Steps.{served_session}
 
 -- ---- held
 
-pub held_copies : (account : List ℕ) (state : AccountMail) (id : List ℕ) → is_held account state.maildir id ≡ is_some (copies (files state) (stem_of account id))
+pub held_copies : (account : List ℕ) (state : AccountMail) (id : List ℕ)
+    → is_held account state.maildir id ≡ is_some (copies (files state) (stem_of account id))
 held_copies account state id = any_filter (λ (f : File). names_id account id f.name) (λ (f : File). f.content) (files state)
 
 -- what is safe stays so, whatever becomes of the account
-pub still_safe : (mail : Mail) (state : State) (after : AccountMail) (id : List ℕ) → IsSafe mail state id → IsSafe mail (state_with mail state [] after) id
+pub still_safe : (mail : Mail) (state : State) (after : AccountMail) (id : List ℕ) → IsSafe mail state id
+    → IsSafe mail (state_with mail state [] after) id
 still_safe mail state after id (l, safe) = (l, grind (arith, safe))
 
-held_safe : (mail : Mail) (state : State) (after : AccountMail) (id : List ℕ) → is_held mail.account after.maildir id ≡ true → is_safe mail (state_with mail state [] after) id ≡ true
+held_safe : (mail : Mail) (state : State) (after : AccountMail) (id : List ℕ)
+    → is_held mail.account after.maildir id ≡ true → is_safe mail (state_with mail state [] after) id ≡ true
 held_safe mail state after id held = or_left _ _ held
 
 -- ---- copies
@@ -44,7 +55,8 @@ copies_same [] front = refl
 copies_same (f ∷ fs) front = grind (arith, copies_same fs front)
 
 -- if these came
-pub copies_came : (old new added : List File) (front : List ℕ) → without_flags new ≡ without_flags old ++ added → copies new front ≡ copies old front ++ copies added front
+pub copies_came : (old new added : List File) (front : List ℕ) → without_flags new ≡ without_flags old ++ added
+    → copies new front ≡ copies old front ++ copies added front
 copies_came old new added front came = sym (copies_same new front) ∙ ap (λ fs. copies fs front) came
     ∙ rw (filter-append, map-append) (ap (λ c. c ++ copies added front) (copies_same old front))
 
@@ -60,9 +72,11 @@ module _ (laws : Below) (account : List ℕ) (text : IsAccountText account) wher
       grind (arith, same, copies_messages ms id l h.1)
 
   -- their names are their own bases
-  pub named_messages : (ms : List Message) → map (message_file account) ms ≡ map (λ (m : Message). file_of (name_of account m.uid (length m.text)) m.text) ms
+  pub named_messages : (ms : List Message)
+      → map (message_file account) ms ≡ map (λ (m : Message). file_of (name_of account m.uid (length m.text)) m.text) ms
   named_messages [] = refl
-  named_messages (m ∷ ms) = ap₂ (λ (name : List ℕ) (fs : List File). file_of name m.text ∷ fs) (laws.bases account m.uid (length m.text) text) (named_messages ms)
+  named_messages (m ∷ ms) = ap₂ (λ (name : List ℕ) (fs : List File). file_of name m.text ∷ fs)
+      (laws.bases account m.uid (length m.text) text) (named_messages ms)
 
 some_both : {X : Type 0} (xs ys : List X) → is_some (xs ++ ys) ≡ (is_some xs || is_some ys)
 some_both [] ys = refl
@@ -77,10 +91,14 @@ unheld_part true xs = refl
 unheld_part false xs = refl
 
 -- distinct messages of this mail have the texts of their ids
-pub one_text : (text_of : List ℕ → List ℕ) (ms : List Message) → Distinct (ids_of ms) → AllByRecursion (IsOf text_of) ms → (id : List ℕ) → has_id (ids_of ms) id ≡ true → texts_of ms id ≡ text_of id ∷ []
-one_text text_of ms d each id = all_at (λ x. texts_of ms x ≡ text_of x ∷ []) ms (all_both ms (each_text ms d) each (λ m e h. e ∙ ap (λ (t : List ℕ). t ∷ []) h.text))
+pub one_text : (text_of : List ℕ → List ℕ) (ms : List Message) → Distinct (message_ids ms)
+    → AllByRecursion (IsOf text_of) ms → (id : List ℕ) → has_id (message_ids ms) id ≡ true
+    → texts_of ms id ≡ text_of id ∷ []
+one_text text_of ms d each id = all_at (λ x. texts_of ms x ≡ text_of x ∷ []) ms (all_both ms (each_text ms d) each
+    (λ m e h. e ∙ ap (λ (t : List ℕ). t ∷ []) h.text))
 
-filter_within : (p q : Message → Bool) (ms : List Message) → AllByRecursion (λ (m : Message). p m ≡ true → q m ≡ true) ms → filter p (filter q ms) ≡ filter p ms
+filter_within : (p q : Message → Bool) (ms : List Message)
+    → AllByRecursion (λ (m : Message). p m ≡ true → q m ≡ true) ms → filter p (filter q ms) ≡ filter p ms
 filter_within p q [] all = refl
 filter_within p q (m ∷ ms) all = grind (arith, all.0, filter_within p q ms all.1)
 
@@ -91,7 +109,8 @@ more_done done held got taken held' named e f = grind (arith, e, f)
 -- ---- what was sent
 
 -- what holds for each id for which a DELE was begun holds for the id of the message at the number of each DELE that was sent
-pub for_such : (P : List ℕ → Type 0) (drop : List Message) (effect : Effect) → (effect.listing ≡ listing_of drop) ⊎ (effect.begun ≡ []) → AllByRecursion P effect.begun
+pub for_such : (P : List ℕ → Type 0) (drop : List Message) (effect : Effect) → (effect.listing ≡ listing_of drop)
+    ⊎ (effect.begun ≡ []) → AllByRecursion P effect.begun
     → (command : Command) → IsBegun effect.listing effect.begun command → DeletesOneOf drop P command
 for_such P drop effect (inl listed) all (Dele number) begun =
     let at = mapped_at item_of drop (number - 1) begun.0 (rw (← listed) begun.1) in
@@ -99,26 +118,33 @@ for_such P drop effect (inl listed) all (Dele number) begun =
 for_such P drop effect (inr none) all (Dele number) begun = absurd (let never = rw none at begun.2 in cc)
 for_such P drop effect listed all other begun = tt
 
-abbrev pub sends_such : (P : List ℕ → Type 0) (drop : List Message) (effect : Effect) {sent : List ℕ} → (effect.listing ≡ listing_of drop) ⊎ (effect.begun ≡ []) → AllByRecursion P effect.begun
+abbrev pub sends_such : (P : List ℕ → Type 0) (drop : List Message) (effect : Effect) {sent : List ℕ}
+    → (effect.listing ≡ listing_of drop) ⊎ (effect.begun ≡ []) → AllByRecursion P effect.begun
     → SendsOnly (IsBegun effect.listing effect.begun) sent → SendsOnly (DeletesOneOf drop P) sent
 sends_such P drop effect listed all sends = record {
   commands = sends.commands;
   asked = sends.asked;
   each = all_map _ sends.each (for_such P drop effect listed all);
-  next = ⊎_map (λ none. none) (λ (command, unsent, is, begun). (command, unsent, is, for_such P drop effect listed all command begun)) sends.next;
+  next = ⊎_map (λ none. none)
+      (λ (command, unsent, is, begun). (command, unsent, is, for_such P drop effect listed all command begun))
+      sends.next;
 }
 
 -- ---- one session
 
-pub record IsSession {W S F : Type 0} (mail : Mail) (before : AccountMail) (call : Call W S F) (sent : List ℕ) (after : AccountMail) : Type 0 where
+pub record IsSession {W S F : Type 0} (mail : Mail) (before : AccountMail) (call : Call W S F) (sent : List ℕ)
+    (after : AccountMail) : Type 0 where
   pub got : List ℕ
   pub maildrop : IsMaildrop mail.text call.maildrop
   pub served : Served call.maildrop sent got call.vanished
   pub effect : Effect
-  pub session : Session call.settings mail.account before sent got call.report effect after
+  pub session : SessionOverLink call.settings mail.account before sent got call.report effect after
 
-module _ {W S F : Type 0} (laws : Below) {mail : Mail} (account_is : IsAccountText mail.account) {state : State} (o : Call W S F) (now : AccountMail) (kept : Kept mail state) (e : Effect)
-    (is : IsMaildrop mail.text o.maildrop) {commands : List Command} {part : List ℕ} (s : Stores o.settings mail.account state.account e now o.report commands part) (honest : IsHonest (wanted_at o.settings mail.account state.account e) o.maildrop e) where
+module _ {W S F : Type 0} (laws : Below) {mail : Mail} (account_is : IsAccountText mail.account) {state : State}
+    (o : Call W S F) (now : AccountMail) (kept : Kept mail state) (e : Effect)
+    (is : IsMaildrop mail.text o.maildrop) {commands : List Command} {part : List ℕ}
+    (s : StoresTexts o.settings mail.account state.account e now o.report commands part)
+    (honest : IsHonest (wanted_at o.settings mail.account state.account e) o.maildrop e) where
   abbrev rows : List Row
   rows = merged_rows mail.account state.account e
 
@@ -151,10 +177,10 @@ module _ {W S F : Type 0} (laws : Below) {mail : Mail} (account_is : IsAccountTe
   legal_came : AllByRecursion IsLegal came
   legal_came = all_filter IsLegal _ got (all_got IsLegal legal_drop)
 
-  legal_got : (id : List ℕ) → has_id (ids_of got) id ≡ true → is_legal_id id ≡ true
+  legal_got : (id : List ℕ) → has_id (message_ids got) id ≡ true → is_legal_id id ≡ true
   legal_got id = all_at (λ x. is_legal_id x ≡ true) got (all_got IsLegal legal_drop)
 
-  texts_got : (id : List ℕ) → has_id (ids_of got) id ≡ true → texts_of got id ≡ mail.text id ∷ []
+  texts_got : (id : List ℕ) → has_id (message_ids got) id ≡ true → texts_of got id ≡ mail.text id ∷ []
   texts_got = one_text mail.text got (distinct_wanted fetch s.stored) (all_got (IsOf mail.text) is.each)
 
   files_are : without_flags (files now) ≡ without_flags (files state.account) ++ map (message_file mail.account) came
@@ -163,10 +189,13 @@ module _ {W S F : Type 0} (laws : Below) {mail : Mail} (account_is : IsAccountTe
   copies_are : (id : List ℕ) → is_legal_id id ≡ true → copies (files now) (stem_of mail.account id)
       ≡ copies (files state.account) (stem_of mail.account id) ++ cond (not (held id)) (texts_of got id) []
   copies_are id l = copies_came (files state.account) (files now) (map (message_file mail.account) came) (stem_of mail.account id) files_are
-      ∙ ap (λ c. copies (files state.account) (stem_of mail.account id) ++ c) (copies_messages laws mail.account account_is came id l legal_came ∙ texts_filtered (λ x. not (held x)) got id)
+      ∙ ap (λ c. copies (files state.account) (stem_of mail.account id) ++ c)
+      (copies_messages laws mail.account account_is came id l legal_came
+      ∙ texts_filtered (λ x. not (held x)) got id)
 
-  held_now : (id : List ℕ) → is_legal_id id ≡ true → is_held mail.account now.maildir id ≡ (held id || has_id (ids_of got) id)
-  held_now id l = held_copies mail.account now id ∙ ap is_some (copies_are id l) ∙ some_both (copies (files state.account) (stem_of mail.account id)) _
+  held_now : (id : List ℕ) → is_legal_id id ≡ true → is_held mail.account now.maildir id ≡ (held id || has_id (message_ids got) id)
+  held_now id l = held_copies mail.account now id ∙ ap is_some (copies_are id l)
+      ∙ some_both (copies (files state.account) (stem_of mail.account id)) _
       ∙ ap (λ b. b || is_some (cond (not (held id)) (texts_of got id) [])) (sym (held_copies mail.account state.account id))
       ∙ unheld_part (held id) (texts_of got id) ∙ ap (λ b. held id || b) (sym (has_texts got id))
 
@@ -174,12 +203,13 @@ module _ {W S F : Type 0} (laws : Below) {mail : Mail} (account_is : IsAccountTe
       → (copies (files now) (stem_of mail.account id) ≡ []) ⊎ (copies (files now) (stem_of mail.account id) ≡ mail.text id ∷ [])
   holds_after id l = elim (kept.holds id l) [
     | inl none ↦
-        let all : copies (files now) (stem_of mail.account id) ≡ texts_of got id = copies_are id l ∙ rw (none, held_copies mail.account state.account id) (rw none refl) in
-        ⊎_elim (λ there. inr (all ∙ texts_got id there)) (λ no. inl (all ∙ no_texts got id no)) (cases_Bool (has_id (ids_of got) id))
+        let all : copies (files now) (stem_of mail.account id) ≡ texts_of got id = copies_are id l
+        ∙ rw (none, held_copies mail.account state.account id) (rw none refl) in
+        ⊎_elim (λ there. inr (all ∙ texts_got id there)) (λ no. inl (all ∙ no_texts got id no)) (cases_Bool (has_id (message_ids got) id))
     | inr text ↦ inr (copies_are id l ∙ rw (text, held_copies mail.account state.account id) (rw text refl))
   ]
 
-  got_safe : (id : List ℕ) → has_id (ids_of got) id ≡ true → IsSafe mail after id
+  got_safe : (id : List ℕ) → has_id (message_ids got) id ≡ true → IsSafe mail after id
   got_safe id g = let l = legal_got id g in (l, held_safe mail state now id (held_now id l ∙ or_right _ _ g))
 
   -- ---- what is recorded
@@ -192,11 +222,15 @@ module _ {W S F : Type 0} (laws : Below) {mail : Mail} (account_is : IsAccountTe
   known id = is_delivered state.account.rows id || held id
 
   known_listed : AllByRecursion (λ (m : Message). known m.uid ≡ true → is_delivered rows m.uid ≡ true) o.maildrop
-  known_listed = all_map _ (members o.maildrop) (λ m there before. grind (arith, before, there, known_parts m.uid, has_listed o.maildrop honest.listing m.uid))
+  known_listed = all_map _ (members o.maildrop)
+      (λ m there before. grind (arith, before, there, known_parts m.uid, has_listed o.maildrop honest.listing m.uid))
 
   known_safe : (id : List ℕ) → is_delivered rows id ≡ true → IsSafe mail state id
-  known_safe id d = ⊎_elim (kept.recorded id) (λ now'. let parts = and_parts _ _ now' in
-      (all_at (λ x. is_legal_id x ≡ true) o.maildrop legal_drop (sym (has_listed o.maildrop honest.listing id) ∙ parts.0), or_left _ _ parts.1)) (or_cases _ _ (sym (known_parts id) ∙ d))
+  known_safe id d = ⊎_elim (kept.recorded id) (λ now'. let parts = and_parts _ _ now' in (
+    all_at (λ x. is_legal_id x ≡ true) o.maildrop legal_drop (sym (has_listed o.maildrop honest.listing id)
+        ∙ parts.0),
+    or_left _ _ parts.1,
+  )) (or_cases _ _ (sym (known_parts id) ∙ d))
 
   recorded_after : (id : List ℕ) → is_delivered now.rows id ≡ true → IsSafe mail after id
   recorded_after id d = elim s.rows [
@@ -213,13 +247,16 @@ module _ {W S F : Type 0} (laws : Below) {mail : Mail} (account_is : IsAccountTe
   stays_recorded : (id : List ℕ) → is_delivered state.account.rows id ≡ true → is_delivered now.rows id ≡ true
   stays_recorded id recorded = elim s.rows [
     | inl old ↦ rw old.0 recorded
-    | inr marks ↦ rw marks (marks_stay laws rows (ids_wanted (take s.recorded (wanted_at o.settings mail.account state.account e))) id (known_parts id ∙ or_left _ _ recorded))
+    | inr marks ↦ rw marks (marks_stay laws rows
+        (ids_wanted (take s.recorded (wanted_at o.settings mail.account state.account e))) id (known_parts id
+        ∙ or_left _ _ recorded))
   ]
 
   -- what isn't done isn't held
-  new_unheld : (done : List Message) → ((id : List ℕ) → is_legal_id id ≡ true → has_id (ids_of done) id ≡ is_safe mail state id)
-      → AllByRecursion (λ (m : Message). not (has_id (ids_of done) m.uid) ≡ true → not (held m.uid) ≡ true) got
-  new_unheld done is_done = all_map got (all_got IsLegal legal_drop) (λ m l undone. unsafe (has_id (ids_of done) m.uid) (held m.uid) (state.taken m.uid) (is_done m.uid l) undone)
+  new_unheld : (done : List Message) → ((id : List ℕ) → is_legal_id id ≡ true → has_id (message_ids done) id ≡ is_safe mail state id)
+      → AllByRecursion (λ (m : Message). not (has_id (message_ids done) m.uid) ≡ true → not (held m.uid) ≡ true) got
+  new_unheld done is_done = all_map got (all_got IsLegal legal_drop)
+      (λ m l undone. unsafe (has_id (message_ids done) m.uid) (held m.uid) (state.taken m.uid) (is_done m.uid l) undone)
     where
       unsafe : (done held taken : Bool) → done ≡ (held || taken) → not done ≡ true → not held ≡ true
       unsafe true held taken e f = absurd (both_ways false refl f)
@@ -227,8 +264,10 @@ module _ {W S F : Type 0} (laws : Below) {mail : Mail} (account_is : IsAccountTe
       unsafe false false taken e f = refl
 
   -- what came is the next, if what could come is
-  front_after : (all : List Message) → AllByRecursion IsLegal all → (front : IsFront mail state all) → ShowsNext o.settings o.maildrop front.done front.rest
-      → (later : IsFront mail after all) × (later.done ≡ front.done ++ filter (λ (m : Message). not (has_id (ids_of front.done) m.uid)) came)
+  front_after : (all : List Message) → AllByRecursion IsLegal all → (front : IsFront mail state all)
+      → ShowsNext o.settings o.maildrop front.done front.rest
+      → (later : IsFront mail after all)
+      × (later.done ≡ front.done ++ filter (λ (m : Message). not (has_id (message_ids front.done) m.uid)) came)
   front_after all legal front next =
       let known = all_map _ legal_drop (λ m l d. front.is_done m.uid l ∙ (known_safe m.uid d).1) in (
         record {
@@ -236,21 +275,25 @@ module _ {W S F : Type 0} (laws : Below) {mail : Mail} (account_is : IsAccountTe
           rest = (added_begins fetch front.done front.rest known next s.stored).0;
           prefix = prefix_after fetch front.done front.rest known next front.prefix s.stored;
           is_done = λ id l. ids_both front.done (added fetch front.done front.rest known next s.stored) id
-              ∙ ap (λ b. has_id (ids_of front.done) id || b) (ids_filtered (λ x. not (has_id (ids_of front.done) x)) got id)
+              ∙ ap (λ b. has_id (message_ids front.done) id || b) (ids_filtered (λ x. not (has_id (message_ids front.done) x)) got id)
               ∙ more_done _ _ _ _ _ (has_named mail.account now.maildir id) (front.is_done id l) (held_now id l);
         },
-        ap (λ l. front.done ++ l) (sym (filter_within (λ (m : Message). not (has_id (ids_of front.done) m.uid)) (λ (m : Message). not (held m.uid)) got (new_unheld front.done front.is_done))),
+        ap (λ l. front.done ++ l) (sym (filter_within (λ (m : Message). not (has_id (message_ids front.done) m.uid))
+            (λ (m : Message). not (held m.uid)) got (new_unheld front.done front.is_done))),
       )
 
-  stored_kept : (e.ended ≡ true) ↔ (o.report.outcome ≡ Ended) → {sent : List ℕ} (sends : SendsOnly (IsBegun e.listing e.begun) sent) → (e.ended ≡ true → o.report.retrieved ≡ count_by is_retr sends.commands)
+  stored_kept : (e.ended ≡ true) ↔ (o.report.outcome ≡ Ended)
+      → {sent : List ℕ} (sends : SendsOnly (IsBegun e.listing e.begun) sent)
+      → (e.ended ≡ true → o.report.retrieved ≡ count_by is_retr sends.commands)
       → AllByRecursion (λ id. has_id e.begun id ≡ true) o.vanished → Promises mail state o sent now × Kept mail after
   stored_kept ended sends retrieves vanished = (
     record {
-      left_out = λ uncut. all_map _ (left_out fetch known known_listed s.stored o.report.retrieved (let all = s.ended (ended.1 uncut) in grind (arith, all, s.kept)) (s.ended (ended.1 uncut))) (λ m out. elim out [
-        | inl got' ↦ inl (got_safe m.uid got')
-        | inr (inl old) ↦ inl (still_safe mail state now m.uid (known_safe m.uid old))
-        | inr (inr out) ↦ inr out
-      ]);
+      left_out = λ uncut. all_map _ (left_out fetch known known_listed s.stored o.report.retrieved (let all =
+          s.ended (ended.1 uncut) in grind (arith, all, s.kept)) (s.ended (ended.1 uncut))) (λ m out. elim out [
+            | inl got' ↦ inl (got_safe m.uid got')
+            | inr (inl old) ↦ inl (still_safe mail state now m.uid (known_safe m.uid old))
+            | inr (inr out) ↦ inr out
+          ]);
       deletes = sends_such (IsSafe mail after) o.maildrop e (inl honest.listing) begun_safe sends;
       retrieved = λ uncut. retrieves (ended.1 uncut);
       came = came;
@@ -267,13 +310,17 @@ module _ {W S F : Type 0} (laws : Below) {mail : Mail} (account_is : IsAccountTe
     },
   )
     where
-      shown_came : AllByRecursion (λ (m : Message). (has_id (ids_of o.maildrop) m.uid ≡ true) × (held m.uid ≡ false)) came
-      shown_came = all_both _ (all_filter _ _ got (all_got _ (members o.maildrop))) (all_passing _ got) (λ m there unheld. (there, not_true (held m.uid) unheld))
+      shown_came : AllByRecursion (λ (m : Message). (has_id (message_ids o.maildrop) m.uid ≡ true) × (held m.uid ≡ false)) came
+      shown_came = all_both _ (all_filter _ _ got (all_got _ (members o.maildrop))) (all_passing _ got)
+          (λ m there unheld. (there, not_true (held m.uid) unheld))
 
-      new_unrecorded : o.settings.read_all ≡ false → (m : Message) → is_delivered rows m.uid ≡ false → is_delivered state.account.rows m.uid ≡ false
+      new_unrecorded : o.settings.read_all ≡ false → (m : Message) → is_delivered rows m.uid ≡ false
+          → is_delivered state.account.rows m.uid ≡ false
       new_unrecorded new m none = false_from_ne_true _ (λ d. both_ways (is_delivered rows m.uid) none (known_parts m.uid ∙ or_left _ _ d))
 
-      by_setting : (read_all : Bool) → o.settings.read_all ≡ read_all → AllByRecursion (λ (m : Message). o.settings.read_all ≡ false → is_delivered state.account.rows m.uid ≡ false) got
+      by_setting : (read_all : Bool) → o.settings.read_all ≡ read_all
+          → AllByRecursion (λ (m : Message). o.settings.read_all ≡ false
+          → is_delivered state.account.rows m.uid ≡ false) got
       by_setting false new = all_map _ (all_take _ s.stored ws (none_recorded fetch new)) (λ m none _. new_unrecorded new m none)
       by_setting true all = all_map _ (all_got _ (members o.maildrop)) (λ m there new. absurd (both_ways _ new all))
 
@@ -281,8 +328,11 @@ module _ {W S F : Type 0} (laws : Below) {mail : Mail} (account_is : IsAccountTe
       unrecorded_got = by_setting o.settings.read_all refl
 
 -- a session that changed nothing
-left_kept : {W S F : Type 0} {mail : Mail} {state : State} (o : Call W S F) (now : AccountMail) (e : Effect) → Kept mail state → Leaves state.account e now → (e.ended ≡ true) ↔ (o.report.outcome ≡ Ended)
-    → {sent : List ℕ} → SendsOnly (IsBegun e.listing e.begun) sent → AllByRecursion (λ id. has_id e.begun id ≡ true) o.vanished → Promises mail state o sent now × Kept mail (state_with mail state o.vanished now)
+left_kept : {W S F : Type 0} {mail : Mail} {state : State} (o : Call W S F) (now : AccountMail) (e : Effect)
+    → Kept mail state → Leaves state.account e now → (e.ended ≡ true) ↔ (o.report.outcome ≡ Ended)
+    → {sent : List ℕ} → SendsOnly (IsBegun e.listing e.begun) sent
+    → AllByRecursion (λ id. has_id e.begun id ≡ true) o.vanished → Promises mail state o sent now
+    × Kept mail (state_with mail state o.vanished now)
 left_kept {mail = mail} {state = state} o now e kept left ended sends vanished = (
   record {
     left_out = λ uncut. absurd (both_ways e.ended left.ended (ended.1 uncut));
@@ -292,13 +342,22 @@ left_kept {mail = mail} {state = state} o now e kept left ended sends vanished =
     added = ap without_flags left.same ∙ sym (append-nil (without_flags (files state.account)));
     new = tt;
     recorded = λ id recorded. rw left.rows recorded;
-    in_order = λ all legal front next.
-        (record { done = front.done; rest = front.rest; prefix = front.prefix; is_done = λ id l. front.is_done id l ∙ unchanged id }, sym (append-nil front.done));
+    in_order = λ all legal front next. (
+      record {
+        done = front.done;
+        rest = front.rest;
+        prefix = front.prefix;
+        is_done = λ id l. front.is_done id l
+            ∙ unchanged id;
+      },
+      sym (append-nil front.done),
+    );
   },
   record {
     holds = λ id l. rw left.same (kept.holds id l);
     recorded = λ id d. still_safe mail state now id (kept.recorded id (rw left.rows at d));
-    gone = all_append _ _ _ (all_map _ vanished (λ id b. absurd (both_ways false refl (rw left.begun at b)))) (all_map _ kept.gone (still_safe mail state now));
+    gone = all_append _ _ _ (all_map _ vanished (λ id b. absurd (both_ways false refl (rw left.begun at b))))
+        (all_map _ kept.gone (still_safe mail state now));
   },
 )
   where
@@ -310,7 +369,8 @@ left_kept {mail = mail} {state = state} o now e kept left ended sends vanished =
 
 -- ---- sessions and others
 
-pub others_leave_kept : (mail : Mail) (state : State) (after : AccountMail) → Kept mail state → IsBetween mail state.account after → Kept mail (state_with mail state [] after)
+pub others_leave_kept : (mail : Mail) (state : State) (after : AccountMail) → Kept mail state
+    → IsBetween mail state.account after → Kept mail (state_with mail state [] after)
 others_leave_kept mail state after kept is = record {
   holds = is.holds;
   recorded = λ id d. still_safe mail state after id (kept.recorded id (is.shows_no_more id d));
@@ -318,9 +378,13 @@ others_leave_kept mail state after kept is = record {
 }
 
 -- a session keeps its promises, and leads from a kept state to a kept state
-pub sessions_keep_promises : Below → {W S F : Type 0} (mail : Mail) (state : State) (call : Call W S F) (sent : List ℕ) (after : AccountMail) → IsAccountText mail.account → Kept mail state
-    → IsSession mail state.account call sent after → Promises mail state call sent after × Kept mail (state_with mail state call.vanished after)
+pub sessions_keep_promises : Below
+    → {W S F : Type 0} (mail : Mail) (state : State) (call : Call W S F) (sent : List ℕ) (after : AccountMail)
+    → IsAccountText mail.account → Kept mail state
+    → IsSession mail state.account call sent after → Promises mail state call sent after
+    × Kept mail (state_with mail state call.vanished after)
 sessions_keep_promises laws mail state call sent after account_is kept is =
     let step = served_session laws call.settings mail.account state.account is.effect is.session is.served in
     ⊎_elim (λ left. left_kept call after is.effect kept left is.session.ended is.session.sends step.1)
-    (λ (stores, honest). stored_kept laws account_is call after kept is.effect is.maildrop stores honest is.session.ended is.session.sends is.session.retrieves step.1) step.0
+    (λ (stores, honest). stored_kept laws account_is call after kept is.effect is.maildrop stores honest
+    is.session.ended is.session.sends is.session.retrieves step.1) step.0

@@ -32,8 +32,8 @@ copies fs front = map (λ (f : File). f.content) (filter (λ (f : File). bytes_e
 abbrev pub has_named : List ℕ → Maildir → List ℕ → Bool
 has_named account maildir id = list_any (λ (f : File). names_id account id f.name && f.is_named) maildir.files
 
-abbrev pub ids_of : List Message → List (List ℕ)
-ids_of ms = map (λ (m : Message). m.uid) ms
+abbrev pub message_ids : List Message → List (List ℕ)
+message_ids ms = map (λ (m : Message). m.uid) ms
 
 -- what a listing says of a message
 abbrev pub item_of : Message → Item

@@ -7,7 +7,7 @@ use Rattle.pop3_wire.specs.declared.command.Command.TheVariants.{User, Pass, Sta
 use Rattle.pop3_wire.specs.declared.command.Command.TheVariants.{Quit}
 use Rattle.fetch_rules.specs.declared.steps.Step.{Step}
 use Rattle.std.specs.String.{string_bytes}
-use Rattle.pop3_wire.specs.Honest.{Asked}
+use Rattle.pop3_wire.specs.Honest.{HasSent}
 use Rattle.pop3_wire.specs.Link.{Link}
 use Rattle.pop3_wire.specs.Reading.{WholeReply, reply_bytes}
 use Rattle.pop3_client.specs.Turns.{Turn, asking, greeting, retr, IsGood}
@@ -103,11 +103,11 @@ CountsTexts outcome done begun count = (retrieved_by done ≡ count)
 -- more's line
 pub record FollowsPlan (settings : Settings) (steps : List Step) (sent : List ℕ) : Type 0 where
   pub commands : List Command
-  pub asked : Asked commands sent
+  pub asked : HasSent commands sent
   pub front : IsFrontOfPlan (string_bytes settings.username) (string_bytes settings.password) steps commands
 
 -- a session that didn't get past its opening
-pub record Opens (settings : Settings) (report : Report) (sent got : List ℕ) : Type 0 where
+pub record EndsInOpening (settings : Settings) (report : Report) (sent got : List ℕ) : Type 0 where
   pub said : Converses (opening (string_bytes settings.username) (string_bytes settings.password))
       (tail_behind report.outcome) sent got
   pub follows : FollowsPlan settings [] sent
@@ -137,7 +137,7 @@ SessionsAreConversations = (settings : Settings) (account : List ℕ) (now : ℕ
     (report : Report) (link' : Link) (after : AccountFiles)
     → IsValid settings → Session settings account now link before report link' after
     → (sent got : List ℕ) × (link'.sent ≡ link.sent ++ sent) × (link'.got ≡ link.got ++ got)
-    × (Opens settings report sent got ⊎ SpeaksByPlan settings account now before report sent got)
+    × (EndsInOpening settings report sent got ⊎ SpeaksByPlan settings account now before report sent got)
 
 -- a law: with an mboxrd file, what was sent in a session follows a plan
 abbrev pub MboxSessionsFollowPlans : Type 0

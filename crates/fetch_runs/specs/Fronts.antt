@@ -18,7 +18,7 @@ use Rattle.fetch_session.specs.Report.{Reports, skips_planned}
 use Rattle.fetch_session.specs.Scene.{Scene, Went}
 use Rattle.fetch_session.specs.Session.{Enters_with, AccountFiles, Session}
 use Rattle.fetch_session.specs.Target.{AsFiles, in_maildir}
-use Rattle.fetch_session.specs.Task.{Done, files_of, ids_of, stores, tasks_of, turns_in}
+use Rattle.fetch_session.specs.Task.{Done, files_of, marked_ids, stores, tasks_of, turns_in}
 use Rattle.fetch_runs.specs.Sessions.{Served}
 
 -- what an uncut session of an account with a Maildir had ready before its first task, and the tasks that it did
@@ -51,7 +51,7 @@ pub record IsLeftBetween (account : List ℕ) (before : AccountFiles) (ready : S
   pub turn : Turn
   pub takes : turns_in next.task ≡ turn ∷ []
   pub files : left.maildir.files ≡ before.maildir.files ++ files_of account front
-  pub file : Steady left.file.content (none_open (marked_all ready.rows (ids_of front)))
+  pub file : Steady left.file.content (none_open (marked_all ready.rows (marked_ids front)))
 
 -- these tasks were done, and the next one's text was stored, but the record's file doesn't show its id as delivered yet
 pub record IsLeftWithin (account : List ℕ) (before : AccountFiles) (ready : Scene) (front : List Done) (next : Done)
@@ -60,7 +60,7 @@ pub record IsLeftWithin (account : List ℕ) (before : AccountFiles) (ready : Sc
   pub uid : List ℕ
   pub is : next.task ≡ stores number uid
   pub files : left.maildir.files ≡ before.maildir.files ++ files_of account (front ++ next ∷ [])
-  pub file : Steady left.file.content (none_open (marked_all ready.rows (ids_of front)))
+  pub file : Steady left.file.content (none_open (marked_all ready.rows (marked_ids front)))
 
 -- a session that was cut, and that sent and got only a prefix of what this one did, left these files of `new` and
 -- `cur`, and these bytes of the record's file; all else may be another process's

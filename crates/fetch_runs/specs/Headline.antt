@@ -14,7 +14,7 @@ use Rattle.mail_store.specs.declared.file.flat_file.FlatFile.{Ghosts as FileGhos
 use Rattle.mail_store.specs.declared.maildir.disk.MaildirDisk.{Ghosts as DiskGhosts}
 use Rattle.fetch_session.specs.Account.{digits_of}
 use Rattle.fetch_session.specs.declared.account.Store.TheVariants.{Maildir as InMaildir, Mboxrd as InMbox}
-use Rattle.fetch_runs.specs.Accounts.{AccountMail, copies, files, ids_of, selected, texts_of, without}
+use Rattle.fetch_runs.specs.Accounts.{AccountMail, copies, files, message_ids, selected, texts_of, without}
 use Rattle.fetch_runs.specs.Sessions.{MboxMail}
 use Rattle.fetch_runs.specs.Promises.{Call, Devices, IsBetween, IsFront, IsMaildrop, IsSafe, Kept, Mail, State}
 use Rattle.fetch_runs.specs.Promises.{is_safe, state_with, AppendsMail, Base, HoldsEntries, IsMboxFront}
@@ -62,7 +62,7 @@ pub record HoldsAPrefix (world : World Mail) (state : State) : Type 0 where
       ≡ texts_of (take j (selected_of world)) id)
       ⊎ ((state.taken id ≡ true) × (copies (files state.account) (stem_of world.start.account id) ≡ []))
   pub ids : (id : List ℕ) → is_legal_id id ≡ true → is_held world.start.account state.account.maildir id ≡ true
-      → has_id (ids_of (take j (selected_of world))) id ≡ true
+      → has_id (message_ids (take j (selected_of world))) id ≡ true
   pub once : (id : List ℕ) → is_legal_id id ≡ true
       → length (copies (files state.account) (stem_of world.start.account id)) ≤ 1
 
@@ -140,7 +140,7 @@ IsUnbegun account id = (is_delivered account.rows id ≡ false)
 abbrev pub MboxStartsInOrder : Type 0
 MboxStartsInOrder = (world : World Base) (account : MboxMail) (first rest : List Message) → account.intent ≡ None
     → selected_of world ≡ first ++ rest
-    → ((id : List ℕ) → is_delivered account.rows id ≡ has_id (ids_of first) id)
+    → ((id : List ℕ) → is_delivered account.rows id ≡ has_id (message_ids first) id)
     → HoldsAMboxPrefix (record world { start = base_from world.start account }) [] account
 
 -- a law: if the first file holds texts, the file without an open intent holds the same, and then those of these

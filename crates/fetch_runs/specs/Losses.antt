@@ -6,7 +6,7 @@ use Rattle.std.specs.List.{AllByRecursion}
 use Rattle.mail_terms.specs.UniqueId.{is_legal_id}
 use Rattle.pop3_wire.specs.World.{Message}
 use Rattle.mail_store.specs.FileName.{is_held, names_id}
-use Rattle.mail_store.specs.Maildir.{File, IsDurable}
+use Rattle.mail_store.specs.Maildir.{File, IsDurableFile}
 use Rattle.mail_store.specs.declared.file.flat_file.FlatFile.{Ghosts as FileGhosts}
 use Rattle.fetch_rules.specs.Record.{Intent, Row, is_delivered}
 use Rattle.fetch_rules.specs.RecordMeaning.{FileStandsFor}
@@ -24,7 +24,7 @@ IsFlushedFor account f = (id : List ℕ) → is_legal_id id ≡ true → names_i
 
 -- its name too
 abbrev pub IsDurableFor : List ℕ → File → Type 0
-IsDurableFor account f = (id : List ℕ) → is_legal_id id ≡ true → names_id account id f.name ≡ true → IsDurable f
+IsDurableFor account f = (id : List ℕ) → is_legal_id id ≡ true → names_id account id f.name ≡ true → IsDurableFile f
 
 -- what the record shows as delivered, or may show after a loss of power, and what is gone from the server, has a file
 -- whose name is durable, or was taken away; and the bytes of the account's files are durable

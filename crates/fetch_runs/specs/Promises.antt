@@ -18,8 +18,8 @@ use Rattle.mail_store.specs.Mboxrd.{entry_of}
 use Rattle.mail_store.specs.Settling.{MayBeLeft}
 use Rattle.fetch_session.specs.declared.report.Outcome.TheVariants.{Ended}
 use Rattle.fetch_session.specs.declared.report.Report.{Report}
-use Rattle.fetch_runs.specs.Accounts.{AccountMail, copies, has_named, ids_of, without_flags}
-use Rattle.fetch_runs.specs.Sessions.{SendsOnly, is_retr, MboxMail, entries_of, intent_of}
+use Rattle.fetch_runs.specs.Accounts.{AccountMail, copies, has_named, message_ids, without_flags}
+use Rattle.fetch_runs.specs.Sessions.{SendsOnly, is_retr, MboxMail, entries_of, entry_intent}
 use Rattle.std.proofs.Common.{inr}
 
 -- the devices of an account: its store, which is a Maildir or an mboxrd file, and the record's file
@@ -52,7 +52,7 @@ pub record IsOf (text_of : List ℕ → List ℕ) (message : Message) : Type 0 w
 -- a maildrop: any such messages, in any order, no two of which share an id
 pub record IsMaildrop (text_of : List ℕ → List ℕ) (maildrop : List Message) : Type 0 where
   pub each : AllByRecursion (IsOf text_of) maildrop
-  pub distinct : AreDistinct (ids_of maildrop)
+  pub distinct : AreDistinct (message_ids maildrop)
 
 -- an account; the ids that are gone from the server; and which messages were taken away: they were held and aren't, or
 -- only under a name that a loss of power may take
@@ -118,18 +118,18 @@ LeavesOut call is_known Is = call.report.outcome ≡ Ended → AllByRecursion (�
 -- what a maildrop has within the session's limit and isn't done is the first of these
 abbrev pub ShowsNext : Settings → List Message → List Message → List Message → Type 0
 ShowsNext settings maildrop done rest = (more : List Message) × (rest ≡ filter (λ (m : Message).
-    is_within settings.max_size m.size && not (has_id (ids_of done) m.uid)) maildrop ++ more)
+    is_within settings.max_size m.size && not (has_id (message_ids done) m.uid)) maildrop ++ more)
 
 -- those that are held or were taken away are exactly the first of these messages
 pub record IsFront (mail : Mail) (state : State) (all : List Message) : Type 0 where
   pub done : List Message
   pub rest : List Message
   pub prefix : all ≡ done ++ rest
-  pub is_done : (id : List ℕ) → is_legal_id id ≡ true → has_id (ids_of done) id ≡ is_safe mail state id
+  pub is_done : (id : List ℕ) → is_legal_id id ≡ true → has_id (message_ids done) id ≡ is_safe mail state id
 
 -- what came is of the maildrop and wasn't held, nor recorded, if only what is new is read
 pub record IsNew {W S F : Type 0} (mail : Mail) (before : AccountMail) (call : Call W S F) (m : Message) : Type 0 where
-  pub shown : has_id (ids_of call.maildrop) m.uid ≡ true
+  pub shown : has_id (message_ids call.maildrop) m.uid ≡ true
   pub unheld : is_held mail.account before.maildir m.uid ≡ false
   pub unrecorded : call.settings.read_all ≡ false → is_delivered before.rows m.uid ≡ false
 
@@ -150,7 +150,7 @@ pub record Promises {W S F : Type 0} (mail : Mail) (state : State) (call : Call 
   pub in_order : (all : List Message) → AllByRecursion (λ (m : Message). is_legal_id m.uid ≡ true) all
       → (front : IsFront mail state all) → ShowsNext call.settings call.maildrop front.done front.rest
       → (later : IsFront mail (state_with mail state call.vanished after) all)
-      × (later.done ≡ front.done ++ filter (λ (m : Message). not (has_id (ids_of front.done) m.uid)) came)
+      × (later.done ≡ front.done ++ filter (λ (m : Message). not (has_id (message_ids front.done) m.uid)) came)
 
 -- each message is held once; what is recorded, or is gone from the server, is held or was taken away
 pub record Kept (mail : Mail) (state : State) : Type 0 where
@@ -168,7 +168,7 @@ pub record Base : Type 0 where
 
 -- the id is that of one of these messages, or was recorded before the first session
 abbrev pub is_entered : Base → List Message → List ℕ → Bool
-is_entered base done id = base.had id || has_id (ids_of done) id
+is_entered base done id = base.had id || has_id (message_ids done) id
 
 -- what others leave counts as from before the first session; no intent is open then
 abbrev pub base_from : Base → MboxMail → Base
@@ -180,7 +180,7 @@ pub record IsOpenFor (base : Base) (bytes : List ℕ) (account : MboxMail) : Typ
   pub next : Message
   pub is : IsOf base.text next
   pub unrecorded : is_delivered account.rows next.uid ≡ false
-  pub intent : account.intent ≡ Some (intent_of bytes next.uid next.text)
+  pub intent : account.intent ≡ Some (entry_intent bytes next.uid next.text)
   pub part : List ℕ
   pub left : MayBeLeft (length bytes) (entry_of next.text) part
   pub file : account.file ≡ bytes ++ part
@@ -204,7 +204,7 @@ pub record IsMboxFront (base : Base) {done : List Message} {account : MboxMail} 
   pub first : List Message
   pub rest : List Message
   pub prefix : all ≡ (first ++ done) ++ rest
-  pub had : (id : List ℕ) → base.had id ≡ has_id (ids_of first) id
+  pub had : (id : List ℕ) → base.had id ≡ has_id (message_ids first) id
   pub next : (o : IsOpenFor base (base.start ++ entries_of done) account) → holds.stands ≡ inr o
       → (more : List Message) × (rest ≡ o.next ∷ more)
 

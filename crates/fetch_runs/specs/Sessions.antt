@@ -11,7 +11,7 @@ use Rattle.pop3_wire.specs.Body.{Body}
 use Rattle.pop3_wire.specs.Reply.{IsFirstLine}
 use Rattle.pop3_wire.specs.Reading.{WholeReply, body_bytes, reply_bytes, has_body, IsBodyIf, IsUidLine, IsScanLine}
 use Rattle.pop3_wire.specs.Reading.{HasListing, GivesCount}
-use Rattle.pop3_wire.specs.Honest.{Grants, Asked, BeginsNext, Honest, no_marks}
+use Rattle.pop3_wire.specs.Honest.{Grants, HasSent, BeginsNext, Honest, no_marks}
 use Rattle.pop3_wire.specs.Commands.{line_of}
 use Rattle.pop3_wire.specs.World.{Message}
 use Rattle.pop3_client.specs.Turns.{Turn}
@@ -29,14 +29,14 @@ use Rattle.fetch_session.specs.declared.fault.Why.TheVariants.{Refused}
 use Rattle.fetch_session.specs.declared.report.Outcome.{Outcome}
 use Rattle.fetch_session.specs.declared.report.Outcome.TheVariants.{Ended, Cut}
 use Rattle.fetch_session.specs.declared.report.Report.{Report}
-use Rattle.fetch_session.specs.Tail.{tail, turns_in}
+use Rattle.fetch_session.specs.Tail.{tail, turns_of_tail}
 use Rattle.fetch_runs.specs.Accounts.{AccountMail, listing_of, without_flags}
 use Rattle.fetch_rules.specs.Intents.{closed_rows}
 use Rattle.mail_store.specs.Mboxrd.{entry_of}
 use Rattle.fetch_session.specs.Target.{closed_file, is_stored, none_held}
 
 -- a whole and positive reply to the command
-pub record IsGood (command : Command) (reply : WholeReply) : Type 0 where
+pub record IsGoodReply (command : Command) (reply : WholeReply) : Type 0 where
   pub rest : List ℕ
   pub line : IsLine reply.first
   pub positive : IsFirstLine reply.first Positive rest
@@ -46,11 +46,11 @@ pub record IsGood (command : Command) (reply : WholeReply) : Type 0 where
 abbrev pub AreGood : List Command → List WholeReply → Type 0
 AreGood commands [] = Unit {0}
 AreGood [] (reply ∷ replies) = ⊥
-AreGood (command ∷ commands) (reply ∷ replies) = IsGood command reply × AreGood commands replies
+AreGood (command ∷ commands) (reply ∷ replies) = IsGoodReply command reply × AreGood commands replies
 
 -- these commands were sent whole, and what was got is a greeting, these replies to the first of them, and the rest
-pub record Talked (commands : List Command) (replies : List WholeReply) (sent got : List ℕ) : Type 0 where
-  pub asked : Asked commands sent
+pub record TalkedWith (commands : List Command) (replies : List WholeReply) (sent got : List ℕ) : Type 0 where
+  pub asked : HasSent commands sent
   pub hello : List ℕ
   pub line : IsLine hello
   pub good : AreGood commands replies
@@ -68,7 +68,7 @@ AreGranted drop marks (command ∷ commands) (reply ∷ replies) =
 abbrev pub HonestIsGranted : Type 0
 HonestIsGranted = (drop : List Message) (sent got : List ℕ) (marks : List Bool) (commands : List Command)
     (replies : List WholeReply)
-    → (honest : Honest drop sent got marks) → Talked commands replies sent got
+    → (honest : Honest drop sent got marks) → TalkedWith commands replies sent got
     → AreGranted drop (no_marks drop) commands replies
 
 -- the numbers and texts of the replies to RETR
@@ -134,7 +134,7 @@ IsUnsaved outcome = (outcome ≡ Cut SeenRefused) ⊎ (outcome ≡ Cut NoMemory)
 -- the turns that follow an outcome
 abbrev pub tail_behind : Outcome → List Turn
 tail_behind Ended = []
-tail_behind (Cut fault) = turns_in (tail fault)
+tail_behind (Cut fault) = turns_of_tail (tail fault)
 
 -- of these turns only the first were sent, which are these commands, and a prefix of the next one's line
 pub record SaysOnly (turns : List Turn) (commands : List Command) (part : List ℕ) : Type 0 where
@@ -164,7 +164,7 @@ pub record Leaves (before : AccountMail) (effect : Effect) (after : AccountMail)
 -- the listing was joined, and the first of the wanted messages were stored and recorded, as many as the report counts.
 -- One more text came, and its file may be there, only if the store refused it; one fewer is recorded only if the record
 -- wasn't saved; and it is the old one only if the session was cut and no command of the plan after LIST was begun
-pub record Stores (settings : Settings) (account : List ℕ) (before : AccountMail) (effect : Effect)
+pub record StoresTexts (settings : Settings) (account : List ℕ) (before : AccountMail) (effect : Effect)
     (after : AccountMail) (report : Report) (commands : List Command) (part : List ℕ) : Type 0 where
   -- how many of the wanted messages are held, and how many of these are recorded
   pub stored : ℕ
@@ -204,7 +204,7 @@ IsBegun listing begun (Dele number) = (item : Item) × (slice_get listing (numbe
 IsBegun listing begun _ = Unit {0}
 
 -- what was read in the replies: the listing, and the texts of the first of the wanted messages
-pub record Reads (wanted : List (ℕ × Item)) (commands : List Command) (sent got : List ℕ)
+pub record ReadsReplies (wanted : List (ℕ × Item)) (commands : List Command) (sent got : List ℕ)
     (effect : Effect) : Type 0 where
   pub name : List ℕ
   pub word : List ℕ
@@ -216,7 +216,7 @@ pub record Reads (wanted : List (ℕ × Item)) (commands : List Command) (sent g
   pub uidl : WholeReply
   pub list : WholeReply
   pub replies : List WholeReply
-  pub talked : Talked (User name ∷ Pass word ∷ Stat ∷ UidlAll ∷ ListAll ∷ more)
+  pub talked : TalkedWith (User name ∷ Pass word ∷ Stat ∷ UidlAll ∷ ListAll ∷ more)
       (user ∷ pass ∷ stat ∷ uidl ∷ list ∷ replies) sent got
   pub listed : IsListed stat uidl list effect.listing
   pub found : List (ℕ × List ℕ)
@@ -233,20 +233,21 @@ BeginsOne Is part = (part ≡ [])
 -- each command that was sent, the last perhaps in part, is of this kind
 pub record SendsOnly (Is : Command → Type 0) (sent : List ℕ) : Type 0 where
   pub commands : List Command
-  pub asked : Asked commands sent
+  pub asked : HasSent commands sent
   pub each : AllByRecursion Is commands
   pub next : BeginsOne Is asked.part
 
 -- a session by what its link gained: it changed nothing, or it read the replies and stored texts. If it ended, the
 -- report counts each RETR
-pub record Session (settings : Settings) (account : List ℕ) (before : AccountMail) (sent got : List ℕ) (report : Report)
+pub record SessionOverLink (settings : Settings) (account : List ℕ) (before : AccountMail)
+    (sent got : List ℕ) (report : Report)
     (effect : Effect) (after : AccountMail) : Type 0 where
   pub sends : SendsOnly (IsBegun effect.listing effect.begun) sent
   pub ended : (effect.ended ≡ true) ↔ (report.outcome ≡ Ended)
   pub retrieves : effect.ended ≡ true → report.retrieved ≡ count_by is_retr sends.commands
   pub step : (Leaves before effect after × (report.retrieved ≡ 0))
-      ⊎ (Stores settings account before effect after report sends.commands sends.asked.part
-      × Reads (wanted_at settings account before effect) sends.commands sent got effect)
+      ⊎ (StoresTexts settings account before effect after report sends.commands sends.asked.part
+      × ReadsReplies (wanted_at settings account before effect) sends.commands sent got effect)
 
 -- the id is that of a message that is marked
 abbrev pub IsMarked : List Message → List Bool → List ℕ → Type 0
@@ -292,12 +293,12 @@ abbrev pub entries_of : List Message → List ℕ
 entries_of ms = flat_map (λ (m : Message). entry_of m.text) ms
 
 -- the intent to append the entry of a text to these bytes
-abbrev pub intent_of : List ℕ → List ℕ → List ℕ → Intent
-intent_of bytes uid text = record { uid = uid; start = length bytes; len = length (entry_of text) }
+abbrev pub entry_intent : List ℕ → List ℕ → List ℕ → Intent
+entry_intent bytes uid text = record { uid = uid; start = length bytes; len = length (entry_of text) }
 
 -- the intent to append the entry of this text is open, and the file is these bytes and a prefix, or all, of the entry
 pub record IsOpen (bytes uid text : List ℕ) (account : MboxMail) : Type 0 where
-  pub intent : account.intent ≡ Some (intent_of bytes uid text)
+  pub intent : account.intent ≡ Some (entry_intent bytes uid text)
   pub front : List ℕ
   pub behind : List ℕ
   pub entry : entry_of text ≡ front ++ behind
@@ -351,11 +352,12 @@ pub record MboxStores (settings : Settings) (before : MboxMail) (effect : Effect
 
 -- a session by what its link gained: it asked for no message and left the account as it was, or its file cut
 -- back; or it settled the account, read the replies and appended texts
-pub record MboxSession (settings : Settings) (before : MboxMail) (sent got : List ℕ) (report : Report) (effect : Effect)
+pub record MboxSessionOverLink (settings : Settings) (before : MboxMail) (sent got : List ℕ)
+    (report : Report) (effect : Effect)
     (after : MboxMail) : Type 0 where
   pub sends : SendsOnly (IsBegun effect.listing effect.begun) sent
   pub ended : (effect.ended ≡ true) ↔ (report.outcome ≡ Ended)
   pub retrieves : effect.ended ≡ true → report.retrieved ≡ count_by is_retr sends.commands
   pub step : (MboxLeaves before effect after × AsksForNone sends.commands sends.asked.part × (report.retrieved ≡ 0))
       ⊎ (MboxStores settings before effect after report
-      × Reads (mbox_wanted settings before effect) sends.commands sent got effect)
+      × ReadsReplies (mbox_wanted settings before effect) sends.commands sent got effect)

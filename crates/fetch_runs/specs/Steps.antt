@@ -20,7 +20,8 @@ use Rattle.fetch_session.specs.Target.{AsEntries, AsFiles, mail_in}
 use Rattle.fetch_session.specs.declared.report.Outcome.TheVariants.{Ended}
 use Rattle.fetch_session.specs.declared.report.Report.{Report}
 use Rattle.fetch_runs.specs.Accounts.{AccountMail, listing_of, without_flags}
-use Rattle.fetch_runs.specs.Sessions.{Effect, Leaves, SendsOnly, Session, wanted_at, MboxLeaves, MboxMail, MboxSession}
+use Rattle.fetch_runs.specs.Sessions.{Effect, Leaves, SendsOnly, SessionOverLink, wanted_at, MboxLeaves, MboxMail}
+use Rattle.fetch_runs.specs.Sessions.{MboxSessionOverLink}
 use Rattle.fetch_runs.specs.Sessions.{entries_of, mbox_wanted, settled}
 
 abbrev pub IsAmong : {X : Type 0} → X → List X → Type 0
@@ -110,7 +111,8 @@ pub record IsStep (settings : Settings) (account : List ℕ) (now : ℕ) (link :
   pub got_is : link'.got ≡ link.got ++ got
   pub now_is : effect.now ≡ now
   pub keeps : KeepsRows after.file.content rows'
-  pub session : Session settings account (holds rows before.maildir) sent got report effect (holds rows' after.maildir)
+  pub session : SessionOverLink settings account (holds rows before.maildir) sent got report effect
+      (holds rows' after.maildir)
 
 -- a law: what `session_is_a_step` says in words
 abbrev pub SessionIsAStep : Type 0
@@ -146,7 +148,8 @@ pub record IsMboxStep (settings : Settings) (now : ℕ) (link : Link) (before : 
   pub got_is : link'.got ≡ link.got ++ got
   pub now_is : effect.now ≡ now
   pub keeps : Keeps after.file.content held'
-  pub session : MboxSession settings (mbox_holds held before.mbox) sent got report effect (mbox_holds held' after.mbox)
+  pub session : MboxSessionOverLink settings (mbox_holds held before.mbox) sent got report effect
+      (mbox_holds held' after.mbox)
 
 -- a text came for each wanted message, and the file stands for the texts of the settled file, followed by these, in
 -- order

@@ -1,5 +1,7 @@
 -- What parts of a session keep and do, one after the other, and QUIT at their end.
-use Rattle.std.proofs.Common.{rules, ◌≡◌, ◌≤◌, ◌+◌, ◌*◌, ℕ, Bool, true, false, List, [], ◌∷◌, ◌++◌, length, None, Result, Ok, Err, OnErr, OnOk, refl, sym, ap, subst, ◌∙◌, inl, arith, append_assoc, length-append, Vec, Global, Option, inr}
+use Rattle.std.proofs.Common.{rules, ◌≡◌, ◌≤◌, ◌+◌, ◌*◌, ℕ, Bool, true, false, List, [], ◌∷◌, ◌++◌, length, None}
+use Rattle.std.proofs.Common.{Result, Ok, Err, OnErr, OnOk, refl, sym, ap, subst, ◌∙◌, inl, arith, append_assoc}
+use Rattle.std.proofs.Common.{length-append, Vec, Global, Option, inr}
 use Rattle.std.proofs.lemmas.Grind.{flat_map-append}
 use Rattle.std.proofs.lemmas.Result.{on_ok_weaker}
 use Rattle.std.specs.List.{AllByRecursion}
@@ -12,7 +14,7 @@ use Rattle.fetch_rules.specs.Record.{Row, has_row, none_open, marked, marked_all
 use Rattle.fetch_rules.specs.declared.steps.Step.{Step}
 use Rattle.mail_terms.specs.FailureCount.{Tallies}
 use Rattle.pop3_client.specs.Client.{HasSameLink, link_of, place_of}
-use Rattle.pop3_client.specs.Conversation.{Broke, ConversationsArePaced, TurnsJoin, is_refusal, most_of}
+use Rattle.pop3_client.specs.Conversation.{Broke, ConversationsArePaced, TurnsJoin, is_link_refusal, most_of}
 use Rattle.pop3_client.specs.declared.fault.ClientFault.{ClientFault}
 use Rattle.fetch_session.specs.declared.fault.Fault.{Fault}
 use Rattle.pop3_client.specs.Turns.{Turn, line_limit, text_limit, quit}
@@ -26,24 +28,28 @@ use Rattle.fetch_session.specs.declared.work.Ledger.{Ledger}
 use Rattle.fetch_session.specs.declared.work.Work.{Work}
 use Rattle.fetch_session.specs.Fault.{cut_of, fault_of}
 use Rattle.fetch_session.specs.Refusal.{Took, TookTillCut, TookWithTail, step_limit, tail_limit}
-use Rattle.fetch_session.specs.Lasting.{AreLeft, CutLasts, DoesAndLasts, IsSafe, IsSafeStore, IsSafeWork, KeepsMboxIn, KeepsWork, Leaves}
-use Rattle.fetch_session.specs.Parts.{DoesTasks, RunsTasks, IsReadyFor, KeepsLedger, KeepsLink, KeepsStore, IsReady, IsWritten, WhereWorkSound, scene_of}
+use Rattle.fetch_session.specs.Lasting.{AreLeft, CutLasts, DoesAndLasts, IsSafeFile, IsSafeStore, IsSafeWork}
+use Rattle.fetch_session.specs.Lasting.{KeepsMboxIn, KeepsWork, LeavesFile}
+use Rattle.fetch_session.specs.Parts.{DoesTasks, RunsTasks, IsReadyFor, KeepsLedger, KeepsLink, KeepsStore}
+use Rattle.fetch_session.specs.Parts.{IsReadyForNext, IsWritten, WhereWorkSound, scene_of}
 use Rattle.fetch_session.specs.Record.{Steady}
-use Rattle.fetch_session.specs.Report.{Adds}
+use Rattle.fetch_session.specs.Report.{AddsLines}
 use Rattle.fetch_session.specs.Scene.{TakesTask, scene, Stops}
 use Rattle.fetch_session.specs.Store.{MayGain}
 use Rattle.fetch_session.specs.Tail.{tail}
 use Rattle.fetch_session.specs.Target.{Target, is_sound, kind_of, stores_of, target_of, Kind, Files, Entries, Stores, target}
-use Rattle.fetch_session.specs.Task.{Task, stores, ids_in, ids_ahead, turns_in, turns_ahead, AreFresh, fetching, deleting, tasks_in, tasks_planned, says}
+use Rattle.fetch_session.specs.Task.{Task, stores, ids_in, ids_ahead, turns_in, turns_ahead, AreFresh, fetching}
+use Rattle.fetch_session.specs.Task.{deleting, tasks_in, tasks_planned, says}
 use Rattle.fetch_session.proofs.ReadyLemmas.{fetched_all, OneMore, ahead, fresh_grows}
 use Rattle.fetch_session.proofs.TalkLemmas.{most_tail, takes_on, took_broke, took_less, took_nothing, with_tail_on, cut_by, till_cut}
-use Rattle.fetch_session.proofs.SessionLemmas.{good_before, good_more, in_kind, keeps_same, none_lasts, nothing_cut, rows_last, same_left, scene_at, texts_ok}
+use Rattle.fetch_session.proofs.SessionLemmas.{good_before, good_more, in_kind, keeps_same, none_lasts, nothing_cut}
+use Rattle.fetch_session.proofs.SessionLemmas.{rows_last, same_left, scene_at, texts_ok}
 use Rattle.mail_terms.proofs.ListLemmas.{all_append}
 use Rattle.fetch_session.proofs.SceneLemmas.{did_then, all_sound, all_none, all_weaker, fell_first, on_any}
 use Rattle.mail_store.specs.FlatFile.{Stored}
 use Rattle.mail_store.specs.declared.file.flat_file.Edges.{Edges}
 use Rattle.fetch_session.specs.declared.account.Store.{Store}
-use Rattle.fetch_session.specs.Mbox.{IsTold, LooksAgain}
+use Rattle.fetch_session.specs.Mbox.{IsToldOfMbox, LooksAgain}
 
 -- ---- parts
 
@@ -60,7 +66,8 @@ on_err (Ok done) p = tt
 on_err (Err fault) p = p
 
 -- a task was cut before its id was marked
-pub same_ledger : {F H Z : Type 0} {file : FileGhosts F} (uid : List ℕ) (ledger : Ledger F H Z) (cut : Cut) → IsWritten file ledger → KeepsLedger file uid ledger (Err cut) ledger
+pub same_ledger : {F H Z : Type 0} {file : FileGhosts F} (uid : List ℕ) (ledger : Ledger F H Z) (cut : Cut)
+    → IsWritten file ledger → KeepsLedger file uid ledger (Err cut) ledger
 same_ledger {file = file} uid ledger cut written = record {
   lines = (omega arith, omega arith);
   sound = λ f. f;
@@ -70,9 +77,12 @@ same_ledger {file = file} uid ledger cut written = record {
 }
 
 -- the line of a text was noted, and its id marked, unless that was refused
-pub marked_ledger : {F H Z : Type 0} {file : FileGhosts F} {uid : List ℕ} {old new : Ledger F H Z} {rows : List Row} (r : Result (Unit {0}) Cut)
-    → ((rows : List Row) (uid other : List ℕ) → has_row (marked rows uid) other ≡ has_row rows other) → rows ≡ old.seen.rows → Adds old.lines 1 new.lines → (file.sound new.file → file.sound old.file)
-    → OnOk r ((new.seen.rows ≡ marked rows uid) × IsWritten file new) → (file.sound new.file → IsSafe file old.file → Leaves file new.file (AreLeft rows (marked rows uid))) → KeepsLedger file uid old r new
+pub marked_ledger : {F H Z : Type 0} {file : FileGhosts F} {uid : List ℕ} {old new : Ledger F H Z} {rows : List Row}
+    (r : Result (Unit {0}) Cut)
+    → ((rows : List Row) (uid other : List ℕ) → has_row (marked rows uid) other ≡ has_row rows other)
+    → rows ≡ old.seen.rows → AddsLines old.lines 1 new.lines → (file.sound new.file → file.sound old.file)
+    → OnOk r ((new.seen.rows ≡ marked rows uid) × IsWritten file new) → (file.sound new.file → IsSafeFile file old.file
+    → LeavesFile file new.file (AreLeft rows (marked rows uid))) → KeepsLedger file uid old r new
 marked_ledger r law same lines sound marks left = record {
   lines = lines;
   sound = sound;
@@ -90,7 +100,9 @@ most_append (x ∷ xs) ys = omega (arith, most_append xs ys)
 most_ahead : (xs ys : List Task) → most_of (turns_ahead (xs ++ ys)) ≡ most_of (turns_ahead xs) + most_of (turns_ahead ys)
 most_ahead xs ys = ap most_of (flat_map-append turns_in xs ys) ∙ most_append (turns_ahead xs) (turns_ahead ys)
 
-most_step : (retrieve held delete : Bool) (number : ℕ) (uid : List ℕ) (size : ℕ) → let tasks = fetching retrieve held number uid size ++ deleting delete number in (most_of (turns_ahead tasks) ≤ step_limit) × (length tasks ≤ 2)
+most_step : (retrieve held delete : Bool) (number : ℕ) (uid : List ℕ) (size : ℕ)
+    → let tasks = fetching retrieve held number uid size ++ deleting delete number
+    in (most_of (turns_ahead tasks) ≤ step_limit) × (length tasks ≤ 2)
 most_step true true true number uid size = (omega arith, omega arith)
 most_step true true false number uid size = (omega arith, omega arith)
 most_step _ _ true number uid size = (omega arith, omega arith)
@@ -98,7 +110,8 @@ most_step _ _ _ number uid size = (omega arith, omega arith)
 
 -- the tasks of steps
 pub most_planned : (steps : List Step) (items : List Item) (held : List Bool)
-    → (most_of (turns_ahead (tasks_planned steps items held)) ≤ length items * step_limit) × (length (tasks_planned steps items held) ≤ 2 * length items)
+    → (most_of (turns_ahead (tasks_planned steps items held)) ≤ length items * step_limit)
+    × (length (tasks_planned steps items held) ≤ 2 * length items)
 most_planned (s ∷ ss) (i ∷ is) (h ∷ hs) =
     let first = tasks_in s i h in
     let later = tasks_planned ss is hs in
@@ -108,10 +121,13 @@ most_planned (s ∷ ss) (i ∷ is) (h ∷ hs) =
 most_planned _ _ _ = (omega arith, omega arith)
 
 -- what holds of each listed id holds of each that will be marked
-pub planned_all : (P : List ℕ → Type 0) (steps : List Step) (items : List Item) (held : List Bool) → AllByRecursion (λ (item : Item). P item.uid) items
+pub planned_all : (P : List ℕ → Type 0) (steps : List Step) (items : List Item) (held : List Bool)
+    → AllByRecursion (λ (item : Item). P item.uid) items
     → AllByRecursion P (ids_ahead (tasks_planned steps items held))
 planned_all P (s ∷ ss) (i ∷ is) (h ∷ hs) all =
-    rw (ahead s i h (tasks_planned ss is hs)) (all_append P (ids_ahead (fetching s.retrieve h s.number i.uid i.size)) (ids_ahead (tasks_planned ss is hs)) (fetched_all P s.retrieve h s.number i.uid i.size (λ _. all.0)) (planned_all P ss is hs all.1))
+    rw (ahead s i h (tasks_planned ss is hs)) (all_append P (ids_ahead (fetching s.retrieve h s.number i.uid i.size))
+    (ids_ahead (tasks_planned ss is hs)) (fetched_all P s.retrieve h s.number i.uid i.size (λ _. all.0))
+    (planned_all P ss is hs all.1))
 planned_all P _ _ _ all = tt
 
 -- ---- the first of these tasks
@@ -120,11 +136,13 @@ all_front : {A : Type 0} (P : A → Type 0) (xs ys : List A) → AllByRecursion 
 all_front P [] ys all = tt
 all_front P (x ∷ xs) ys all = (all.0, all_front P xs ys all.1)
 
-fresh_front : (account : List ℕ) (maildir : Maildir) (xs ys : List (List ℕ)) → AreFresh account maildir (xs ++ ys) → AreFresh account maildir xs
+fresh_front : (account : List ℕ) (maildir : Maildir) (xs ys : List (List ℕ)) → AreFresh account maildir (xs ++ ys)
+    → AreFresh account maildir xs
 fresh_front account maildir [] ys fresh = tt
 fresh_front account maildir (x ∷ xs) ys fresh = (fresh.0, fresh.1, all_front _ xs ys fresh.2, fresh_front account maildir xs ys fresh.3)
 
-pub ready_front : {D F H Z : Type 0} {disk : DiskGhosts D} {file : FileGhosts F} {account : List ℕ} {work : Work D F H Z} (xs ys : List Task)
+pub ready_front : {D F H Z : Type 0} {disk : DiskGhosts D} {file : FileGhosts F} {account : List ℕ}
+    {work : Work D F H Z} (xs ys : List Task)
     → IsReadyFor disk file account (xs ++ ys) work → IsReadyFor disk file account xs work
 ready_front {D} {F} {H} {Z} {disk} {file} {account} {work} xs ys ready =
     let split = flat_map-append ids_in xs ys in
@@ -142,45 +160,64 @@ ready_front {D} {F} {H} {Z} {disk} {file} {account} {work} xs ys ready =
 
 module _ {W : Type 0} {link : WireGhosts W} where
   -- a part, and then another
-  link_then : {First Then All : Place → Result (Unit {0}) Cut → Place → Type 0} {a b c : Client W} {r : Result (Unit {0}) Cut} → KeepsLink link First a (Ok tt) b → KeepsLink link Then b r c
-      → (First (place_of link a) (Ok tt) (place_of link b) → Then (place_of link b) r (place_of link c) → All (place_of link a) r (place_of link c)) → KeepsLink link All a r c
+  link_then : {First Then All : Place → Result (Unit {0}) Cut → Place
+      → Type 0} {a b c : Client W} {r : Result (Unit {0}) Cut} → KeepsLink link First a (Ok tt) b
+      → KeepsLink link Then b r c
+      → (First (place_of link a) (Ok tt) (place_of link b) → Then (place_of link b) r (place_of link c)
+      → All (place_of link a) r (place_of link c)) → KeepsLink link All a r c
   link_then {a = a} {b} {c} {r} first then both = record {
     same = then.same ∙ first.same;
     counted = till_cut (link_of link a) (link_of link b) (link_of link c) r first.counted then.counted;
     took = λ s. let later = then.took s in let before = first.took later.0 in (before.0, both before.1 later.1);
   }
 
-  link_on : {m n : ℕ} (limit : ℕ) {a b c : Client W} {r : Result (Unit {0}) Cut} → m + n ≤ limit → KeepsLink link (TookTillCut m) a (Ok tt) b
+  link_on : {m n : ℕ} (limit : ℕ) {a b c : Client W} {r : Result (Unit {0}) Cut} → m + n ≤ limit
+      → KeepsLink link (TookTillCut m) a (Ok tt) b
       → KeepsLink link (TookTillCut n) b r c → KeepsLink link (TookTillCut limit) a r c
   link_on {m} {n} limit {r = r} less first then = link_then first then (takes_on limit m n _ _ _ r less)
 
   -- the same, with what is said after a fault
-  pub link_on_tail : {m n limit : ℕ} {a b c : Client W} {r : Result (Unit {0}) Cut} → m + n ≤ limit → KeepsLink link (TookTillCut m) a (Ok tt) b
+  pub link_on_tail : {m n limit : ℕ} {a b c : Client W} {r : Result (Unit {0}) Cut} → m + n ≤ limit
+      → KeepsLink link (TookTillCut m) a (Ok tt) b
       → KeepsLink link (TookWithTail n) b r c → KeepsLink link (TookWithTail limit) a r c
   link_on_tail {m} {n} {limit} {r = r} less first then = link_then first then (with_tail_on limit m n _ _ _ r less)
 
   pub link_still : {c : Client W} → KeepsLink link (TookTillCut 0) c (Ok tt) c
   link_still = record { same = refl; counted = refl; took = λ s. (s, took_nothing) }
 
-  pub link_less : {m : ℕ} (limit : ℕ) {a b : Client W} {r : Result (Unit {0}) Cut} → m ≤ limit → KeepsLink link (TookTillCut m) a r b → KeepsLink link (TookTillCut limit) a r b
+  pub link_less : {m : ℕ} (limit : ℕ) {a b : Client W} {r : Result (Unit {0}) Cut} → m ≤ limit
+      → KeepsLink link (TookTillCut m) a r b → KeepsLink link (TookTillCut limit) a r b
   link_less limit less kept = link_on limit (omega (arith, less)) link_still kept
 
   -- with what is said after the fault
-  pub link_with_tail : {limit : ℕ} {a b : Client W} {cut : Cut} → KeepsLink link (TookTillCut limit) a (Err cut) b → KeepsLink link (TookWithTail (limit + tail_limit)) a (Err cut) b
+  pub link_with_tail : {limit : ℕ} {a b : Client W} {cut : Cut} → KeepsLink link (TookTillCut limit) a (Err cut) b
+      → KeepsLink link (TookWithTail (limit + tail_limit)) a (Err cut) b
   link_with_tail {limit} {a} {b} {cut} kept =
-      record { same = kept.same; counted = kept.counted; took = λ s. ((kept.took s).0, (limit, (kept.took s).1, omega (arith, most_tail (tail cut.fault)))) }
+      record {
+        same = kept.same;
+        counted = kept.counted;
+        took =
+            λ s. ((kept.took s).0, (limit, (kept.took s).1, omega (arith, most_tail (tail cut.fault))));
+      }
 
-  pub link_cut : (fault : ClientFault) {limit : ℕ} {a b : Client W} → HasSameLink a b → Tallies (is_refusal fault) (link_of link a).failures (link_of link b).failures
-      → (link.sound b.wire.now → link.sound a.wire.now × Took limit (place_of link a) (place_of link b)) → KeepsLink link (TookTillCut limit) a (Err (cut_of (fault_of fault) None)) b
-  link_cut fault {a = a} {b} same counts took = record { same = same; counted = cut_by fault (link_of link a) (link_of link b) counts; took = took }
+  pub link_cut : (fault : ClientFault) {limit : ℕ} {a b : Client W} → HasSameLink a b
+      → Tallies (is_link_refusal fault) (link_of link a).failures (link_of link b).failures
+      → (link.sound b.wire.now → link.sound a.wire.now × Took limit (place_of link a) (place_of link b))
+      → KeepsLink link (TookTillCut limit) a (Err (cut_of (fault_of fault) None)) b
+  link_cut fault {a = a} {b} same counts took =
+      record { same = same; counted = cut_by fault (link_of link a) (link_of link b) counts; took = took }
 
   pub link_broke : ConversationsArePaced → (turn : Turn) (fault : ClientFault) {a b : Client W} → HasSameLink a b
-      → Tallies (is_refusal fault) (link_of link a).failures (link_of link b).failures → WhereSound link.sound link.leads_to a.wire.now b.wire.now (Broke turn (place_of link a) (place_of link b) fault)
+      → Tallies (is_link_refusal fault) (link_of link a).failures (link_of link b).failures
+      → WhereSound link.sound link.leads_to a.wire.now b.wire.now
+      (Broke turn (place_of link a) (place_of link b) fault)
       → KeepsLink link (TookTillCut (most_of (turn ∷ []))) a (Err (cut_of (fault_of fault) None)) b
-  link_broke paced turn fault same counts broke = link_cut fault same counts (λ s. let all = broke s in (all.0, took_broke paced turn _ _ fault all.2))
+  link_broke paced turn fault same counts broke = link_cut fault same counts (λ s. let all = broke s
+      in (all.0, took_broke paced turn _ _ fault all.2))
 
   -- all went well with the link, and something else failed
-  pub link_then_cut : {fault : Fault} {limit : ℕ} {a b : Client W} → KeepsLink link (TookTillCut limit) a (Ok tt) b → KeepsLink link (TookTillCut limit) a (Err (cut_of fault None)) b
+  pub link_then_cut : {fault : Fault} {limit : ℕ} {a b : Client W} → KeepsLink link (TookTillCut limit) a (Ok tt) b
+      → KeepsLink link (TookTillCut limit) a (Err (cut_of fault None)) b
   link_then_cut kept = record { same = kept.same; counted = inl kept.counted; took = kept.took }
 
   -- no call was made
@@ -190,7 +227,8 @@ module _ {W : Type 0} {link : WireGhosts W} where
 -- ---- the store
 
 module _ {D F H Z : Type 0} {disk : DiskGhosts D} {file : FileGhosts F} where
-  pub store_on : {m n limit : ℕ} {a b c : Work D F H Z} → m + n ≤ limit → KeepsStore disk file m a b → KeepsStore disk file n b c → KeepsStore disk file limit a c
+  pub store_on : {m n limit : ℕ} {a b c : Work D F H Z} → m + n ≤ limit → KeepsStore disk file m a b
+      → KeepsStore disk file n b c → KeepsStore disk file limit a c
   store_on less first then = record {
     lines = (omega (arith, first.lines.0, then.lines.0, less), omega (arith, first.lines.1, then.lines.1));
     kind = then.kind ∙ first.kind;
@@ -198,7 +236,12 @@ module _ {D F H Z : Type 0} {disk : DiskGhosts D} {file : FileGhosts F} where
   }
 
   pub store_less : {m limit : ℕ} {a b : Work D F H Z} → m ≤ limit → KeepsStore disk file m a b → KeepsStore disk file limit a b
-  store_less less kept = record { lines = (omega (arith, kept.lines.0, less), kept.lines.1); kind = kept.kind; none_begun = kept.none_begun }
+  store_less less kept = record {
+    lines = (omega (arith, kept.lines.0, less), kept.lines.1);
+    kind =
+        kept.kind;
+    none_begun = kept.none_begun;
+  }
 
 -- ---- parts one after the other
 
@@ -207,7 +250,8 @@ none_both [] ys none = (refl, none)
 none_both (x ∷ xs) ys none = absurd cc
 
 module _ {W D F H Z : Type 0} {link : WireGhosts W} {disk : DiskGhosts D} {file : FileGhosts F} {account : List ℕ} where
-  pub runs_nothing : ((w : W) → link.leads_to w w) → {c : Client W} {w : Work D F H Z} → IsReady disk file w → RunsTasks link disk file account [] c w (Ok tt) c w
+  pub runs_nothing : ((w : W) → link.leads_to w w) → {c : Client W} {w : Work D F H Z} → IsReadyForNext disk file w
+      → RunsTasks link disk file account [] c w (Ok tt) c w
   unfolding all_none
   runs_nothing same {c} {w} ready = (
     record {
@@ -224,13 +268,16 @@ module _ {W D F H Z : Type 0} {link : WireGhosts W} {disk : DiskGhosts D} {file 
       same _,
       record {
         does = all_none (target_of w.store account) _;
-        lasts = λ safe. let steady = ready.written.steady f in none_lasts disk file (target_of w.store account) (place_of link c) w w [] safe (keeps_same file w) steady (same_left file w.ledger.file safe.0 steady);
+        lasts = λ safe. let steady = ready.written.steady f in none_lasts disk file (target_of w.store account)
+            (place_of link c) w w [] safe (keeps_same file w) steady (same_left file w.ledger.file safe.0 steady);
       },
     ),
   )
 
-  pub goes_on : TurnsJoin → ((u v w : W) → link.leads_to u v → link.leads_to v w → link.leads_to u w) → (xs ys : List Task) {c c' c'' : Client W} {w w' w'' : Work D F H Z} (r : Result (Unit {0}) Cut)
-      → RunsTasks link disk file account xs c w (Ok tt) c' w' → RunsTasks link disk file account ys c' w' r c'' w'' → RunsTasks link disk file account (xs ++ ys) c w r c'' w''
+  pub goes_on : TurnsJoin → ((u v w : W) → link.leads_to u v → link.leads_to v w → link.leads_to u w)
+      → (xs ys : List Task) {c c' c'' : Client W} {w w' w'' : Work D F H Z} (r : Result (Unit {0}) Cut)
+      → RunsTasks link disk file account xs c w (Ok tt) c' w' → RunsTasks link disk file account ys c' w' r c'' w''
+      → RunsTasks link disk file account (xs ++ ys) c w r c'' w''
   goes_on joining on xs ys {w = w} {w'} r (first, did) (then, does) = (
     record {
       talk = link_on (most_of (turns_ahead (xs ++ ys))) (omega (arith, most_ahead xs ys)) first.talk then.talk;
@@ -239,7 +286,8 @@ module _ {W D F H Z : Type 0} {link : WireGhosts W} {disk : DiskGhosts D} {file 
           let later = then.lasts d f in
           let before = first.lasts (then.store.none_begun d).0 later.0 in
           (before.0, λ safe. later.1 (before.1 safe));
-      idle = λ none. let both = none_both (ids_ahead xs) (ids_ahead ys) (sym (flat_map-append ids_in xs ys) ∙ none) in then.idle both.1 ∙ first.idle both.0;
+      idle = λ none. let both = none_both (ids_ahead xs) (ids_ahead ys) (sym (flat_map-append ids_in xs ys) ∙ none)
+          in then.idle both.1 ∙ first.idle both.0;
       next = on_ok_weaker r (λ next later ready. next later (first.next (ys ++ later) (rw append_assoc at ready))) then.next;
     },
     λ s d f.
@@ -253,7 +301,9 @@ module _ {W D F H Z : Type 0} {link : WireGhosts W} {disk : DiskGhosts D} {file 
         ),
   )
 
-  pub runs_before : (xs ys : List Task) {c c' : Client W} {w w' : Work D F H Z} {cut : Cut} → RunsTasks link disk file account xs c w (Err cut) c' w' → RunsTasks link disk file account (xs ++ ys) c w (Err cut) c' w'
+  pub runs_before : (xs ys : List Task) {c c' : Client W} {w w' : Work D F H Z} {cut : Cut}
+      → RunsTasks link disk file account xs c w (Err cut) c' w'
+      → RunsTasks link disk file account (xs ++ ys) c w (Err cut) c' w'
   runs_before xs ys (kept, did) = (
     record {
       talk = link_on (most_of (turns_ahead (xs ++ ys))) (omega (arith, most_ahead xs ys)) link_still kept.talk;
@@ -268,20 +318,24 @@ module _ {W D F H Z : Type 0} {link : WireGhosts W} {disk : DiskGhosts D} {file 
 -- ---- one task
 
 -- what a task did, and what of it outlives a loss of power
-pub good_task : {D F H Z : Type 0} (disk : DiskGhosts D) {file : FileGhosts F} (target : Target) (task : Task) (a b : Place) (old new : Work D F H Z) (r : Result (Unit {0}) Cut) → TakesTask target task (scene_at disk file a old) r (scene_at disk file b new)
+pub good_task : {D F H Z : Type 0} (disk : DiskGhosts D) {file : FileGhosts F} (target : Target) (task : Task)
+    (a b : Place) (old new : Work D F H Z) (r : Result (Unit {0}) Cut)
+    → TakesTask target task (scene_at disk file a old) r (scene_at disk file b new)
     → KeepsWork file old new → Steady (file.stored old.ledger.file).content (none_open old.ledger.seen.rows)
     → OnOk r (Steady (file.stored new.ledger.file).content (none_open new.ledger.seen.rows))
     → (IsSafeWork file old → OnOk r (IsSafeWork file new))
-    → (IsSafeWork file old → Leaves file new.ledger.file (AreLeft old.ledger.seen.rows (marked_all old.ledger.seen.rows (ids_in task))))
+    → (IsSafeWork file old → LeavesFile file new.ledger.file (AreLeft old.ledger.seen.rows (marked_all old.ledger.seen.rows (ids_in task))))
     → (IsSafeWork file old → OnErr r (CutLasts file target (scene_at disk file a old) (scene_at disk file b new) new.ledger.file))
-    → DoesAndLasts file (IsSafeWork file old) target (task ∷ []) (scene_at disk file a old) r (scene_at disk file b new) new.store new.ledger.file
+    → DoesAndLasts file (IsSafeWork file old) target (task ∷ []) (scene_at disk file a old) r (scene_at disk file b new)
+    new.store new.ledger.file
 unfolding fell_first
 good_task disk {file} target task a b old new (Ok done) took keeps steady written lasts left next = record {
   does = record { dones = record { task = task; replies = took.0 } ∷ []; all = refl; went = took.1 };
   lasts = λ safe. record {
     texts = texts_ok disk file target (record { task = task; replies = took.0 } ∷ []) old.store new.store took.1.stored (lasts safe).1;
     rows = rw took.1.rows at (rows_last file new.ledger.file new.ledger.seen.rows (lasts safe).0 written);
-    left = subst (λ rows. Leaves file new.ledger.file (AreLeft rows rows)) took.1.rows (same_left file new.ledger.file (lasts safe).0 written);
+    left = subst (λ rows. LeavesFile file new.ledger.file (AreLeft rows rows)) took.1.rows
+        (same_left file new.ledger.file (lasts safe).0 written);
   };
 }
 good_task disk {file} target task a b old new (Err cut) took keeps steady written lasts left next = record {
@@ -291,9 +345,12 @@ good_task disk {file} target task a b old new (Err cut) took keeps steady writte
 
 module _ {D F H Z : Type 0} {disk : DiskGhosts D} {file : FileGhosts F} where
   -- a text that is stored
-  pub runs_taking : {W : Type 0} {link : WireGhosts W} {account : List ℕ} → OneMore → (number : ℕ) (uid : List ℕ) {c c' : Client W} {w w' : Work D F H Z} (r : Result (Unit {0}) Cut)
-      → IsWritten file w.ledger → KeepsLink link (TookTillCut (line_limit + text_limit)) c r c' → KeepsLedger file uid w.ledger r w'.ledger → kind_of w'.store ≡ kind_of w.store
-      → (is_sound disk file w'.store → is_sound disk file w.store × MayGain (stem_of account uid) (stores_of disk file w.store).maildir (stores_of disk file w'.store).maildir
+  pub runs_taking : {W : Type 0} {link : WireGhosts W} {account : List ℕ} → OneMore
+      → (number : ℕ) (uid : List ℕ) {c c' : Client W} {w w' : Work D F H Z} (r : Result (Unit {0}) Cut)
+      → IsWritten file w.ledger → KeepsLink link (TookTillCut (line_limit + text_limit)) c r c'
+      → KeepsLedger file uid w.ledger r w'.ledger → kind_of w'.store ≡ kind_of w.store
+      → (is_sound disk file w'.store → is_sound disk file w.store
+      × MayGain (stem_of account uid) (stores_of disk file w.store).maildir (stores_of disk file w'.store).maildir
       × OnOk r (AllNamed (stores_of disk file w'.store).maildir.files))
       → WhereWorkSound link disk file c w c' w' (λ old new. TakesTask (target_of w.store account) (stores number uid) old r new)
       → (is_sound disk file w'.store → file.sound w'.ledger.file → KeepsWork file w w' × (IsSafeWork file w → OnOk r (IsSafeWork file w')
@@ -310,36 +367,49 @@ module _ {D F H Z : Type 0} {disk : DiskGhosts D} {file : FileGhosts F} where
         room = omega (arith, before.room, ledger.lines.0, ledger.lines.1);
         ready = record { none_begun = λ d. (grows d).1.none_begun; written = written };
         legal = before.legal.1;
-        rows = all_weaker (λ (id : List ℕ). has_row w.ledger.seen.rows id ≡ true) (λ (id : List ℕ). has_row w'.ledger.seen.rows id ≡ true) (ids_ahead later) rows before.rows.1;
+        rows = all_weaker (λ (id : List ℕ). has_row w.ledger.seen.rows id ≡ true)
+            (λ (id : List ℕ). has_row w'.ledger.seen.rows id ≡ true) (ids_ahead later) rows before.rows.1;
         free = λ d.
             let grew = grows d in
             let fresh = before.free grew.0 in
-            fresh_grows law account uid (ids_ahead later) (stores_of disk file w.store).maildir (stores_of disk file w'.store).maildir before.digits fresh.0 fresh.2 grew.1 fresh.3;
+            fresh_grows law account uid (ids_ahead later) (stores_of disk file w.store).maildir
+            (stores_of disk file w'.store).maildir before.digits fresh.0 fresh.2 grew.1 fresh.3;
         named = λ d. all_weaker _ _ (ids_ahead later) (λ id was. named d) (before.named (grows d).0).1;
-      }) ledger.written (on_both r (λ rows named. (rows, named)) ledger.rows (on_under (AllNamed (stores_of disk file w'.store).maildir.files) r (λ d. (grows d).2)));
+      }) ledger.written (on_both r (λ rows named. (rows, named)) ledger.rows
+          (on_under (AllNamed (stores_of disk file w'.store).maildir.files) r (λ d. (grows d).2)));
     },
-    λ s d f. did_then (takes s d f) (λ took. good_task disk (target_of w.store account) (stores number uid) (place_of link c) (place_of link c') w w' r took (lasts d f).0
-        (written.steady (ledger.sound f)) (on_ok_weaker r (λ is. is.steady f) ledger.written) (λ safe. ((lasts d f).1 safe).0) (λ safe. ledger.left f safe.0) (λ safe. ((lasts d f).1 safe).1)),
+    λ s d f. did_then (takes s d f) (λ took. good_task disk (target_of w.store account) (stores number uid)
+        (place_of link c) (place_of link c') w w' r took (lasts d f).0
+        (written.steady (ledger.sound f)) (on_ok_weaker r (λ is. is.steady f) ledger.written)
+        (λ safe. ((lasts d f).1 safe).0) (λ safe. ledger.left f safe.0) (λ safe. ((lasts d f).1 safe).1)),
   )
 
   -- a task that stores nothing
-  pub does_talking : {W : Type 0} (link : WireGhosts W) (account : List ℕ) (task : Task) (client client' : Client W) (work : Work D F H Z) (lines : Vec ReportLine Global) (r : Result (Unit {0}) Cut)
+  pub does_talking : {W : Type 0} (link : WireGhosts W) (account : List ℕ) (task : Task) (client client' : Client W)
+      (work : Work D F H Z) (lines : Vec ReportLine Global) (r : Result (Unit {0}) Cut)
       → WhereSound link.sound link.leads_to client.wire.now client'.wire.now
-      (TakesTask (target_of work.store account) task (scene_at disk file (place_of link client) work) r (scene_at disk file (place_of link client') (record work { ledger = record work.ledger { lines = lines } })))
-      → IsReady disk file work → DoesTasks link disk file account (task ∷ []) client work r client' (record work { ledger = record work.ledger { lines = lines } })
+      (TakesTask (target_of work.store account) task (scene_at disk file (place_of link client) work) r
+      (scene_at disk file (place_of link client') (record work { ledger = record work.ledger { lines = lines } })))
+      → IsReadyForNext disk file work
+      → DoesTasks link disk file account (task ∷ []) client work r client'
+      (record work { ledger = record work.ledger { lines = lines } })
   does_talking link account task client client' work lines r talked ready = all_sound talked (λ d. (d, tt {0})) (λ f. (f, f)) (λ took _ f.
       let steady = ready.written.steady f in
-      good_task disk (target_of work.store account) task (place_of link client) (place_of link client') work (record work { ledger = record work.ledger { lines = lines } }) r took
+      good_task disk (target_of work.store account) task (place_of link client) (place_of link client') work
+      (record work { ledger = record work.ledger { lines = lines } }) r took
       (keeps_same file work) steady (on_any r steady) (λ safe. on_any r safe) (λ safe. same_left file work.ledger.file safe.0 steady)
-      (λ safe. on_err r (nothing_cut file (target_of work.store account) _ _ work.ledger.file (same_left file work.ledger.file safe.0 steady))))
+      (λ safe. on_err r (nothing_cut file (target_of work.store account) _ _ work.ledger.file
+      (same_left file work.ledger.file safe.0 steady))))
 
 -- ---- what the look left
 
-pub look_told : (kind : Kind) (lines : List ReportLine) (old new : Stores) (told : Option Edges) → LooksAgain kind lines old (Ok told) new → IsTold kind lines old told × (new ≡ old)
+pub look_told : (kind : Kind) (lines : List ReportLine) (old new : Stores) (told : Option Edges)
+    → LooksAgain kind lines old (Ok told) new → IsToldOfMbox kind lines old told × (new ≡ old)
 look_told Files lines old new told is = (tt, is)
 look_told Entries lines old new told is = is
 
-pub look_maildir : (kind : Kind) (lines : List ReportLine) (old : Stores) (r : Result (Option Edges) Fault) (new : Stores) → LooksAgain kind lines old r new
+pub look_maildir : (kind : Kind) (lines : List ReportLine) (old : Stores) (r : Result (Option Edges) Fault)
+    (new : Stores) → LooksAgain kind lines old r new
     → new.maildir ≡ old.maildir
 look_maildir Files lines old (Ok told) new is = ap (λ (s : Stores). s.maildir) is
 look_maildir Files lines old (Err fault) new never = absurd never
@@ -347,7 +417,8 @@ look_maildir Entries lines old (Ok told) new is = ap (λ (s : Stores). s.maildir
 look_maildir Entries lines old (Err fault) new is = is.2
 
 -- the store refused, and QUIT wasn't said
-pub not_left : (kind : Kind) (account : List ℕ) {a : Place} {old new : Stores} {file : Stored} {rows : List Row} {lines seen : List ReportLine} (fault : Fault)
+pub not_left : (kind : Kind) (account : List ℕ) {a : Place} {old new : Stores} {file : Stored} {rows : List Row}
+    {lines seen : List ReportLine} (fault : Fault)
     → seen ≡ lines → LooksAgain kind seen old (Err fault) new
     → Stops (target kind account) (says quit) (scene a old file rows lines) (cut_of fault None) (scene a new file rows lines)
 not_left Files account fault same never = absurd never
@@ -358,12 +429,14 @@ not_left Entries account fault same (deleted, refuses, maildir) =
 
 -- the store was looked at, and its Maildir is as it was
 pub record Looked {D F H Z : Type 0} (disk : DiskGhosts D) (file : FileGhosts F) (work : Work D F H Z) (store : Store D F) : Type 0 where
-  pub ready : IsReady disk file work
+  pub ready : IsReadyForNext disk file work
   pub kind : kind_of store ≡ kind_of work.store
-  pub same : is_sound disk file store → is_sound disk file work.store × ((stores_of disk file store).maildir ≡ (stores_of disk file work.store).maildir)
+  pub same : is_sound disk file store → is_sound disk file work.store
+      × ((stores_of disk file store).maildir ≡ (stores_of disk file work.store).maildir)
   pub keeps : is_sound disk file store → KeepsMboxIn file work.store store
 
-module _ {D F H Z : Type 0} {disk : DiskGhosts D} {file : FileGhosts F} {work : Work D F H Z} {store : Store D F} (is : Looked disk file work store) where
+module _ {D F H Z : Type 0} {disk : DiskGhosts D} {file : FileGhosts F} {work : Work D F H Z} {store : Store D F}
+    (is : Looked disk file work store) where
   abbrev pub left : Work D F H Z
   left = record work { store = store }
 
@@ -374,10 +447,12 @@ module _ {D F H Z : Type 0} {disk : DiskGhosts D} {file : FileGhosts F} {work : 
     none_begun = λ d. ((is.same d).0, ap (λ (m : Maildir). m.begun) (is.same d).1 ∙ is.ready.none_begun (is.same d).0);
   }
 
-  pub runs_quitting : {W : Type 0} {link : WireGhosts W} {c c' : Client W} {r : Result (Unit {0}) Cut} (account : List ℕ) → KeepsLink link (TookTillCut line_limit) c r c'
+  pub runs_quitting : {W : Type 0} {link : WireGhosts W} {c c' : Client W} {r : Result (Unit {0}) Cut}
+      (account : List ℕ) → KeepsLink link (TookTillCut line_limit) c r c'
       → (is_sound disk file store → IsSafeStore file work.store → OnOk r (IsSafeStore file store))
       → (is_sound disk file store → WhereSound link.sound link.leads_to c.wire.now c'.wire.now
-      (TakesTask (target_of work.store account) (says quit) (scene_at disk file (place_of link c) work) r (scene_at disk file (place_of link c') left)))
+      (TakesTask (target_of work.store account) (says quit) (scene_at disk file (place_of link c) work) r
+      (scene_at disk file (place_of link c') left)))
       → RunsTasks link disk file account (says quit ∷ []) c work r c' left
   runs_quitting {r = r} account talk safe took = (
     record {
@@ -402,9 +477,11 @@ module _ {D F H Z : Type 0} {disk : DiskGhosts D} {file : FileGhosts F} {work : 
           (is.same d).0,
           f,
           all.1,
-          good_task disk (target_of work.store account) (says quit) _ _ work left r all.2 (is.keeps d, λ last. last) steady (on_any r steady)
+          good_task disk (target_of work.store account) (says quit) _ _ work left r all.2 (is.keeps d, λ last. last)
+              steady (on_any r steady)
               (λ sure. on_ok_weaker r (λ s. (sure.0, s)) (safe d sure.1))
               (λ sure. same_left file work.ledger.file sure.0 steady)
-              (λ sure. on_err r (nothing_cut file (target_of work.store account) _ _ work.ledger.file (same_left file work.ledger.file sure.0 steady))),
+              (λ sure. on_err r (nothing_cut file (target_of work.store account) _ _ work.ledger.file
+              (same_left file work.ledger.file sure.0 steady))),
         ),
   )

@@ -1,5 +1,7 @@
 -- What is planned and which ids stay fresh, what a session has ready, or why it isn't ready, and what of it outlives a loss of power.
-use Rattle.std.proofs.Common.{◌≡◌, ◌≢◌, ◌&&◌, Some, inl, inr, ◌<◌, ◌+◌, ℕ, suc, Bool, true, false, List, [], ◌∷◌, ◌++◌, drop, get_or, length, refl, sym, ap, ◌∙◌, arith, append_assoc, ◌⊎◌, ◌||◌, bytes_eq, drop-cons, map, take, Option, Ok, subst, HoldsAt, Result, Err, All, IfOk, ⊎_elim, None}
+use Rattle.std.proofs.Common.{◌≡◌, ◌≢◌, ◌&&◌, Some, inl, inr, ◌<◌, ◌+◌, ℕ, suc, Bool, true, false, List, [], ◌∷◌, ◌++◌}
+use Rattle.std.proofs.Common.{drop, get_or, length, refl, sym, ap, ◌∙◌, arith, append_assoc, ◌⊎◌, ◌||◌, bytes_eq}
+use Rattle.std.proofs.Common.{drop-cons, map, take, Option, Ok, subst, HoldsAt, Result, Err, All, IfOk, ⊎_elim, None}
 use Rattle.std.specs.List.{AllByRecursion}
 use Rattle.std.proofs.lemmas.Bool.{cases_Bool, false_from_ne_true, not-true, true≢false, or_parts}
 use Rattle.std.proofs.lemmas.Grind.{flat_map-append}
@@ -18,7 +20,9 @@ use Rattle.mail_store.specs.declared.maildir.disk.MaildirDisk.{Ghosts as DiskGho
 use Rattle.mail_store.specs.declared.file.flat_file.FlatFile.{Ghosts as FileGhosts}
 use Rattle.fetch_session.specs.declared.account.Store.{Store}
 use Rattle.fetch_session.specs.declared.account.Store.TheVariants.{Maildir as InMaildir, Mboxrd as InMbox}
-use Rattle.fetch_session.specs.Target.{flags_in, stores_of, target_of, Stores, in_maildir, kind_of, with_maildir, AfterTakingIn, AsFiles, Target, AsEntries, closed_file, rows_in, Kind, Files, Entries, in_mbox}
+use Rattle.fetch_session.specs.Target.{held_flags, stores_of, target_of, Stores, in_maildir, kind_of, with_maildir}
+use Rattle.fetch_session.specs.Target.{AfterTakingIn, AsFiles, Target, AsEntries, closed_file, closed_rows_in, Kind}
+use Rattle.fetch_session.specs.Target.{Files, Entries, in_mbox}
 use Rattle.mail_store.specs.Held.{flags_asked, flags_of, flags_sought}
 use Rattle.fetch_rules.specs.Laws.{FetchesAsked, FetchesFirsts}
 use Rattle.mail_terms.proofs.ListLemmas.{all_append}
@@ -26,9 +30,13 @@ use Rattle.fetch_session.proofs.SceneLemmas.{all_weaker, read_keeps, steady_keep
 use Rattle.std.proofs.lemmas.List.{map-append, take_more, length-map}
 use Rattle.fetch_rules.specs.Record.{Loaded, Row, is_delivered, Intent, RecordState, has_row, marked, none_open, merged, IsRecord}
 use Rattle.fetch_session.specs.declared.readiness.Found.{Found}
-use Rattle.fetch_session.specs.Lasting.{IsSafe, IsSafeStore, KeptLasts, LeavesMerged, ReadiesAndLasts, ReadyLasts, UnlessQuiet, UnreadyLasts}
-use Rattle.fetch_session.specs.Readiness.{AreDurable, FindsIn, are_undelivered, flags_found, IsMergedAtMost, CausesUnready, FindsRefused, MboxUnready, Settles, UnreadyCause, merged_in, AreAsHeld, ChecksStore, HasPlan, IsAnew, IsIdle, IsFileKept, Readies, Rests}
-use Rattle.fetch_session.specs.Record.{ReadAs, IsSecured, Reads, Keeps, Merges, Steady, record_state_in}
+use Rattle.fetch_session.specs.Lasting.{IsSafeFile, IsSafeStore, KeptLasts, LeavesMerged, ReadiesAndLasts, ReadyLasts}
+use Rattle.fetch_session.specs.Lasting.{UnlessQuiet, UnreadyLasts}
+use Rattle.fetch_session.specs.Readiness.{AreDurable, FindsIn, are_undelivered, flags_found, IsMergedAtMost}
+use Rattle.fetch_session.specs.Readiness.{CausesUnready, FindsRefused, MboxUnready, SettlesStore, UnreadyCause}
+use Rattle.fetch_session.specs.Readiness.{merged_in, AreAsHeld, ChecksStore, HasPlan, IsAnew, IsIdle, IsFileKept}
+use Rattle.fetch_session.specs.Readiness.{Readies, Rests}
+use Rattle.fetch_session.specs.Record.{FileReadAs, IsSecured, ReadsRecord, Keeps, Merges, Steady, record_state_in}
 use Rattle.fetch_rules.specs.Plan.{IsQuiet, planned, step_of}
 use Rattle.mail_store.specs.FlatFile.{Stored, holding}
 use Rattle.fetch_rules.specs.RecordFile.{file_of}
@@ -60,7 +68,8 @@ by_names : (account uid : List ℕ) (maildir : Maildir) (f : File) (is_named : B
 by_names account uid maildir f is_named =
     list_any-append _ maildir.files (record f { is_named = is_named } ∷ []) ∙ sym (list_any-append _ maildir.files (f ∷ []))
 
-still_free : OneMore → (account uid other : List ℕ) (a b : Maildir) → IsAccountText account → IsLegalId uid → IsLegalId other → other ≢ uid → MayGain (stem_of account uid) a b
+still_free : OneMore → (account uid other : List ℕ) (a b : Maildir) → IsAccountText account → IsLegalId uid
+    → IsLegalId other → other ≢ uid → MayGain (stem_of account uid) a b
     → is_held account a other ≡ false → is_held account b other ≡ false
 still_free law account uid other a b text legal legal' apart grows free =
     elim grows.came [
@@ -70,18 +79,25 @@ still_free law account uid other a b text legal legal' apart grows free =
           ∙ false_from_ne_true (bytes_eq other uid) (λ same. apart ((bytes_eq-Decides other uid).0 same)))
     ]
 
-pub fresh_grows : OneMore → (account uid : List ℕ) (uids : List (List ℕ)) (a b : Maildir) → IsAccountText account → IsLegalId uid → AllByRecursion (λ (other : List ℕ). other ≢ uid) uids
+pub fresh_grows : OneMore → (account uid : List ℕ) (uids : List (List ℕ)) (a b : Maildir) → IsAccountText account
+    → IsLegalId uid → AllByRecursion (λ (other : List ℕ). other ≢ uid) uids
     → MayGain (stem_of account uid) a b → AreFresh account a uids → AreFresh account b uids
 fresh_grows law account uid [] a b text legal apart grows fresh = tt
-fresh_grows law account uid (x ∷ xs) a b text legal apart grows fresh =
-    (fresh.0, still_free law account uid x a b text legal fresh.0 apart.0 grows fresh.1, fresh.2, fresh_grows law account uid xs a b text legal apart.1 grows fresh.3)
+fresh_grows law account uid (x ∷ xs) a b text legal apart grows fresh = (
+  fresh.0,
+  still_free law account uid x a b text legal fresh.0 apart.0 grows fresh.1,
+  fresh.2,
+  fresh_grows law
+      account uid xs a b text legal apart.1 grows fresh.3,
+)
 
 no_ids_deleting : (delete : Bool) (number : ℕ) → ids_ahead (deleting delete number) ≡ []
 no_ids_deleting true number = refl
 no_ids_deleting false number = refl
 
 pub ahead : (step : Step) (item : Item) (held : Bool) (later : List Task)
-    → ids_ahead (tasks_in step item held ++ later) ≡ ids_ahead (fetching step.retrieve held step.number item.uid item.size) ++ ids_ahead later
+    → ids_ahead (tasks_in step item held ++ later)
+    ≡ ids_ahead (fetching step.retrieve held step.number item.uid item.size) ++ ids_ahead later
 ahead step item held later = simp (flat_map-append, no_ids_deleting, append_assoc)
 
 pub no_item : Item
@@ -95,50 +111,64 @@ abbrev pub later_at : List Step → List Item → List Bool → ℕ → List Tas
 later_at steps items held i = tasks_planned (drop (i + 1) steps) (drop (i + 1) items) (drop (i + 1) held)
 
 -- the tasks from the i-th step on; what is done first with its message is given
-pub tasks_left : (steps : List Step) (items : List Item) (held : List Bool) (i : ℕ) (uid : List ℕ) (size : ℕ) (first : Task) → i < length items → length steps ≡ length items
+pub tasks_left : (steps : List Step) (items : List Item) (held : List Bool) (i : ℕ) (uid : List ℕ) (size : ℕ)
+    (first : Task) → i < length items → length steps ≡ length items
     → length held ≡ length items → uid ≡ (get_or items i no_item).uid → size ≡ (get_or items i no_item).size
     → fetching (step_at steps i).retrieve (get_or held i false) (step_at steps i).number uid size ≡ first ∷ []
-    → tasks_planned (drop i steps) (drop i items) (drop i held) ≡ (first ∷ deleting (step_at steps i).delete (step_at steps i).number) ++ later_at steps items held i
+    → tasks_planned (drop i steps) (drop i items) (drop i held)
+    ≡ (first ∷ deleting (step_at steps i).delete (step_at steps i).number) ++ later_at steps items held i
 tasks_left steps items held i uid size first within all_steps all_flags u s is =
     let next : suc i ≡ i + 1 = omega arith in
     let of_steps = drop-cons steps i (record { number = 0; retrieve = false; delete = false }) (omega (arith, within, all_steps)) in
     let of_items = drop-cons items i no_item within in
     let of_held = drop-cons held i false (omega (arith, within, all_flags)) in
     (λ j. tasks_planned (of_steps j) (of_items j) (of_held j))
-    ∙ (λ j. tasks_in (step_at steps i) (record { uid = sym u j; size = sym s j }) (get_or held i false) ++ tasks_planned (drop (next j) steps) (drop (next j) items) (drop (next j) held))
+    ∙ (λ j. tasks_in (step_at steps i) (record { uid = sym u j; size = sym s j }) (get_or held i false) ++ tasks_planned
+    (drop (next j) steps) (drop (next j) items) (drop (next j) held))
     ∙ ap (λ (front : List Task). (front ++ deleting (step_at steps i).delete (step_at steps i).number) ++ later_at steps items held i) is
 
 -- ---- each id is stored once, and only if it isn't held
 
-has_item-last : (front : List Item) (item : Item) (uid : List ℕ) → has_item (front ++ item ∷ []) uid ≡ false → (has_item front uid ≡ false) × (uid ≢ item.uid)
+has_item-last : (front : List Item) (item : Item) (uid : List ℕ) → has_item (front ++ item ∷ []) uid ≡ false
+    → (has_item front uid ≡ false) × (uid ≢ item.uid)
 has_item-last front item uid none =
-    let parts = or_parts (has_item front uid) (bytes_eq uid item.uid || false) (sym (list_any-append (λ (i : Item). bytes_eq uid i.uid) front (item ∷ [])) ∙ none) in
+    let parts = or_parts (has_item front uid) (bytes_eq uid item.uid || false)
+    (sym (list_any-append (λ (i : Item). bytes_eq uid i.uid) front (item ∷ [])) ∙ none) in
     let apart = or_parts (bytes_eq uid item.uid) false parts.1 in
     (parts.0, λ same. true≢false (sym ((bytes_eq-Decides uid item.uid).1 same) ∙ apart.0))
 
-pub fetched_all : (P : List ℕ → Type 0) (retrieve held : Bool) (number : ℕ) (uid : List ℕ) (size : ℕ) → (retrieve ≡ true → P uid) → AllByRecursion P (ids_ahead (fetching retrieve held number uid size))
+pub fetched_all : (P : List ℕ → Type 0) (retrieve held : Bool) (number : ℕ) (uid : List ℕ) (size : ℕ)
+    → (retrieve ≡ true → P uid) → AllByRecursion P (ids_ahead (fetching retrieve held number uid size))
 fetched_all P true false number uid size p = (p refl, tt)
 fetched_all P _ _ number uid size p = tt
 
 not_in : (front : List Item) (steps : List Step) (items : List Item) (held : List Bool) → FetchesFirsts front steps items
     → AllByRecursion (λ (id : List ℕ). has_item front id ≡ false) (ids_ahead (tasks_planned steps items held))
 not_in front (s ∷ ss) (i ∷ is) (h ∷ hs) firsts =
-    rw (ahead s i h (tasks_planned ss is hs)) (all_append (λ (id : List ℕ). has_item front id ≡ false) (ids_ahead (fetching s.retrieve h s.number i.uid i.size)) (ids_ahead (tasks_planned ss is hs))
+    rw (ahead s i h (tasks_planned ss is hs)) (all_append (λ (id : List ℕ). has_item front id ≡ false)
+    (ids_ahead (fetching s.retrieve h s.number i.uid i.size)) (ids_ahead (tasks_planned ss is hs))
     (fetched_all (λ (id : List ℕ). has_item front id ≡ false) s.retrieve h s.number i.uid i.size firsts.0)
-    (all_weaker (λ (id : List ℕ). has_item (front ++ i ∷ []) id ≡ false) (λ (id : List ℕ). has_item front id ≡ false) (ids_ahead (tasks_planned ss is hs))
+    (all_weaker (λ (id : List ℕ). has_item (front ++ i ∷ []) id ≡ false) (λ (id : List ℕ). has_item front id ≡ false)
+    (ids_ahead (tasks_planned ss is hs))
     (λ id none. (has_item-last front i id none).0) (not_in (front ++ i ∷ []) ss is hs firsts.1)))
 not_in front _ _ _ firsts = tt
 
-fresh_head : (account : List ℕ) (maildir : Maildir) (retrieve held : Bool) (number size : ℕ) (uid : List ℕ) (ids : List (List ℕ)) → IsLegalId uid → held ≡ is_held account maildir uid
-    → AllByRecursion (λ (other : List ℕ). other ≢ uid) ids → AreFresh account maildir ids → AreFresh account maildir (ids_ahead (fetching retrieve held number uid size) ++ ids)
+fresh_head : (account : List ℕ) (maildir : Maildir) (retrieve held : Bool) (number size : ℕ) (uid : List ℕ)
+    (ids : List (List ℕ)) → IsLegalId uid → held ≡ is_held account maildir uid
+    → AllByRecursion (λ (other : List ℕ). other ≢ uid) ids → AreFresh account maildir ids
+    → AreFresh account maildir (ids_ahead (fetching retrieve held number uid size) ++ ids)
 fresh_head account maildir true false number size uid ids legal is apart fresh = (legal, sym is, apart, fresh)
 fresh_head account maildir _ _ number size uid ids legal is apart fresh = fresh
 
-pub fresh_firsts : (account : List ℕ) (maildir : Maildir) (front : List Item) (steps : List Step) (items : List Item) → FetchesFirsts front steps items
-    → AllByRecursion (λ (item : Item). IsLegalId item.uid) items → AreFresh account maildir (ids_ahead (tasks_planned steps items (flags_of account maildir items)))
+pub fresh_firsts : (account : List ℕ) (maildir : Maildir) (front : List Item) (steps : List Step) (items : List Item)
+    → FetchesFirsts front steps items
+    → AllByRecursion (λ (item : Item). IsLegalId item.uid) items
+    → AreFresh account maildir (ids_ahead (tasks_planned steps items (flags_of account maildir items)))
 fresh_firsts account maildir front (s ∷ ss) (i ∷ is) firsts legal =
     let later = tasks_planned ss is (flags_of account maildir is) in
-    rw (ahead s i (is_held account maildir i.uid) later) (fresh_head account maildir s.retrieve (is_held account maildir i.uid) s.number i.size i.uid (ids_ahead later) legal.0 refl
+    rw (ahead s i (is_held account maildir i.uid) later)
+    (fresh_head account maildir s.retrieve (is_held account maildir i.uid) s.number i.size i.uid
+    (ids_ahead later) legal.0 refl
     (all_weaker (λ (id : List ℕ). has_item (front ++ i ∷ []) id ≡ false) (λ (other : List ℕ). other ≢ i.uid) (ids_ahead later)
     (λ id none. (has_item-last front i id none).1) (not_in (front ++ i ∷ []) ss is (flags_of account maildir is) firsts.1))
     (fresh_firsts account maildir (front ++ i ∷ []) ss is firsts.1 legal.1))
@@ -146,7 +176,7 @@ fresh_firsts account maildir front _ _ firsts legal = tt
 
 -- the flags are those of the Maildir, if there is one: none is held in an mboxrd file
 pub flags_same : {D F : Type 0} (disk : DiskGhosts D) (file : FileGhosts F) (store : Store D F) (account : List ℕ) (items : List Item)
-    → flags_in (target_of store account) (stores_of disk file store) items ≡ flags_of account (stores_of disk file store).maildir items
+    → held_flags (target_of store account) (stores_of disk file store) items ≡ flags_of account (stores_of disk file store).maildir items
 flags_same disk file (InMaildir device) account items = refl
 flags_same disk file (InMbox device) account items = refl
 
@@ -172,35 +202,55 @@ unsecured_same old new _ never = absurd never
 
 module _ {D F : Type 0} (disk : DiskGhosts D) (files : FileGhosts F) where
   -- the store wasn't asked, and the record's file has the same bytes
-  pub unasked : {A B safe : Type 0} {settings : Settings} {items : List Item} {now : ℕ} {fault : Fault} {after : List Row} (was : Store D F) (from f : F) (target : Target) → A → B
-      → CausesUnready target items fault (stores_of disk files was) (files.stored from) (stores_of disk files was) (files.stored f) → (files.stored f).content ≡ (files.stored from).content
+  pub unasked : {A B safe : Type 0} {settings : Settings} {items : List Item} {now : ℕ} {fault : Fault}
+      {after : List Row} (was : Store D F) (from f : F) (target : Target) → A → B
+      → CausesUnready target items fault (stores_of disk files was) (files.stored from) (stores_of disk files was)
+      (files.stored f) → (files.stored f).content ≡ (files.stored from).content
       → LeavesNoMore (MayLeave (files.disk from)) (MayLeave (files.disk f))
-      → A × B × AfterTakingIn (stores_of disk files was) (λ left. ReadiesAndLasts disk files safe from settings target items now left (Err fault) after was f)
+      → A × B × AfterTakingIn (stores_of disk files was)
+      (λ left. ReadiesAndLasts disk files safe from settings target items now left (Err fault) after was f)
   unasked was from f target a b why same no_more =
       (a, b, untaken _ (record { readies = record { cause = why; content = inl same }; lasts = λ sure. no_more }))
 
   -- the same if the record's file was read and flushed before
-  module _ (from mid f : F) (no_more : LeavesNoMore (MayLeave (files.disk from)) (MayLeave (files.disk mid))) (same : files.stored mid ≡ files.stored from) where
-    ready_from : (settings : Settings) (target : Target) (items : List Item) (now : ℕ) (old new : Stores) (file file' : Stored) (after : List Row) (store : Store D F) (r : Result Ready Fault)
-        → (is : Readies settings target items now old file r after new file') → ReadyLasts files mid settings target items now old file r after new file' is store f
+  module _ (from mid f : F) (no_more : LeavesNoMore (MayLeave (files.disk from)) (MayLeave (files.disk mid)))
+      (same : files.stored mid ≡ files.stored from) where
+    ready_from : (settings : Settings) (target : Target) (items : List Item) (now : ℕ) (old new : Stores)
+        (file file' : Stored) (after : List Row) (store : Store D F) (r : Result Ready Fault)
+        → (is : Readies settings target items now old file r after new file')
+        → ReadyLasts files mid settings target items now old file r after new file' is store f
         → ReadyLasts files from settings target items now old file r after new file' is store f
     ready_from settings target items now old new file file' after store (Ok ready) is lasts = by after file file' _ is.durable lasts
       where
-        by : {Quiet Durable : Type 0} (rows : List Row) (old new : Stored) (Safe : Type 0) (either : (Quiet × IsFileKept rows old new) ⊎ Durable) → UnlessQuiet files mid rows old new either Safe f → UnlessQuiet files from rows old new either Safe f
-        by rows old new Safe (inl (quiet, inl kept)) un = record { no_more = λ left may. no_more left (un.no_more left may); same = un.same ∙ same }
+        by : {Quiet Durable : Type 0} (rows : List Row) (old new : Stored) (Safe : Type 0) (either : (Quiet
+            × IsFileKept rows old new) ⊎ Durable) → UnlessQuiet files mid rows old new either Safe f
+            → UnlessQuiet files from rows old new either Safe f
+        by rows old new Safe (inl (quiet, inl kept)) un =
+            record { no_more = λ left may. no_more left (un.no_more left may); same = un.same ∙ same }
         by rows old new Safe (inl (quiet, inr anew)) safe = safe
         by rows old new Safe (inr durable) safe = safe
     ready_from settings target items now old new file file' after store (Err fault) is lasts = by is.content lasts
       where
-        by : (content : IsMergedAtMost target items now old file new file') → UnreadyLasts files mid content f → UnreadyLasts files from content f
+        by : (content : IsMergedAtMost target items now old file new file') → UnreadyLasts files mid content f
+            → UnreadyLasts files from content f
         by (inl is) none = λ left may. no_more left (none left may)
         by (inr merged) leaves = λ left may. ⊎_elim (λ before. inl (no_more left before)) inr (leaves left may)
 
-    pub readies_from : {safe sure : Type 0} {store : Store D F} {settings : Settings} {target : Target} {items : List Item} {now : ℕ} {old : Stores} {r : Result Ready Fault}
-        {after : List Row} → (sure → safe) → ReadiesAndLasts disk files safe mid settings target items now old r after store f → ReadiesAndLasts disk files sure from settings target items now old r after store f
+    pub readies_from : {safe sure : Type 0} {store : Store D F} {settings : Settings} {target : Target}
+        {items : List Item} {now : ℕ} {old : Stores} {r : Result Ready Fault}
+        {after : List Row} → (sure → safe)
+        → ReadiesAndLasts disk files safe mid settings target items now old r after store f
+        → ReadiesAndLasts disk files sure from settings target items now old r after store f
     readies_from {safe} {sure} {store} {settings} {target} {items} {now} {old} {r} {after} firm is =
-        let both = subst (λ (file : Stored). (readies : Readies settings target items now old file r after (stores_of disk files store) (files.stored f)) × (sure → ReadyLasts files from settings target items now old file r after (stores_of disk files store) (files.stored f) readies store f))
-        same (is.readies, λ s. ready_from settings target items now old (stores_of disk files store) (files.stored mid) (files.stored f) after store r is.readies (is.lasts (firm s))) in
+        let both = subst (λ (file : Stored). (readies : Readies settings target items now old file r after
+        (stores_of disk files store) (files.stored f))
+        × (sure → ReadyLasts files from settings target items now old file r after (stores_of disk files store)
+        (files.stored f) readies store f))
+        same (
+          is.readies,
+          λ s. ready_from settings target items now old (stores_of disk files store) (files.stored mid)
+              (files.stored f) after store r is.readies (is.lasts (firm s)),
+        ) in
         record { readies = both.0; lasts = both.1 }
 
 -- ---- what was found
@@ -233,7 +283,8 @@ MarkedIsDelivered = (rows : List Row) (uid other : List ℕ)
 
 -- the flags of ids that weren't delivered are those of the store
 flagged_sought : (account : List ℕ) (maildir : Maildir) (rows : List Row) (items : List Item) (uid : List ℕ) → is_delivered rows uid ≡ false
-    → is_flagged items (flags_sought account maildir items (are_undelivered rows items)) uid ≡ is_flagged items (flags_of account maildir items) uid
+    → is_flagged items (flags_sought account maildir items (are_undelivered rows items)) uid ≡ is_flagged items
+    (flags_of account maildir items) uid
 flagged_sought account maildir rows [] uid new = refl
 flagged_sought account maildir rows (item ∷ items) uid new =
     let rest = flagged_sought account maildir rows items uid new in
@@ -242,13 +293,16 @@ flagged_sought account maildir rows (item ∷ items) uid new =
       | inr other ↦ rw (other, rest, and-false, and-false) refl
     ]
 
-merged_found : (read_all : Bool) (account : List ℕ) (maildir : Maildir) (rows : List Row) (items : List Item) (now : ℕ) → MergesAsk → IsRecord rows
-    → merged rows items (flags_asked read_all account maildir items (are_undelivered rows items)) now ≡ merged rows items (flags_of account maildir items) now
+merged_found : (read_all : Bool) (account : List ℕ) (maildir : Maildir) (rows : List Row) (items : List Item) (now : ℕ)
+    → MergesAsk → IsRecord rows
+    → merged rows items (flags_asked read_all account maildir items (are_undelivered rows items)) now
+    ≡ merged rows items (flags_of account maildir items) now
 merged_found true account maildir rows items now law is = refl
 merged_found false account maildir rows items now law is = law rows items _ _ now is (flagged_sought account maildir rows items)
 
 -- and so are those of messages that are fetched
-tasks_sought : (account : List ℕ) (maildir : Maildir) (settings : Settings) (was rows : List Row) (steps : List Step) (items : List Item) → settings.read_all ≡ false
+tasks_sought : (account : List ℕ) (maildir : Maildir) (settings : Settings) (was rows : List Row) (steps : List Step)
+    (items : List Item) → settings.read_all ≡ false
     → ((uid : List ℕ) → is_delivered rows uid ≡ false → is_delivered was uid ≡ false) → FetchesAsked settings rows steps items
     → AreAsHeld steps items (flags_sought account maildir items (are_undelivered was items)) (flags_of account maildir items)
 tasks_sought account maildir settings was rows [] items not_all new asked = refl
@@ -265,7 +319,7 @@ tasks_sought account maildir settings was rows (s ∷ ss) (i ∷ is) not_all new
 -- the flags that were found are those of the store, as far as these steps use them
 pub found_as_held : (target : Target) (store : Stores) (settings : Settings) (was rows : List Row) (steps : List Step) (items : List Item)
     → ((uid : List ℕ) → is_delivered rows uid ≡ false → is_delivered was uid ≡ false) → FetchesAsked settings rows steps items
-    → AreAsHeld steps items (flags_found settings.read_all target was store items) (flags_in target store items)
+    → AreAsHeld steps items (flags_found settings.read_all target was store items) (held_flags target store items)
 found_as_held AsEntries store settings was rows steps items new asked = refl
 found_as_held (AsFiles account) store settings was rows steps items new asked = elim (cases_Bool settings.read_all) [
   | inl all ↦ rw all refl
@@ -273,29 +327,41 @@ found_as_held (AsFiles account) store settings was rows steps items new asked = 
 ]
 
 -- whatever isn't delivered once the intent was ended and the listing merged wasn't before
-pub not_before : HeldIsDelivered → MarkedIsDelivered → (whole : Bool) (was : List Row) (intent : Option Intent) (items : List Item) (held : List Bool) (now : ℕ) (rows : List Row)
-    → rows ≡ merged (closed_rows whole was intent) items held now → (uid : List ℕ) → is_delivered rows uid ≡ false → is_delivered was uid ≡ false
+pub not_before : HeldIsDelivered → MarkedIsDelivered
+    → (whole : Bool) (was : List Row) (intent : Option Intent) (items : List Item) (held : List Bool)
+    (now : ℕ) (rows : List Row)
+    → rows ≡ merged (closed_rows whole was intent) items held now → (uid : List ℕ) → is_delivered rows uid ≡ false
+    → is_delivered was uid ≡ false
 not_before delivers marks whole was intent items held now rows is uid none =
     closed whole intent (or_parts _ _ (sym (delivers (closed_rows whole was intent) items held now uid) ∙ rw is at none)).0
   where
-    closed : (whole : Bool) (intent : Option Intent) → is_delivered (closed_rows whole was intent) uid ≡ false → is_delivered was uid ≡ false
+    closed : (whole : Bool) (intent : Option Intent) → is_delivered (closed_rows whole was intent) uid ≡ false
+        → is_delivered was uid ≡ false
     closed whole None new = new
     closed false (Some intent) new = new
     closed true (Some intent) new = (or_parts _ _ (sym (marks was intent.uid uid) ∙ new)).0
 
 -- the rows once the open intent was ended by what was found and the listing merged, what was found, and the store
-found_is : (read_all : Bool) (target : Target) (store store' : Stores) (items : List Item) (now : ℕ) (was : RecordState) (found : Found) → MergesAsk → IsRecord was.rows
+found_is : (read_all : Bool) (target : Target) (store store' : Stores) (items : List Item) (now : ℕ) (was : RecordState)
+    (found : Found) → MergesAsk → IsRecord was.rows
     → FindsIn read_all target was store items (Ok found) store'
     → (merged (closed_rows found.stored was.rows was.intent) items found.held.items now ≡ merged_in target store was items now)
-    × (found.held.items ≡ flags_found read_all target was.rows store items) × Settles target was items store store'
+    × (found.held.items ≡ flags_found read_all target was.rows store items) × SettlesStore target was items store store'
     × AreDurable target was.rows items store
-found_is read_all (AsFiles account) store store' items now was found law is_record (held, stored, same, durable) =
-    (rw (stored, not_whole was.rows was.intent, held) (merged_found read_all account store.maildir was.rows items now law is_record), held, same, durable)
-found_is read_all AsEntries store store' items now was found law is_record (bytes, is, stored, settled, goes_on, held) = (rw (stored, is, held) refl, held, (bytes, is, settled, goes_on), tt)
+found_is read_all (AsFiles account) store store' items now was found law is_record (held, stored, same, durable) = (
+  rw (stored, not_whole was.rows was.intent, held) (merged_found read_all account store.maildir was.rows items now
+      law is_record),
+  held,
+  same,
+  durable,
+)
+found_is read_all AsEntries store store' items now was found law is_record (bytes, is, stored, settled, goes_on, held) =
+    (rw (stored, is, held) refl, held, (bytes, is, settled, goes_on), tt)
 
 -- ---- nothing was planned
 
-pub unread : (target : Target) (items : List Item) (store : Stores) (file new : Stored) (loaded : Loaded) (fault : Fault) → Reads file loaded (Err fault) new
+pub unread : (target : Target) (items : List Item) (store : Stores) (file new : Stored) (loaded : Loaded)
+    (fault : Fault) → ReadsRecord file loaded (Err fault) new
     → CausesUnready target items fault store file store new × (new.content ≡ file.content)
 unread (AsFiles account) items store file new loaded SeenRefused is = ((omega (arith, ap (λ (s : Stored). s.failures) is), refl), rw is)
 unread AsEntries items store file new loaded SeenRefused is = ((omega (arith, ap (λ (s : Stored). s.failures) is), inl refl), rw is)
@@ -305,25 +371,34 @@ unread (AsFiles account) items store file new loaded (BadSeen line) is = ((is, r
 unread AsEntries items store file new loaded (BadSeen line) is = ((is, refl), rw is.3)
 unread _ items store file new loaded _ never = absurd never
 
-files_refused : (fault : Fault) (maildir : Maildir) (file : Stored) (maildir' : Maildir) (file' : Stored) → FindsRefused maildir fault maildir' → UnreadyCause fault maildir file maildir' file'
+files_refused : (fault : Fault) (maildir : Maildir) (file : Stored) (maildir' : Maildir) (file' : Stored)
+    → FindsRefused maildir fault maildir' → UnreadyCause fault maildir file maildir' file'
 files_refused (StoreRefused why.Missing) maildir file maildir' file' is = is
 files_refused (StoreRefused why.Refused) maildir file maildir' file' is = is
 files_refused NoMemory maildir file maildir' file' is = is
 files_refused _ maildir file maildir' file' never = absurd never
 
-mbox_refused : (fault : Fault) (items : List Item) (was : RecordState) (mbox file mbox' file' : Stored) → Keeps file.content was → AsksMbox was.intent mbox items (Err fault) mbox' → MboxUnready items fault mbox file mbox' file'
+mbox_refused : (fault : Fault) (items : List Item) (was : RecordState) (mbox file mbox' file' : Stored)
+    → Keeps file.content was → AsksMbox was.intent mbox items (Err fault) mbox'
+    → MboxUnready items fault mbox file mbox' file'
 mbox_refused (StoreRefused why.Missing) items was mbox file mbox' file' kept is = is
 mbox_refused (StoreRefused why.Refused) items was mbox file mbox' file' kept (up, most) =
     (omega (arith, up), inr (was, kept, most))
-mbox_refused (StoreRefused why.NotMbox) items was mbox file mbox' file' kept (bytes, is, other, now) =
-    ((closed_file was.intent items bytes, ap (λ (s : Stored). s.content) now, other), inr (was, kept, inr (bytes, is, ap (λ (s : Stored). s.content) now)))
+mbox_refused (StoreRefused why.NotMbox) items was mbox file mbox' file' kept (bytes, is, other, now) = (
+  (closed_file was.intent items bytes, ap (λ (s : Stored). s.content) now, other),
+  inr
+      (was, kept, inr (bytes, is, ap (λ (s : Stored). s.content) now)),
+)
 mbox_refused NoMemory items was mbox file mbox' file' kept (same, most) = inr (was, kept, most)
 mbox_refused _ items was mbox file mbox' file' kept never = absurd never
 
 -- the store refused
-pub not_found : (read_all : Bool) (target : Target) (items : List Item) (store store' : Stores) (file new : Stored) (loaded : Loaded) (fault : Fault) → ReadAs file.content loaded
-    → FindsIn read_all target (record_state_in loaded) store items (Err fault) store' → CausesUnready target items fault store file store' new
-not_found read_all (AsFiles account) items store store' file new loaded fault stood finds = files_refused fault store.maildir file store'.maildir new finds
+pub not_found : (read_all : Bool) (target : Target) (items : List Item) (store store' : Stores) (file new : Stored)
+    (loaded : Loaded) (fault : Fault) → FileReadAs file.content loaded
+    → FindsIn read_all target (record_state_in loaded) store items (Err fault) store'
+    → CausesUnready target items fault store file store' new
+not_found read_all (AsFiles account) items store store' file new loaded fault stood finds =
+    files_refused fault store.maildir file store'.maildir new finds
 not_found read_all AsEntries items store store' file new loaded fault stood finds =
     mbox_refused fault items (record_state_in loaded) store.mbox file store'.mbox new (read_keeps file.content loaded stood) finds
 
@@ -336,9 +411,10 @@ stop_of (Err fault) = fault
 
 module _ {D F : Type 0} (disk : DiskGhosts D) (files : FileGhosts F) (was place : Store D F) (from f : F) (account : List ℕ)
     (settings : Settings) (items : List Item) (now : ℕ) (left : Maildir) (loaded : Loaded) (found : Found)
-    (stood : ReadAs (files.stored from).content loaded)
+    (stood : FileReadAs (files.stored from).content loaded)
     (law : MergesAsk) (is_record : IsRecord loaded.rows)
-    (finds : FindsIn settings.read_all (target_of was account) (record_state_in loaded) (with_maildir (stores_of disk files was) left) items (Ok found)
+    (finds : FindsIn settings.read_all (target_of was account) (record_state_in loaded)
+    (with_maildir (stores_of disk files was) left) items (Ok found)
     (stores_of disk files place)) where
   abbrev store : Stores
   store = with_maildir (stores_of disk files was) left
@@ -354,7 +430,7 @@ module _ {D F : Type 0} (disk : DiskGhosts D) (files : FileGhosts F) (was place 
 
   is : (here ≡ merged_in (target_of was account) store state items now)
       × (found.held.items ≡ flags_found settings.read_all (target_of was account) loaded.rows store items)
-      × Settles (target_of was account) state items store (stores_of disk files place)
+      × SettlesStore (target_of was account) state items store (stores_of disk files place)
       × AreDurable (target_of was account) loaded.rows items store
   is = found_is settings.read_all (target_of was account) store (stores_of disk files place) items now state found law is_record finds
 
@@ -362,11 +438,13 @@ module _ {D F : Type 0} (disk : DiskGhosts D) (files : FileGhosts F) (was place 
   as_now = is.0
 
   -- why it isn't ready, if memory ran out, or if the record's file was refused
-  cause : (t : Target) → Settles t state items store (stores_of disk files place)
+  cause : (t : Target) → SettlesStore t state items store (stores_of disk files place)
       → CausesUnready t items NoMemory store (files.stored from) (stores_of disk files place) (files.stored f)
-      × ((files.stored from).failures < (files.stored f).failures → CausesUnready t items SeenRefused store (files.stored from) (stores_of disk files place) (files.stored f))
+      × ((files.stored from).failures < (files.stored f).failures
+      → CausesUnready t items SeenRefused store (files.stored from) (stores_of disk files place) (files.stored f))
   cause (AsFiles account) same = let is = ap (λ (s : Stores). s.maildir) same in (is, λ risen. (risen, is))
-  cause AsEntries (bytes, is, now, goes_on) = let settled = inr (state, kept, inr (bytes, is, ap (λ (s : Stored). s.content) now)) in (settled, λ risen. (risen, settled))
+  cause AsEntries (bytes, is, now, goes_on) = let settled =
+      inr (state, kept, inr (bytes, is, ap (λ (s : Stored). s.content) now)) in (settled, λ risen. (risen, settled))
 
   reason : (r : Result (Unit {0}) Fault) → Merges (files.stored from) state (none_open here) r (files.stored f)
       → CausesUnready (target_of was account) items (stop_of r) store (files.stored from) (stores_of disk files place) (files.stored f)
@@ -377,14 +455,16 @@ module _ {D F : Type 0} (disk : DiskGhosts D) (files : FileGhosts F) (was place 
 
   -- what the record's file stands for
   stands : (r : Result (Unit {0}) Fault) → Merges (files.stored from) state (none_open here) r (files.stored f)
-      → Keeps (files.stored f).content state ⊎ Keeps (files.stored f).content (none_open (merged_in (target_of was account) store state items now))
+      → Keeps (files.stored f).content state
+      ⊎ Keeps (files.stored f).content (none_open (merged_in (target_of was account) store state items now))
   stands (Ok done) merges = inr (rw as_now at (steady_keeps (files.stored f).content (none_open here) merges.1))
   stands (Err SeenRefused) merges = rw as_now at merges.1
   stands (Err NoMemory) merges = inl (rw merges kept)
   stands (Err _) never = absurd never
 
   -- it wasn't saved, or memory ran out for the plan
-  pub unready : {safe : Type 0} {after : List Row} (r : Result (Unit {0}) Fault) → Merges (files.stored from) state (none_open here) r (files.stored f)
+  pub unready : {safe : Type 0} {after : List Row} (r : Result (Unit {0}) Fault)
+      → Merges (files.stored from) state (none_open here) r (files.stored f)
       → (safe → LeavesMerged files loaded.rows here from f)
       → ReadiesAndLasts disk files safe from settings (target_of was account) items now store (Err (stop_of r)) after place f
   unready r merges leaves = record {
@@ -395,16 +475,21 @@ module _ {D F : Type 0} (disk : DiskGhosts D) (files : FileGhosts F) (was place 
     lasts = λ sure. rw as_now at (leaves sure);
   }
 
-  pub ready : {safe : Type 0} (plan : Ready) {after : List Row} → HeldIsDelivered → MarkedIsDelivered → FetchesAsked settings after plan.steps.items items → Merges (files.stored from) state (none_open here) (Ok tt) (files.stored f)
+  pub ready : {safe : Type 0} (plan : Ready) {after : List Row} → HeldIsDelivered → MarkedIsDelivered
+      → FetchesAsked settings after plan.steps.items items
+      → Merges (files.stored from) state (none_open here) (Ok tt) (files.stored f)
       → after ≡ here
-      → plan.held.items ≡ found.held.items → plan.steps.items ≡ planned settings after items now → (safe → IsSafe files f × IsSafeStore files place)
+      → plan.held.items ≡ found.held.items → plan.steps.items ≡ planned settings after items now
+      → (safe → IsSafeFile files f × IsSafeStore files place)
       → ReadiesAndLasts disk files safe from settings (target_of was account) items now store (Ok plan) after place f
   ready plan {after} delivers marks asked merges rows_are flags_are steps_are firm = record {
     readies = record {
       was = state;
       stood = kept;
       held = ap (tasks_planned plan.steps.items items) (flags_are ∙ is.1)
-          ∙ found_as_held (target_of was account) store settings loaded.rows after plan.steps.items items (not_before delivers marks found.stored loaded.rows loaded.intent items found.held.items now after rows_are) asked;
+          ∙ found_as_held (target_of was account) store settings loaded.rows after plan.steps.items items
+          (not_before delivers marks found.stored loaded.rows loaded.intent items found.held.items
+          now after rows_are) asked;
       rows = rows_are ∙ as_now;
       steps = steps_are;
       durable = inr is.3;
@@ -417,58 +502,73 @@ module _ {D F : Type 0} (disk : DiskGhosts D) (files : FileGhosts F) (was place 
 
 -- ---- every listed id has a row
 
-pub all_have_rows : ((rows : List Row) (listing : List Item) (held : List Bool) (now : ℕ) (uid : List ℕ) → has_row (merged rows listing held now) uid ≡ (has_row rows uid || has_item listing uid))
-    → (rows : List Row) (items : List Item) (held : List Bool) (now : ℕ) (after : List Row) → after ≡ merged rows items held now → AllByRecursion (λ (item : Item). has_row after item.uid ≡ true) items
+pub all_have_rows : ((rows : List Row) (listing : List Item) (held : List Bool) (now : ℕ) (uid : List ℕ)
+    → has_row (merged rows listing held now) uid ≡ (has_row rows uid || has_item listing uid))
+    → (rows : List Row) (items : List Item) (held : List Bool) (now : ℕ) (after : List Row)
+    → after ≡ merged rows items held now → AllByRecursion (λ (item : Item). has_row after item.uid ≡ true) items
 all_have_rows law rows items held now after is = recursion_from_All (λ (item : Item). has_row after item.uid ≡ true) items (λ k d inside.
-    let listed = list_any_at (λ (i : Item). bytes_eq (get_or items k d).uid i.uid) items k d inside ((bytes_eq-Decides (get_or items k d).uid (get_or items k d).uid).1 refl) in rw (is, law, listed) (or-true _))
+    let listed = list_any_at (λ (i : Item). bytes_eq (get_or items k d).uid i.uid) items k d inside
+    ((bytes_eq-Decides (get_or items k d).uid (get_or items k d).uid).1 refl) in rw (is, law, listed) (or-true _))
 
 -- ---- what is ready if the store needn't be asked what it holds
 
-pub planned_length : (settings : Settings) (rows : List Row) (items : List Item) (now : ℕ) → length (planned settings rows items now) ≡ length items
+pub planned_length : (settings : Settings) (rows : List Row) (items : List Item) (now : ℕ)
+    → length (planned settings rows items now) ≡ length items
 planned_length settings rows items now = length-map (numbered items) (step_of settings rows items now) ∙ length-enumerate_from 1 items
 
 -- steps that fetch nothing ask for the same, whatever is held
-pub quiet_same : (steps : List Step) (items : List Item) (xs ys : List Bool) → All IsQuiet steps → length xs ≡ length items → length ys ≡ length items → AreAsHeld steps items xs ys
+pub quiet_same : (steps : List Step) (items : List Item) (xs ys : List Bool) → All IsQuiet steps
+    → length xs ≡ length items → length ys ≡ length items → AreAsHeld steps items xs ys
 quiet_same (s ∷ ss) (i ∷ is) [] ys quiet ones others = absurd (omega (arith, ones))
 quiet_same (s ∷ ss) (i ∷ is) (x ∷ xs) [] quiet ones others = absurd (omega (arith, others))
 quiet_same (s ∷ ss) (i ∷ is) (x ∷ xs) (y ∷ ys) quiet ones others =
-    rw ((quiet 0 s (omega arith)).0, quiet_same ss is xs ys (λ k d inside. quiet (suc k) d (omega (arith, inside))) (omega (arith, ones)) (omega (arith, others)))
+    rw (
+      (quiet 0 s (omega arith)).0,
+      quiet_same ss is xs ys (λ k d inside. quiet (suc k) d (omega (arith, inside)))
+          (omega (arith, ones)) (omega (arith, others)),
+    )
 quiet_same _ _ xs ys quiet ones others = refl
 
-flags_length : (target : Target) (store : Stores) (items : List Item) → length (flags_in target store items) ≡ length items
+flags_length : (target : Target) (store : Stores) (items : List Item) → length (held_flags target store items) ≡ length items
 flags_length (AsFiles account) store items = length-map items (λ (item : Item). is_held account store.maildir item.uid)
 flags_length AsEntries _ items = length-map items (λ (item : Item). false)
 
 -- ---- what was looked at
 
 -- the record was read and written anew
-pub is_anew : (loaded : Loaded) (old new : Stored) → ReadAs old.content loaded → loaded.intent ≡ None → loaded.stale ≡ true → new ≡ holding old (file_of loaded.rows loaded.intent) → IsAnew loaded.rows old new
+pub is_anew : (loaded : Loaded) (old new : Stored) → FileReadAs old.content loaded → loaded.intent ≡ None
+    → loaded.stale ≡ true → new ≡ holding old (file_of loaded.rows loaded.intent) → IsAnew loaded.rows old new
 is_anew loaded old new stood closed stale is =
     (rw closed at (read_keeps old.content loaded stood), (loaded, stood, stale), rw closed at is)
 
 -- there is no place
-pub no_place : (kind : Kind) (items : List Item) (old new : Stores) (refusal : StoreFault) (fault : Fault) → ChecksStore {T = Unit {0}} kind old (Err refusal) new → IsStoreFault refusal fault
+pub no_place : (kind : Kind) (items : List Item) (old new : Stores) (refusal : StoreFault) (fault : Fault)
+    → ChecksStore {T = Unit {0}} kind old (Err refusal) new → IsStoreFault refusal fault
     → Rests kind old items (Err fault) new
 no_place Files items old new refused.Missing fault is told = rw told is.0
 no_place Files items old new refused.Refused fault is told = rw told is.0
 no_place Files items old new _ fault is told = absurd is.0
-no_place Entries items old new refusal fault is told = (asks_refused None old.mbox old.mbox new.mbox false items refusal fault (refl, refl) is.0 told, is.1)
+no_place Entries items old new refusal fault is told =
+    (asks_refused None old.mbox old.mbox new.mbox false items refusal fault (refl, refl) is.0 told, is.1)
 
 module _ {D F : Type 0} (disk : DiskGhosts D) (files : FileGhosts F) (account : List ℕ) where
   -- a store that was only looked at
-  settles_same : (store : Store D F) (was : RecordState) (items : List Item) (new : Stores) → was.intent ≡ None → ChecksStore {T = Unit {0}} (kind_of store) (stores_of disk files store) (Ok tt) new
-      → Settles (target_of store account) was items (stores_of disk files store) new
+  settles_same : (store : Store D F) (was : RecordState) (items : List Item) (new : Stores) → was.intent ≡ None
+      → ChecksStore {T = Unit {0}} (kind_of store) (stores_of disk files store) (Ok tt) new
+      → SettlesStore (target_of store account) was items (stores_of disk files store) new
   settles_same (InMaildir device) was items new closed ((news, curs, same), others) = λ i. record { maildir = same i; mbox = others i }
   settles_same (InMbox device) was items new closed (((bytes, goes_on), same), others) =
       rw closed (bytes, goes_on.0, same ∙ held_same (files.stored device) bytes goes_on.0, goes_on.1)
 
-  rows_same : (store : Store D F) (was : RecordState) (items : List Item) → was.intent ≡ None → rows_in (target_of store account) (stores_of disk files store) was items ≡ was.rows
+  rows_same : (store : Store D F) (was : RecordState) (items : List Item) → was.intent ≡ None
+      → closed_rows_in (target_of store account) (stores_of disk files store) was items ≡ was.rows
   rows_same (InMaildir device) was items closed = refl
   rows_same (InMbox device) was items closed = rw closed refl
 
   module _ {settings : Settings} {items : List Item} {now : ℕ} (store store' : Store D F) (from f : F) (loaded : Loaded) (steps : List Step)
-      (law : (rows : List Row) (listing : List Item) (held : List Bool) (now : ℕ) → IsRecord rows → All (λ (item : Item). is_delivered rows item.uid ≡ true) listing → merged rows listing held now ≡ rows)
-      (stood : ReadAs (files.stored from).content loaded) (idle : IsIdle settings loaded items now steps) where
+      (law : (rows : List Row) (listing : List Item) (held : List Bool) (now : ℕ) → IsRecord rows
+      → All (λ (item : Item). is_delivered rows item.uid ≡ true) listing → merged rows listing held now ≡ rows)
+      (stood : FileReadAs (files.stored from).content loaded) (idle : IsIdle settings loaded items now steps) where
     abbrev looked_at : Stores
     looked_at = stores_of disk files store
 
@@ -478,18 +578,24 @@ module _ {D F : Type 0} (disk : DiskGhosts D) (files : FileGhosts F) (account : 
     -- a merge changes nothing
     merged_same : merged_in (target_of store account) looked_at was_read items now ≡ loaded.rows
     merged_same =
-        let flags = flags_in (target_of store account) looked_at items in
-        ap (λ (rows : List Row). merged rows items flags now) (rows_same store was_read items idle.closed) ∙ law loaded.rows items flags now idle.is_record idle.known
+        let flags = held_flags (target_of store account) looked_at items in
+        ap (λ (rows : List Row). merged rows items flags now) (rows_same store was_read items idle.closed)
+        ∙ law loaded.rows items flags now idle.is_record idle.known
 
-    pub rested : {safe : Type 0} (ready : Ready) → Rests (kind_of store) looked_at items (Ok ready) (stores_of disk files store') → (kept : IsFileKept loaded.rows (files.stored from) (files.stored f))
-        → Steady (files.stored f).content (none_open loaded.rows) → (files.stored f).failures ≡ (files.stored from).failures → KeptLasts files from loaded.rows (files.stored from) (files.stored f) kept f
+    pub rested : {safe : Type 0} (ready : Ready)
+        → Rests (kind_of store) looked_at items (Ok ready) (stores_of disk files store')
+        → (kept : IsFileKept loaded.rows (files.stored from) (files.stored f))
+        → Steady (files.stored f).content (none_open loaded.rows)
+        → (files.stored f).failures ≡ (files.stored from).failures
+        → KeptLasts files from loaded.rows (files.stored from) (files.stored f) kept f
         → ready.steps.items ≡ steps → length ready.held.items ≡ length items
         → ReadiesAndLasts disk files safe from settings (target_of store account) items now looked_at (Ok ready) loaded.rows store' f
     rested ready rests kept saved count lasting are counted = record {
       readies = record {
         was = was_read;
         stood = read_keeps (files.stored from).content loaded stood;
-        held = quiet_same ready.steps.items items ready.held.items _ (rw are idle.quiet) counted (flags_length (target_of store account) looked_at items);
+        held = quiet_same ready.steps.items items ready.held.items _ (rw are idle.quiet) counted
+            (flags_length (target_of store account) looked_at items);
         rows = sym merged_same;
         steps = are ∙ idle.planned;
         durable = inl (rw are idle.quiet, kept);
@@ -501,7 +607,8 @@ module _ {D F : Type 0} (disk : DiskGhosts D) (files : FileGhosts F) (account : 
     }
 
     -- the store refused to be looked at
-    pub unrested : {safe : Type 0} (fault : Fault) → Rests (kind_of store) looked_at items (Err fault) (stores_of disk files store') → f ≡ from
+    pub unrested : {safe : Type 0} (fault : Fault)
+        → Rests (kind_of store) looked_at items (Err fault) (stores_of disk files store') → f ≡ from
         → ReadiesAndLasts disk files safe from settings (target_of store account) items now looked_at (Err fault) loaded.rows store' f
     unrested fault finds same = record {
       readies = record {
@@ -512,20 +619,33 @@ module _ {D F : Type 0} (disk : DiskGhosts D) (files : FileGhosts F) (account : 
     }
       where
         by : (store : Store D F) → Rests (kind_of store) (stores_of disk files store) items (Err fault) (stores_of disk files store')
-            → CausesUnready (target_of store account) items fault (stores_of disk files store) (files.stored from) (stores_of disk files store') (files.stored f)
+            → CausesUnready (target_of store account) items fault (stores_of disk files store) (files.stored from)
+            (stores_of disk files store') (files.stored f)
         by (InMaildir device) finds =
-            not_found false (AsFiles account) items (in_maildir (disk.maildir device)) (stores_of disk files store') (files.stored from) (files.stored f) loaded fault stood finds
-        by (InMbox device) finds = not_found false AsEntries items (in_mbox (files.stored device)) (stores_of disk files store') (files.stored from) (files.stored f) loaded fault stood
-            (subst (λ (intent : Option Intent). AsksMbox intent (files.stored device) items (Err fault) (stores_of disk files store').mbox) (sym idle.closed) finds.0)
+            not_found false (AsFiles account) items (in_maildir (disk.maildir device)) (stores_of disk files store')
+            (files.stored from) (files.stored f) loaded fault stood finds
+        by (InMbox device) finds = not_found false AsEntries items (in_mbox (files.stored device))
+            (stores_of disk files store') (files.stored from) (files.stored f) loaded fault stood
+            (subst (λ (intent : Option Intent). AsksMbox intent (files.stored device) items (Err fault)
+            (stores_of disk files store').mbox) (sym idle.closed) finds.0)
 
     -- the record's file couldn't be written anew
-    pub unrenewed : {safe : Type 0} (ready : Ready) (fault : Fault) → Rests (kind_of store) looked_at items (Ok ready) (stores_of disk files store')
+    pub unrenewed : {safe : Type 0} (ready : Ready) (fault : Fault)
+        → Rests (kind_of store) looked_at items (Ok ready) (stores_of disk files store')
         → Merges (files.stored from) was_read was_read (Err fault) (files.stored f) → LeavesMerged files loaded.rows loaded.rows from f
         → ReadiesAndLasts disk files safe from settings (target_of store account) items now looked_at (Err fault) loaded.rows store' f
     unrenewed ready fault rests merges leaves = record {
       readies = record {
         cause = why fault merges store rests;
-        content = inr (record { was = was_read; stood = kept; settles = settles_same store was_read items (stores_of disk files store') idle.closed rests; durable = inl merged_same; stands = inl (stands fault merges) });
+        content = inr (record {
+          was = was_read;
+          stood = kept;
+          settles =
+              settles_same store was_read items (stores_of disk files store') idle.closed rests;
+          durable =
+              inl merged_same;
+          stands = inl (stands fault merges);
+        });
       };
       lasts = λ sure. rw merged_same leaves;
     }
@@ -533,16 +653,19 @@ module _ {D F : Type 0} (disk : DiskGhosts D) (files : FileGhosts F) (account : 
         kept : Keeps (files.stored from).content was_read
         kept = read_keeps (files.stored from).content loaded stood
 
-        stands : (fault : Fault) → Merges (files.stored from) was_read was_read (Err fault) (files.stored f) → Keeps (files.stored f).content was_read
+        stands : (fault : Fault) → Merges (files.stored from) was_read was_read (Err fault) (files.stored f)
+            → Keeps (files.stored f).content was_read
         stands SeenRefused merges = ⊎_elim (λ is. is) (λ is. is) merges.1
         stands NoMemory merges = rw merges kept
         stands _ never = absurd never
 
         why : (fault : Fault) → Merges (files.stored from) was_read was_read (Err fault) (files.stored f) → (store : Store D F)
             → Rests (kind_of store) (stores_of disk files store) items (Ok ready) (stores_of disk files store')
-            → CausesUnready (target_of store account) items fault (stores_of disk files store) (files.stored from) (stores_of disk files store') (files.stored f)
+            → CausesUnready (target_of store account) items fault (stores_of disk files store) (files.stored from)
+            (stores_of disk files store') (files.stored f)
         why SeenRefused merges (InMaildir device) ((news, curs, same), others) = (omega (arith, merges.0), same)
-        why SeenRefused merges (InMbox device) ((goes_on, same), others) = (omega (arith, merges.0), inl (ap (λ (s : Stored). s.content) same))
+        why SeenRefused merges (InMbox device) ((goes_on, same), others) =
+            (omega (arith, merges.0), inl (ap (λ (s : Stored). s.content) same))
         why NoMemory merges (InMaildir device) ((news, curs, same), others) = same
         why NoMemory merges (InMbox device) ((goes_on, same), others) = inl (ap (λ (s : Stored). s.content) same)
         why _ never store rests = absurd never
@@ -551,20 +674,22 @@ module _ {D F : Type 0} (disk : DiskGhosts D) (files : FileGhosts F) (account : 
 
 pub rest_has_plan : (settings : Settings) (items : List Item) (now : ℕ) (seen : Loaded) (r : Result Ready Fault) (steps : List Step)
     → ((rows : List Row) (uid : List ℕ) → is_delivered rows uid ≡ true → has_row rows uid ≡ true) → IsIdle settings seen items now steps
-    → IfOk r (λ ready. ready.steps.items ≡ steps) → IfOk r (λ ready. length ready.held.items ≡ length items) → IfOk r (λ ready. HasPlan settings items now ready seen)
+    → IfOk r (λ ready. ready.steps.items ≡ steps) → IfOk r (λ ready. length ready.held.items ≡ length items)
+    → IfOk r (λ ready. HasPlan settings items now ready seen)
 rest_has_plan settings items now seen (Ok ready) steps law idle same held = record {
   steps = same ∙ idle.planned;
   lengths = (ap length (same ∙ idle.planned) ∙ planned_length settings seen.rows items now, held);
-  rows = recursion_from_All (λ (item : Item). has_row seen.rows item.uid ≡ true) items (λ k d inside. law seen.rows _ (idle.known k d inside));
+  rows = recursion_from_All (λ (item : Item). has_row seen.rows item.uid ≡ true) items
+      (λ k d inside. law seen.rows _ (idle.known k d inside));
   closed = idle.closed;
 }
 rest_has_plan settings items now seen (Err fault) steps law idle same held = tt
 
 pub rest_held : (r : Result Ready Fault) (target : Target) (steps : List Step) (items : List Item) (new : Stores) → All IsQuiet steps
     → IfOk r (λ ready. ready.steps.items ≡ steps) → IfOk r (λ ready. length ready.held.items ≡ length items)
-    → IfOk r (λ ready. AreAsHeld ready.steps.items items ready.held.items (flags_in target new items))
+    → IfOk r (λ ready. AreAsHeld ready.steps.items items ready.held.items (held_flags target new items))
 rest_held (Ok ready) target steps items new quiet same held =
-    quiet_same ready.steps.items items ready.held.items (flags_in target new items) (rw same quiet) held (flags_length target new items)
+    quiet_same ready.steps.items items ready.held.items (held_flags target new items) (rw same quiet) held (flags_length target new items)
 rest_held (Err fault) target steps items new quiet same held = tt
 
 pub rest_named : (P : Type 0) (r : Result Ready Fault) (steps : List Step) → All IsQuiet steps → IfOk r (λ ready. ready.steps.items ≡ steps)

@@ -1,20 +1,24 @@
 -- How a record is read and what saving it leaves, how what single tasks do makes what lists of tasks do, and what a list leaves that
 -- stopped.
-use Rattle.std.proofs.Common.{◌≡◌, ◌≢◌, ◌⊎◌, inl, inr, ℕ, Bool, false, List, [], ◌∷◌, ◌++◌, Option, None, Some, Result, Ok, Err, ◌≤◌, refl, sym, ap, arith, ◌∙◌, OnOk, ◌==◌, ◌||◌, true, if◌then◌else◌, length, append-nil, subst, append_assoc, option_map, take, length-append}
+use Rattle.std.proofs.Common.{◌≡◌, ◌≢◌, ◌⊎◌, inl, inr, ℕ, Bool, false, List, [], ◌∷◌, ◌++◌, Option, None, Some, Result}
+use Rattle.std.proofs.Common.{Ok, Err, ◌≤◌, refl, sym, ap, arith, ◌∙◌, OnOk, ◌==◌, ◌||◌, true, if◌then◌else◌, length}
+use Rattle.std.proofs.Common.{append-nil, subst, append_assoc, option_map, take, length-append}
 use Rattle.std.proofs.lemmas.Bool.{true≢false, or_parts}
 use Rattle.std.proofs.lemmas.Bool.Decides.{nat_tests}
 use Rattle.fetch_rules.specs.Record.{Row, Intent, RecordState, Loaded, none_open, IsIntent, has_row, marked, marked_all}
 use Rattle.fetch_rules.specs.RecordFile.{Version, One, Two, header, file_of, intent_line}
-use Rattle.fetch_rules.specs.RecordMeaning.{Rows, Means, has_bytes, taken, Fault as Faulty}
+use Rattle.fetch_rules.specs.RecordMeaning.{Rows, Means, has_bytes, with_taken, Fault as Faulty}
 use Rattle.fetch_rules.specs.RecordGrowth.{Updates, Grows, AppendedCounts, CutIsIgnored, taken_all}
 use Rattle.fetch_rules.specs.Intents.{has_intent, is_older, closed_rows}
 use Rattle.mail_terms.proofs.ListLemmas.{all_append}
-use Rattle.mail_store.specs.FlatFile.{Stored, Appends, Cuts, Denies, counted}
+use Rattle.mail_store.specs.FlatFile.{Stored, Appends, Cuts, Denies, file_refused}
 use Rattle.mail_store.specs.declared.fault.StoreFault.{StoreFault}
 use Rattle.mail_store.specs.declared.fault.StoreFault.TheVariants.{Missing, Refused}
 use Rattle.fetch_session.specs.declared.fault.Fault.{Fault}
 use Rattle.fetch_session.specs.declared.fault.Fault.TheVariants.{SeenRefused, NoMemory, BadSeen}
-use Rattle.fetch_session.specs.Record.{bytes_in, record_state, Keeps, Steady, ReadAs, StandsTill, TellsSize, Writes, Saves, Merges, TakesBack, record_state_in, LineOf, Reads, IsLineFault}
+use Rattle.fetch_session.specs.Record.{bytes_in, record_state, Keeps, Steady, FileReadAs, StandsTill, TellsSize}
+use Rattle.fetch_session.specs.Record.{WritesRecord, Saves, Merges, TakesBack, record_state_in, LineOf, ReadsRecord}
+use Rattle.fetch_session.specs.Record.{IsLineFault}
 use Rattle.fetch_rules.specs.declared.seen.SeenFault.{SeenFault}
 use Rattle.fetch_rules.specs.declared.seen.SeenFault.TheVariants.{NoMemory as WantsMemory}
 use Rattle.std.proofs.lemmas.List.{append-nil, map-append}
@@ -26,7 +30,8 @@ use Rattle.mail_store.specs.Mboxrd.{entry_of}
 use Rattle.mail_store.specs.Maildir.{Maildir, File}
 use Rattle.pop3_client.specs.Conversation.{TurnsJoin, Talked, ConversationsArePaced}
 use Rattle.fetch_session.specs.declared.fault.Cut.{Cut}
-use Rattle.fetch_session.specs.Task.{Task, Done, IsAnswered, files_in, texts_in, tasks_of, turns_of, replies_of, texts_of, stores, ids_in, ids_of}
+use Rattle.fetch_session.specs.Task.{Task, Done, IsAnswered, files_in, texts_in, tasks_of, turns_of, replies_of}
+use Rattle.fetch_session.specs.Task.{done_texts, stores, ids_in, marked_ids}
 use Rattle.fetch_session.specs.Store.{Gained, Appended, Brings}
 use Rattle.fetch_session.specs.Target.{Target, AsFiles, AsEntries, Stores}
 use Rattle.fetch_session.specs.Scene.{Scene, Went, AllWent, Fell, Stops, NoFile, FileNotSaved}
@@ -43,16 +48,18 @@ bytes_begin One rest is = true≢false (sym (ap has_bytes is))
 bytes_begin Two rest is = true≢false (sym (ap has_bytes is))
 
 -- an empty file stands for no row and no intent
-empty_means : (version : Version) (rows : List Row) (intent : Option Intent) (torn : Bool) → Means [] (Rows version rows intent torn) → (rows ≡ []) × (intent ≡ None)
+empty_means : (version : Version) (rows : List Row) (intent : Option Intent) (torn : Bool)
+    → Means [] (Rows version rows intent torn) → (rows ≡ []) × (intent ≡ None)
 empty_means version rows intent torn (inl is) = (cc is.1, cc is.1)
 empty_means version rows intent torn (inr (inl other)) = absurd (other.0 refl)
 empty_means version rows intent torn (inr (inr lines)) = absurd (bytes_begin lines.version _ lines.cut.whole)
 
-means_keeps : (content : Option (List ℕ)) (version : Version) (state : RecordState) (torn : Bool) → Means (bytes_in content) (Rows version state.rows state.intent torn) → Keeps content state
+means_keeps : (content : Option (List ℕ)) (version : Version) (state : RecordState) (torn : Bool)
+    → Means (bytes_in content) (Rows version state.rows state.intent torn) → Keeps content state
 means_keeps None version state torn means = empty_means version state.rows state.intent torn means
 means_keeps (Some bytes) version state torn means = (version, torn, means)
 
-pub read_keeps : (content : Option (List ℕ)) (loaded : Loaded) → ReadAs content loaded → Keeps content (record_state_in loaded)
+pub read_keeps : (content : Option (List ℕ)) (loaded : Loaded) → FileReadAs content loaded → Keeps content (record_state_in loaded)
 read_keeps content loaded is = means_keeps content is.version (record_state_in loaded) is.torn is.means
 
 pub steady_keeps : (content : Option (List ℕ)) (state : RecordState) → Steady content state → Keeps content state
@@ -67,7 +74,8 @@ no_intent : (intent : Option Intent) → has_intent intent ≡ false → intent 
 no_intent None is = refl
 no_intent (Some intent) is = absurd (true≢false is)
 
-pub read_steady : (content : Option (List ℕ)) (loaded : Loaded) → ReadAs content loaded → loaded.stale ≡ false → Steady content (none_open loaded.rows) × (loaded.intent ≡ None)
+pub read_steady : (content : Option (List ℕ)) (loaded : Loaded) → FileReadAs content loaded → loaded.stale ≡ false
+    → Steady content (none_open loaded.rows) × (loaded.intent ≡ None)
 read_steady content loaded is fresh =
     let old = or_parts (is_older is.version) (is.torn || (has_intent loaded.intent || is.outgrown)) (sym is.stale ∙ fresh) in
     let torn = or_parts is.torn (has_intent loaded.intent || is.outgrown) old.1 in
@@ -88,7 +96,9 @@ is_there (Some bytes) some = refl
 
 -- ---- the whole record written
 
-pub writes_merges : (old new : Stored) (was now : RecordState) (r : Result (Unit {0}) Fault) → Keeps old.content was → Means (file_of now.rows now.intent) (Rows Two now.rows now.intent false) → Writes old now r new → Merges old was now r new
+pub writes_merges : (old new : Stored) (was now : RecordState) (r : Result (Unit {0}) Fault) → Keeps old.content was
+    → Means (file_of now.rows now.intent) (Rows Two now.rows now.intent false) → WritesRecord old now r new
+    → Merges old was now r new
 writes_merges old new was now (Ok done) kept stands is = rw is (refl, stands)
 writes_merges old new was now (Err SeenRefused) kept stands (inl is) = rw is (refl, inl kept)
 writes_merges old new was now (Err SeenRefused) kept stands (inr is) = rw is (refl, inr (Two, false, stands))
@@ -96,8 +106,10 @@ writes_merges old new was now (Err NoMemory) kept stands is = is
 writes_merges old new was now (Err _) kept stands never = absurd never
 
 -- what stands for the rows at the front of a file is cut off from the rest
-pub till_front : (stored : Stored) (size : ℕ) (rows : List Row) (bytes : List ℕ) → StandsTill stored size rows → stored.content ≡ Some bytes → Steady (Some (take size bytes)) (none_open rows)
-till_front stored size rows bytes till is = subst (λ (o : Option (List ℕ)). Steady (Some (take size (bytes_in o))) (none_open rows)) is till.1
+pub till_front : (stored : Stored) (size : ℕ) (rows : List Row) (bytes : List ℕ) → StandsTill stored size rows
+    → stored.content ≡ Some bytes → Steady (Some (take size bytes)) (none_open rows)
+till_front stored size rows bytes till is =
+    subst (λ (o : Option (List ℕ)). Steady (Some (take size (bytes_in o))) (none_open rows)) is till.1
 
 -- an open intent was closed in this way
 pub taken_back : (old new : Stored) (size : ℕ) (was : RecordState) (r : Result (Unit {0}) StoreFault) → StandsTill old size was.rows
@@ -113,7 +125,7 @@ taken_back old new size was (Err fault) till cuts =
     ]
 
 -- the size of a file, and what was appended to it
-pub not_there : (old new : Stored) (why : StoreFault) → bytes_in old.content ≢ [] → Denies old why new → new ≡ counted old
+pub not_there : (old new : Stored) (why : StoreFault) → bytes_in old.content ≢ [] → Denies old why new → new ≡ file_refused old
 not_there old new Missing some (none, same) = absurd (some (ap bytes_in none))
 not_there old new Refused some is = is
 not_there old new _ some never = absurd never
@@ -123,20 +135,24 @@ same_bytes old new (Ok size) is = ap (λ (s : Stored). s.content) is.1
 same_bytes old new (Err SeenRefused) is = ap (λ (s : Stored). s.content) is
 same_bytes old new (Err _) never = absurd never
 
-pub size_untold : (old new : Stored) (was now : RecordState) (fault : Fault) → TellsSize old (Err fault) new → Saves old was now (Err fault) new
+pub size_untold : (old new : Stored) (was now : RecordState) (fault : Fault) → TellsSize old (Err fault) new
+    → Saves old was now (Err fault) new
 size_untold old new was now SeenRefused is = rw is (refl, λ stood. inl (steady_keeps old.content was stood))
 size_untold old new was now _ never = absurd never
 
-pub stands_till : (old new : Stored) (size : ℕ) (line : List ℕ) (rows : List Row) → bytes_in new.content ≢ [] → size ≡ length (bytes_in old.content)
+pub stands_till : (old new : Stored) (size : ℕ) (line : List ℕ) (rows : List Row) → bytes_in new.content ≢ []
+    → size ≡ length (bytes_in old.content)
     → bytes_in new.content ≡ bytes_in old.content ++ line → Steady old.content (none_open rows) → StandsTill new size rows
 stands_till old new size line rows some long is stood =
     let was = bytes_in old.content in
-    let cut : take size (bytes_in new.content) ≡ was = ap (take size) is ∙ ap (λ (n : ℕ). take n (was ++ line)) long ∙ take-append_seam was line in (
+    let cut : take size (bytes_in new.content) ≡ was = ap (take size) is ∙ ap (λ (n : ℕ). take n (was ++ line)) long
+    ∙ take-append_seam was line in (
       (bytes_in new.content, is_there new.content some, omega (arith, long, ap length is, length-append was line)),
       subst (λ (bytes : List ℕ). Means bytes (Rows Two rows None false)) (sym cut) stood,
     )
 
-pub saves_merges : (old new : Stored) (was now : RecordState) (r : Result (Unit {0}) Fault) → Steady old.content was → Saves old was now r new → Merges old was now r new
+pub saves_merges : (old new : Stored) (was now : RecordState) (r : Result (Unit {0}) Fault) → Steady old.content was
+    → Saves old was now r new → Merges old was now r new
 saves_merges old new was now (Ok done) stood is = (is.0, is.1 stood)
 saves_merges old new was now (Err SeenRefused) stood is = (is.0, is.1 stood)
 saves_merges old new was now (Err NoMemory) stood is = is
@@ -161,14 +177,22 @@ grown counts old new added was now some grows appends =
     rw (appends (bytes_in old.content) (is_there old.content some))
     (refl, λ stood. counts (bytes_in old.content) added was.rows now.rows was.intent now.intent some stood grows)
 
-kept_front : AppendedCounts → CutIsIgnored → (bytes added front rest : List ℕ) (was now : RecordState) → bytes ≢ [] → GrowsBy added was now → Means bytes (Rows Two was.rows was.intent false) → added ≡ front ++ rest
+kept_front : AppendedCounts → CutIsIgnored → (bytes added front rest : List ℕ) (was now : RecordState) → bytes ≢ []
+    → GrowsBy added was now → Means bytes (Rows Two was.rows was.intent false) → added ≡ front ++ rest
     → Keeps (Some (bytes ++ front)) was ⊎ Keeps (Some (bytes ++ front)) now
 kept_front counts ignored bytes added front [] was now some grows stood split =
     inr (Two, false, rw (split, append-nil) at (counts bytes added was.rows now.rows was.intent now.intent some stood grows))
 kept_front counts ignored bytes added front (byte ∷ rest) was now some grows stood split =
-    inl (Two, has_bytes front, ignored bytes added front (byte ∷ rest) was.rows now.rows was.intent now.intent some stood grows split (λ none. true≢false (ap has_bytes none)))
+    inl (
+      Two,
+      has_bytes front,
+      ignored bytes added front (byte ∷ rest) was.rows now.rows was.intent now.intent some
+          stood grows split (λ none. true≢false (ap has_bytes none)),
+    )
 
-pub cut_short : AppendedCounts → CutIsIgnored → (old new : Stored) (added : List ℕ) (was now : RecordState) (fault : StoreFault) → bytes_in old.content ≢ [] → GrowsBy added was now
+pub cut_short : AppendedCounts → CutIsIgnored
+    → (old new : Stored) (added : List ℕ) (was now : RecordState) (fault : StoreFault) → bytes_in old.content ≢ []
+    → GrowsBy added was now
     → Appends {T = Unit {0}} old added (Err fault) new → Saves old was now (Err SeenRefused) new
 cut_short counts ignored old new added was now fault some grows appends =
     let cut = appends (bytes_in old.content) (is_there old.content some) in
@@ -184,10 +208,12 @@ taken_by false (first ∷ rows) row some = λ none. cc
 
 still_some : (rows group : List Row) → rows ≢ [] → taken_all rows group ≢ []
 still_some rows [] some = some
-still_some rows (row ∷ group) some = still_some (taken rows row) group (taken_by (has_row rows row.uid) rows row some)
+still_some rows (row ∷ group) some = still_some (with_taken rows row) group (taken_by (has_row rows row.uid) rows row some)
 
 -- if an id's mark gives a group, the file has bytes
-pub mark_begun : (content : Option (List ℕ)) (was now : List Row) (before after : Option Intent) (uid group : List ℕ) → Steady content (record_state was before) → now ≡ marked was uid → Updates was before group now after → group ≢ [] → bytes_in content ≢ []
+pub mark_begun : (content : Option (List ℕ)) (was now : List Row) (before after : Option Intent) (uid group : List ℕ)
+    → Steady content (record_state was before) → now ≡ marked was uid → Updates was before group now after → group ≢ []
+    → bytes_in content ≢ []
 mark_begun content was now before after uid group steady marks (inl same) some none = some same.0
 mark_begun content was now before after uid group steady marks (inr (rows, is, bytes, grown', closed)) some none =
     let no_row : was ≡ [] = (empty_means Two was before false (rw none at steady)).0 in
@@ -198,23 +224,28 @@ mark_begun content was now before after uid group steady marks (inr (rows, is, b
     by_rows (row ∷ more) count nothing no_row = still_some (row ∷ []) more (λ e. cc) (rw no_row at nothing)
 
 -- if an id has a row, the file has bytes
-pub row_begun : (content : Option (List ℕ)) (rows : List Row) (intent : Option Intent) (uid : List ℕ) → Steady content (record_state rows intent) → has_row rows uid ≡ true → bytes_in content ≢ []
+pub row_begun : (content : Option (List ℕ)) (rows : List Row) (intent : Option Intent) (uid : List ℕ)
+    → Steady content (record_state rows intent) → has_row rows uid ≡ true → bytes_in content ≢ []
 row_begun content rows intent uid steady has none =
     let no_row : rows ≡ [] = (empty_means Two rows intent false (rw none at steady)).0 in
     true≢false (sym has ∙ ap (λ (r : List Row). has_row r uid) no_row)
 
 -- an intent's line opens it
-pub opens : (rows : List Row) (intent : Intent) (line : List ℕ) → IsIntent intent → has_row rows intent.uid ≡ true → line ≡ intent_line intent → Grows rows None line rows (Some intent)
+pub opens : (rows : List Row) (intent : Intent) (line : List ℕ) → IsIntent intent → has_row rows intent.uid ≡ true
+    → line ≡ intent_line intent → Grows rows None line rows (Some intent)
 opens rows intent line is has line_is =
     inr (record { intent = intent; is_one = is; row = has; closed = refl; bytes_are = line_is; same = refl; opened = refl })
 
-pub saves_steady : (old new : Stored) (was now : RecordState) (r : Result (Unit {0}) Fault) → Steady old.content was → Saves old was now r new → OnOk r (Steady new.content now)
+pub saves_steady : (old new : Stored) (was now : RecordState) (r : Result (Unit {0}) Fault) → Steady old.content was
+    → Saves old was now r new → OnOk r (Steady new.content now)
 saves_steady old new was now (Ok done) stood saves = saves.1 stood
 saves_steady old new was now (Err fault) stood saves = tt
 
 -- ---- why a record isn't read
 
-pub read_fault : (old new : Stored) (loaded : Loaded) (why : SeenFault) (fault : Fault) → new ≡ old → (why ≢ WantsMemory → Means (bytes_in old.content) (Faulty why)) → IsLineFault why fault → Reads old loaded (Err fault) new
+pub read_fault : (old new : Stored) (loaded : Loaded) (why : SeenFault) (fault : Fault) → new ≡ old
+    → (why ≢ WantsMemory → Means (bytes_in old.content) (Faulty why)) → IsLineFault why fault
+    → ReadsRecord old loaded (Err fault) new
 read_fault old new loaded why (BadSeen line) same is at = (why, is (λ none. subst (λ (w : SeenFault). LineOf w line) none at), at, same)
 read_fault old new loaded why NoMemory same is at = same
 read_fault old new loaded why _ same is at = absurd at
@@ -222,7 +253,14 @@ read_fault old new loaded why _ same is at = absurd at
 -- ---- lists of tasks
 
 pub gained_none : (m : Maildir) → Gained m m []
-gained_none m = record { came = sym (append-nil m.files); taken = refl; there = refl; none_begun = λ none_begun. none_begun; failures = omega arith }
+gained_none m = record {
+  came = sym (append-nil m.files);
+  taken = refl;
+  there = refl;
+  none_begun =
+      λ none_begun. none_begun;
+  failures = omega arith;
+}
 
 pub marked_on : (rows : List Row) (xs ys : List (List ℕ)) → marked_all rows (xs ++ ys) ≡ marked_all (marked_all rows xs) ys
 marked_on rows [] ys = refl
@@ -247,7 +285,8 @@ pub brings_none : (target : Target) (s : Stores) → Brings target [] s s
 brings_none (AsFiles account) s = gained_none s.maildir
 brings_none AsEntries s = appended_none s.mbox
 
-brings_on : (target : Target) (xs ys : List Done) (a b c : Stores) → Brings target xs a b → Brings target ys b c → Brings target (xs ++ ys) a c
+brings_on : (target : Target) (xs ys : List Done) (a b c : Stores) → Brings target xs a b → Brings target ys b c
+    → Brings target (xs ++ ys) a c
 brings_on (AsFiles account) xs ys a b c first second =
     simp flat_map-append (record {
       came = simp (second.came, first.came, append_assoc);
@@ -257,23 +296,36 @@ brings_on (AsFiles account) xs ys a b c first second =
       failures = omega (arith, first.failures, second.failures);
     })
 brings_on AsEntries xs ys a b c first second = simp flat_map-append (record {
-  content = second.content ∙ ap (option_map (λ (was : List ℕ). was ++ flat_map entry_of (texts_of ys))) first.content ∙ content_on a.mbox.content (texts_of xs) (texts_of ys);
+  content = second.content ∙ ap (option_map (λ (was : List ℕ). was ++ flat_map entry_of (done_texts ys))) first.content
+      ∙ content_on a.mbox.content (done_texts xs) (done_texts ys);
   failures = second.failures ∙ first.failures;
 })
 
 -- a task that stored nothing
-pub brings_same : (target : Target) (done : Done) (s : Stores) → ((account : List ℕ) → files_in account done.task done.replies ≡ []) → texts_in done.task done.replies ≡ []
+pub brings_same : (target : Target) (done : Done) (s : Stores)
+    → ((account : List ℕ) → files_in account done.task done.replies ≡ []) → texts_in done.task done.replies ≡ []
     → Brings target (done ∷ []) s s
 brings_same (AsFiles account) done s files texts = rw files (gained_none s.maildir)
 brings_same AsEntries done s files texts = rw texts (appended_none s.mbox)
 
 pub went_none : (target : Target) (s : Scene) → Went target [] s s
 went_none target s =
-    record { talked = talked_none s.place; each = tt; stored = brings_none target s.store; rows = refl; saved = λ stands. stands; file_count = omega arith; lines = sym (append-nil s.lines) }
+    record {
+      talked = talked_none s.place;
+      each = tt;
+      stored = brings_none target s.store;
+      rows = refl;
+      saved =
+          λ stands. stands;
+      file_count = omega arith;
+      lines = sym (append-nil s.lines);
+    }
 
-pub went_on : TurnsJoin → (target : Target) (xs ys : List Done) (a b c : Scene) → Went target xs a b → Went target ys b c → Went target (xs ++ ys) a c
+pub went_on : TurnsJoin → (target : Target) (xs ys : List Done) (a b c : Scene) → Went target xs a b
+    → Went target ys b c → Went target (xs ++ ys) a c
 went_on joining target xs ys a b c first second = record {
-  talked = simp flat_map-append (joining.on (turns_of xs) (turns_of ys) (replies_of xs) (replies_of ys) a.place b.place c.place first.talked second.talked);
+  talked = simp flat_map-append (joining.on (turns_of xs) (turns_of ys) (replies_of xs) (replies_of ys) a.place b.place
+      c.place first.talked second.talked);
   each = all_append IsAnswered xs ys first.each second.each;
   stored = brings_on target xs ys a.store b.store c.store first.stored second.stored;
   rows = simp (second.rows, first.rows, flat_map-append, marked_on);
@@ -282,11 +334,13 @@ went_on joining target xs ys a b c first second = record {
   lines = simp (second.lines, first.lines, flat_map-append, append_assoc);
 }
 
-unfoldable pub fell_first : (target : Target) (task : Task) (later : List Task) (a new : Scene) (f : Cut) → Stops target task a f new → Fell target (task ∷ later) a f new
+unfoldable pub fell_first : (target : Target) (task : Task) (later : List Task) (a new : Scene) (f : Cut)
+    → Stops target task a f new → Fell target (task ∷ later) a f new
 fell_first target task later a new f stops =
     record { dones = []; next = task; later = later; mid = a; split = refl; went = went_none target a; stops = stops }
 
-unfoldable pub fell_on : TurnsJoin → (target : Target) (xs ys : List Task) (a b new : Scene) (f : Cut) → AllWent target xs a b → Fell target ys b f new → Fell target (xs ++ ys) a f new
+unfoldable pub fell_on : TurnsJoin → (target : Target) (xs ys : List Task) (a b new : Scene) (f : Cut)
+    → AllWent target xs a b → Fell target ys b f new → Fell target (xs ++ ys) a f new
 fell_on joining target xs ys a b new f first second = record {
   dones = first.dones ++ second.dones;
   next = second.next;
@@ -297,7 +351,8 @@ fell_on joining target xs ys a b new f first second = record {
   stops = second.stops;
 }
 
-unfoldable pub fell_before : (target : Target) (xs ys : List Task) (a new : Scene) (f : Cut) → Fell target xs a f new → Fell target (xs ++ ys) a f new
+unfoldable pub fell_before : (target : Target) (xs ys : List Task) (a new : Scene) (f : Cut) → Fell target xs a f new
+    → Fell target (xs ++ ys) a f new
 fell_before target xs ys a new f fell = record {
   dones = fell.dones;
   next = fell.next;
@@ -311,7 +366,8 @@ fell_before target xs ys a new f fell = record {
 unfoldable pub all_none : (target : Target) (s : Scene) → AllWent target [] s s
 all_none target s = record { dones = []; all = refl; went = went_none target s }
 
-unfoldable pub all_on : TurnsJoin → (target : Target) (xs ys : List Task) (a b c : Scene) → AllWent target xs a b → AllWent target ys b c → AllWent target (xs ++ ys) a c
+unfoldable pub all_on : TurnsJoin → (target : Target) (xs ys : List Task) (a b c : Scene) → AllWent target xs a b
+    → AllWent target ys b c → AllWent target (xs ++ ys) a c
 all_on joining target xs ys a b c first second = record {
   dones = first.dones ++ second.dones;
   all = simp (first.all, second.all, map-append);
@@ -323,7 +379,8 @@ on_any (Ok done) p = p
 on_any (Err fault) p = tt
 
 -- what is known if all are sound, by what the calls of each did
-pub all_sound : {W W' L D D' F F' P Q R S : Type 0} → (W → W' × L × P) → (D → D' × Q) → (F → F' × R) → (P → Q → R → S) → W → D → F → W' × D' × F' × L × S
+pub all_sound : {W W' L D D' F F' P Q R S : Type 0} → (W → W' × L × P) → (D → D' × Q) → (F → F' × R) → (P → Q → R → S)
+    → W → D → F → W' × D' × F' × L × S
 all_sound link disk file did w d f =
     let l = link w in
     let s = disk d in
@@ -351,14 +408,16 @@ link_alone link w d f = let l = link w in (l.0, d, f, l.1, l.2)
 
 -- ---- a list of tasks that stopped leaves what tasks that were cut short leave
 
-stand : (turns : List Turn) (replies : List WholeReply) (old mid new : Scene) (more : List ℕ) → old.place.waiting ≡ [] → Talked turns replies old.place mid.place
+stand : (turns : List Turn) (replies : List WholeReply) (old mid new : Scene) (more : List ℕ) → old.place.waiting ≡ []
+    → Talked turns replies old.place mid.place
     → new.place.link.got ≡ mid.place.link.got ++ more → CameWhole replies old new
 stand turns replies old mid new more none talked is =
     let heard = rw none at talked.heard in
     (mid.place.waiting ++ more, simp (is, talked.got, heard, append_assoc))
 
 -- the record wasn't saved: why, and which record its file stands for
-unsaved_why : (old : Stored) (was now : RecordState) (fault : Fault) (new : Stored) → Saves old was now (Err fault) new → (fault ≡ SeenRefused) ⊎ (fault ≡ NoMemory)
+unsaved_why : (old : Stored) (was now : RecordState) (fault : Fault) (new : Stored) → Saves old was now (Err fault) new
+    → (fault ≡ SeenRefused) ⊎ (fault ≡ NoMemory)
 unsaved_why old was now SeenRefused new is = inl refl
 unsaved_why old was now NoMemory new is = inr refl
 unsaved_why old was now _ new never = absurd never
@@ -368,17 +427,19 @@ unsaved_keeps old was now SeenRefused new is = is.1
 unsaved_keeps old was now NoMemory new is = λ stood. inl (rw is (steady_keeps old.content was stood))
 unsaved_keeps old was now _ new never = absurd never
 
-module _ (account : List ℕ) (tasks : List Task) (old new : Scene) (cut : Cut) (fell : Fell (AsFiles account) tasks old cut new) (none : old.place.waiting ≡ [])
+module _ (account : List ℕ) (tasks : List Task) (old new : Scene) (cut : Cut)
+    (fell : Fell (AsFiles account) tasks old cut new) (none : old.place.waiting ≡ [])
     (stood : Steady old.file.content (none_open old.rows)) where
   -- nothing was marked
-  short_unmarked : (more : List ℕ) → new.place.link.got ≡ fell.mid.place.link.got ++ more → new.file ≡ fell.mid.file → new.lines ≡ fell.mid.lines → (extra : List File)
+  short_unmarked : (more : List ℕ) → new.place.link.got ≡ fell.mid.place.link.got ++ more → new.file ≡ fell.mid.file
+      → new.lines ≡ fell.mid.lines → (extra : List File)
       → new.store.maildir.files ≡ fell.mid.store.maildir.files ++ extra
       → ExtraIs account fell.dones (fell.next ∷ fell.later) old cut.fault new extra → CutShort account tasks old cut.fault new
   short_unmarked more got file lines extra came extra_is = record {
     taken = fell.dones;
     next = fell.next ∷ fell.later;
     extra = extra;
-    marks = ids_of fell.dones;
+    marks = marked_ids fell.dones;
     split = fell.split;
     good = fell.went.talked.good;
     got = stand (turns_of fell.dones) (replies_of fell.dones) old fell.mid new more none fell.went.talked got;
@@ -393,32 +454,49 @@ module _ (account : List ℕ) (tasks : List Task) (old new : Scene) (cut : Cut) 
   short_not_stored joining refused =
       let under = refused.fetching.under in
       let opened = refused.fetching.opened in
-      let short = short_unmarked (opened.gained ++ under.gained) (simp (under.drew.got, opened.got, append_assoc)) refused.file refused.lines in
+      let short = short_unmarked (opened.gained ++ under.gained) (simp (under.drew.got, opened.got, append_assoc))
+      refused.file refused.lines in
       elim refused.refuses [
         | inl missing ↦ short [] (rw (missing.2, append-nil)) (inl refl)
         | inr (is, inl same) ↦ short [] (rw (same, append-nil)) (inl refl)
         | inr (is, inr (done, (is_named, there))) ↦ (
             let came = refused.whole done in
-            let talked = joining.on (turns_of fell.dones) (retr refused.number ∷ []) (replies_of fell.dones) (came.0 ∷ []) old.place fell.mid.place new.place fell.went.talked came.1 in
-            let got = stand (turns_of fell.dones ++ retr refused.number ∷ []) (replies_of fell.dones ++ came.0 ∷ []) old new new [] none talked (sym (append-nil new.place.link.got)) in
-            short (record (mail_file account refused.uid refused.text) { is_named = is_named } ∷ []) (rw there) (inr (is, (refused.number, refused.uid, fell.later, came.0, rw refused.is, (is_named, rw came.2), got)))
+            let talked = joining.on (turns_of fell.dones) (retr refused.number ∷ []) (replies_of fell.dones)
+            (came.0 ∷ []) old.place fell.mid.place new.place fell.went.talked came.1 in
+            let got = stand (turns_of fell.dones ++ retr refused.number ∷ []) (replies_of fell.dones ++ came.0 ∷ []) old
+            new new [] none talked (sym (append-nil new.place.link.got)) in
+            short (record (mail_file account refused.uid refused.text) { is_named = is_named } ∷ []) (rw there)
+            (inr (is, (refused.number, refused.uid, fell.later, came.0, rw refused.is, (is_named, rw came.2), got)))
             )
       ]
 
   short_not_saved : TurnsJoin → FileNotSaved account fell.next fell.mid new cut → CutShort account tasks old cut.fault new
   short_not_saved joining refused =
-      elim (unsaved_keeps fell.mid.file (none_open fell.mid.rows) (none_open (marked fell.mid.rows refused.uid)) cut.fault new.file refused.saves (fell.went.saved stood)) [
-        | inl was ↦ with_marks (ids_of fell.dones) (inr (unsaved_why fell.mid.file (none_open fell.mid.rows) (none_open (marked fell.mid.rows refused.uid)) cut.fault new.file refused.saves, (refused.uid, flat_map-append (λ (d : Done). ids_in d.task) fell.dones (last ∷ [])))) (rw fell.went.rows at was)
-        | inr is ↦ with_marks (ids_of (fell.dones ++ last ∷ [])) (inl refl) (simp (flat_map-append, marked_on) (rw fell.went.rows at is))
+      elim (unsaved_keeps fell.mid.file (none_open fell.mid.rows) (none_open (marked fell.mid.rows refused.uid))
+      cut.fault new.file refused.saves (fell.went.saved stood)) [
+        | inl was ↦ with_marks (marked_ids fell.dones)
+            (inr (
+              unsaved_why fell.mid.file (none_open fell.mid.rows) (none_open (marked fell.mid.rows refused.uid))
+                  cut.fault new.file refused.saves,
+              (
+                refused.uid,
+                flat_map-append (λ (d : Done). ids_in d.task) fell.dones
+                    (last ∷ []),
+              ),
+            )) (rw fell.went.rows at was)
+        | inr is ↦ with_marks (marked_ids (fell.dones ++ last ∷ [])) (inl refl)
+            (simp (flat_map-append, marked_on) (rw fell.went.rows at is))
       ]
     where
       last : Done
       last = record { task = stores refused.number refused.uid; replies = refused.reply ∷ [] }
 
       talked : Talked (turns_of (fell.dones ++ last ∷ [])) (replies_of (fell.dones ++ last ∷ [])) old.place new.place
-      talked = simp flat_map-append (joining.on (turns_of fell.dones) (retr refused.number ∷ []) (replies_of fell.dones) (refused.reply ∷ []) old.place fell.mid.place new.place fell.went.talked refused.talked)
+      talked = simp flat_map-append (joining.on (turns_of fell.dones) (retr refused.number ∷ []) (replies_of fell.dones)
+          (refused.reply ∷ []) old.place fell.mid.place new.place fell.went.talked refused.talked)
 
-      with_marks : (marks : List (List ℕ)) → MarksAre (ids_of (fell.dones ++ last ∷ [])) cut.fault marks → Keeps new.file.content (none_open (marked_all old.rows marks))
+      with_marks : (marks : List (List ℕ)) → MarksAre (marked_ids (fell.dones ++ last ∷ [])) cut.fault marks
+          → Keeps new.file.content (none_open (marked_all old.rows marks))
           → CutShort account tasks old cut.fault new
       with_marks marks are stands = record {
         taken = fell.dones ++ last ∷ [];
@@ -427,7 +505,8 @@ module _ (account : List ℕ) (tasks : List Task) (old new : Scene) (cut : Cut) 
         marks = marks;
         split = simp (fell.split, refused.is, map-append, append_assoc);
         good = talked.good;
-        got = stand (turns_of (fell.dones ++ last ∷ [])) (replies_of (fell.dones ++ last ∷ [])) old new new [] none talked (sym (append-nil new.place.link.got));
+        got = stand (turns_of (fell.dones ++ last ∷ [])) (replies_of (fell.dones ++ last ∷ [])) old new new [] none
+            talked (sym (append-nil new.place.link.got));
         told = simp (refused.lines, fell.went.lines, flat_map-append, append_assoc);
         files = simp (refused.stored.came, fell.went.stored.came, flat_map-append, append-nil, append_assoc);
         extra_is = inl refl;
@@ -439,8 +518,10 @@ pub stopping_cuts_short : ConversationsArePaced → TurnsJoin → StoppingCutsSh
 stopping_cuts_short paced joining account tasks old new cut fell none stood =
     elim fell.stops [
       | inl broken ↦ (
-          let p = paced (broken.turn ∷ []) fell.mid.place new.place (Err broken.broke.0) (stopped_first broken.turn [] fell.mid.place new.place broken.broke.0 broken.broke.2) in
-          short_unmarked account tasks old new cut fell none stood p.gained p.got broken.file broken.lines [] (rw (broken.store, append-nil)) (inl refl)
+          let p = paced (broken.turn ∷ []) fell.mid.place new.place (Err broken.broke.0)
+          (stopped_first broken.turn [] fell.mid.place new.place broken.broke.0 broken.broke.2) in
+          short_unmarked account tasks old new cut fell none stood p.gained p.got broken.file broken.lines []
+          (rw (broken.store, append-nil)) (inl refl)
           )
       | inr (inl refused) ↦ short_not_stored account tasks old new cut fell none stood joining refused
       | inr (inr refused) ↦ short_not_saved account tasks old new cut fell none stood joining refused

@@ -1,5 +1,7 @@
 -- If nothing fails, a session ends, and has stored what it wants.
-use Rattle.std.proofs.Common.{◌≡◌, ◌≢◌, ◌<◌, ◌≤◌, ◌+◌, ◌-◌, ◌⊎◌, ℕ, Bool, true, false, List, [], ◌∷◌, ◌++◌, Option, None, Some, Result, Ok, Err, IsOk, Contains, refl, sym, ap, subst, ◌∙◌, inl, inr, arith, append_assoc, length, length-append, take, zip, map, filter}
+use Rattle.std.proofs.Common.{◌≡◌, ◌≢◌, ◌<◌, ◌≤◌, ◌+◌, ◌-◌, ◌⊎◌, ℕ, Bool, true, false, List, [], ◌∷◌, ◌++◌, Option}
+use Rattle.std.proofs.Common.{None, Some, Result, Ok, Err, IsOk, Contains, refl, sym, ap, subst, ◌∙◌, inl, inr, arith}
+use Rattle.std.proofs.Common.{append_assoc, length, length-append, take, zip, map, filter}
 use Rattle.std.specs.List.{AllByRecursion, AllZip, enumerate_from, flat_map}
 use Rattle.std.proofs.Math.Seq.{take-append-add}
 use Rattle.std.proofs.lemmas.Bool.{cases_Bool, false≢true}
@@ -29,7 +31,8 @@ use Rattle.pop3_wire.specs.declared.command.Command.TheVariants.{UidlAll, ListAl
 use Rattle.pop3_wire.specs.declared.reply.Status.TheVariants.{Negative, Positive}
 use Rattle.pop3_client.specs.Causes.{BeginsPositive, Cause, HasRows, IsOverlong, IsPartOfBody, IsPartOfListing, NextLine}
 use Rattle.pop3_client.specs.Conversation.{Broke, ConversationsArePaced, Talked, Talks}
-use Rattle.pop3_client.specs.Turns.{list, uidl, asking, IsBody, IsGood, IsListing, IsRow, IsShort, LinesFit, Turn, line_limit, retr, text_limit, turn_bytes}
+use Rattle.pop3_client.specs.Turns.{list, uidl, asking, IsBody, IsGood, AsksListing, IsListingRow, IsShort, LinesFit}
+use Rattle.pop3_client.specs.Turns.{Turn, line_limit, retr, text_limit, turn_bytes}
 use Rattle.pop3_client.specs.declared.fault.ClientFault.{ClientFault}
 use Rattle.pop3_client.specs.declared.fault.ClientFault.TheVariants as talk
 use Rattle.fetch_session.specs.declared.fault.Cut.{Cut}
@@ -43,15 +46,17 @@ use Rattle.fetch_session.specs.declared.tail.Tail.TheVariants.{Nothing}
 use Rattle.fetch_session.specs.Cuts.{ArePlanned, CausesFault, CutsHaveCauses, Extends, IsMissing, IsUnusable, StoreRose, TurnBroke}
 use Rattle.fetch_session.specs.Fault.{fault_of}
 use Rattle.fetch_session.specs.Plan.{tasks_ahead}
-use Rattle.fetch_session.specs.Readiness.{Settles}
+use Rattle.fetch_session.specs.Readiness.{SettlesStore}
 use Rattle.fetch_session.specs.Record.{Misread}
 use Rattle.fetch_session.specs.Served.{refused_in, HasText, IsServed, IsStored, IsUsable, ServedSessionsStoreAll, StoresAll}
 use Rattle.fetch_session.specs.Scene.{Scene, Stops}
 use Rattle.fetch_session.specs.Session.{Dealt, Keeping, LeavesLink, Noted, Proceeds, SessionIn, outcome_of}
 use Rattle.fetch_session.specs.Store.{Brings}
-use Rattle.fetch_session.specs.Tail.{tail, turns_in as tail_turns}
-use Rattle.fetch_session.specs.Target.{Target, AsFiles, AsEntries, Stores, closed_file, flags_in}
-use Rattle.fetch_session.specs.Task.{Done, IsAnswered, Task, deleting, fetching, file_from, files_in, files_of, replies_of, says, stores, tasks_in, tasks_of, tasks_planned, texts_in, texts_of, turns_in, turns_of}
+use Rattle.fetch_session.specs.Tail.{tail, turns_of_tail as tail_turns}
+use Rattle.fetch_session.specs.Target.{Target, AsFiles, AsEntries, Stores, closed_file, held_flags}
+use Rattle.fetch_session.specs.Task.{Done, IsAnswered, Task, deleting, fetching, file_from, files_in, files_of}
+use Rattle.fetch_session.specs.Task.{replies_of, says, stores, tasks_in, tasks_of, tasks_planned, texts_in, done_texts}
+use Rattle.fetch_session.specs.Task.{turns_in, turns_of}
 use Rattle.pop3_client.specs.Texts.{body_text}
 use Rattle.pop3_client.specs.Turns.{quit}
 
@@ -69,7 +74,7 @@ all_back P (x ∷ xs) ys all = all_back P xs ys all.1
 two_statuses : {line rest more : List ℕ} → IsFirstLine line Positive rest → IsFirstLine line Negative more → ⊥
 two_statuses good bad = let heads : ◌≡◌ {A = ℕ} 43 45 = cc (good.1, bad.1) in absurd (omega (arith, heads))
 
-by_listing : (P : Turn → Type 0) → P uidl → P list → (turn : Turn) → IsListing turn → P turn
+by_listing : (P : Turn → Type 0) → P uidl → P list → (turn : Turn) → AsksListing turn → P turn
 by_listing P first second turn (inl is) = rw is first
 by_listing P first second turn (inr is) = rw is second
 
@@ -83,13 +88,17 @@ take_past n xs ys fits =
 not_overlong : (line more bytes later : List ℕ) → IsShort line → bytes ++ later ≡ ended line ++ more → IsOverlong bytes → ⊥
 not_overlong line more bytes later short is over =
     IsLine-front (ended line) (take (line_limit - length (ended line)) more)
-    (subst IsLine (sym (take-append-le line_limit bytes later over.1) ∙ ap (take line_limit) is ∙ take_past line_limit (ended line) more (omega (arith, short, length-append line crlf))) over.0.none) line [] refl
+    (subst IsLine (sym (take-append-le line_limit bytes later over.1) ∙ ap (take line_limit) is
+    ∙ take_past line_limit (ended line) more (omega (arith, short, length-append line crlf))) over.0.none) line []
+    refl
 
 -- nor do those that begin with what is left of a body of short lines
-next_not_overlong : (more : List (List ℕ)) (behind later rest : List ℕ) → AllByRecursion IsShort more → behind ++ later ≡ flat_map ended more ++ (ended dot ++ rest) → IsOverlong behind → ⊥
+next_not_overlong : (more : List (List ℕ)) (behind later rest : List ℕ) → AllByRecursion IsShort more
+    → behind ++ later ≡ flat_map ended more ++ (ended dot ++ rest) → IsOverlong behind → ⊥
 next_not_overlong [] behind later rest short e over = not_overlong dot rest behind later (omega arith) e over
 next_not_overlong (line ∷ more) behind later rest short e over =
-    not_overlong line (flat_map ended more ++ (ended dot ++ rest)) behind later short.0 (e ∙ append_assoc (ended line) (flat_map ended more) (ended dot ++ rest)) over
+    not_overlong line (flat_map ended more ++ (ended dot ++ rest)) behind later short.0 (e
+    ∙ append_assoc (ended line) (flat_map ended more) (ended dot ++ rest)) over
 
 listing_without : (turn : Turn) (after : List ℕ) → IsPartOfListing turn after → HasNoBody after
 listing_without turn after (behind, lines, has, part) =
@@ -111,26 +120,32 @@ count_of : {E : Type 0} (a b : ℕ × ℕ) → ◌≡◌ {A = Result (ℕ × ℕ
 count_of a b e = let same : a ≡ b = cc in ap (λ (p : ℕ × ℕ). p.0) same
 
 -- what came of a good reply, and what comes after it
-module _ (turn : Turn) (reply : WholeReply) (good : IsGood turn reply) (bytes later rest : List ℕ) (is : bytes ++ later ≡ reply_bytes reply ++ rest) where
+module _ (turn : Turn) (reply : WholeReply) (good : IsGood turn reply) (bytes later rest : List ℕ)
+    (is : bytes ++ later ≡ reply_bytes reply ++ rest) where
   first_is : bytes ++ later ≡ ended reply.first ++ (body_bytes reply.body ++ rest)
   first_is = is ∙ append_assoc (ended reply.first) (body_bytes reply.body) rest
 
   -- the first line is the reply's
-  same_first : (line after : List ℕ) → IsLine line → bytes ≡ ended line ++ after → (line ≡ reply.first) × (after ++ later ≡ body_bytes reply.body ++ rest)
-  same_first line after a e = one_line line reply.first (after ++ later) (body_bytes reply.body ++ rest) a good.line (sym (append_assoc (ended line) after later) ∙ ap (λ (l : List ℕ). l ++ later) (sym e) ∙ first_is)
+  same_first : (line after : List ℕ) → IsLine line → bytes ≡ ended line ++ after → (line ≡ reply.first)
+      × (after ++ later ≡ body_bytes reply.body ++ rest)
+  same_first line after a e = one_line line reply.first (after ++ later) (body_bytes reply.body ++ rest) a good.line
+      (sym (append_assoc (ended line) after later) ∙ ap (λ (l : List ℕ). l ++ later) (sym e) ∙ first_is)
 
   body_begins : (after : List ℕ) → BeginsPositive bytes after → after ++ later ≡ body_bytes reply.body ++ rest
   body_begins after b = (same_first b.line after b.is b.whole).1
 
   -- the lines of the body
-  lines_of : gives_body turn ≡ true → (lines : List (List ℕ)) × (reply.body ≡ Some lines) × AllByRecursion IsContent lines × LinesFit turn lines
+  lines_of : gives_body turn ≡ true → (lines : List (List ℕ)) × (reply.body ≡ Some lines)
+      × AllByRecursion IsContent lines × LinesFit turn lines
   lines_of gives = by reply.body good.body
     where
-      by : (body : Option (List (List ℕ))) → IsBody turn body → (lines : List (List ℕ)) × (body ≡ Some lines) × AllByRecursion IsContent lines × LinesFit turn lines
+      by : (body : Option (List (List ℕ))) → IsBody turn body → (lines : List (List ℕ)) × (body ≡ Some lines)
+          × AllByRecursion IsContent lines × LinesFit turn lines
       by None none = absurd (false≢true (sym none ∙ gives))
       by (Some lines) fit = (lines, refl, fit.0, fit.1)
 
-  body_begins_with : (after : List ℕ) (lines : List (List ℕ)) → reply.body ≡ Some lines → BeginsPositive bytes after → after ++ later ≡ body_of lines ++ rest
+  body_begins_with : (after : List ℕ) (lines : List (List ℕ)) → reply.body ≡ Some lines → BeginsPositive bytes after
+      → after ++ later ≡ body_of lines ++ rest
   body_begins_with after lines body_is begins = body_begins after begins ∙ ap (λ (b : Option (List (List ℕ))). body_bytes b ++ rest) body_is
 
   -- those of a listing are rows, and those that were read are the first of them
@@ -139,31 +154,38 @@ module _ (turn : Turn) (reply : WholeReply) (good : IsGood turn reply) (bytes la
     pub content : AllByRecursion IsContent more
     pub few : length lines + length more ≤ message_limit
     pub short : AllByRecursion IsShort more
-    pub rows : AllByRecursion (IsRow turn) more
+    pub rows : AllByRecursion (IsListingRow turn) more
     pub behind_is : behind ++ later ≡ flat_map ended more ++ (ended dot ++ rest)
 
-  listing_of : (after behind : List ℕ) (lines : List (List ℕ)) → BeginsPositive bytes after → HasRows turn after behind lines → Listing lines behind
+  listing_of : (after behind : List ℕ) (lines : List (List ℕ)) → BeginsPositive bytes after
+      → HasRows turn after behind lines → Listing lines behind
   listing_of after behind lines begins has =
       let (all, body_is, content, fit) = lines_of (by_listing (λ t. gives_body t ≡ true) refl refl turn has.listing) in
-      let (few, short, rows) = by_listing (λ t. LinesFit t all → (length all ≤ message_limit) × AllByRecursion IsShort all × AllByRecursion (IsRow t) all) (λ f. f) (λ f. f) turn has.listing fit in
+      let (few, short, rows) = by_listing (λ t. LinesFit t all → (length all ≤ message_limit)
+      × AllByRecursion IsShort all × AllByRecursion (IsListingRow t) all) (λ f. f) (λ f. f) turn has.listing fit in
       let (more, are, all_is, behind_is) = first_lines lines (behind ++ later) all rest has.content content
-      (sym (append_assoc (flat_map ended lines) behind later) ∙ ap (λ (l : List ℕ). l ++ later) (sym has.whole) ∙ body_begins_with after all body_is begins ∙ append_assoc (flat_map ended all) (ended dot) rest) in
+      (sym (append_assoc (flat_map ended lines) behind later) ∙ ap (λ (l : List ℕ). l ++ later) (sym has.whole)
+      ∙ body_begins_with after all body_is begins ∙ append_assoc (flat_map ended all) (ended dot) rest) in
       record {
         more = more;
         content = are;
         few = omega (arith, few, ap (λ (l : List (List ℕ)). length l) all_is, length-append lines more);
         short = all_back IsShort lines more (subst (AllByRecursion IsShort) all_is short);
-        rows = all_back (IsRow turn) lines more (subst (AllByRecursion (IsRow turn)) all_is rows);
+        rows = all_back (IsListingRow turn) lines more (subst (AllByRecursion (IsListingRow turn)) all_is rows);
         behind_is = behind_is;
       }
 
   -- the next line is a row, and no more than the limit
-  row_next : (row : List ℕ) (rows : ℕ) → NextLine turn bytes row rows → IsRow turn row × (rows < message_limit)
+  row_next : (row : List ℕ) (rows : ℕ) → NextLine turn bytes row rows → IsListingRow turn row × (rows < message_limit)
   row_next row rows (after, begins, next) =
       let listing = listing_of after (ended row ++ next.behind) next.lines begins next.has in
       let first = first_lines (row ∷ []) (next.behind ++ later) listing.more rest (next.content, tt) listing.content
-      (ap (λ (l : List ℕ). l ++ (next.behind ++ later)) (append-nil (ended row)) ∙ sym (append_assoc (ended row) next.behind later) ∙ listing.behind_is) in
-      ((subst (AllByRecursion (IsRow turn)) first.2 listing.rows).0, omega (arith, listing.few, next.count, ap (λ (l : List (List ℕ)). length l) first.2))
+      (ap (λ (l : List ℕ). l ++ (next.behind ++ later)) (append-nil (ended row))
+      ∙ sym (append_assoc (ended row) next.behind later) ∙ listing.behind_is) in (
+        (subst (AllByRecursion (IsListingRow turn)) first.2 listing.rows).0,
+        omega
+            (arith, listing.few, next.count, ap (λ (l : List (List ℕ)). length l) first.2),
+      )
 
   part_gives : (after : List ℕ) → IsPartOfBody turn after → gives_body turn ≡ true
   part_gives after part = by turn part
@@ -174,16 +196,20 @@ module _ (turn : Turn) (reply : WholeReply) (good : IsGood turn reply) (bytes la
       by (Some (Retr number)) p = refl
       by _ never = absurd never
 
-  no_cause : (why : ClientFault) (old new : Link) → (is_silent why ≡ true → new.failures ≡ old.failures) → (is_silent why ≡ true → new.ended ≡ true → later ≡ []) → Cause why turn old new bytes → why ≡ talk.NoMemory
+  no_cause : (why : ClientFault) (old new : Link) → (is_silent why ≡ true → new.failures ≡ old.failures)
+      → (is_silent why ≡ true → new.ended ≡ true → later ≡ []) → Cause why turn old new bytes → why ≡ talk.NoMemory
   no_cause talk.ConnectionEnded old new none all (ended_is, inl part) =
-      absurd (part.0 reply.first (body_bytes reply.body ++ rest) (sym (append-nil bytes) ∙ (rw (all refl ended_is) at first_is) ∙ append_assoc reply.first crlf (body_bytes reply.body ++ rest)))
+      absurd (part.0 reply.first (body_bytes reply.body ++ rest) (sym (append-nil bytes)
+      ∙ (rw (all refl ended_is) at first_is) ∙ append_assoc reply.first crlf (body_bytes reply.body ++ rest)))
   no_cause talk.ConnectionEnded old new none all (ended_is, inr (after, begins, part)) =
       let (lines, body_is, content, fit) = lines_of (part_gives after part) in
-      absurd (part_without turn after part (body_of lines) (text_of lines) rest (record { lines = lines; content = content; whole = refl; read = refl })
+      absurd (part_without turn after part (body_of lines) (text_of lines) rest
+      (record { lines = lines; content = content; whole = refl; read = refl })
       (sym (append-nil after) ∙ (rw (all refl ended_is) at body_begins_with after lines body_is begins)))
   no_cause talk.ReadFailed old new none all risen = absurd (omega (arith, none refl, risen))
   no_cause talk.WriteFailed old new none all never = absurd never
-  no_cause talk.ReplyTooLong old new none all (inl over) = absurd (not_overlong reply.first (body_bytes reply.body ++ rest) bytes later good.short first_is over)
+  no_cause talk.ReplyTooLong old new none all (inl over) =
+      absurd (not_overlong reply.first (body_bytes reply.body ++ rest) bytes later good.short first_is over)
   no_cause talk.ReplyTooLong old new none all (inr (after, behind, lines, begins, has, over)) =
       let listing = listing_of after behind lines begins has in
       absurd (next_not_overlong listing.more behind later rest listing.short listing.behind_is over)
@@ -192,20 +218,26 @@ module _ (turn : Turn) (reply : WholeReply) (good : IsGood turn reply) (bytes la
       let (gives, bad) = not_positive good.rest (rw same good.positive) in
       absurd (bad (subst (λ r. IsOk r) (sym (good.fits gives).2) refl))
   no_cause (talk.Refused to) old new none all (names, (line, more, first, negative)) =
-      absurd (two_statuses good.positive (subst (λ (l : List ℕ). IsFirstLine l Negative more) (same_first line first.after first.is first.whole).0 negative))
+      absurd (two_statuses good.positive (subst (λ (l : List ℕ). IsFirstLine l Negative more)
+      (same_first line first.after first.is first.whole).0 negative))
   no_cause talk.BadListing old new none all (row, rows, next, few, bad) = absurd (bad (row_next row rows next).0)
   no_cause talk.ListingsDisagree old new none all never = absurd never
   no_cause talk.TooMany old new none all (inl (gives, (line, more, count, size, first, positive, counts, over))) =
       let same = (same_first line first.after first.is first.whole).0 in
-      let rest_is : more ≡ good.rest = positive.2 ∙ ap without_space (append_cancel_left (indicator Positive) positive.0 good.positive.0 (sym positive.1 ∙ same ∙ good.positive.1)) ∙ sym good.positive.2 in
+      let rest_is : more ≡ good.rest = positive.2
+      ∙ ap without_space (append_cancel_left (indicator Positive) positive.0 good.positive.0 (sym positive.1 ∙ same
+      ∙ good.positive.1)) ∙ sym good.positive.2 in
       let (n, octets, is_n, few) = good.fits gives in
       absurd (omega (arith, over, few, count_of (count, size) (n, octets) (sym counts ∙ ap number_and_size rest_is ∙ is_n)))
   no_cause talk.TooMany old new none all (inr (row, next)) = absurd (omega (arith, (row_next row message_limit next).1))
   no_cause talk.TextTooLong old new none all ((number, is_retr), (after, begins, none_there, long)) =
       let (lines, body_is, content, fit) = lines_of (rw is_retr refl) in
       let fits : length (body_of lines) ≤ text_limit = subst (λ (t : Turn). LinesFit t lines) is_retr fit in
-      absurd (none_there (body_of lines) (text_of lines) (take (text_limit - length (body_of lines)) rest) (record { lines = lines; content = content; whole = refl; read = refl })
-      (sym (take-append-le text_limit after later long) ∙ ap (take text_limit) (body_begins_with after lines body_is begins) ∙ take_past text_limit (body_of lines) rest fits))
+      absurd (none_there (body_of lines) (text_of lines) (take (text_limit - length (body_of lines)) rest)
+      (record { lines = lines; content = content; whole = refl; read = refl })
+      (sym (take-append-le text_limit after later long)
+      ∙ ap (take text_limit) (body_begins_with after lines body_is begins)
+      ∙ take_past text_limit (body_of lines) rest fits))
   no_cause talk.NoMemory old new none all cause = refl
 
 -- a good reply is one that a client reads
@@ -218,8 +250,13 @@ reads_body turn (Some lines) is = absurd is.1
 
 pub reads_all : (turns : List Turn) (replies : List WholeReply) → AllZip IsGood turns replies → AllZip IsReplyTo turns replies
 reads_all [] [] good = tt
-reads_all (turn ∷ turns) (reply ∷ replies) good =
-    (record { line = good.0.line; status = inr ((good.0.rest, good.0.positive), reads_body turn reply.body good.0.body) }, reads_all turns replies good.1)
+reads_all (turn ∷ turns) (reply ∷ replies) good = (
+  record {
+    line = good.0.line;
+    status = inr ((good.0.rest, good.0.positive), reads_body turn reply.body good.0.body);
+  },
+  reads_all turns replies good.1,
+)
 reads_all turns replies never = absurd never
 
 -- the reply to the last of some turns
@@ -232,7 +269,8 @@ last_of (first ∷ turns) turn (reply ∷ replies) good =
 last_of [] turn (reply ∷ other ∷ replies) never = absurd never.1
 last_of turns turn replies never = absurd never
 
-last_apart : {A : Type 0} (f : A → List ℕ) (front : List A) (last : A) (rest : List ℕ) → flat_map f (front ++ last ∷ []) ++ rest ≡ flat_map f front ++ (f last ++ rest)
+last_apart : {A : Type 0} (f : A → List ℕ) (front : List A) (last : A) (rest : List ℕ)
+    → flat_map f (front ++ last ∷ []) ++ rest ≡ flat_map f front ++ (f last ++ rest)
 last_apart f front last rest = simp (flat_map-append, append_assoc, append-nil)
 
 -- ---- after a cut by a turn the link goes on; with nothing to say it stays as it is
@@ -250,16 +288,19 @@ is_store (StoreRefused why) = true
 is_store other = false
 
 -- only a text that the store refused is left under way
-rest_stopped : (target : Target) (next : Task) (old new : Scene) (cut : Cut) → Stops target next old cut new → (cut.rest ≡ None) ⊎ (is_store cut.fault ≡ true)
+rest_stopped : (target : Target) (next : Task) (old new : Scene) (cut : Cut) → Stops target next old cut new
+    → (cut.rest ≡ None) ⊎ (is_store cut.fault ≡ true)
 rest_stopped target next old new cut (inl broken) = inl broken.none
-rest_stopped (AsFiles account) next old new cut (inr (inl not)) = inr (elim not.refuses [ inl missing ↦ ap is_store missing.0 | inr refused ↦ ap is_store refused.0 ])
+rest_stopped (AsFiles account) next old new cut (inr (inl not)) =
+    inr (elim not.refuses [ inl missing ↦ ap is_store missing.0 | inr refused ↦ ap is_store refused.0 ])
 rest_stopped AsEntries next old new cut (inr (inl (inl room))) = inl room.none
 rest_stopped AsEntries next old new cut (inr (inl (inr (inl not)))) = inl not.none
 rest_stopped AsEntries next old new cut (inr (inl (inr (inr left)))) = inl left.none
 rest_stopped (AsFiles account) next old new cut (inr (inr not)) = inl not.none
 rest_stopped AsEntries next old new cut (inr (inr not)) = inl not.none
 
-rest_of : (settings : Settings) (target : Target) (now : ℕ) (old : Place) (before : Keeping) (cut : Cut) (new : Place) (after : Keeping) (notes : Noted) → Proceeds settings target now old before (Err cut) new after notes
+rest_of : (settings : Settings) (target : Target) (now : ℕ) (old : Place) (before : Keeping) (cut : Cut) (new : Place)
+    (after : Keeping) (notes : Noted) → Proceeds settings target now old before (Err cut) new after notes
     → (cut.rest ≡ None) ⊎ (is_store cut.fault ≡ true)
 rest_of settings target now old before cut new after notes (inl not) = inl (ap (λ (c : Cut). c.rest) not.is)
 rest_of settings target now old before cut new after notes (inr (inl room)) = inl (ap (λ (c : Cut). c.rest) room.is)
@@ -268,7 +309,8 @@ rest_of settings target now old before cut new after notes (inr (inr dealt)) = e
   | inr carried ↦ rest_stopped target carried.does.next carried.does.mid _ cut carried.does.stops
 ]
 
-talks_extend : ConversationsArePaced → (turns : List Turn) (old new : Place) (result : Result (Unit {0}) ClientFault) → Talks turns old result new → Extends old.link new.link
+talks_extend : ConversationsArePaced → (turns : List Turn) (old new : Place) (result : Result (Unit {0}) ClientFault)
+    → Talks turns old result new → Extends old.link new.link
 talks_extend paced turns old new result talks =
     let p = paced turns old new result talks in
     record { said = asking p.done ++ p.part; gained = p.gained; sent = p.sent; got = p.got }
@@ -276,18 +318,26 @@ talks_extend paced turns old new result talks =
 abbrev LeftOn : Fault → Link → Link → Type 0
 LeftOn fault old new = Extends old new × (tail fault ≡ Nothing → new ≡ old)
 
-left_on : ConversationsArePaced → (settings : Settings) (target : Target) (now : ℕ) (link : Link) (before : Keeping) (report : Report) (link' : Link) (after : Keeping) (done : SessionIn settings target now link before report link' after)
+left_on : ConversationsArePaced
+    → (settings : Settings) (target : Target) (now : ℕ) (link : Link) (before : Keeping) (report : Report)
+    (link' : Link) (after : Keeping) (done : SessionIn settings target now link before report link' after)
     (fault : Fault) → report.outcome ≡ WasCut fault → is_store fault ≡ false → LeftOn fault done.mid.link link'
-left_on paced settings target now link before report link' after done fault is other = by done.result done.proceeds done.leaves done.reports.outcome_is
+left_on paced settings target now link before report link' after done fault is other =
+    by done.result done.proceeds done.leaves done.reports.outcome_is
   where
-    by : (result : Result (Unit {0}) Cut) → Proceeds settings target now (at link []) before result done.mid after done.notes → LeavesLink result done.mid link' → report.outcome ≡ outcome_of result → LeftOn fault done.mid.link link'
+    by : (result : Result (Unit {0}) Cut)
+        → Proceeds settings target now (at link []) before result done.mid after done.notes
+        → LeavesLink result done.mid link' → report.outcome ≡ outcome_of result → LeftOn fault done.mid.link link'
     by (Ok unit) proceeds leaves outcome = absurd (false≢true (ap was_cut (sym outcome ∙ is)))
     by (Err cut) proceeds (new, left, link_is) outcome =
         let same : cut.fault ≡ fault = ap fault_in (sym outcome ∙ is) in
         elim (rest_of settings target now (at link []) before cut done.mid after done.notes proceeds) [
           | inl none ↦
-              let said = rw none at left in
-              (rw link_is (talks_extend paced (tail_turns (tail cut.fault)) done.mid new said.0 said.1), λ quiet. link_is ∙ ap (λ (p : Place). p.link) (said.2 (ap tail same ∙ quiet)))
+              let said = rw none at left in (
+                rw link_is (talks_extend paced (tail_turns (tail cut.fault)) done.mid new said.0 said.1),
+                λ quiet.
+                    link_is ∙ ap (λ (p : Place). p.link) (said.2 (ap tail same ∙ quiet)),
+              )
           | inr store ↦ absurd (false≢true (sym other ∙ ap is_store (sym same) ∙ store))
         ]
 
@@ -334,18 +384,25 @@ extends_on old mid new first later = record {
   got = rw (later.got, first.got) (append_assoc old.got first.gained later.gained);
 }
 
-planned_on : (settings : Settings) (target : Target) (now : ℕ) (link : Link) (before : Keeping) (mid new : Link) (turns : List Turn) → Extends mid new → ArePlanned settings target now link before mid turns
+planned_on : (settings : Settings) (target : Target) (now : ℕ) (link : Link) (before : Keeping) (mid new : Link)
+    (turns : List Turn) → Extends mid new → ArePlanned settings target now link before mid turns
     → ArePlanned settings target now link before new turns
 planned_on settings target now link before mid new turns more (inl is) = inl is
-planned_on settings target now link before mid new turns more (inr (items, place, enters, first, by)) = inr (items, place, enters, extends_on place.link mid new first more, by)
+planned_on settings target now link before mid new turns more (inr (items, place, enters, first, by)) =
+    inr (items, place, enters, extends_on place.link mid new first more, by)
 
-module _ (one : OneMeaning) (settings : Settings) (target : Target) (now : ℕ) (link : Link) (before : Keeping) (report : Report) (mid : Place) (link' : Link) (after : Keeping) (served : IsServed settings target now link before report link' after) where
+module _ (one : OneMeaning) (settings : Settings) (target : Target) (now : ℕ) (link : Link) (before : Keeping)
+    (report : Report) (mid : Place) (link' : Link) (after : Keeping)
+    (served : IsServed settings target now link before report link' after) where
   no_misread : (at_line : ℕ) (file' : Stored) → Misread before.file at_line file' → ⊥
   no_misread at_line file' (why, means, line_is, same) = false≢true (ap is_faulty (one _ _ _ served.read.1.means means))
 
   -- a turn that broke, if the link gives a good reply to it, broke for want of memory
-  only_memory : (turns : List Turn) (replies : List WholeReply) (next : Turn) (later : List Turn) (old : Place) → ArePlanned settings target now link before old.link (turns ++ next ∷ later) → Talked turns replies (at link []) old
-      → (why : ClientFault) → Extends mid.link link' → (is_silent why ≡ true → link' ≡ mid.link) → Broke next old mid why → why ≡ talk.NoMemory
+  only_memory : (turns : List Turn) (replies : List WholeReply) (next : Turn) (later : List Turn) (old : Place)
+      → ArePlanned settings target now link before old.link (turns ++ next ∷ later)
+      → Talked turns replies (at link []) old
+      → (why : ClientFault) → Extends mid.link link' → (is_silent why ≡ true → link' ≡ mid.link)
+      → Broke next old mid why → why ≡ talk.NoMemory
   only_memory turns replies next later old planned talked why on stays broke = by broke
     where
       none : is_silent why ≡ true → mid.link.failures ≡ old.link.failures
@@ -353,37 +410,55 @@ module _ (one : OneMeaning) (settings : Settings) (target : Target) (now : ℕ) 
 
       all_came : (rest : List ℕ) → (link'.ended ≡ true → rest ≡ []) → is_silent why ≡ true → mid.link.ended ≡ true → on.gained ++ rest ≡ []
       all_came rest none_left silent ended_is =
-          let nothing : on.gained ≡ [] = append_cancel_left mid.link.got on.gained [] (sym on.got ∙ ap (λ (l : Link). l.got) (stays silent) ∙ sym (append-nil mid.link.got)) in
+          let nothing : on.gained ≡ [] = append_cancel_left mid.link.got on.gained [] (sym on.got
+          ∙ ap (λ (l : Link). l.got) (stays silent) ∙ sym (append-nil mid.link.got)) in
           rw (nothing, none_left (ap (λ (l : Link). l.ended) (stays silent) ∙ ended_is)) refl
 
       by : Broke next old mid why → why ≡ talk.NoMemory
       by (inl (is, part)) = absurd (omega (arith, part.risen, none (ap is_silent is)))
       by (inr (inl not)) =
-          let sent_is : link'.sent ≡ link.sent ++ (asking (turns ++ next ∷ []) ++ on.said) = on.sent ∙ ap (λ (l : List ℕ). l ++ on.said) (not.sent ∙ ap (λ (l : List ℕ). l ++ turn_bytes next) talked.sent) ∙ simp (flat_map-append, append_assoc, append-nil) in
+          let sent_is : link'.sent ≡ link.sent ++ (asking (turns ++ next ∷ []) ++ on.said) = on.sent
+          ∙ ap (λ (l : List ℕ). l ++ on.said) (not.sent ∙ ap (λ (l : List ℕ). l ++ turn_bytes next) talked.sent)
+          ∙ simp (flat_map-append, append_assoc, append-nil) in
           let here : Extends old.link mid.link = record { said = turn_bytes next; gained = not.gained; sent = not.sent; got = not.got } in
           let was = served.answered (turns ++ next ∷ []) later on.said
-          (rw (append_assoc turns (next ∷ []) later) (planned_on settings target now link before old.link link' (turns ++ next ∷ later) (extends_on old.link mid.link link' here on) planned)) sent_is in
+          (rw (append_assoc turns (next ∷ []) later) (planned_on settings target now link before old.link link'
+          (turns ++ next ∷ later) (extends_on old.link mid.link link' here on) planned)) sent_is in
           let (front, reply, replies_are, goods, good) = last_of turns next was.replies was.good in
           let after = not.gained ++ (on.gained ++ was.later) in
-          let got_is : link'.got ++ was.later ≡ link.got ++ (talked.gained ++ after) = ap (λ (l : List ℕ). l ++ was.later) (on.got ∙ ap (λ (l : List ℕ). l ++ on.gained) (not.got ∙ ap (λ (l : List ℕ). l ++ not.gained) talked.got)) ∙ simp append_assoc in
-          let all : talked.gained ++ after ≡ flat_map reply_bytes was.replies ++ was.rest = append_cancel_left link.got _ _ (sym got_is ∙ was.whole) in
-          let last : flat_map reply_bytes (front ++ reply ∷ []) ++ was.rest ≡ flat_map reply_bytes front ++ (reply_bytes reply ++ was.rest) = last_apart reply_bytes front reply was.rest in
-          let read = one_reading turns replies front (old.waiting ++ after) (reply_bytes reply ++ was.rest) (reads_all turns replies talked.good) (reads_all turns front goods)
-          (sym (append_assoc (flat_map reply_bytes replies) old.waiting after) ∙ ap (λ (l : List ℕ). l ++ after) (sym talked.heard) ∙ all ∙ ap (λ (rs : List WholeReply). flat_map reply_bytes rs ++ was.rest) replies_are ∙ last) in
-          no_cause next reply good (old.waiting ++ not.gained) (on.gained ++ was.later) was.rest (append_assoc old.waiting not.gained (on.gained ++ was.later) ∙ read.1) why old.link mid.link none (all_came was.later was.none_left) not.cause
+          let got_is : link'.got ++ was.later ≡ link.got ++ (talked.gained ++ after) =
+          ap (λ (l : List ℕ). l ++ was.later) (on.got
+          ∙ ap (λ (l : List ℕ). l ++ on.gained) (not.got ∙ ap (λ (l : List ℕ). l ++ not.gained) talked.got))
+          ∙ simp append_assoc in
+          let all : talked.gained ++ after ≡ flat_map reply_bytes was.replies ++ was.rest =
+          append_cancel_left link.got _ _ (sym got_is ∙ was.whole) in
+          let last : flat_map reply_bytes (front ++ reply ∷ []) ++ was.rest ≡ flat_map reply_bytes front
+          ++ (reply_bytes reply ++ was.rest) = last_apart reply_bytes front reply was.rest in
+          let read = one_reading turns replies front (old.waiting ++ after) (reply_bytes reply ++ was.rest)
+          (reads_all turns replies talked.good) (reads_all turns front goods)
+          (sym (append_assoc (flat_map reply_bytes replies) old.waiting after)
+          ∙ ap (λ (l : List ℕ). l ++ after) (sym talked.heard) ∙ all
+          ∙ ap (λ (rs : List WholeReply). flat_map reply_bytes rs ++ was.rest) replies_are ∙ last) in
+          no_cause next reply good (old.waiting ++ not.gained) (on.gained ++ was.later) was.rest
+          (append_assoc old.waiting not.gained (on.gained ++ was.later) ∙ read.1) why old.link mid.link none
+          (all_came was.later was.none_left) not.cause
       by (inr (inr (is, may, same))) = is
 
-  no_fault : (fault : Fault) → fault ≢ NoMemory → (is_store fault ≡ false → LeftOn fault mid.link link') → (TurnBroke settings target now link before mid fault → ⊥) → CausesFault settings target now link before fault mid after → ⊥
+  no_fault : (fault : Fault) → fault ≢ NoMemory → (is_store fault ≡ false → LeftOn fault mid.link link')
+      → (TurnBroke settings target now link before mid fault → ⊥)
+      → CausesFault settings target now link before fault mid after → ⊥
   no_fault (StoreRefused Missing) other left unbroken cause = usable_is_there target after.store served.usable cause
   no_fault (StoreRefused Refused) other left unbroken cause = none_rose target before.store after.store served.store_refused cause
   no_fault (StoreRefused NotMbox) other left unbroken cause = usable_goes_on target after.store served.usable cause
   no_fault SeenRefused other left unbroken cause = absurd (omega (arith, cause, served.file_refused))
   no_fault (BadSeen at_line) other left unbroken cause = no_misread at_line after.file cause
-  no_fault ListingsDisagree other left unbroken cause = cause.disagree (served.agree cause.count cause.uids cause.sizes mid (left refl).0 cause.opened)
+  no_fault ListingsDisagree other left unbroken cause =
+      cause.disagree (served.agree cause.count cause.uids cause.sizes mid (left refl).0 cause.opened)
   no_fault NoMemory other left unbroken cause = other refl
   no_fault fault other left unbroken cause = unbroken cause
 
-  not_cut : (fault : Fault) → report.outcome ≡ WasCut fault → (is_store fault ≡ false → LeftOn fault mid.link link') → CausesFault settings target now link before fault mid after → ⊥
+  not_cut : (fault : Fault) → report.outcome ≡ WasCut fault → (is_store fault ≡ false → LeftOn fault mid.link link')
+      → CausesFault settings target now link before fault mid after → ⊥
   not_cut fault is left cause = no_fault fault other left (λ broke. other (memory broke)) cause
     where
       other : fault ≢ NoMemory
@@ -394,7 +469,8 @@ module _ (one : OneMeaning) (settings : Settings) (target : Target) (now : ℕ) 
           let (why, fault_is, broken) = broke.broke in
           let (no_store, quiet) = by_client why in
           let on = left (ap is_store fault_is ∙ no_store) in
-          fault_is ∙ ap fault_of (only_memory broke.turns broke.replies broke.next broke.later broke.mid broke.planned broke.talked why on.0 (λ silent. on.1 (ap tail fault_is ∙ quiet silent)) broken)
+          fault_is ∙ ap fault_of (only_memory broke.turns broke.replies broke.next broke.later broke.mid broke.planned
+          broke.talked why on.0 (λ silent. on.1 (ap tail fault_is ∙ quiet silent)) broken)
 
 -- ---- a session that ended has stored what it wants
 
@@ -410,25 +486,34 @@ Did Said Has (stores number uid) = (reply : WholeReply) × Said (retr number, re
 Did Said Has _ = Unit {0}
 
 module _ {X : Type 0} (brings : Task → List WholeReply → List X) (made : List ℕ → WholeReply → X)
-    (first : (number : ℕ) (uid : List ℕ) (reply : WholeReply) (replies : List WholeReply) → Contains (brings (stores number uid) (reply ∷ replies)) (made uid reply))
+    (first : (number : ℕ) (uid : List ℕ) (reply : WholeReply) (replies : List WholeReply)
+    → Contains (brings (stores number uid) (reply ∷ replies)) (made uid reply))
     (Said : Turn × WholeReply → Type 0) (Has : X → Type 0) where
   abbrev brought_by : List Done → List X
   brought_by dones = flat_map (λ (d : Done). brings d.task d.replies) dones
 
-  one_did : (task : Task) (replies : List WholeReply) → AllZip IsGood (turns_in task) replies → ((p : Turn × WholeReply) → Contains (zip (turns_in task) replies) p → Said p)
+  one_did : (task : Task) (replies : List WholeReply) → AllZip IsGood (turns_in task) replies
+      → ((p : Turn × WholeReply) → Contains (zip (turns_in task) replies) p → Said p)
       → ((x : X) → Contains (brings task replies) x → Has x) → Did Said (λ uid reply. Has (made uid reply)) task
   one_did (stores number uid) [] never said has = absurd never
-  one_did (stores number uid) (reply ∷ replies) good said has = (reply, said (retr number, reply) (0, omega arith, refl), has (made uid reply) (first number uid reply replies))
+  one_did (stores number uid) (reply ∷ replies) good said has =
+      (reply, said (retr number, reply) (0, omega arith, refl), has (made uid reply) (first number uid reply replies))
   one_did other replies good said has = tt
 
-  all_did : (dones : List Done) → AllByRecursion IsAnswered dones → ((p : Turn × WholeReply) → Contains (zip (turns_of dones) (replies_of dones)) p → Said p)
+  all_did : (dones : List Done) → AllByRecursion IsAnswered dones
+      → ((p : Turn × WholeReply) → Contains (zip (turns_of dones) (replies_of dones)) p → Said p)
       → ((x : X) → Contains (brought_by dones) x → Has x) → AllByRecursion (Did Said (λ uid reply. Has (made uid reply))) (tasks_of dones)
   all_did [] each said has = tt
   all_did (done ∷ dones) each said has =
       let on = zip_on (turns_in done.task) (turns_of dones) done.replies (replies_of dones) each.0 in (
-        one_did done.task done.replies each.0 (λ p there. said p (subst (λ (ps : List (Turn × WholeReply)). Contains ps p) (sym on) (Contains-append_left (zip (turns_in done.task) done.replies) (zip (turns_of dones) (replies_of dones)) p there)))
+        one_did done.task done.replies each.0
+            (λ p there. said p (subst (λ (ps : List (Turn × WholeReply)). Contains ps p) (sym on)
+            (Contains-append_left (zip (turns_in done.task) done.replies)
+            (zip (turns_of dones) (replies_of dones)) p there)))
             (λ x there. has x (Contains-append_left (brings done.task done.replies) (brought_by dones) x there)),
-        all_did dones each.1 (λ p there. said p (subst (λ (ps : List (Turn × WholeReply)). Contains ps p) (sym on) (Contains-append_right (zip (turns_in done.task) done.replies) (zip (turns_of dones) (replies_of dones)) p there)))
+        all_did dones each.1 (λ p there. said p (subst (λ (ps : List (Turn × WholeReply)). Contains ps p) (sym on)
+            (Contains-append_right (zip (turns_in done.task) done.replies)
+            (zip (turns_of dones) (replies_of dones)) p there)))
             (λ x there. has x (Contains-append_right (brings done.task done.replies) (brought_by dones) x there)),
       )
 
@@ -437,52 +522,78 @@ module _ (is_there : Item → Bool) (D : Task → Type 0) (P : ℕ × Item → T
     (same : (message : ℕ × Item) → (step message).number ≡ message.0)
     (so : (number : ℕ) (item : Item) → AllByRecursion D (fetching true (is_there item) number item.uid item.size) → P (number, item)) where
   abbrev fetched_from : ℕ → List Item → List (ℕ × Item)
-  fetched_from k items = map (λ (pair : Step × (ℕ × Item)). pair.1) (filter (λ (pair : Step × (ℕ × Item)). pair.0.retrieve) (zip (map step (enumerate_from k items)) (enumerate_from k items)))
+  fetched_from k items = map (λ (pair : Step × (ℕ × Item)). pair.1)
+      (filter (λ (pair : Step × (ℕ × Item)). pair.0.retrieve)
+      (zip (map step (enumerate_from k items)) (enumerate_from k items)))
 
-  each_fetched : (k : ℕ) (items : List Item) → AllByRecursion D (tasks_planned (map step (enumerate_from k items)) items (map is_there items)) → AllByRecursion P (fetched_from k items)
+  each_fetched : (k : ℕ) (items : List Item)
+      → AllByRecursion D (tasks_planned (map step (enumerate_from k items)) items (map is_there items))
+      → AllByRecursion P (fetched_from k items)
   each_fetched k [] all = tt
   each_fetched k (item ∷ items) all =
       let rest = tasks_planned (map step (enumerate_from (k + 1) items)) items (map is_there items) in
-      let fetch = all_front D (fetching (step (k, item)).retrieve (is_there item) (step (k, item)).number item.uid item.size) (deleting (step (k, item)).delete (step (k, item)).number) (all_front D (tasks_in (step (k, item)) item (is_there item)) rest all) in
+      let fetch = all_front D (fetching (step (k, item)).retrieve (is_there item) (step (k, item)).number item.uid
+      item.size) (deleting (step (k, item)).delete (step (k, item)).number)
+      (all_front D (tasks_in (step (k, item)) item (is_there item)) rest all) in
       let later = each_fetched (k + 1) items (all_back D (tasks_in (step (k, item)) item (is_there item)) rest all) in
       elim (cases_Bool (step (k, item)).retrieve) [
         | inl hit ↦ rw hit (so k item (rw (hit, same (k, item)) at fetch), later)
         | inr miss ↦ rw miss later
       ]
 
-module _ (settings : Settings) (target : Target) (items : List Item) (now : ℕ) (store : Stores) (rows : List Row) (said : List (Turn × WholeReply)) (new : Stores) where
+module _ (settings : Settings) (target : Target) (items : List Item) (now : ℕ) (store : Stores) (rows : List Row)
+    (said : List (Turn × WholeReply)) (new : Stores) where
   -- by what its task did
-  stored_by : (is_there : Item → Bool) → ((item : Item) → flags_in target store (item ∷ []) ≡ is_there item ∷ []) → (number : ℕ) (item : Item)
-      → AllByRecursion (Did (Contains said) (HasText target new)) (fetching true (is_there item) number item.uid item.size) → IsStored target store said new (number, item)
+  stored_by : (is_there : Item → Bool) → ((item : Item) → held_flags target store (item ∷ []) ≡ is_there item ∷ [])
+      → (number : ℕ) (item : Item)
+      → AllByRecursion (Did (Contains said) (HasText target new))
+      (fetching true (is_there item) number item.uid item.size) → IsStored target store said new (number, item)
   stored_by is_there flags number item did = elim (cases_Bool (is_there item)) [
     | inl held ↦ inl (flags item ∙ rw held refl)
     | inr not ↦ inr (rw not at did).0
   ]
 
-  each_by : (is_there : Item → Bool) → ((item : Item) → flags_in target store (item ∷ []) ≡ is_there item ∷ []) → flags_in target store items ≡ map is_there items
-      → AllByRecursion (Did (Contains said) (HasText target new)) (tasks_ahead settings target items now store rows) → AllByRecursion (IsStored target store said new) (retrieved (planned settings rows items now) items)
+  each_by : (is_there : Item → Bool) → ((item : Item) → held_flags target store (item ∷ []) ≡ is_there item ∷ [])
+      → held_flags target store items ≡ map is_there items
+      → AllByRecursion (Did (Contains said) (HasText target new)) (tasks_ahead settings target items now store rows)
+      → AllByRecursion (IsStored target store said new) (retrieved (planned settings rows items now) items)
   each_by is_there one all did =
-      each_fetched is_there (Did (Contains said) (HasText target new)) (IsStored target store said new) (step_of settings rows items now) (λ message. refl) (stored_by is_there one) 1 items
-      (all_front _ (tasks_planned (planned settings rows items now) items (map is_there items)) (says quit ∷ []) (subst (λ (fs : List Bool). AllByRecursion (Did (Contains said) (HasText target new)) (tasks_planned (planned settings rows items now) items fs ++ says quit ∷ [])) all did))
+      each_fetched is_there (Did (Contains said) (HasText target new)) (IsStored target store said new)
+      (step_of settings rows items now) (λ message. refl) (stored_by is_there one) 1 items
+      (all_front _ (tasks_planned (planned settings rows items now) items (map is_there items)) (says quit ∷ [])
+      (subst (λ (fs : List Bool). AllByRecursion (Did (Contains said) (HasText target new))
+      (tasks_planned (planned settings rows items now) items fs ++ says quit ∷ [])) all did))
 
-each_stored : (settings : Settings) (target : Target) (items : List Item) (now : ℕ) (store : Stores) (rows : List Row) (said : List (Turn × WholeReply)) (new : Stores)
-    → AllByRecursion (Did (Contains said) (HasText target new)) (tasks_ahead settings target items now store rows) → AllByRecursion (IsStored target store said new) (retrieved (planned settings rows items now) items)
-each_stored settings (AsFiles account) items now store rows said new did = each_by settings (AsFiles account) items now store rows said new (λ item. is_held account store.maildir item.uid) (λ item. refl) refl did
-each_stored settings AsEntries items now store rows said new did = each_by settings AsEntries items now store rows said new (λ item. false) (λ item. refl) refl did
+each_stored : (settings : Settings) (target : Target) (items : List Item) (now : ℕ) (store : Stores) (rows : List Row)
+    (said : List (Turn × WholeReply)) (new : Stores)
+    → AllByRecursion (Did (Contains said) (HasText target new)) (tasks_ahead settings target items now store rows)
+    → AllByRecursion (IsStored target store said new) (retrieved (planned settings rows items now) items)
+each_stored settings (AsFiles account) items now store rows said new did =
+    each_by settings (AsFiles account) items now store rows said new (λ item. is_held account store.maildir item.uid)
+    (λ item. refl) refl did
+each_stored settings AsEntries items now store rows said new did = each_by settings AsEntries items now store rows said
+    new (λ item. false) (λ item. refl) refl did
 
 -- what the tasks brought is there
-all_brought : (target : Target) (was : RecordState) (items : List Item) (old mid new : Stores) (dones : List Done) → Settles target was items old mid → Brings target dones mid new → AllByRecursion IsAnswered dones
+all_brought : (target : Target) (was : RecordState) (items : List Item) (old mid new : Stores) (dones : List Done)
+    → SettlesStore target was items old mid → Brings target dones mid new → AllByRecursion IsAnswered dones
     → AllByRecursion (Did (Contains (zip (turns_of dones) (replies_of dones))) (HasText target new)) (tasks_of dones)
 all_brought (AsFiles account) was items old mid new dones settles brings each =
-    all_did (files_in account) (file_from account) (λ number uid reply replies. (0, omega arith, refl)) (Contains (zip (turns_of dones) (replies_of dones))) (Contains new.maildir.files) dones each (λ p there. there)
+    all_did (files_in account) (file_from account) (λ number uid reply replies. (0, omega arith, refl))
+    (Contains (zip (turns_of dones) (replies_of dones))) (Contains new.maildir.files) dones each (λ p there. there)
     (λ f there. rw brings.came (Contains-append_right mid.maildir.files (files_of account dones) f there))
 all_brought AsEntries was items old mid new dones (bytes, there_is, same, may) brings each =
-    all_did texts_in (λ uid reply. body_text reply.body) (λ number uid reply replies. (0, omega arith, refl)) (Contains (zip (turns_of dones) (replies_of dones)))
-    (λ text. (was : List ℕ) × (texts : List (List ℕ)) × (new.mbox.content ≡ Some (was ++ flat_map entry_of texts)) × Contains texts text) dones each (λ p there. there)
-    (λ text there. (closed_file was.intent items bytes, texts_of dones, brings.content ∙ rw same refl, there))
+    all_did texts_in (λ uid reply. body_text reply.body) (λ number uid reply replies. (0, omega arith, refl))
+    (Contains (zip (turns_of dones) (replies_of dones)))
+    (λ text. (was : List ℕ) × (texts : List (List ℕ)) × (new.mbox.content ≡ Some (was ++ flat_map entry_of texts))
+    × Contains texts text) dones each (λ p there. there)
+    (λ text there. (closed_file was.intent items bytes, done_texts dones, brings.content ∙ rw same refl, there))
 
-module _ (fetch_wanted : (settings : Settings) (rows : List Row) (listing : List Item) (now : ℕ) → retrieved (planned settings rows listing now) listing ≡ wanted settings rows listing) where
-  ended_stores : (settings : Settings) (target : Target) (now : ℕ) (link : Link) (before : Keeping) (mid : Place) (link' : Link) (after : Keeping) (notes : Noted) (ended : Unit {0}) → Dealt settings target now (at link []) before (Ok ended) mid after notes
+module _ (fetch_wanted : (settings : Settings) (rows : List Row) (listing : List Item) (now : ℕ)
+    → retrieved (planned settings rows listing now) listing ≡ wanted settings rows listing) where
+  ended_stores : (settings : Settings) (target : Target) (now : ℕ) (link : Link) (before : Keeping) (mid : Place)
+      (link' : Link) (after : Keeping) (notes : Noted) (ended : Unit {0})
+      → Dealt settings target now (at link []) before (Ok ended) mid after notes
       → link' ≡ mid.link → StoresAll settings target now link before link' after
   ended_stores settings target now link before mid link' after notes ended dealt last =
       let carried = dealt.carries.1 in
@@ -499,26 +610,36 @@ module _ (fetch_wanted : (settings : Settings) (rows : List Row) (listing : List
         new = mid;
         last = last;
         talked = rw carried.prepared.place_is at all.went.talked;
-        each = subst (λ (rs : List Row). AllByRecursion (IsStored target before.store said after.store) (wanted settings rs dealt.items)) carried.prepared.rows
+        each = subst (λ (rs : List Row). AllByRecursion (IsStored target before.store said after.store)
+            (wanted settings rs dealt.items)) carried.prepared.rows
             (subst (AllByRecursion (IsStored target before.store said after.store)) (fetch_wanted settings carried.mid.rows dealt.items now)
             (each_stored settings target dealt.items now before.store carried.mid.rows said after.store
             (subst (AllByRecursion (Did (Contains said) (HasText target after.store))) (sym all.all)
-            (all_brought target carried.prepared.was dealt.items before.store carried.mid.store after.store all.dones carried.prepared.settles all.went.stored all.went.each))));
+            (all_brought target carried.prepared.was dealt.items before.store carried.mid.store after.store all.dones
+            carried.prepared.settles all.went.stored all.went.each))));
       }
 
-pub store_all : CutsHaveCauses → ConversationsArePaced → OneMeaning → ((settings : Settings) (rows : List Row) (listing : List Item) (now : ℕ) → retrieved (planned settings rows listing now) listing ≡ wanted settings rows listing)
+pub store_all : CutsHaveCauses → ConversationsArePaced → OneMeaning
+    → ((settings : Settings) (rows : List Row) (listing : List Item) (now : ℕ)
+    → retrieved (planned settings rows listing now) listing ≡ wanted settings rows listing)
     → ServedSessionsStoreAll
 store_all causes paced one fetch_wanted settings target now link before report link' after done = (
   λ served. by_outcome served report.outcome refl,
   λ ended. by_result ended done.result done.proceeds done.leaves done.reports.outcome_is,
 )
   where
-    by_outcome : IsServed settings target now link before report link' after → (outcome : Outcome) → report.outcome ≡ outcome → report.outcome ≡ Ended
+    by_outcome : IsServed settings target now link before report link' after → (outcome : Outcome)
+        → report.outcome ≡ outcome → report.outcome ≡ Ended
     by_outcome served Ended is = is
-    by_outcome served (WasCut fault) is = absurd (not_cut one settings target now link before report done.mid link' after served fault is (left_on paced settings target now link before report link' after done fault is)
+    by_outcome served (WasCut fault) is =
+        absurd (not_cut one settings target now link before report done.mid link' after served fault is
+        (left_on paced settings target now link before report link' after done fault is)
         (causes settings target now link before report link' after done fault is))
 
-    by_result : report.outcome ≡ Ended → (result : Result (Unit {0}) Cut) → Proceeds settings target now (at link []) before result done.mid after done.notes → LeavesLink result done.mid link' → report.outcome ≡ outcome_of result
+    by_result : report.outcome ≡ Ended → (result : Result (Unit {0}) Cut)
+        → Proceeds settings target now (at link []) before result done.mid after done.notes
+        → LeavesLink result done.mid link' → report.outcome ≡ outcome_of result
         → StoresAll settings target now link before link' after
-    by_result ended (Ok unit) proceeds leaves is = ended_stores fetch_wanted settings target now link before done.mid link' after done.notes unit proceeds leaves
+    by_result ended (Ok unit) proceeds leaves is = ended_stores fetch_wanted settings target now link before done.mid
+        link' after done.notes unit proceeds leaves
     by_result ended (Err cut) proceeds leaves is = absurd (false≢true (ap was_cut (sym ended) ∙ ap was_cut is))

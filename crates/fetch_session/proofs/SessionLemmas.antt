@@ -1,5 +1,7 @@
 -- How the parts of a session make the whole, also of one that changes nothing, and what of it outlives a loss of power.
-use Rattle.std.proofs.Common.{◌≡◌, ◌≢◌, ◌⊎◌, ℕ, List, [], ◌∷◌, ◌++◌, Option, None, Some, Result, Ok, Err, refl, sym, ap, subst, ◌∙◌, inl, inr, append_assoc, length, ⊎_elim, Bool, false, append-nil, All, take, option_map}
+use Rattle.std.proofs.Common.{◌≡◌, ◌≢◌, ◌⊎◌, ℕ, List, [], ◌∷◌, ◌++◌, Option, None, Some, Result, Ok, Err, refl, sym, ap}
+use Rattle.std.proofs.Common.{subst, ◌∙◌, inl, inr, append_assoc, length, ⊎_elim, Bool, false, append-nil, All, take}
+use Rattle.std.proofs.Common.{option_map}
 use Rattle.std.proofs.lemmas.List.{append-nil}
 use Rattle.std.proofs.lemmas.Grind.{flat_map-append}
 use Rattle.std.proofs.lemmas.Option.{none-some, same_Some}
@@ -23,12 +25,18 @@ use Rattle.fetch_session.specs.declared.account.Store.{Store}
 use Rattle.fetch_session.specs.declared.account.Store.TheVariants.{Maildir as InMaildir, Mboxrd as InMbox}
 use Rattle.fetch_session.specs.declared.fault.Cut.{Cut}
 use Rattle.fetch_session.specs.declared.work.Work.{Work}
-use Rattle.fetch_session.specs.Record.{StandsTill, Steady, bytes_in, record_state, ReadAs, Reads, record_state_in}
+use Rattle.fetch_session.specs.Record.{StandsTill, Steady, bytes_in, record_state, FileReadAs, ReadsRecord, record_state_in}
 use Rattle.fetch_session.specs.Scene.{Scene, scene, Went, AllWent}
 use Rattle.fetch_session.specs.Store.{Brings}
-use Rattle.fetch_session.specs.Lasting.{AreLeft, AreSure, CarriedLasts, CarriesLast, CutLasts, DoesAndLasts, DonesLast, IsLeft, IsSafe, IsSafeStore, IsSafeWork, IsUntouched, KeepsWork, KeptLasts, Lasts, Leaves, LeavesLeft, LeavesMerged, ProceedsLast, RowsLast, RowsStillLast, SessionLasts, ShowsRows, TextsLast, UnlessQuiet, may_leave_in}
-use Rattle.fetch_session.specs.Target.{Target, AsFiles, AsEntries, Stores, kind_of, stores_of, target_of, AfterTakingIn, IsSoundMaildir, IsSoundMbox, in_maildir, in_mbox, is_sound, no_maildir, with_maildir, maildir_of, mbox_of, flags_in, closed_file, none_held, rows_in}
-use Rattle.fetch_session.specs.Task.{Task, Done, ids_in, ids_of, texts_of, ids_ahead, says, tasks_planned}
+use Rattle.fetch_session.specs.Lasting.{AreLeft, AreSure, CarriedLasts, CarriesLast, CutLasts, DoesAndLasts, DonesLast}
+use Rattle.fetch_session.specs.Lasting.{IsRecordLeft, IsSafeFile, IsSafeStore, IsSafeWork, IsRecordUntouched, KeepsWork}
+use Rattle.fetch_session.specs.Lasting.{KeptLasts, Lasts, LeavesFile, LeavesLeft, LeavesMerged, ProceedsLast, RowsLast}
+use Rattle.fetch_session.specs.Lasting.{RowsStillLast, SessionLasts, ShowsRows, TextsLast, UnlessQuiet, may_leave_in}
+use Rattle.fetch_session.specs.Target.{Target, AsFiles, AsEntries, Stores, kind_of, stores_of, target_of, AfterTakingIn}
+use Rattle.fetch_session.specs.Target.{IsSoundMaildir, IsSoundMbox, in_maildir, in_mbox, is_sound, no_maildir}
+use Rattle.fetch_session.specs.Target.{with_maildir, maildir_of, mbox_of, held_flags, closed_file, none_held}
+use Rattle.fetch_session.specs.Target.{closed_rows_in}
+use Rattle.fetch_session.specs.Task.{Task, Done, ids_in, marked_ids, done_texts, ids_ahead, says, tasks_planned}
 use Rattle.fetch_session.proofs.SceneLemmas.{is_there, not_whole, till_front, read_keeps, all_on, fell_before, fell_on, marked_on}
 use Rattle.pop3_wire.specs.Link.{Link}
 use Rattle.mail_terms.specs.Listing.{Item}
@@ -46,7 +54,7 @@ use Rattle.fetch_rules.specs.declared.steps.Step.{Step}
 use Rattle.pop3_client.specs.Turns.{quit}
 use Rattle.fetch_session.specs.declared.readiness.Ready.{Ready}
 use Rattle.fetch_session.specs.Fault.{cut_of, fault_of}
-use Rattle.fetch_session.specs.Readiness.{AreDurable, IsFileKept, IsReady, FindsRefused, Settles}
+use Rattle.fetch_session.specs.Readiness.{AreDurable, IsFileKept, IsReady, FindsRefused, SettlesStore}
 use Rattle.fetch_session.specs.declared.report.Skips.{Skips}
 use Rattle.std.proofs.lemmas.List.Elements.{recursion_from_All}
 use Rattle.fetch_session.proofs.ReadyLemmas.{ahead, not_found, unread}
@@ -55,7 +63,9 @@ use Rattle.pop3_client.specs.declared.fault.ClientFault.{ClientFault}
 use Rattle.fetch_session.specs.declared.readiness.Found.{Found}
 use Rattle.fetch_session.specs.declared.preview.Preview.{Preview}
 use Rattle.fetch_session.specs.declared.message_preview.MessagePreview.{MessagePreview}
-use Rattle.fetch_session.specs.Pretend.{PreviewsMerged, WouldBeUnready, HoldsTheSame, IsUntouched as ChangesNothing, JudgesMbox, LooksAtMbox, LooksIn, Pretends, PreviewsSession, counted_as, previews_of, told_in}
+use Rattle.fetch_session.specs.Pretend.{PreviewsMerged, WouldBeUnready, HoldsTheSame, IsUntouched as ChangesNothing}
+use Rattle.fetch_session.specs.Pretend.{JudgesMbox, LooksAtMbox, LooksIn, Pretends, PreviewsSession, counted_as}
+use Rattle.fetch_session.specs.Pretend.{previews_of, preview_told}
 use Rattle.fetch_session.specs.MessagePreview.{message_previews}
 
 -- ---- what a loss of power may leave of a file
@@ -65,36 +75,55 @@ pub no_more_keeps : {a b : Option (List ℕ) → Type 0} (content : Option (List
 no_more_keeps content no_more bytes is front left may = front left (no_more left may)
 
 -- what calls see of it is durable
-pub durable_safe : {F : Type 0} (files : FileGhosts F) (f : F) → seen_on (files.disk f) ≡ (files.stored f).content → IsFileDurable (files.disk f) → IsSafe files f
-durable_safe files f shown is = (durable_sure (files.disk f) is, λ bytes has. (is, λ left may. durable_is_left (files.disk f) left is may ∙ shown ∙ has))
+pub durable_safe : {F : Type 0} (files : FileGhosts F) (f : F) → seen_on (files.disk f) ≡ (files.stored f).content
+    → IsFileDurable (files.disk f) → IsSafeFile files f
+durable_safe files f shown is = (
+  durable_sure (files.disk f) is,
+  λ bytes has. (
+    is,
+    λ left may. durable_is_left (files.disk f) left is may ∙ shown
+        ∙ has,
+  ),
+)
 
 -- there is no file
-pub missing_safe : {F : Type 0} (file : FileGhosts F) (f f' : F) → file.disk f' ≡ file.disk f → ((file.stored f).content ≡ None) × (file.stored f' ≡ file.stored f)
-    → IsSure (file.disk f).now → IsSafe file f'
-missing_safe file f f' same (none, as_was) sure = (rw same sure, λ bytes is. absurd (none-some bytes (sym none ∙ ap (λ (s : Stored). s.content) (sym as_was) ∙ is)))
+pub missing_safe : {F : Type 0} (file : FileGhosts F) (f f' : F) → file.disk f' ≡ file.disk f
+    → ((file.stored f).content ≡ None) × (file.stored f' ≡ file.stored f)
+    → IsSure (file.disk f).now → IsSafeFile file f'
+missing_safe file f f' same (none, as_was) sure =
+    (rw same sure, λ bytes is. absurd (none-some bytes (sym none ∙ ap (λ (s : Stored). s.content) (sym as_was) ∙ is)))
 
 -- bytes are appended to a safe file: what is left of them stands behind what it had; after Ok it is safe again
-pub leaves_part : {F T : Type 0} (file : FileGhosts F) (f f' : F) (bytes : List ℕ) (r : Result T StoreFault) → seen_on (file.disk f) ≡ (file.stored f).content
-    → AppendsDisk (file.disk f) bytes r (file.disk f') → IsSafe file f → LeavesPart (file.stored f).content bytes (MayLeave (file.disk f'))
-leaves_part file f f' bytes r shown appends safe was has = (appends_for_good (file.disk f) (file.disk f') bytes r appends).leaves (safe.1 was has).0 was (shown ∙ has)
+pub leaves_part : {F T : Type 0} (file : FileGhosts F) (f f' : F) (bytes : List ℕ) (r : Result T StoreFault)
+    → seen_on (file.disk f) ≡ (file.stored f).content
+    → AppendsDisk (file.disk f) bytes r (file.disk f') → IsSafeFile file f
+    → LeavesPart (file.stored f).content bytes (MayLeave (file.disk f'))
+leaves_part file f f' bytes r shown appends safe was has =
+    (appends_for_good (file.disk f) (file.disk f') bytes r appends).leaves (safe.1 was has).0 was (shown ∙ has)
 
-pub grown_safe : {F T : Type 0} (file : FileGhosts F) (f f' : F) (bytes : List ℕ) (done : T) → seen_on (file.disk f) ≡ (file.stored f).content
-    → seen_on (file.disk f') ≡ (file.stored f').content → AppendsDisk (file.disk f) bytes (Ok done) (file.disk f') → IsSafe file f → IsSafe file f'
+pub grown_safe : {F T : Type 0} (file : FileGhosts F) (f f' : F) (bytes : List ℕ) (done : T)
+    → seen_on (file.disk f) ≡ (file.stored f).content
+    → seen_on (file.disk f') ≡ (file.stored f').content → AppendsDisk (file.disk f) bytes (Ok done) (file.disk f')
+    → IsSafeFile file f → IsSafeFile file f'
 grown_safe file f f' bytes done shown shown' (b, c, at, is, e) safe = durable_safe file f' shown'
-    ((appends_for_good (file.disk f) (file.disk f') bytes (Ok done) (b, c, at, is, e)).durable (safe.1 b.content (sym shown ∙ ap (option_map content_in) at)).0)
+    ((appends_for_good (file.disk f) (file.disk f') bytes (Ok done) (b, c, at, is, e)).durable
+    (safe.1 b.content (sym shown ∙ ap (option_map content_in) at)).0)
 
-pub safe_store : {F : Type 0} (files : FileGhosts F) (f : F) → IsSafe files f → IsSure (files.disk f).now × LastsWhole (files.stored f).content (Unit {0}) (MayLeave (files.disk f))
+pub safe_store : {F : Type 0} (files : FileGhosts F) (f : F) → IsSafeFile files f → IsSure (files.disk f).now
+    × LastsWhole (files.stored f).content (Unit {0}) (MayLeave (files.disk f))
 safe_store files f safe = (safe.0, λ bytes is. (tt, (safe.1 bytes is).1))
 
-pub no_more_left : {F : Type 0} (file : FileGhosts F) (f f' : F) → (file.stored f').content ≡ (file.stored f).content → LeavesNoMore (MayLeave (file.disk f)) (MayLeave (file.disk f'))
-    → (Is : Option (List ℕ) → Type 0) → Leaves file f Is → Leaves file f' Is
+pub no_more_left : {F : Type 0} (file : FileGhosts F) (f f' : F) → (file.stored f').content ≡ (file.stored f).content
+    → LeavesNoMore (MayLeave (file.disk f)) (MayLeave (file.disk f'))
+    → (Is : Option (List ℕ) → Type 0) → LeavesFile file f Is → LeavesFile file f' Is
 no_more_left file f f' same no_more Is leaves bytes is left may = leaves bytes (sym same ∙ is) left (no_more left may)
 
 -- ---- what it may leave of the record's file
 
 module _ {F : Type 0} (file : FileGhosts F) (f : F) where
   -- the file is safe, so just its bytes
-  pub safe_left : (was : RecordState) (added : List ℕ) → IsSafe file f → Steady (file.stored f).content was → Leaves file f (IsLeft was added)
+  pub safe_left : (was : RecordState) (added : List ℕ) → IsSafeFile file f → Steady (file.stored f).content was
+      → LeavesFile file f (IsRecordLeft was added)
   safe_left was added safe stood bytes is left may = record {
     bytes = bytes;
     behind = [];
@@ -105,21 +134,34 @@ module _ {F : Type 0} (file : FileGhosts F) (f : F) where
   }
 
   -- bytes were appended, or a part of them
-  pub part_left : (old : Stored) (was : RecordState) (added : List ℕ) → bytes_in old.content ≢ [] → Steady old.content was → LeavesPart old.content added (MayLeave (file.disk f))
-      → (left : Option (List ℕ)) → MayLeave (file.disk f) left → IsLeft was added left
+  pub part_left : (old : Stored) (was : RecordState) (added : List ℕ) → bytes_in old.content ≢ []
+      → Steady old.content was → LeavesPart old.content added (MayLeave (file.disk f))
+      → (left : Option (List ℕ)) → MayLeave (file.disk f) left → IsRecordLeft was added left
   part_left old was added some stood part left may =
       let behind = part (bytes_in old.content) (is_there old.content some) left may in
       record { bytes = bytes_in old.content; behind = behind.0; is = behind.1; stands = stood; part = behind.2; begun = inr some }
 
-  pub rows_left : (rows others next : List Row) (before after : Option Intent) (added : List ℕ) → Grows rows before added next after → (next ≡ rows) ⊎ (next ≡ others)
-      → Leaves file f (IsLeft (record_state rows before) added) → Leaves file f (AreLeft rows others)
+  pub rows_left : (rows others next : List Row) (before after : Option Intent) (added : List ℕ)
+      → Grows rows before added next after → (next ≡ rows) ⊎ (next ≡ others)
+      → LeavesFile file f (IsRecordLeft (record_state rows before) added) → LeavesFile file f (AreLeft rows others)
   rows_left rows others next before after added grows next_is leaves bytes is left may =
-      record { before = before; added = added; next = next; after = after; grows = grows; next_is = next_is; file = leaves bytes is left may }
+      record {
+        before = before;
+        added = added;
+        next = next;
+        after = after;
+        grows = grows;
+        next_is = next_is;
+        file =
+            leaves bytes is left may;
+      }
 
   -- the file is safe and stands for the rows
-  pub same_left : {rows others : List Row} {intent : Option Intent} → IsSafe file f → Steady (file.stored f).content (record_state rows intent) → Leaves file f (AreLeft rows others)
+  pub same_left : {rows others : List Row} {intent : Option Intent} → IsSafeFile file f
+      → Steady (file.stored f).content (record_state rows intent) → LeavesFile file f (AreLeft rows others)
   same_left {rows} {others} {intent} safe stood =
-      rows_left rows others rows intent intent [] (inl (inl (refl, refl, refl))) (inl refl) (safe_left (record_state rows intent) [] safe stood)
+      rows_left rows others rows intent intent [] (inl (inl (refl, refl, refl))) (inl refl)
+      (safe_left (record_state rows intent) [] safe stood)
 
 -- ---- texts
 
@@ -128,30 +170,33 @@ texts_on : {D F : Type 0} (file : FileGhosts F) (target : Target) (xs ys : List 
     → Brings target xs a b → TextsLast file target ys b new → TextsLast file target (xs ++ ys) a new
 texts_on file (AsFiles account) xs ys a b new brings then = tt
 texts_on file AsEntries xs ys a b new brings then = λ was is.
-    simp (flat_map-append, ← append_assoc) (then (was ++ flat_map entry_of (texts_of xs)) (rw (brings.content, is)))
+    simp (flat_map-append, ← append_assoc) (then (was ++ flat_map entry_of (done_texts xs)) (rw (brings.content, is)))
 
 -- ---- tasks
 
 dones_on : {D F : Type 0} (file : FileGhosts F) (target : Target) (xs ys : List Done) (next : List (List ℕ)) (a b : Scene) (new : Store D F)
     (f : F) → Went target xs a b → DonesLast file target ys next b new f → DonesLast file target (xs ++ ys) next a new f
 dones_on file target xs ys next a b new f went then =
-    let same : marked_all b.rows (ids_of ys) ≡ marked_all a.rows (ids_of (xs ++ ys)) = simp (went.rows, flat_map-append, marked_on) in
+    let same : marked_all b.rows (marked_ids ys) ≡ marked_all a.rows (marked_ids (xs ++ ys)) =
+    simp (went.rows, flat_map-append, marked_on) in
     record {
       texts = texts_on file target xs ys a.store b.store new went.stored then.texts;
       rows = subst (λ (rows : List Row). RowsLast file f rows) same then.rows;
-      left = subst (λ (rows : List Row). Leaves file f (AreLeft rows (marked_all rows next))) same then.left;
+      left = subst (λ (rows : List Row). LeavesFile file f (AreLeft rows (marked_all rows next))) same then.left;
     }
 
 -- the same if another premise gives this one, and for another store of this kind
 pub in_kind : {D F : Type 0} {file : FileGhosts F} {here safe : Type 0} {tasks : List Task} {old new : Scene}
     {r : Result (Unit {0}) Cut} {store : Store D F} {f : F} (a b : Store D F) (account : List ℕ) → kind_of a ≡ kind_of b
-    → DoesAndLasts file here (target_of a account) tasks old r new store f → (safe → here) → DoesAndLasts file safe (target_of b account) tasks old r new store f
+    → DoesAndLasts file here (target_of a account) tasks old r new store f → (safe → here)
+    → DoesAndLasts file safe (target_of b account) tasks old r new store f
 in_kind {D} {F} {file} {here} {safe} {tasks} {old} {new} {r} {store} {f} a b account same does on =
     let moved = rw same at does in record { does = moved.does; lasts = λ s. moved.lasts (on s) }
 
 module _ {D F : Type 0} {file : FileGhosts F} {safe : Type 0} {target : Target} where
   -- some tasks were done, and then others, or not all of them
-  pub good_more : TurnsJoin → {xs ys : List Task} {a b c : Scene} (r : Result (Unit {0}) Cut) {new : Store D F} {f : F} → (went : AllWent target xs a b)
+  pub good_more : TurnsJoin → {xs ys : List Task} {a b c : Scene} (r : Result (Unit {0}) Cut) {new : Store D F} {f : F}
+      → (went : AllWent target xs a b)
       → DoesAndLasts file safe target ys b r c new f → DoesAndLasts file safe target (xs ++ ys) a r c new f
   unfolding all_on fell_on
   good_more joining {xs} {ys} {a} {b} {c} (Ok done) {new} {f} went then = record {
@@ -160,11 +205,16 @@ module _ {D F : Type 0} {file : FileGhosts F} {safe : Type 0} {target : Target} 
   }
   good_more joining {xs} {ys} {a} {b} {c} (Err cut) {new} {f} went then = record {
     does = fell_on joining target xs ys a b c cut went then.does;
-    lasts = λ s. (dones_on file target went.dones then.does.dones (ids_in then.does.next) a b new f went.went (then.lasts s).0, (then.lasts s).1);
+    lasts = λ s. (
+      dones_on file target went.dones then.does.dones (ids_in then.does.next) a b new f went.went
+          (then.lasts s).0,
+      (then.lasts s).1,
+    );
   }
 
   -- some of these tasks were done, and none of those after them
-  pub good_before : {xs : List Task} (ys : List Task) {a new : Scene} {cut : Cut} {store : Store D F} {f : F} → DoesAndLasts file safe target xs a (Err cut) new store f
+  pub good_before : {xs : List Task} (ys : List Task) {a new : Scene} {cut : Cut} {store : Store D F} {f : F}
+      → DoesAndLasts file safe target xs a (Err cut) new store f
       → DoesAndLasts file safe target (xs ++ ys) a (Err cut) new store f
   unfolding fell_before
   good_before {xs} ys {a} {new} {cut} does = record {
@@ -175,13 +225,15 @@ module _ {D F : Type 0} {file : FileGhosts F} {safe : Type 0} {target : Target} 
 -- ---- what is safe
 
 -- the record's file is safe and stands for the rows, so they outlive a loss of power
-pub rows_last : {F : Type 0} (file : FileGhosts F) (f : F) (rows : List Row) → IsSafe file f → Steady (file.stored f).content (none_open rows)
+pub rows_last : {F : Type 0} (file : FileGhosts F) (f : F) (rows : List Row) → IsSafeFile file f
+    → Steady (file.stored f).content (none_open rows)
     → RowsLast file f rows
 rows_last file f rows safe steady = by (file.stored f).content refl steady
   where
     by : (content : Option (List ℕ)) → (file.stored f).content ≡ content → Steady content (none_open rows) → RowsLast file f rows
     by None is stands left may = ([], [], inl refl, stands)
-    by (Some bytes) is stands left may = (bytes, [], inr ((safe.1 bytes is).1 left may ∙ ap (λ (l : List ℕ). Some l) (sym (append-nil bytes))), stands)
+    by (Some bytes) is stands left may =
+        (bytes, [], inr ((safe.1 bytes is).1 left may ∙ ap (λ (l : List ℕ). Some l) (sym (append-nil bytes))), stands)
 
 -- what begins with bytes that stand for these rows still does if it is longer
 shown_longer : (rows : List Row) (was left : Option (List ℕ)) → ShowsRows rows was → IsLonger was left → ShowsRows rows left
@@ -190,16 +242,19 @@ shown_longer rows was left (bytes, behind, inl none, stands) (inr longer) = (byt
 shown_longer rows was left (bytes, behind, inr is, stands) (inr (some, more, was_is, longer)) = (
   bytes,
   behind ++ more,
-  inr (longer ∙ ap (λ (l : List ℕ). Some (l ++ more)) (same_Some some (bytes ++ behind) (sym was_is ∙ is)) ∙ ap (λ (l : List ℕ). Some l) (append_assoc bytes behind more)),
+  inr (longer ∙ ap (λ (l : List ℕ). Some (l ++ more)) (same_Some some (bytes ++ behind) (sym was_is ∙ is))
+      ∙ ap (λ (l : List ℕ). Some l) (append_assoc bytes behind more)),
   stands,
 )
 
-pub longer_rows : {F : Type 0} (file : FileGhosts F) (f f' : F) → LeavesLonger (MayLeave (file.disk f)) (MayLeave (file.disk f')) → (rows : List Row) → RowsStillLast file rows f f'
+pub longer_rows : {F : Type 0} (file : FileGhosts F) (f f' : F)
+    → LeavesLonger (MayLeave (file.disk f)) (MayLeave (file.disk f')) → (rows : List Row) → RowsStillLast file rows f f'
 longer_rows file f f' longer rows last left may =
     let was = longer left may in shown_longer rows was.0 left (last was.0 was.1) was.2
 
 -- bytes that stand for these rows
-whole_left : (rows others : List Row) (bytes : List ℕ) (left : Option (List ℕ)) → Steady (Some bytes) (none_open rows) → left ≡ Some bytes → AreLeft rows others left
+whole_left : (rows others : List Row) (bytes : List ℕ) (left : Option (List ℕ)) → Steady (Some bytes) (none_open rows)
+    → left ≡ Some bytes → AreLeft rows others left
 whole_left rows others bytes left stands all = record {
   before = None;
   added = [];
@@ -207,11 +262,20 @@ whole_left rows others bytes left stands all = record {
   after = None;
   grows = inl (inl (refl, refl, refl));
   next_is = inl refl;
-  file = record { bytes = bytes; behind = []; is = all ∙ ap (λ (l : List ℕ). Some l) (sym (append-nil bytes)); stands = stands; part = tt; begun = inl refl };
+  file = record {
+    bytes = bytes;
+    behind = [];
+    is = all ∙ ap (λ (l : List ℕ). Some l) (sym (append-nil bytes));
+    stands =
+        stands;
+    part = tt;
+    begun = inl refl;
+  };
 }
 
 -- the file was cut to bytes that stand for the rows, or may have been
-module _ {F T : Type 0} (file : FileGhosts F) (f f' : F) (rows : List Row) (size : ℕ) (till : StandsTill (file.stored f) size rows) (r : Result T StoreFault)
+module _ {F T : Type 0} (file : FileGhosts F) (f f' : F) (rows : List Row) (size : ℕ)
+    (till : StandsTill (file.stored f) size rows) (r : Result T StoreFault)
     (shown : seen_on (file.disk f) ≡ (file.stored f).content) (cuts : CutsDisk (file.disk f) size r (file.disk f')) where
   law : CutsForGood (file.disk f) size r (file.disk f')
   law = cuts_for_good (file.disk f) (file.disk f') size r cuts
@@ -225,7 +289,8 @@ module _ {F T : Type 0} (file : FileGhosts F) (f f' : F) (rows : List Row) (size
     | inr (behind, is) ↦ (take size till.0.0, behind, inr is, stands)
   ]
 
-  pub cut_left : IsSafe file f → (others : List Row) → Leaves file f (AreLeft rows others) → Leaves file f' (AreLeft rows others)
+  pub cut_left : IsSafeFile file f → (others : List Row) → LeavesFile file f (AreLeft rows others)
+      → LeavesFile file f' (AreLeft rows others)
   cut_left safe others leaves now is_now left may = elim (law.leaves (safe.1 till.0.0 till.0.1).0 till.0.0 (shown ∙ till.0.1) left may) [
     | inl before ↦ leaves till.0.0 till.0.1 left before
     | inr all ↦ whole_left rows others (take size till.0.0) left stands all
@@ -235,19 +300,32 @@ module _ {F T : Type 0} (file : FileGhosts F) (f f' : F) (rows : List Row) (size
 
 module _ {F : Type 0} (files : FileGhosts F) (rows others : List Row) (from f : F) where
   -- it was written whole
-  pub written_merged : (bytes : List ℕ) → Steady (Some bytes) (none_open others) → LeavesEither (MayLeave (files.disk from)) bytes (MayLeave (files.disk f)) → LeavesMerged files rows others from f
+  pub written_merged : (bytes : List ℕ) → Steady (Some bytes) (none_open others)
+      → LeavesEither (MayLeave (files.disk from)) bytes (MayLeave (files.disk f))
+      → LeavesMerged files rows others from f
   written_merged bytes stands either left may = ⊎_elim inl (λ all. inr (inr (whole_left others others bytes left stands all)))
       (either left may)
 
   -- a group was appended
-  pub grown_merged : (group : List ℕ) → Updates rows None group others None → LeavesLeft files (none_open rows) group from f → LeavesMerged files rows others from f
+  pub grown_merged : (group : List ℕ) → Updates rows None group others None
+      → LeavesLeft files (none_open rows) group from f → LeavesMerged files rows others from f
   grown_merged group updates leaves left may = elim (leaves left may) [
     | inl before ↦ inl before
-    | inr is ↦ inr (inl (record { before = None; added = group; next = others; after = None; grows = inl updates; next_is = inr refl; file = is }))
+    | inr is ↦ inr (inl (record {
+      before = None;
+      added = group;
+      next = others;
+      after = None;
+      grows =
+          inl updates;
+      next_is = inr refl;
+      file = is;
+    }))
   ]
 
 -- the mboxrd file of a store
-same_mbox : {D F : Type 0} (disk : DiskGhosts D) (file : FileGhosts F) (store : Store D F) → (mbox_of file store).content ≡ (stores_of disk file store).mbox.content
+same_mbox : {D F : Type 0} (disk : DiskGhosts D) (file : FileGhosts F) (store : Store D F)
+    → (mbox_of file store).content ≡ (stores_of disk file store).mbox.content
 same_mbox disk file (InMaildir device) = refl
 same_mbox disk file (InMbox device) = refl
 
@@ -271,7 +349,7 @@ pub texts_ok : {D F : Type 0} (disk : DiskGhosts D) (file : FileGhosts F) (targe
     → TextsLast file target dones (stores_of disk file old) new
 texts_ok disk file (AsFiles account) dones old new brings safe = tt
 texts_ok disk file AsEntries dones old new brings safe = λ was is.
-    whole_in file new safe (was ++ flat_map entry_of (texts_of dones)) (same_mbox disk file new ∙ rw (brings.content, is))
+    whole_in file new safe (was ++ flat_map entry_of (done_texts dones)) (same_mbox disk file new ∙ rw (brings.content, is))
 
 -- ---- if nothing is done
 
@@ -279,23 +357,26 @@ pub keeps_same : {D F H Z : Type 0} (file : FileGhosts F) (work : Work D F H Z) 
 keeps_same file work = (λ bytes has is. is, λ last. last)
 
 -- no call was made
-pub untouched : {F : Type 0} (file : FileGhosts F) (f : F) → IsUntouched file f f
+pub untouched : {F : Type 0} (file : FileGhosts F) (f : F) → IsRecordUntouched file f f
 untouched file f = record { no_more = λ left may. may; same = refl }
 
 -- the state of a session at this place
 abbrev pub scene_at : {D F H Z : Type 0} → DiskGhosts D → FileGhosts F → Place → Work D F H Z → Scene
-scene_at disk file place work = scene place (stores_of disk file work.store) (file.stored work.ledger.file) work.ledger.seen.rows work.ledger.lines.items
+scene_at disk file place work = scene place (stores_of disk file work.store) (file.stored work.ledger.file)
+    work.ledger.seen.rows work.ledger.lines.items
 
 -- nothing was marked
 pub nothing_cut : {F : Type 0} (file : FileGhosts F) (target : Target) (old new : Scene) (f : F)
-    → Leaves file f (AreLeft old.rows old.rows) → CutLasts file target old new f
+    → LeavesFile file f (AreLeft old.rows old.rows) → CutLasts file target old new f
 nothing_cut file (AsFiles account) old new f left = inl left
 nothing_cut file AsEntries old new f left = tt
 
 -- what was safe and written down before still is
-pub none_lasts : {D F H Z : Type 0} (disk : DiskGhosts D) (file : FileGhosts F) (target : Target) (place : Place) (old new : Work D F H Z) (next : List (List ℕ))
+pub none_lasts : {D F H Z : Type 0} (disk : DiskGhosts D) (file : FileGhosts F) (target : Target) (place : Place)
+    (old new : Work D F H Z) (next : List (List ℕ))
     → IsSafeWork file old → KeepsWork file old new → Steady (file.stored old.ledger.file).content (none_open old.ledger.seen.rows)
-    → Leaves file new.ledger.file (AreLeft old.ledger.seen.rows (marked_all old.ledger.seen.rows next)) → DonesLast file target [] next (scene_at disk file place old) new.store new.ledger.file
+    → LeavesFile file new.ledger.file (AreLeft old.ledger.seen.rows (marked_all old.ledger.seen.rows next))
+    → DonesLast file target [] next (scene_at disk file place old) new.store new.ledger.file
 none_lasts disk file target place old new next safe keeps steady left = record {
   texts = no_texts disk file old.store new.store (λ was is. keeps.0 was is (whole_in file old.store safe.1 was is)) target;
   rows = keeps.1 (rows_last file old.ledger.file old.ledger.seen.rows safe.0 steady);
@@ -304,36 +385,46 @@ none_lasts disk file target place old new next safe keeps steady left = record {
 
 -- ---- a whole session
 
-pub dealt : {D F : Type 0} (files : FileGhosts F) (was : Store D F) (from : F) (settings : Settings) (target : Target) (now : ℕ) (old : Place) (before : Keeping)
-    (result : Result (Unit {0}) Cut) (new : Place) (after : Keeping) (notes : Noted) (items : List Item) (mid : Place) (start : List ReportLine) (store : Store D F) (f : F)
+pub dealt : {D F : Type 0} (files : FileGhosts F) (was : Store D F) (from : F) (settings : Settings) (target : Target)
+    (now : ℕ) (old : Place) (before : Keeping)
+    (result : Result (Unit {0}) Cut) (new : Place) (after : Keeping) (notes : Noted) (items : List Item) (mid : Place)
+    (start : List ReportLine) (store : Store D F) (f : F)
     → start ≡ [] → Enters_with settings old (Ok items) mid → notes.total ≡ length items
-    → (is : Carries settings target items now mid before.store before.file start result new after.store after.file notes.lines notes.skipped)
+    → (is : Carries settings target items now mid before.store before.file start result new after.store after.file
+    notes.lines notes.skipped)
     × CarriesLast files was from _ _ _ _ _ _ _ _ _ _ _ _ _ _ is store f
     → (is : Proceeds settings target now old before result new after notes) × ProceedsLast files was from _ _ _ _ _ _ _ _ _ is store f
 dealt files was from settings target now old before result new after notes items mid start store f none enters total carries =
     let from_nothing = rw none at carries in
     by result (record { items = items; mid = mid; enters = enters; total = total; carries = from_nothing.0 }) from_nothing.1
   where
-    by : (r : Result (Unit {0}) Cut) (is : Dealt settings target now old before r new after notes) → CarriesLast files was from _ _ _ _ _ _ _ _ _ _ _ _ _ _ is.carries store f
+    by : (r : Result (Unit {0}) Cut) (is : Dealt settings target now old before r new after notes)
+        → CarriesLast files was from _ _ _ _ _ _ _ _ _ _ _ _ _ _ is.carries store f
         → (is : Proceeds settings target now old before r new after notes) × ProceedsLast files was from _ _ _ _ _ _ _ _ _ is store f
     by (Ok done) is lasts = (is, lasts)
     by (Err cut) is lasts = (inr (inr is), lasts)
 
 -- a session that was brought to its end, or cut and then left
-pub left_session : {D F : Type 0} {files : FileGhosts F} {from : F} {settings : Settings} {target : Target} {now : ℕ} {link link' : Link} {before after : Keeping} {report : Report} {store : Store D F} {f : F}
+pub left_session : {D F : Type 0} {files : FileGhosts F} {from : F} {settings : Settings} {target : Target} {now : ℕ}
+    {link link' : Link} {before after : Keeping} {report : Report} {store : Store D F} {f : F}
     (was : Store D F) (id : Target) (reader : List ℕ) (result : Result (Unit {0}) Cut) (mid : Place) (notes : Noted)
-    → id ≡ target → reader ≡ [] → (is : Proceeds settings id now (at link reader) before result mid after notes) × ProceedsLast files was from _ _ _ _ _ _ _ _ _ is store f
+    → id ≡ target → reader ≡ [] → (is : Proceeds settings id now (at link reader) before result mid after notes)
+    × ProceedsLast files was from _ _ _ _ _ _ _ _ _ is store f
     → LeavesLink result mid link' → Reports (outcome_of result) notes.total notes.skipped notes.lines report
     → (session : SessionIn settings target now link before report link' after) × SessionLasts files was from session store f
-left_session {D} {F} {files} {from} {settings} {target} {now} {link} {link'} {before} {after} {report} {store} {f} was id reader result mid notes same none proceeds leaves reports =
+left_session {D} {F} {files} {from} {settings} {target} {now} {link} {link'} {before} {after} {report} {store} {f} was
+    id reader result mid notes same none proceeds leaves reports =
     let here = rw (same, none) at proceeds in
     (record { result = result; mid = mid; notes = notes; proceeds = here.0; leaves = leaves; reports = reports }, here.1)
 
 -- ---- a session of an account with a Maildir, and of one with an mboxrd file
 
-pub files_session : {D F : Type 0} (disk : DiskGhosts D) (file : FileGhosts F) (store store' : Store D F) (digits : List ℕ) (Did : Target → Stores → Stores → Type 0) (A B C : Type 0) → kind_of store' ≡ kind_of store
-    → (is_sound disk file store' → A × is_sound disk file store × B × C × Did (target_of store digits) (stores_of disk file store) (stores_of disk file store'))
-    → IsSoundMaildir disk store' → A × IsSoundMaildir disk store × B × C × Did (AsFiles digits) (in_maildir (maildir_of disk store)) (in_maildir (maildir_of disk store'))
+pub files_session : {D F : Type 0} (disk : DiskGhosts D) (file : FileGhosts F) (store store' : Store D F)
+    (digits : List ℕ) (Did : Target → Stores → Stores → Type 0) (A B C : Type 0) → kind_of store' ≡ kind_of store
+    → (is_sound disk file store' → A × is_sound disk file store × B × C
+    × Did (target_of store digits) (stores_of disk file store) (stores_of disk file store'))
+    → IsSoundMaildir disk store' → A × IsSoundMaildir disk store × B × C
+    × Did (AsFiles digits) (in_maildir (maildir_of disk store)) (in_maildir (maildir_of disk store'))
 files_session disk file (InMaildir device) (InMaildir device') digits Did A B C kind met sound = met sound
 files_session disk file (InMbox device) (InMaildir device') digits Did A B C kind met sound = absurd cc
 files_session disk file store (InMbox device') digits Did A B C kind met never = absurd never
@@ -348,12 +439,17 @@ none_left left taken = let none = is_none taken.gone left.files taken.files in t
     is_none (f ∷ gone) files ([], back, never, is) = absurd never
     is_none (f ∷ gone) files (g ∷ front, back, never, is) = absurd never
 
-pub entries_session : {D F : Type 0} (disk : DiskGhosts D) (file : FileGhosts F) (store store' : Store D F) (digits : List ℕ) (Did : Target → Stores → Stores → Type 0) (A B C : Type 0) → kind_of store' ≡ kind_of store
-    → (is_sound disk file store' → A × is_sound disk file store × B × C × AfterTakingIn (stores_of disk file store) (λ (left : Stores). Did (target_of store digits) left (stores_of disk file store')))
-    → IsSoundMbox file store' → A × IsSoundMbox file store × B × C × Did AsEntries (in_mbox (mbox_of file store)) (in_mbox (mbox_of file store'))
+pub entries_session : {D F : Type 0} (disk : DiskGhosts D) (file : FileGhosts F) (store store' : Store D F)
+    (digits : List ℕ) (Did : Target → Stores → Stores → Type 0) (A B C : Type 0) → kind_of store' ≡ kind_of store
+    → (is_sound disk file store' → A × is_sound disk file store × B × C
+    × AfterTakingIn (stores_of disk file store)
+    (λ (left : Stores). Did (target_of store digits) left (stores_of disk file store')))
+    → IsSoundMbox file store' → A × IsSoundMbox file store × B × C
+    × Did AsEntries (in_mbox (mbox_of file store)) (in_mbox (mbox_of file store'))
 entries_session disk file (InMbox device) (InMbox device') digits Did A B C kind met sound =
     let m = met sound in
-    let none = subst (λ (maildir : Maildir). Did AsEntries (with_maildir (in_mbox (file.stored device)) maildir) (in_mbox (file.stored device'))) (none_left m.4.0 m.4.1) m.4.2 in
+    let none = subst (λ (maildir : Maildir). Did AsEntries (with_maildir (in_mbox (file.stored device)) maildir)
+    (in_mbox (file.stored device'))) (none_left m.4.0 m.4.1) m.4.2 in
     (m.0, m.1, m.2, m.3, none)
 entries_session disk file (InMaildir device) (InMbox device') digits Did A B C kind met sound = absurd cc
 entries_session disk file store (InMaildir device') digits Did A B C kind met never = absurd never
@@ -365,7 +461,8 @@ all_alike p [] = tt
 all_alike p (x ∷ xs) = (p, all_alike p xs)
 
 -- steps that fetch nothing mark nothing
-quiet_ids : (steps : List Step) (items : List Item) (held : List Bool) → AllByRecursion IsQuiet steps → ids_ahead (tasks_planned steps items held) ≡ []
+quiet_ids : (steps : List Step) (items : List Item) (held : List Bool) → AllByRecursion IsQuiet steps
+    → ids_ahead (tasks_planned steps items held) ≡ []
 quiet_ids (s ∷ ss) (i ∷ is) (h ∷ hs) quiet = rw (ahead s i h (tasks_planned ss is hs), quiet.0.0) (quiet_ids ss is hs quiet.1)
 quiet_ids _ _ _ quiet = refl
 
@@ -376,24 +473,46 @@ named_ahead steps items held (inl quiet) = rw (quiet_ids steps items held (recur
 named_ahead steps items held (inr p) = all_alike p (ids_ahead (tasks_planned steps items held))
 
 -- the planned tasks and QUIT were done once the record was ready, or as far as went well
-pub carried : {D F : Type 0} (disk : DiskGhosts D) (files : FileGhosts F) {safe : Type 0} {settings : Settings} {target : Target} {items : List Item} {now : ℕ} {place : Place} {store : Stores} {file : Stored} {lines : List ReportLine} {ready : Ready} {after : List Row}
-    (was before : Store D F) {end : Store D F} (from mid_file : F) {f : F} {file' : Stored} (mid_lines : List ReportLine) (steps : List Step) (held : List Bool) {skipped : Skips} {r : Result (Unit {0}) Cut} {new : Scene}
-    → mid_lines ≡ lines → (is : IsReady settings target items now store file ready after (stores_of disk files before) file') → steps ≡ ready.steps.items → held ≡ ready.held.items → skipped ≡ skips_of settings after items now ready.steps.items
+pub carried : {D F : Type 0} (disk : DiskGhosts D) (files : FileGhosts F) {safe : Type 0} {settings : Settings}
+    {target : Target} {items : List Item} {now : ℕ} {place : Place} {store : Stores} {file : Stored}
+    {lines : List ReportLine} {ready : Ready} {after : List Row}
+    (was before : Store D F) {end : Store D F} (from mid_file : F) {f : F} {file' : Stored}
+    (mid_lines : List ReportLine) (steps : List Step) (held : List Bool) {skipped : Skips}
+    {r : Result (Unit {0}) Cut} {new : Scene}
+    → mid_lines ≡ lines → (is : IsReady settings target items now store file ready after (stores_of disk files before)
+    file') → steps ≡ ready.steps.items → held ≡ ready.held.items
+    → skipped ≡ skips_of settings after items now ready.steps.items
     → (AreSure files was from → UnlessQuiet files from after file file' is.durable safe mid_file)
     → (ids_ahead (tasks_planned steps items held ++ says quit ∷ []) ≡ [] → f ≡ mid_file)
-    → DoesAndLasts files safe target (tasks_planned steps items held ++ says quit ∷ []) (scene place (stores_of disk files before) file' after mid_lines) r new end f
-    → (is : Carries settings target items now place store file lines r new.place new.store new.file new.lines skipped) × CarriesLast files was from _ _ _ _ _ _ _ _ _ _ _ _ _ _ is end f
-carried {D} {F} disk files {safe} {settings} {target} {items} {now} {place} {store} {file} {lines} {ready} {after} was before {end} from mid_file {f} {file'} mid_lines steps held {skipped} {r} {new} lines_are is steps_are held_are skipped_is firm same_file does =
+    → DoesAndLasts files safe target (tasks_planned steps items held ++ says quit ∷ [])
+    (scene place (stores_of disk files before) file' after mid_lines) r new end f
+    → (is : Carries settings target items now place store file lines r new.place new.store new.file new.lines skipped)
+    × CarriesLast files was from _ _ _ _ _ _ _ _ _ _ _ _ _ _ is end f
+carried {D} {F} disk files {safe} {settings} {target} {items} {now} {place} {store} {file} {lines} {ready} {after} was
+    before {end} from mid_file {f} {file'} mid_lines steps held {skipped} {r} {new} lines_are is steps_are held_are
+    skipped_is firm same_file does =
     let mid : Scene = scene place (stores_of disk files before) file' after mid_lines in
     let good = rw (steps_are, held_are, is.held, is.steps) at does in
     of_result r (
       record {
         mid = mid;
-        prepared = record { was = is.was; stood = is.stood; rows = is.rows; durable = quiet_or is.durable; saved = is.saved; file_count = is.file_count; place_is = refl; settles = is.settles; lines_are = lines_are };
+        prepared = record {
+          was = is.was;
+          stood = is.stood;
+          rows = is.rows;
+          durable = quiet_or is.durable;
+          saved =
+              is.saved;
+          file_count = is.file_count;
+          place_is = refl;
+          settles = is.settles;
+          lines_are = lines_are;
+        };
         does = good.does;
         skips = skipped_is ∙ ap (skips_of settings after items now) is.steps;
       },
-      λ sure. by (Lasts files target (tasks_ahead settings target items now store after) mid r new good.does end f) good.lasts is.durable (firm sure),
+      λ sure. by (Lasts files target (tasks_ahead settings target items now store after) mid r new good.does end f)
+          good.lasts is.durable (firm sure),
     )
   where
     quiet_or : (All IsQuiet ready.steps.items × IsFileKept after file file') ⊎ AreDurable target is.was.rows items store
@@ -401,12 +520,17 @@ carried {D} {F} disk files {safe} {settings} {target} {items} {now} {place} {sto
     quiet_or (inl (quiet, kept)) = inl (subst (λ (ss : List Step). All IsQuiet ss) is.steps quiet, kept)
     quiet_or (inr durable) = inr durable
 
-    of_result : (r : Result (Unit {0}) Cut) → (c : Carried settings target items now place store file lines r new skipped) × CarriedLasts files was from c end f
-        → (is : Carries settings target items now place store file lines r new.place new.store new.file new.lines skipped) × CarriesLast files was from _ _ _ _ _ _ _ _ _ _ _ _ _ _ is end f
+    of_result : (r : Result (Unit {0}) Cut)
+        → (c : Carried settings target items now place store file lines r new skipped)
+        × CarriedLasts files was from c end f
+        → (is : Carries settings target items now place store file lines r new.place new.store new.file new.lines
+        skipped) × CarriesLast files was from _ _ _ _ _ _ _ _ _ _ _ _ _ _ is end f
     of_result (Ok done) (c, lasts) = ((new.rows, c), lasts)
     of_result (Err cut) (c, lasts) = ((new.rows, inr c), lasts)
 
-    by : (P : Type 0) → (safe → P) → (durable : (All IsQuiet ready.steps.items × IsFileKept after file file') ⊎ AreDurable target is.was.rows items store) → UnlessQuiet files from after file file' durable safe mid_file → UnlessQuiet files from after file file' (quiet_or durable) P f
+    by : (P : Type 0) → (safe → P) → (durable : (All IsQuiet ready.steps.items × IsFileKept after file file')
+        ⊎ AreDurable target is.was.rows items store) → UnlessQuiet files from after file file' durable safe mid_file
+        → UnlessQuiet files from after file file' (quiet_or durable) P f
     by P good (inl (quiet, kept)) still =
         let same = same_file (flat_map-append ids_in (tasks_planned steps items held) (says quit ∷ []) ∙ append-nil _ ∙ quiet_ids steps
         items held (subst (λ (ss : List Step). AllByRecursion IsQuiet ss) (sym steps_are)
@@ -425,7 +549,8 @@ previews_are settings rows rows' items held now steps rows_are steps_are =
 
 -- ---- an mboxrd file that was only looked at
 
-pub judged_good : (intent : Option Intent) (old : Stored) (items : List Item) (found : Found) (new : Stored) → JudgesMbox intent items old (Ok found.stored) new
+pub judged_good : (intent : Option Intent) (old : Stored) (items : List Item) (found : Found) (new : Stored)
+    → JudgesMbox intent items old (Ok found.stored) new
     → found.held.items ≡ none_held items → LooksAtMbox intent old items (Ok found) new
 judged_good intent old items found new (is, same) held = record {
   left = holding old (closed_file intent items is.0);
@@ -434,7 +559,8 @@ judged_good intent old items found new (is, same) held = record {
   count = sym (ap (λ (s : Stored). s.failures) same);
 }
 
-pub judged_full : (intent : Option Intent) (old : Stored) (items : List Item) (whole : Bool) (new : Stored) → JudgesMbox intent items old (Ok whole) new
+pub judged_full : (intent : Option Intent) (old : Stored) (items : List Item) (whole : Bool) (new : Stored)
+    → JudgesMbox intent items old (Ok whole) new
     → LooksAtMbox intent old items (Err NoMemory) new
 judged_full intent old items whole new (is, same) = record {
   left = old;
@@ -443,9 +569,11 @@ judged_full intent old items whole new (is, same) = record {
   count = sym (ap (λ (s : Stored). s.failures) same);
 }
 
-pub judged_bad : (intent : Option Intent) (old : Stored) (items : List Item) (fault : Fault) (new : Stored) → JudgesMbox intent items old (Err fault) new
+pub judged_bad : (intent : Option Intent) (old : Stored) (items : List Item) (fault : Fault) (new : Stored)
+    → JudgesMbox intent items old (Err fault) new
     → LooksAtMbox intent old items (Err fault) new
-judged_bad intent old items (StoreRefused why.Missing) new is = record { left = new; asks = is; same = ap (λ (s : Stored). s.content) is.1; count = refl }
+judged_bad intent old items (StoreRefused why.Missing) new is =
+    record { left = new; asks = is; same = ap (λ (s : Stored). s.content) is.1; count = refl }
 judged_bad intent old items (StoreRefused why.Refused) new is = record {
   left = new;
   asks = (ap (λ (s : Stored). s.failures) is, inl (ap (λ (s : Stored). s.content) is));
@@ -479,18 +607,22 @@ refused_same NoMemory old new is = ap (counted_as old.failures) is
 refused_same _ old new never = absurd never
 
 -- what was found, as a session finds it that settles the store
-found_in : (target : Target) (store store' : Stores) (items : List Item) (was : RecordState) (found : Found) → LooksIn target was.intent store items (Ok found) store'
-    → (closed_rows found.stored was.rows was.intent ≡ rows_in target store was items) × (found.held.items ≡ flags_in target store items)
-    × ((left : Stores) × Settles target was items store left) × HoldsTheSame target store store'
+found_in : (target : Target) (store store' : Stores) (items : List Item) (was : RecordState) (found : Found)
+    → LooksIn target was.intent store items (Ok found) store'
+    → (closed_rows found.stored was.rows was.intent ≡ closed_rows_in target store was items)
+    × (found.held.items ≡ held_flags target store items)
+    × ((left : Stores) × SettlesStore target was items store left) × HoldsTheSame target store store'
 found_in (AsFiles account) store store' items was found is =
     (rw is.1 (not_whole was.rows was.intent), is.0, (store, refl), ap (λ (s : Stores). counted_as store.maildir.failures s.maildir) is.2)
 found_in AsEntries store store' items was found looks =
     let asks = looks.asks in
     (rw (asks.2, asks.1), asks.5, (record store { mbox = looks.left }, (asks.0, asks.1, asks.3, asks.4)), looks.same)
 
-pub work_preview : (settings : Settings) (target : Target) (items : List Item) (now : ℕ) (store : Stores) (file read : Stored) (loaded : Loaded) (store' : Stores) (found : Found) (told : List MessagePreview)
-    → ReadAs file.content loaded → read ≡ file → LooksIn target loaded.intent store items (Ok found) store'
-    → told ≡ previews_of settings (merged (closed_rows found.stored loaded.rows loaded.intent) items found.held.items now) items found.held.items now
+pub work_preview : (settings : Settings) (target : Target) (items : List Item) (now : ℕ) (store : Stores)
+    (file read : Stored) (loaded : Loaded) (store' : Stores) (found : Found) (told : List MessagePreview)
+    → FileReadAs file.content loaded → read ≡ file → LooksIn target loaded.intent store items (Ok found) store'
+    → told ≡ previews_of settings (merged (closed_rows found.stored loaded.rows loaded.intent) items found.held.items
+    now) items found.held.items now
     → PreviewsMerged settings target items now (keeping store file) told × ChangesNothing target (keeping store file) (keeping store' read)
 work_preview settings target items now store file read loaded store' found told stood same looks is =
     let there = found_in target store store' items (record_state_in loaded) found looks in (
@@ -501,34 +633,51 @@ work_preview settings target items now store file read loaded store' found told 
         settles = there.2.1;
         told_is = is
             ∙ ap (λ (r : List Row). previews_of settings (merged r items found.held.items now) items found.held.items now) there.0
-            ∙ ap (λ (flags : List Bool). previews_of settings (merged (rows_in target store (record_state_in loaded) items) items flags now) items flags now) there.1;
+            ∙ ap (λ (flags : List Bool). previews_of settings
+            (merged (closed_rows_in target store (record_state_in loaded) items) items flags now) items flags now)
+            there.1;
       },
       (there.3, ap (λ (s : Stored). s.content) same),
     )
 
 -- the record couldn't be read
-pub not_read : (settings : Settings) (target : Target) (items : List Item) (now : ℕ) (store : Stores) (file read : Stored) (loaded : Loaded) (fault : Fault)
-    → Reads file loaded (Err fault) read → WouldBeUnready target items fault store file store read × ChangesNothing target (keeping store file) (keeping store read)
+pub not_read : (settings : Settings) (target : Target) (items : List Item) (now : ℕ) (store : Stores)
+    (file read : Stored) (loaded : Loaded) (fault : Fault)
+    → ReadsRecord file loaded (Err fault) read → WouldBeUnready target items fault store file store read
+    × ChangesNothing target (keeping store file) (keeping store read)
 not_read settings target items now store file read loaded fault reads =
     let is = unread target items store file read loaded fault reads in
     (record { left = store; cause = is.0; maildir = refl; count = refl }, (held_same target store, is.1))
 
 -- the store refused to tell
-pub not_looked : (settings : Settings) (target : Target) (items : List Item) (now : ℕ) (store : Stores) (file read : Stored) (loaded : Loaded) (store' : Stores) (fault : Fault)
-    → ReadAs file.content loaded → read ≡ file → LooksIn target loaded.intent store items (Err fault) store'
+pub not_looked : (settings : Settings) (target : Target) (items : List Item) (now : ℕ) (store : Stores)
+    (file read : Stored) (loaded : Loaded) (store' : Stores) (fault : Fault)
+    → FileReadAs file.content loaded → read ≡ file → LooksIn target loaded.intent store items (Err fault) store'
     → WouldBeUnready target items fault store file store' read × ChangesNothing target (keeping store file) (keeping store' read)
 not_looked settings (AsFiles account) items now store file read loaded store' fault stood same looks = (
-  record { left = store'; cause = not_found false (AsFiles account) items store store' file read loaded fault stood looks; maildir = refl; count = refl },
+  record {
+    left = store';
+    cause = not_found false (AsFiles account) items store store' file read loaded fault stood
+        looks;
+    maildir = refl;
+    count = refl;
+  },
   (refused_same fault store.maildir store'.maildir looks, ap (λ (s : Stored). s.content) same),
 )
 not_looked settings AsEntries items now store file read loaded store' fault stood same looks =
     let left : Stores = record store' { mbox = looks.left } in (
-      record { left = left; cause = not_found false AsEntries items store left file read loaded fault stood looks.asks; maildir = refl; count = looks.count },
+      record {
+        left = left;
+        cause = not_found false AsEntries items store left file read loaded fault stood looks.asks;
+        maildir = refl;
+        count = looks.count;
+      },
       (looks.same, ap (λ (s : Stored). s.content) same),
     )
 
 -- memory ran out for what is told
-pub not_told : (settings : Settings) (target : Target) (items : List Item) (now : ℕ) (store : Stores) (file read : Stored) (intent : Option Intent) (store' : Stores) (found : Found)
+pub not_told : (settings : Settings) (target : Target) (items : List Item) (now : ℕ) (store : Stores)
+    (file read : Stored) (intent : Option Intent) (store' : Stores) (found : Found)
     → read ≡ file → LooksIn target intent store items (Ok found) store'
     → WouldBeUnready target items NoMemory store file store' read × ChangesNothing target (keeping store file) (keeping store' read)
 not_told settings (AsFiles account) items now store file read intent store' found same looks = (
@@ -536,23 +685,35 @@ not_told settings (AsFiles account) items now store file read intent store' foun
   (ap (λ (s : Stores). counted_as store.maildir.failures s.maildir) looks.2, ap (λ (s : Stored). s.content) same),
 )
 not_told settings AsEntries items now store file read intent store' found same looks = (
-  record { left = record store' { mbox = store.mbox }; cause = inl refl; maildir = refl; count = sym (ap (λ (s : Stored). s.failures) looks.asks.3) ∙ looks.count },
+  record {
+    left = record store' { mbox = store.mbox };
+    cause = inl refl;
+    maildir = refl;
+    count =
+        sym (ap (λ (s : Stored). s.failures) looks.asks.3) ∙ looks.count;
+  },
   (looks.same, ap (λ (s : Stored). s.content) same),
 )
 
 -- ---- the session
 
 module _ (settings : Settings) (target : Target) (now : ℕ) (old : Place) (before : Keeping) where
-  pub not_ended : (items : List Item) (mid new : Place) (after : Keeping) (told : List MessagePreview) (n : ℕ) (fault : ClientFault) → Enters_with settings old (Ok items) mid
-      → PreviewsMerged settings target items now before told × ChangesNothing target before after → n ≡ length items → Talks (quit ∷ []) mid (Err fault) new
-      → PreviewsSession settings target now old before (Err (cut_of (fault_of fault) None)) new after (record { total = n; message_previews = told })
+  pub not_ended : (items : List Item) (mid new : Place) (after : Keeping) (told : List MessagePreview) (n : ℕ)
+      (fault : ClientFault) → Enters_with settings old (Ok items) mid
+      → PreviewsMerged settings target items now before told × ChangesNothing target before after → n ≡ length items
+      → Talks (quit ∷ []) mid (Err fault) new
+      → PreviewsSession settings target now old before (Err (cut_of (fault_of fault) None)) new after
+      (record { total = n; message_previews = told })
   not_ended items mid new after told n fault enters previews count quits = (
     inr (inr (fault, refl, record { items = items; mid = mid; enters = enters; total = count; previews = previews.0; quits = quits })),
     previews.1,
   )
 
-pub left_preview : {settings : Settings} {target : Target} {now : ℕ} {link link' : Link} {before after : Keeping} {preview : Preview} (id : Target) (reader : List ℕ) (result : Result (Unit {0}) Cut) (mid : Place)
-    → id ≡ target → reader ≡ [] → PreviewsSession settings id now (at link reader) before result mid after (told_in preview) → LeavesLink result mid link' → preview.outcome ≡ outcome_of result
+pub left_preview : {settings : Settings} {target : Target} {now : ℕ} {link link' : Link} {before after : Keeping}
+    {preview : Preview} (id : Target) (reader : List ℕ) (result : Result (Unit {0}) Cut) (mid : Place)
+    → id ≡ target → reader ≡ []
+    → PreviewsSession settings id now (at link reader) before result mid after (preview_told preview)
+    → LeavesLink result mid link' → preview.outcome ≡ outcome_of result
     → Pretends settings target now link before preview link' after
 left_preview {settings} {target} {now} {link} {link'} {before} {after} {preview} id reader result mid same none previews leaves is =
     let there = rw (same, none) at previews in

@@ -1,23 +1,25 @@
 -- What is known of calls of a link in a row, what a session says to its server, how much it takes from its link, and how many calls
 -- of it are refused.
-use Rattle.std.proofs.Common.{◌≡◌, Result, Ok, Err, ap, List, [], ◌∷◌, ◌++◌, refl, sym, ◌∙◌, append-nil, append_assoc, inl, inr, ℕ, Option, None, Some, ⊎_elim, ◌≤◌, ◌+◌, ◌*◌, length, arith, length-append}
+use Rattle.std.proofs.Common.{◌≡◌, Result, Ok, Err, ap, List, [], ◌∷◌, ◌++◌, refl, sym, ◌∙◌, append-nil, append_assoc}
+use Rattle.std.proofs.Common.{inl, inr, ℕ, Option, None, Some, ⊎_elim, ◌≤◌, ◌+◌, ◌*◌, length, arith, length-append}
 use Rattle.std.specs.Result.{IsErrAnd}
 use Rattle.pop3_wire.specs.declared.wire.Wire.{Ghosts}
 use Rattle.pop3_wire.specs.Link.{WhereSound, Link}
 use Rattle.pop3_wire.specs.Place.{Place, at}
 use Rattle.pop3_wire.specs.Reading.{WholeReply, GivesCount}
 use Rattle.pop3_client.specs.Turns.{Turn, stat, uidl, list, turn_bytes, asking, retr, Names, line_limit, text_limit, quit}
-use Rattle.pop3_client.specs.Conversation.{Talked, Broke, Stopped, Completes, Talks, TurnsJoin, login, ConversationsArePaced, is_refusal, most_of}
+use Rattle.pop3_client.specs.Conversation.{Talked, Broke, Stopped, Completes, Talks, TurnsJoin, login}
+use Rattle.pop3_client.specs.Conversation.{ConversationsArePaced, is_link_refusal, most_of}
 use Rattle.pop3_client.specs.declared.fault.ClientFault.{ClientFault}
 use Rattle.mail_terms.specs.Listing.{Item, UidRow}
 use Rattle.mail_terms.specs.declared.listing.ScanRow.{ScanRow}
 use Rattle.pop3_client.specs.Listing.{Listed, GetsListing}
-use Rattle.fetch_session.specs.Opening.{Opened, Enters, opening}
+use Rattle.fetch_session.specs.Opening.{SessionOpened, Enters, opening}
 use Rattle.pop3_wire.specs.Line.{ended}
 use Rattle.pop3_wire.specs.Bodies.{Rest}
 use Rattle.pop3_client.specs.Texts.{Fetching, TakesRest}
 use Rattle.fetch_session.specs.declared.fault.Fault.{Fault}
-use Rattle.fetch_session.specs.Tail.{turns_in, tail, Drops, LeftBy, turns_in as tail_turns}
+use Rattle.fetch_session.specs.Tail.{turns_of_tail, tail, Drops, LeftBy, turns_of_tail as tail_turns}
 use Rattle.mail_terms.specs.FailureCount.{Tallies, counted_up}
 use Rattle.pop3_client.specs.declared.fault.ClientFault.TheVariants.{ReadFailed, WriteFailed, Refused as WasRefused}
 use Rattle.fetch_session.specs.declared.fault.Cut.{Cut}
@@ -25,10 +27,12 @@ use Rattle.fetch_session.specs.declared.report.Outcome.{Outcome}
 use Rattle.fetch_session.specs.declared.report.Outcome.TheVariants.{Cut as WasCut}
 use Rattle.fetch_session.specs.declared.tail.Tail.TheVariants.{Nothing}
 use Rattle.fetch_session.specs.Fault.{cut_of, fault_of}
-use Rattle.fetch_session.specs.Refusal.{RefusesNone, RefusesAtMostOne, RefusesBefore, RefusesTillCut, RefusesByOutcome, session_limit, step_limit, opening_limit, tail_limit, GotAtMost, Took, TookBefore, TookTillCut, TookWithTail}
+use Rattle.fetch_session.specs.Refusal.{RefusesNone, RefusesAtMostOne, RefusesBefore, RefusesTillCut, RefusesByOutcome}
+use Rattle.fetch_session.specs.Refusal.{session_limit, step_limit, opening_limit, tail_limit, GotAtMost, Took}
+use Rattle.fetch_session.specs.Refusal.{TookBefore, TookTillCut, TookWithTail}
 use Rattle.pop3_client.specs.declared.fault.Asked.{Asked}
 use Rattle.pop3_client.specs.declared.fault.Asked.TheVariants.{User as ByUser, Pass as ByPass, Quit as ByQuit}
-use Rattle.fetch_session.specs.Mbox.{HoldsText}
+use Rattle.fetch_session.specs.Mbox.{TakesText}
 use Rattle.fetch_session.specs.declared.fault.Fault.TheVariants.{Refused}
 use Rattle.fetch_session.specs.declared.tail.Tail.{Tail}
 use Rattle.fetch_session.specs.Store.{StopsReading}
@@ -43,7 +47,8 @@ module _ {W : Type 0} (link : Ghosts W) where
   pub did_so : {a b : W} {P Q : Type 0} → WhereSound link.sound link.leads_to a b P → (P → Q) → link.sound b → link.sound a × Q
   did_so did words sound = let all = did sound in (all.0, words all.2)
 
-  pub did_both : {a b c : W} {P Q R : Type 0} → WhereSound link.sound link.leads_to a b P → WhereSound link.sound link.leads_to b c Q → (P → Q → R)
+  pub did_both : {a b c : W} {P Q R : Type 0} → WhereSound link.sound link.leads_to a b P
+      → WhereSound link.sound link.leads_to b c Q → (P → Q → R)
       → link.sound c → link.sound a × R
   did_both first second both sound =
       let then = second sound in
@@ -63,17 +68,20 @@ talked_none place = record {
 }
 
 -- the first turn broke
-pub stopped_first : (turn : Turn) (turns : List Turn) (old new : Place) (fault : ClientFault) → Broke turn old new fault → Stopped (turn ∷ turns) old new fault
+pub stopped_first : (turn : Turn) (turns : List Turn) (old new : Place) (fault : ClientFault) → Broke turn old new fault
+    → Stopped (turn ∷ turns) old new fault
 stopped_first turn turns old new fault broke =
     record { done = []; replies = []; next = turn; later = turns; mid = old; split = refl; talked = talked_none old; broke = broke }
 
 -- one turn is a conversation
-pub completes_talks : (turn : Turn) (old new : Place) (result : Result (Unit {0}) ClientFault) → Completes turn old result new → Talks (turn ∷ []) old result new
+pub completes_talks : (turn : Turn) (old new : Place) (result : Result (Unit {0}) ClientFault)
+    → Completes turn old result new → Talks (turn ∷ []) old result new
 completes_talks turn old new (Ok done) completes = (completes.0 ∷ [], completes.1)
 completes_talks turn old new (Err fault) completes = stopped_first turn [] old new fault completes
 
 -- after turns that were completed, others stopped
-pub stopped_behind : TurnsJoin → (xs ys : List Turn) (rs : List WholeReply) (a b new : Place) (fault : ClientFault) → Talked xs rs a b → Stopped ys b new fault → Stopped (xs ++ ys) a new fault
+pub stopped_behind : TurnsJoin → (xs ys : List Turn) (rs : List WholeReply) (a b new : Place) (fault : ClientFault)
+    → Talked xs rs a b → Stopped ys b new fault → Stopped (xs ++ ys) a new fault
 stopped_behind joining xs ys rs a b new fault first then = record {
   done = xs ++ then.done;
   replies = rs ++ then.replies;
@@ -87,9 +95,11 @@ stopped_behind joining xs ys rs a b new fault first then = record {
 
 -- ---- logging in, the count and the listings
 
-module _ (joining : TurnsJoin) (name password : List ℕ) (a b c d : Place) (welcome : List WholeReply) (entered : Talked (login name password) welcome a b) where
-  all_opened : (counted : WholeReply) (count : ℕ) (uids : List UidRow) (sizes : List ScanRow) → Talked (stat ∷ []) (counted ∷ []) b c → GivesCount counted count → Listed c d uids sizes
-      → Opened name password a d count uids sizes
+module _ (joining : TurnsJoin) (name password : List ℕ) (a b c d : Place) (welcome : List WholeReply)
+    (entered : Talked (login name password) welcome a b) where
+  all_opened : (counted : WholeReply) (count : ℕ) (uids : List UidRow) (sizes : List ScanRow)
+      → Talked (stat ∷ []) (counted ∷ []) b c → GivesCount counted count → Listed c d uids sizes
+      → SessionOpened name password a d count uids sizes
   all_opened counted count uids sizes talked gives listed = record {
     welcome = welcome;
     counted = counted;
@@ -102,24 +112,30 @@ module _ (joining : TurnsJoin) (name password : List ℕ) (a b c d : Place) (wel
     octets = listed.octets;
   }
 
-  pub listed_too : (counted : WholeReply) (count : ℕ) (result : Result (List Item) ClientFault) → Talked (stat ∷ []) (counted ∷ []) b c → GivesCount counted count → GetsListing count c result d
+  pub listed_too : (counted : WholeReply) (count : ℕ) (result : Result (List Item) ClientFault)
+      → Talked (stat ∷ []) (counted ∷ []) b c → GivesCount counted count → GetsListing count c result d
       → Enters name password a result d
-  listed_too counted count (Ok items) talked gives (uids, sizes, listed, joins) = (count, uids, sizes, all_opened counted count uids sizes talked gives listed, joins)
+  listed_too counted count (Ok items) talked gives (uids, sizes, listed, joins) =
+      (count, uids, sizes, all_opened counted count uids sizes talked gives listed, joins)
   listed_too counted count (Err fault) talked gives (inl stopped) =
       inl (stopped_behind joining (login name password) (stat ∷ uidl ∷ list ∷ []) welcome a b d fault entered
       (stopped_behind joining (stat ∷ []) (uidl ∷ list ∷ []) (counted ∷ []) b c d fault talked stopped))
-  listed_too counted count (Err fault) talked gives (inr (inl (is, (uids, sizes, listed, never)))) = inr (inl (is, (count, uids, sizes, all_opened counted count uids sizes talked gives listed, never)))
-  listed_too counted count (Err fault) talked gives (inr (inr (is, (uids, sizes, listed)))) = inr (inr (is, (count, uids, sizes, all_opened counted count uids sizes talked gives listed)))
+  listed_too counted count (Err fault) talked gives (inr (inl (is, (uids, sizes, listed, never)))) =
+      inr (inl (is, (count, uids, sizes, all_opened counted count uids sizes talked gives listed, never)))
+  listed_too counted count (Err fault) talked gives (inr (inr (is, (uids, sizes, listed)))) =
+      inr (inr (is, (count, uids, sizes, all_opened counted count uids sizes talked gives listed)))
 
 -- logging in stopped
-pub not_entered : (name password : List ℕ) (a b : Place) (fault : ClientFault) → Stopped (login name password) a b fault → Enters name password a (Err fault) b
+pub not_entered : (name password : List ℕ) (a b : Place) (fault : ClientFault) → Stopped (login name password) a b fault
+    → Enters name password a (Err fault) b
 not_entered name password a b fault stopped = inl (record {
   done = stopped.done;
   replies = stopped.replies;
   next = stopped.next;
   later = stopped.later ++ (stat ∷ uidl ∷ list ∷ []);
   mid = stopped.mid;
-  split = ap (λ (turns : List Turn). turns ++ (stat ∷ uidl ∷ list ∷ [])) stopped.split ∙ append_assoc stopped.done (stopped.next ∷ stopped.later) (stat ∷ uidl ∷ list ∷ []);
+  split = ap (λ (turns : List Turn). turns ++ (stat ∷ uidl ∷ list ∷ [])) stopped.split
+      ∙ append_assoc stopped.done (stopped.next ∷ stopped.later) (stat ∷ uidl ∷ list ∷ []);
   talked = stopped.talked;
   broke = stopped.broke;
 })
@@ -127,22 +143,27 @@ not_entered name password a b fault stopped = inl (record {
 -- ---- what was said and got goes on from a reply under way
 
 -- the rest of a text is a conversation of one turn
-rest_talks : (number : ℕ) (start new : Place) (r : Result (Unit {0}) ClientFault) → TakesRest (retr number) start r new → Talks (retr number ∷ []) start r new
+rest_talks : (number : ℕ) (start new : Place) (r : Result (Unit {0}) ClientFault) → TakesRest (retr number) start r new
+    → Talks (retr number ∷ []) start r new
 rest_talks number start new (Ok done) takes = (takes.0 ∷ [], takes.1)
 rest_talks number start new (Err why) bad = stopped_first (retr number) [] start new why (inr (inl bad))
 
 -- nothing was said while the rest was read
-silent_rest : (number : ℕ) (start old new : Place) (rest : Rest) (text : List ℕ) (r : Result (Unit {0}) ClientFault) → Fetching (retr number) start old rest text
+silent_rest : (number : ℕ) (start old new : Place) (rest : Rest) (text : List ℕ) (r : Result (Unit {0}) ClientFault)
+    → Fetching (retr number) start old rest text
     → TakesRest (retr number) start r new → new.link.sent ≡ old.link.sent
 silent_rest number start old new rest text (Ok done) now takes =
-    takes.1.sent ∙ ap (λ (s : List ℕ). start.link.sent ++ s) (append-nil (turn_bytes (retr number))) ∙ sym (now.under.drew.sent ∙ now.opened.sent)
+    takes.1.sent ∙ ap (λ (s : List ℕ). start.link.sent ++ s) (append-nil (turn_bytes (retr number)))
+    ∙ sym (now.under.drew.sent ∙ now.opened.sent)
 silent_rest number start old new rest text (Err why) now bad = bad.sent ∙ sym (now.under.drew.sent ∙ now.opened.sent)
 
 -- a place from which the same text would be under way, if all that came had come before it was asked for
 abbrev again : (number : ℕ) (start old : Place) (rest : Rest) (text : List ℕ) → Fetching (retr number) start old rest text → Place
 again number start old rest text now = at (record old.link { sent = start.link.sent }) (ended now.line ++ (now.under.used ++ old.waiting))
 
-fetching_again : (number : ℕ) (start old : Place) (rest : Rest) (text : List ℕ) → (now : Fetching (retr number) start old rest text) → Fetching (retr number) (again number start old rest text now) old rest text
+fetching_again : (number : ℕ) (start old : Place) (rest : Rest) (text : List ℕ)
+    → (now : Fetching (retr number) start old rest text)
+    → Fetching (retr number) (again number start old rest text now) old rest text
 fetching_again number start old rest text now = record {
   line = now.line;
   mid = at old.link (now.under.used ++ old.waiting);
@@ -170,42 +191,52 @@ fetching_again number start old rest text now = record {
 }
 
 -- a turn before a conversation
-completes_then : TurnsJoin → (turn : Turn) (turns : List Turn) (old mid new : Place) (reply : WholeReply) (result : Result (Unit {0}) ClientFault) → Talked (turn ∷ []) (reply ∷ []) old mid
+completes_then : TurnsJoin
+    → (turn : Turn) (turns : List Turn) (old mid new : Place) (reply : WholeReply)
+    (result : Result (Unit {0}) ClientFault) → Talked (turn ∷ []) (reply ∷ []) old mid
     → Talks turns mid result new → Talks (turn ∷ turns) old result new
-completes_then joining turn turns old mid new reply (Ok done) first then = (reply ∷ then.0, joining.on (turn ∷ []) turns (reply ∷ []) then.0 old mid new first then.1)
-completes_then joining turn turns old mid new reply (Err fault) first then = stopped_behind joining (turn ∷ []) turns (reply ∷ []) old mid new fault first then
+completes_then joining turn turns old mid new reply (Ok done) first then =
+    (reply ∷ then.0, joining.on (turn ∷ []) turns (reply ∷ []) then.0 old mid new first then.1)
+completes_then joining turn turns old mid new reply (Err fault) first then = stopped_behind joining (turn ∷ []) turns
+    (reply ∷ []) old mid new fault first then
 
 module _ (joining : TurnsJoin) (paced : ConversationsArePaced) where
-  got_under : (number : ℕ) (start old new : Place) (rest : Rest) (text : List ℕ) (r : Result (Unit {0}) ClientFault) → Drops (Some rest) old r new → Fetching (retr number) start old rest text
+  got_under : (number : ℕ) (start old new : Place) (rest : Rest) (text : List ℕ) (r : Result (Unit {0}) ClientFault)
+      → Drops (Some rest) old r new → Fetching (retr number) start old rest text
       → (gained : List ℕ) × (new.link.got ≡ old.link.got ++ gained)
   got_under number start old new rest text r drops now =
       let here = again number start old rest text now in
-      let p = paced (retr number ∷ []) here new r (rest_talks number here new r (drops.1 number here text (fetching_again number start old rest text now))) in
+      let p = paced (retr number ∷ []) here new r
+      (rest_talks number here new r (drops.1 number here text (fetching_again number start old rest text now))) in
       (p.gained, p.got)
 
   -- ---- a tail after a reply under way
 
-  pub left_dropped : (fault : Fault) (rest : Option Rest) (old mid new : Place) (r : Result (Unit {0}) ClientFault) → Drops rest old (Ok tt) mid → Talks (turns_in (tail fault)) mid r new → (tail fault ≡ Nothing → new ≡ mid) → LeftBy fault rest old new
+  pub left_dropped : (fault : Fault) (rest : Option Rest) (old mid new : Place) (r : Result (Unit {0}) ClientFault)
+      → Drops rest old (Ok tt) mid → Talks (turns_of_tail (tail fault)) mid r new → (tail fault ≡ Nothing → new ≡ mid)
+      → LeftBy fault rest old new
   left_dropped fault None old mid new r same talks still = (r, rw same at talks, λ silent. still silent ∙ same)
   left_dropped fault (Some rest) old mid new r drops talks still = (
     λ done. (r, rw (drops.0 done).1 at talks),
     λ number start text now.
         let told = drops.1 number start text now in
         let got = got_under number start old mid rest text (Ok tt) drops now in
-        let p = paced (turns_in (tail fault)) mid new r talks in (
+        let p = paced (turns_of_tail (tail fault)) mid new r talks in (
           r,
-          completes_then joining (retr number) (turns_in (tail fault)) start mid new told.0 r told.1 talks,
+          completes_then joining (retr number) (turns_of_tail (tail fault)) start mid new told.0 r told.1 talks,
           record {
             said = asking p.done ++ p.part;
             gained = got.0 ++ p.gained;
-            sent = p.sent ∙ ap (λ (s : List ℕ). s ++ (asking p.done ++ p.part)) (silent_rest number start old mid rest text (Ok tt) now told);
+            sent = p.sent ∙ ap (λ (s : List ℕ). s ++ (asking p.done ++ p.part))
+                (silent_rest number start old mid rest text (Ok tt) now told);
             got = simp (p.got, got.1, append_assoc);
             front = p.front;
           },
         ),
   )
 
-  pub left_broken : (fault : Fault) (rest : Option Rest) (old new : Place) (why : ClientFault) → Drops rest old (Err why) new → LeftBy fault rest old new
+  pub left_broken : (fault : Fault) (rest : Option Rest) (old new : Place) (why : ClientFault)
+      → Drops rest old (Err why) new → LeftBy fault rest old new
   left_broken fault None old new why none = absurd none
   left_broken fault (Some rest) old new why drops = (
     λ done. absurd (cc (drops.0 done).0),
@@ -213,13 +244,13 @@ module _ (joining : TurnsJoin) (paced : ConversationsArePaced) where
         let bad = drops.1 number start text now in
         let got = got_under number start old new rest text (Err why) drops now in (
           Err why,
-          stopped_first (retr number) (turns_in (tail fault)) start new why (inr (inl bad)),
+          stopped_first (retr number) (turns_of_tail (tail fault)) start new why (inr (inl bad)),
           record {
             said = [];
             gained = got.0;
             sent = silent_rest number start old new rest text (Err why) now bad ∙ sym (append-nil old.link.sent);
             got = got.1;
-            front = (asking (turns_in (tail fault)), refl);
+            front = (asking (turns_of_tail (tail fault)), refl);
           },
         ),
   )
@@ -236,13 +267,16 @@ till_cut a b c (Ok done) first same = same ∙ first
 till_cut a b c (Err cut) first then = before_cut a b c cut first then
 
 -- a fault of the conversation: after a refused call nothing is said
-pub cut_by : (fault : ClientFault) (old new : Link) → Tallies (is_refusal fault) old.failures new.failures → RefusesBefore old (cut_of (fault_of fault) None) new
+pub cut_by : (fault : ClientFault) (old new : Link) → Tallies (is_link_refusal fault) old.failures new.failures
+    → RefusesBefore old (cut_of (fault_of fault) None) new
 cut_by ReadFailed old new up = inr (up, refl, refl)
 cut_by WriteFailed old new up = inr (up, refl, refl)
 cut_by _ old new same = inl same
 
 -- a session that was cut and left
-pub left_alone : (cut : Cut) (a b c : Link) (outcome : Outcome) → outcome ≡ WasCut cut.fault → RefusesBefore a cut b → RefusesAtMostOne b c → (cut.rest ≡ None → tail cut.fault ≡ Nothing → RefusesNone b c) → RefusesByOutcome a outcome c
+pub left_alone : (cut : Cut) (a b c : Link) (outcome : Outcome) → outcome ≡ WasCut cut.fault → RefusesBefore a cut b
+    → RefusesAtMostOne b c → (cut.rest ≡ None → tail cut.fault ≡ Nothing → RefusesNone b c)
+    → RefusesByOutcome a outcome c
 left_alone cut a b c outcome is before left silent =
     rw is
     (elim before [
@@ -267,7 +301,8 @@ took_less took less = record { gained = took.gained; got = took.got; within = om
 
 -- ---- a cut, with or without a reply under way
 
-before_on : (limit m n : ℕ) (a b c : Place) (rest : Option Rest) → m + n ≤ limit → Took m a b → TookBefore n b rest c → TookBefore limit a rest c
+before_on : (limit m n : ℕ) (a b c : Place) (rest : Option Rest) → m + n ≤ limit → Took m a b → TookBefore n b rest c
+    → TookBefore limit a rest c
 before_on limit m n a b c None less first then = took_less (took_on first then) less
 before_on limit m n a b c (Some rest) less first then = record {
   before = m + then.before;
@@ -280,7 +315,8 @@ before_on limit m n a b c (Some rest) less first then = record {
 }
 
 -- after what went well
-pub takes_on : (limit m n : ℕ) (a b c : Place) (result : Result (Unit {0}) Cut) → m + n ≤ limit → Took m a b → TookTillCut n b result c → TookTillCut limit a result c
+pub takes_on : (limit m n : ℕ) (a b c : Place) (result : Result (Unit {0}) Cut) → m + n ≤ limit → Took m a b
+    → TookTillCut n b result c → TookTillCut limit a result c
 takes_on limit m n a b c (Ok done) less first then = took_less (took_on first then) less
 takes_on limit m n a b c (Err cut) less first then = before_on limit m n a b c cut.rest less first then
 
@@ -306,17 +342,21 @@ quit_tail _ a b (inr (inl bad)) = refl
 
 -- ---- with what is said after a fault
 
-pub with_tail_on : (limit m n : ℕ) (a b c : Place) (result : Result (Unit {0}) Cut) → m + n ≤ limit → Took m a b → TookWithTail n b result c → TookWithTail limit a result c
+pub with_tail_on : (limit m n : ℕ) (a b c : Place) (result : Result (Unit {0}) Cut) → m + n ≤ limit → Took m a b
+    → TookWithTail n b result c → TookWithTail limit a result c
 with_tail_on limit m n a b c (Ok done) less first then = took_less (took_on first then) less
-with_tail_on limit m n a b c (Err cut) less first (before, then, small) = (m + before, before_on (m + before) m before a b c cut.rest (omega arith) first then, omega (arith, less, small))
+with_tail_on limit m n a b c (Err cut) less first (before, then, small) =
+    (m + before, before_on (m + before) m before a b c cut.rest (omega arith) first then, omega (arith, less, small))
 
 -- a session that was brought to its end
-pub ended_within : (messages : ℕ) (link : Link) (last : Place) → Took (opening_limit + (messages * step_limit + tail_limit)) (at link []) last → length last.waiting ≤ tail_limit
+pub ended_within : (messages : ℕ) (link : Link) (last : Place)
+    → Took (opening_limit + (messages * step_limit + tail_limit)) (at link []) last → length last.waiting ≤ tail_limit
     → GotAtMost (session_limit messages) link last.link
 ended_within messages link last took short = (took.gained, took.got, omega (arith, took.within, short))
 
 -- a text that was asked for, and is under way or at its end
-pub took_fetching : (number : ℕ) (start new : Place) (rest : Rest) (text : List ℕ) → Fetching (retr number) start new rest text → Took (line_limit + text_limit) start new
+pub took_fetching : (number : ℕ) (start new : Place) (rest : Rest) (text : List ℕ)
+    → Fetching (retr number) start new rest text → Took (line_limit + text_limit) start new
 took_fetching number start new rest text is = record {
   gained = is.opened.gained ++ is.under.gained;
   got = simp (is.under.drew.got, is.opened.got, append_assoc);
@@ -326,20 +366,25 @@ took_fetching number start new rest text is = record {
 -- ---- conversations
 
 module _ (paced : ConversationsArePaced) where
-  took_talks : (turns : List Turn) (old new : Place) (result : Result (Unit {0}) ClientFault) → Talks turns old result new → Took (most_of turns) old new
-  took_talks turns old new result talks = let p = paced turns old new result talks in record { gained = p.gained; got = p.got; within = p.within }
+  took_talks : (turns : List Turn) (old new : Place) (result : Result (Unit {0}) ClientFault)
+      → Talks turns old result new → Took (most_of turns) old new
+  took_talks turns old new result talks = let p = paced turns old new result talks
+      in record { gained = p.gained; got = p.got; within = p.within }
 
-  pub took_talked : {turns : List Turn} {replies : List WholeReply} {old new : Place} → Talked turns replies old new → Took (most_of turns) old new
+  pub took_talked : {turns : List Turn} {replies : List WholeReply} {old new : Place} → Talked turns replies old new
+      → Took (most_of turns) old new
   took_talked {turns} {replies} {old} {new} talked = took_talks turns old new (Ok tt) (replies, talked)
 
   pub took_broke : (turn : Turn) (old new : Place) (why : ClientFault) → Broke turn old new why → Took (most_of (turn ∷ [])) old new
   took_broke turn old new why broke = took_talks (turn ∷ []) old new (Err why) (stopped_first turn [] old new why broke)
 
-  pub took_completing : (turn : Turn) (old new : Place) (result : Result (Unit {0}) ClientFault) → Completes turn old result new → Took (most_of (turn ∷ [])) old new
+  pub took_completing : (turn : Turn) (old new : Place) (result : Result (Unit {0}) ClientFault)
+      → Completes turn old result new → Took (most_of (turn ∷ [])) old new
   took_completing turn old new (Ok done) completes = took_talked completes.1
   took_completing turn old new (Err why) broke = took_broke turn old new why broke
 
-  pub took_entering : (name password : List ℕ) (old new : Place) (result : Result (List Item) ClientFault) → Enters name password old result new → Took opening_limit old new
+  pub took_entering : (name password : List ℕ) (old new : Place) (result : Result (List Item) ClientFault)
+      → Enters name password old result new → Took opening_limit old new
   took_entering name password old new (Ok items) (count, uids, sizes, opened, joins) = took_talked opened.talked
   took_entering name password old new (Err fault) enters =
       elim enters [
@@ -349,11 +394,21 @@ module _ (paced : ConversationsArePaced) where
       ]
 
   -- QUIT, and nothing after it
-  pub quit_broke : (old new : Place) (fault : ClientFault) → Broke quit old new fault → TookWithTail line_limit old (Err (cut_of (fault_of fault) None)) new
-  quit_broke old new fault broke = (line_limit, took_broke quit old new fault broke, omega (arith, ap (λ (k : Tail). most_of (tail_turns k)) (quit_tail fault old new broke)))
+  pub quit_broke : (old new : Place) (fault : ClientFault) → Broke quit old new fault
+      → TookWithTail line_limit old (Err (cut_of (fault_of fault) None)) new
+  quit_broke old new fault broke = (
+    line_limit,
+    took_broke quit old new fault broke,
+    omega (
+      arith,
+      ap (λ (k : Tail). most_of (tail_turns k))
+          (quit_tail fault old new broke),
+    ),
+  )
 
   -- a text that was asked for
-  pub takes_stopped : (number : ℕ) (start : Place) (text : List ℕ) (new : Place) (fault : Fault) (rest : Option Rest) → StopsReading number start text fault rest new → TookBefore (line_limit + text_limit) start rest new
+  pub takes_stopped : (number : ℕ) (start : Place) (text : List ℕ) (new : Place) (fault : Fault) (rest : Option Rest)
+      → StopsReading number start text fault rest new → TookBefore (line_limit + text_limit) start rest new
   takes_stopped number start text new fault None (why, is, broke) = took_broke (retr number) start new why broke
   takes_stopped number start text new fault (Some rest) reads =
       record { before = 0; number = number; start = start; text = text; took = took_nothing; fetching = reads.0; within = omega arith }
@@ -361,15 +416,19 @@ module _ (paced : ConversationsArePaced) where
   -- ---- whole sessions
 
   -- what is left of a reply under way is dropped, and the tail said
-  pub took_leaving : (limit : ℕ) (fault : Fault) (rest : Option Rest) (old mid last : Place) → TookBefore limit old rest mid → LeftBy fault rest mid last → Took (limit + most_of (tail_turns (tail fault))) old last
+  pub took_leaving : (limit : ℕ) (fault : Fault) (rest : Option Rest) (old mid last : Place)
+      → TookBefore limit old rest mid → LeftBy fault rest mid last
+      → Took (limit + most_of (tail_turns (tail fault))) old last
   took_leaving limit fault None old mid last took left = took_on took (took_talks (tail_turns (tail fault)) mid last left.0 left.1)
   took_leaving limit fault (Some rest) old mid last so_far left =
       let said = left.1 so_far.number so_far.start so_far.text so_far.fetching in
-      let all : Took (most_of (retr so_far.number ∷ tail_turns (tail fault))) so_far.start last = took_talks (retr so_far.number ∷ tail_turns (tail fault)) so_far.start last said.0 said.1 in
+      let all : Took (most_of (retr so_far.number ∷ tail_turns (tail fault))) so_far.start last =
+      took_talks (retr so_far.number ∷ tail_turns (tail fault)) so_far.start last said.0 said.1 in
       took_less (took_on so_far.took all) (omega (arith, so_far.within))
 
   -- a text that was to be kept whole
-  pub takes_held : (number : ℕ) (start : Place) (cut : Cut) (new : Place) → HoldsText number start (Err cut) new → TookTillCut (line_limit + text_limit) start (Err cut) new
+  pub takes_held : (number : ℕ) (start : Place) (cut : Cut) (new : Place) → TakesText number start (Err cut) new
+      → TookTillCut (line_limit + text_limit) start (Err cut) new
   takes_held number start cut new (none, why) =
       rw none (elim why [
         | inl (fault, is, broke) ↦ took_broke (retr number) start new fault broke

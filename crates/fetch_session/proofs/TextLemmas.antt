@@ -1,5 +1,7 @@
 -- How one text is taken: stored in a Maildir, or appended to an mboxrd file.
-use Rattle.std.proofs.Common.{rules, ◌≡◌, inl, inr, ◌≤◌, ◌+◌, ℕ, List, [], ◌∷◌, ◌++◌, length, take, Option, None, Some, Result, Ok, Err, refl, sym, ap, subst, ◌∙◌, arith, length-append, ◌⊎◌, Bool, true, append_assoc, append-nil}
+use Rattle.std.proofs.Common.{rules, ◌≡◌, inl, inr, ◌≤◌, ◌+◌, ℕ, List, [], ◌∷◌, ◌++◌, length, take, Option, None, Some}
+use Rattle.std.proofs.Common.{Result, Ok, Err, refl, sym, ap, subst, ◌∙◌, arith, length-append, ◌⊎◌, Bool, true}
+use Rattle.std.proofs.Common.{append_assoc, append-nil}
 use Rattle.std.proofs.lemmas.List.{length-take-le}
 use Rattle.std.specs.List.{AllZip}
 use Rattle.mail_store.specs.Maildir.{AllNamed, File, IsNamed, Maildir, MayBeNamed, draft, dropped, with_file}
@@ -9,15 +11,16 @@ use Rattle.fetch_session.specs.declared.fault.Fault.{Fault}
 use Rattle.fetch_session.specs.declared.fault.Cut.{Cut}
 use Rattle.fetch_session.specs.Fault.{cut_of, fault_of}
 use Rattle.pop3_wire.specs.Bodies.{Rest}
-use Rattle.fetch_session.specs.Store.{Gained, MayGain, begun_with, Ends, StopsStoring, StoresText, StopsReading, ReadsText, Appended}
+use Rattle.fetch_session.specs.Store.{Gained, MayGain, begun_with, EndsFile, StopsStoring, StoresText, StopsReading, ReadsText, Appended}
 use Rattle.pop3_wire.specs.Place.{Place}
 use Rattle.fetch_rules.specs.Record.{Row, none_open, marked, RecordState, Intent, Loaded}
-use Rattle.mail_store.specs.FlatFile.{Stored, holding, counted, Measures}
+use Rattle.mail_store.specs.FlatFile.{Stored, holding, file_refused, Measures}
 use Rattle.pop3_client.specs.Turns.{Turn, retr}
 use Rattle.pop3_client.specs.Conversation.{Talked, Broke}
 use Rattle.fetch_session.specs.declared.report.ReportLine.{ReportLine}
 use Rattle.fetch_session.specs.declared.report.ReportLine.TheVariants.{Delivered}
-use Rattle.fetch_session.specs.Task.{Task, Done, IsAnswered, stores, turns_in, turns_of, texts_in, ids_in, replies_of, lines_of, file_from, files_in}
+use Rattle.fetch_session.specs.Task.{Task, Done, IsAnswered, stores, turns_in, turns_of, texts_in, ids_in, replies_of}
+use Rattle.fetch_session.specs.Task.{report_lines, file_from, files_in}
 use Rattle.fetch_session.specs.Record.{Saves, record_state_in, intent_at, with_open}
 use Rattle.fetch_session.specs.Scene.{scene, Stops, TakesTask}
 use Rattle.fetch_session.proofs.SceneLemmas.{brings_same}
@@ -27,7 +30,7 @@ use Rattle.pop3_wire.specs.Body.{kept, text_of, unstuffed}
 use Rattle.mail_terms.specs.Listing.{Item}
 use Rattle.mail_terms.specs.Text.{IsWhole}
 use Rattle.mail_store.specs.Mboxrd.{entry_of}
-use Rattle.mail_store.specs.MboxCalls.{RefusesLook, Checks, AppendsEntry}
+use Rattle.mail_store.specs.MboxCalls.{RefusesLook, ChecksMbox, AppendsEntry}
 use Rattle.mail_store.specs.declared.fault.StoreFault.{StoreFault}
 use Rattle.mail_store.specs.declared.fault.StoreFault.TheVariants as refused
 use Rattle.mail_store.specs.declared.fault.EntryFault.TheVariants.{Nothing}
@@ -35,12 +38,14 @@ use Rattle.mail_store.specs.declared.file.flat_file.Edges.{Edges}
 use Rattle.pop3_client.specs.Texts.{Fetched, body_text}
 use Rattle.fetch_session.specs.declared.fault.Fault.TheVariants.{SeenRefused, NoMemory}
 use Rattle.fetch_session.specs.declared.readiness.Found.{Found}
-use Rattle.fetch_session.specs.Mbox.{AppendsText, AsksMbox, HoldsText, IsSettledAtMost, IsStoreFault, IsTakenBack, MarksEntry, RefusesEntry, SettlesIntent, intent_of}
+use Rattle.fetch_session.specs.Mbox.{AppendsText, AsksMbox, TakesText, IsSettledAtMost, IsStoreFault, IsTakenBack}
+use Rattle.fetch_session.specs.Mbox.{MarksEntry, RefusesEntry, SettlesIntent, intent_of}
 
 -- ---- what storing a text leaves
 
 pub gained_file : (old new : Maildir) (f : File) → new ≡ with_file old f → Gained old new (f ∷ [])
-gained_file old new f is = rw is (record { came = refl; taken = refl; there = refl; none_begun = λ none_begun. refl; failures = omega arith })
+gained_file old new f is =
+    rw is (record { came = refl; taken = refl; there = refl; none_begun = λ none_begun. refl; failures = omega arith })
 
 pub not_grown : (old new : Maildir) (name : List ℕ) → old.begun ≡ None → new ≡ old → MayGain name old new
 not_grown old new name none_begun is = rw is (record { none_begun = none_begun; came = inl refl })
@@ -66,16 +71,19 @@ named_more (g ∷ files) f all is = (all.0, named_more files f all.1 is)
 
 -- what was written is in a file whose name gives its length
 pub settled : (old now new : Maildir) (stem text : List ℕ) (octets : ℕ) → now ≡ begun_with old (draft stem text) → octets ≡ length text
-    → Ends now (sized stem octets) (Ok tt) new → new ≡ with_file old (sized_file stem text)
+    → EndsFile now (sized stem octets) (Ok tt) new → new ≡ with_file old (sized_file stem text)
 settled old now new stem text octets was counts ends = (rw (was, counts) at ends) (draft stem text) refl
 
-stops_grows : (old new : Maildir) (name text : List ℕ) (fault : Fault) (rest : Option Rest) → old.begun ≡ None → StopsStoring name old text fault rest new → MayGain name old new
+stops_grows : (old new : Maildir) (name text : List ℕ) (fault : Fault) (rest : Option Rest) → old.begun ≡ None
+    → StopsStoring name old text fault rest new → MayGain name old new
 stops_grows old new name text fault None none_begun is = not_grown old new name none_begun is
 stops_grows old new name text fault (Some rest) none_begun (inl missing) = not_grown old new name none_begun missing.2
 stops_grows old new name text fault (Some rest) none_begun (inr (why, inl is)) = rw is (record { none_begun = refl; came = inl refl })
-stops_grows old new name text fault (Some rest) none_begun (inr (why, inr (ended, (is_named, there)))) = rw there (record { none_begun = refl; came = inr (text, is_named, refl) })
+stops_grows old new name text fault (Some rest) none_begun (inr (why, inr (ended, (is_named, there)))) =
+    rw there (record { none_begun = refl; came = inr (text, is_named, refl) })
 
-pub stores_grows : (old new : Maildir) (name text : List ℕ) (r : Result ℕ Cut) → old.begun ≡ None → StoresText name old text r new → MayGain name old new
+pub stores_grows : (old new : Maildir) (name text : List ℕ) (r : Result ℕ Cut) → old.begun ≡ None
+    → StoresText name old text r new → MayGain name old new
 stores_grows old new name text (Ok octets) none_begun is = rw is.0 (record { none_begun = refl; came = inr (text, true, refl) })
 stores_grows old new name text (Err cut) none_begun is = stops_grows old new name text cut.fault cut.rest none_begun is
 
@@ -86,24 +94,53 @@ longer n put text out is within = omega (arith, is, length-append text (take put
 -- ---- one text is taken into a Maildir, and the other tasks
 
 -- the conversation broke
-pub text_broken : (target : Target) {task : Task} {turn : Turn} {a b : Place} {store : Stores} {file : Stored} {rows : List Row} {lines : List ReportLine} (fault : ClientFault)
-    → turns_in task ≡ turn ∷ [] → Broke turn a b fault → Stops target task (scene a store file rows lines) (cut_of (fault_of fault) None) (scene b store file rows lines)
-text_broken target {turn = turn} fault takes broke = inl (record { none = refl; turn = turn; takes = takes; broke = (fault, refl, broke); store = refl; file = refl; rows = refl; lines = refl })
+pub text_broken : (target : Target) {task : Task} {turn : Turn} {a b : Place} {store : Stores} {file : Stored}
+    {rows : List Row} {lines : List ReportLine} (fault : ClientFault)
+    → turns_in task ≡ turn ∷ [] → Broke turn a b fault
+    → Stops target task (scene a store file rows lines) (cut_of (fault_of fault) None)
+    (scene b store file rows lines)
+text_broken target {turn = turn} fault takes broke =
+    inl (record {
+      none = refl;
+      turn = turn;
+      takes = takes;
+      broke = (fault, refl, broke);
+      store = refl;
+      file =
+          refl;
+      rows = refl;
+      lines = refl;
+    })
 
 -- it wasn't stored
-pub text_stops : {account : List ℕ} {n : ℕ} {uid : List ℕ} {a b : Place} {maildir maildir' : Maildir} {file : Stored} {rows : List Row} {lines : List ReportLine} (text stem : List ℕ) (fault : Fault) (rest : Option Rest)
+pub text_stops : {account : List ℕ} {n : ℕ} {uid : List ℕ} {a b : Place} {maildir maildir' : Maildir} {file : Stored}
+    {rows : List Row} {lines : List ReportLine} (text stem : List ℕ) (fault : Fault) (rest : Option Rest)
     → stem ≡ stem_of account uid → StopsStoring stem maildir text fault rest maildir' → StopsReading n a text fault rest b
-    → Stops (AsFiles account) (stores n uid) (scene a (in_maildir maildir) file rows lines) (cut_of fault rest) (scene b (in_maildir maildir') file rows lines)
+    → Stops (AsFiles account) (stores n uid) (scene a (in_maildir maildir) file rows lines) (cut_of fault rest)
+    (scene b (in_maildir maildir') file rows lines)
 text_stops {n = n} text stem fault None named same broke =
-    inl (record { none = refl; turn = retr n; takes = refl; broke = broke; store = ap in_maildir same; file = refl; rows = refl; lines = refl })
+    inl (record {
+      none = refl;
+      turn = retr n;
+      takes = refl;
+      broke = broke;
+      store = ap in_maildir same;
+      file =
+          refl;
+      rows = refl;
+      lines = refl;
+    })
 text_stops {n = n} {uid} text stem fault (Some rest) named refuses reads =
     inr (inl (search (rules, rw named at refuses)))
 
 -- it was stored, and marked
-module _ {account : List ℕ} {n : ℕ} {uid : List ℕ} {a b : Place} {maildir maildir' : Maildir} {file file' : Stored} {rows rows' : List Row} {lines lines' : List ReportLine} where
-  pub text_stored : (octets : ℕ) (text stem : List ℕ) → stem ≡ stem_of account uid → StoresText stem maildir text (Ok octets) maildir' → ReadsText n a text (Ok octets) b → rows' ≡ marked rows uid
+module _ {account : List ℕ} {n : ℕ} {uid : List ℕ} {a b : Place} {maildir maildir' : Maildir} {file file' : Stored}
+    {rows rows' : List Row} {lines lines' : List ReportLine} where
+  pub text_stored : (octets : ℕ) (text stem : List ℕ) → stem ≡ stem_of account uid
+      → StoresText stem maildir text (Ok octets) maildir' → ReadsText n a text (Ok octets) b → rows' ≡ marked rows uid
       → Saves file (none_open rows) (none_open (marked rows uid)) (Ok tt) file' → lines' ≡ lines ++ Delivered n octets ∷ []
-      → TakesTask (AsFiles account) (stores n uid) (scene a (in_maildir maildir) file rows lines) (Ok tt) (scene b (in_maildir maildir') file' rows' lines')
+      → TakesTask (AsFiles account) (stores n uid) (scene a (in_maildir maildir) file rows lines) (Ok tt)
+      (scene b (in_maildir maildir') file' rows' lines')
   text_stored octets text stem named stored reads mark saves told = (
     reads.0 ∷ [],
     record {
@@ -118,9 +155,11 @@ module _ {account : List ℕ} {n : ℕ} {uid : List ℕ} {a b : Place} {maildir 
   )
 
   -- it was stored, and the record wasn't saved
-  pub text_not_saved : (octets : ℕ) (text stem : List ℕ) (fault : Fault) → stem ≡ stem_of account uid → StoresText stem maildir text (Ok octets) maildir' → ReadsText n a text (Ok octets) b
+  pub text_not_saved : (octets : ℕ) (text stem : List ℕ) (fault : Fault) → stem ≡ stem_of account uid
+      → StoresText stem maildir text (Ok octets) maildir' → ReadsText n a text (Ok octets) b
       → Saves file (none_open rows) (none_open (marked rows uid)) (Err fault) file' → lines' ≡ lines ++ Delivered n octets ∷ []
-      → Stops (AsFiles account) (stores n uid) (scene a (in_maildir maildir) file rows lines) (cut_of fault None) (scene b (in_maildir maildir') file' rows' lines')
+      → Stops (AsFiles account) (stores n uid) (scene a (in_maildir maildir) file rows lines) (cut_of fault None)
+      (scene b (in_maildir maildir') file' rows' lines')
   text_not_saved octets text stem fault named stored reads saves told =
       inr (inr (record {
         none = refl;
@@ -137,12 +176,24 @@ module _ {account : List ℕ} {n : ℕ} {uid : List ℕ} {a b : Place} {maildir 
 -- ---- the other tasks
 
 -- nothing came of its text, if it has one
-pub taken_idle : (target : Target) (done : Done) {a b : Place} {store : Stores} {file : Stored} {rows : List Row} {lines lines' : List ReportLine}
-    → ((account : List ℕ) → files_in account done.task done.replies ≡ []) → texts_in done.task done.replies ≡ [] → ids_in done.task ≡ [] → IsAnswered done
-    → Talked (turns_of (done ∷ [])) (replies_of (done ∷ [])) a b → lines' ≡ lines ++ lines_of (done ∷ []) → TakesTask target done.task (scene a store file rows lines) (Ok tt) (scene b store file rows lines')
+pub taken_idle : (target : Target) (done : Done) {a b : Place} {store : Stores} {file : Stored} {rows : List Row}
+    {lines lines' : List ReportLine}
+    → ((account : List ℕ) → files_in account done.task done.replies ≡ []) → texts_in done.task done.replies ≡ []
+    → ids_in done.task ≡ [] → IsAnswered done
+    → Talked (turns_of (done ∷ [])) (replies_of (done ∷ [])) a b → lines' ≡ lines ++ report_lines (done ∷ [])
+    → TakesTask target done.task (scene a store file rows lines) (Ok tt) (scene b store file rows lines')
 taken_idle target done {store = store} {rows = rows} files texts ids answered talked told = (
   done.replies,
-  record { talked = talked; each = (answered, tt); stored = brings_same target done store files texts; rows = rw ids refl; saved = λ stands. stands; file_count = omega arith; lines = told },
+  record {
+    talked = talked;
+    each = (answered, tt);
+    stored = brings_same target done store files texts;
+    rows =
+        rw ids refl;
+    saved = λ stands. stands;
+    file_count = omega arith;
+    lines = told;
+  },
 )
 
 -- ---- contents
@@ -163,8 +214,10 @@ content_of a b is = ap (λ (s : Stored). s.content) is
 -- ---- settling
 
 -- an intent was ended: there was no file, or it is settled
-settled_is : (intent : Option Intent) (items : List Item) (old mid : Stored) (stored : Bool) → SettlesIntent intent items old (Ok stored) mid
-    → ((old.content ≡ None) × (mid ≡ old)) ⊎ ((was : List ℕ) × (old.content ≡ Some was) × (stored ≡ is_stored intent items was) × (mid ≡ holding old (closed_file intent items was)))
+settled_is : (intent : Option Intent) (items : List Item) (old mid : Stored) (stored : Bool)
+    → SettlesIntent intent items old (Ok stored) mid
+    → ((old.content ≡ None) × (mid ≡ old)) ⊎ ((was : List ℕ) × (old.content ≡ Some was)
+    × (stored ≡ is_stored intent items was) × (mid ≡ holding old (closed_file intent items was)))
 settled_is None items old mid stored (whole, same) =
     elim (either old.content) [
       | inl none ↦ inl (none, same)
@@ -172,7 +225,9 @@ settled_is None items old mid stored (whole, same) =
     ]
 settled_is (Some intent) items old mid stored (was, some, whole, now) = inr (was, some, whole, now)
 
-pub asks_ok : (intent : Option Intent) (old mid new : Stored) (stored : Bool) (items : List Item) (found : Found) → SettlesIntent intent items old (Ok stored) mid → Checks {T = Unit {0}} mid (Ok tt) new → found.stored ≡ stored → found.held.items ≡ none_held items
+pub asks_ok : (intent : Option Intent) (old mid new : Stored) (stored : Bool) (items : List Item) (found : Found)
+    → SettlesIntent intent items old (Ok stored) mid → ChecksMbox {T = Unit {0}} mid (Ok tt) new → found.stored ≡ stored
+    → found.held.items ≡ none_held items
     → AsksMbox intent old items (Ok found) new
 asks_ok intent old mid new stored items found settles ((bytes, goes_on), same) stored_is flags =
     elim (settled_is intent items old mid stored settles) [
@@ -183,27 +238,36 @@ asks_ok intent old mid new stored items found settles ((bytes, goes_on), same) s
           )
     ]
 
-at_most : (intent : Option Intent) (items : List Item) (old mid new : Stored) (stored : Bool) → SettlesIntent intent items old (Ok stored) mid → new.content ≡ mid.content → IsSettledAtMost intent items old new
+at_most : (intent : Option Intent) (items : List Item) (old mid new : Stored) (stored : Bool)
+    → SettlesIntent intent items old (Ok stored) mid → new.content ≡ mid.content → IsSettledAtMost intent items old new
 at_most intent items old mid new stored settles same =
     elim (settled_is intent items old mid stored settles) [
       | inl (none, is) ↦ inl (same ∙ content_of mid old is)
       | inr (was, some, whole, now) ↦ inr (was, some, same ∙ content_of mid (holding old (closed_file intent items was)) now)
     ]
 
-failures_kept : (intent : Option Intent) (items : List Item) (old mid : Stored) (stored : Bool) → SettlesIntent intent items old (Ok stored) mid → mid.failures ≡ old.failures
+failures_kept : (intent : Option Intent) (items : List Item) (old mid : Stored) (stored : Bool)
+    → SettlesIntent intent items old (Ok stored) mid → mid.failures ≡ old.failures
 failures_kept None items old mid stored is = ap (λ (s : Stored). s.failures) is.1
 failures_kept (Some intent) items old mid stored is = ap (λ (s : Stored). s.failures) is.3
 
 -- the file was refused
-pub asks_refused : (intent : Option Intent) (old mid new : Stored) (stored : Bool) (items : List Item) (why : StoreFault) (fault : Fault) → SettlesIntent intent items old (Ok stored) mid → RefusesLook mid why new → IsStoreFault why fault
+pub asks_refused : (intent : Option Intent) (old mid new : Stored) (stored : Bool) (items : List Item)
+    (why : StoreFault) (fault : Fault) → SettlesIntent intent items old (Ok stored) mid → RefusesLook mid why new
+    → IsStoreFault why fault
     → AsksMbox intent old items (Err fault) new
 asks_refused intent old mid new stored items refused.Missing fault settles (none, same) is =
     rw is (elim (settled_is intent items old mid stored settles) [
       | inl (missing, is) ↦ (missing, same ∙ is)
-      | inr (was, some, whole, now) ↦ none_some mid.content (closed_file intent items was) none (content_of mid (holding old (closed_file intent items was)) now)
+      | inr (was, some, whole, now) ↦ none_some mid.content (closed_file intent items was) none
+          (content_of mid (holding old (closed_file intent items was)) now)
     ])
 asks_refused intent old mid new stored items refused.Refused fault settles same is =
-    rw is (rw (same, failures_kept intent items old mid stored settles), at_most intent items old mid new stored settles (content_of new (counted mid) same))
+    rw is (
+      rw (same, failures_kept intent items old mid stored settles),
+      at_most intent items old mid new stored settles
+          (content_of new (file_refused mid) same),
+    )
 asks_refused intent old mid new stored items refused.NotMbox fault settles ((bytes, is_mid, other), same) is =
     rw is (elim (settled_is intent items old mid stored settles) [
       | inl (none, is) ↦ none_some mid.content bytes (content_of mid old is ∙ none) is_mid
@@ -217,25 +281,32 @@ asks_refused intent old mid new stored items refused.NoMemory fault settles neve
 -- ---- a text that is appended
 
 -- the file was refused before the intent was saved
-pub not_measured : (mbox mbox' file : Stored) (rows : List Row) (uid text : List ℕ) (why : StoreFault) (fault : Fault) → Measures mbox (Err why) mbox' → IsStoreFault why fault → RefusesEntry mbox file rows uid text fault mbox' file
+pub not_measured : (mbox mbox' file : Stored) (rows : List Row) (uid text : List ℕ) (why : StoreFault) (fault : Fault)
+    → Measures mbox (Err why) mbox' → IsStoreFault why fault → RefusesEntry mbox file rows uid text fault mbox' file
 not_measured mbox mbox' file rows uid text refused.Missing fault is fault_is = rw fault_is (is.0, is.1, refl)
 not_measured mbox mbox' file rows uid text refused.Refused fault is fault_is = rw fault_is (inl (is, inl refl))
 not_measured mbox mbox' file rows uid text _ fault never fault_is = absurd never
 
 -- the intent's line was refused, or memory ran out for it
-pub not_intended : (mbox mid file file' : Stored) (rows : List Row) (uid text : List ℕ) (edges : Edges) (len : ℕ) (fault : Fault) → Measures mbox (Ok edges) mid → len ≡ length (entry_of text)
-    → Saves file (none_open rows) (with_open rows (intent_at uid edges.size len)) (Err fault) file' → RefusesEntry mbox file rows uid text fault mid file'
-not_intended mbox mid file file' rows uid text edges len SeenRefused ((was, some, edges_are), same) len_is saves = (same, (was, some, rw (edges_are, len_is) at saves))
+pub not_intended : (mbox mid file file' : Stored) (rows : List Row) (uid text : List ℕ) (edges : Edges) (len : ℕ)
+    (fault : Fault) → Measures mbox (Ok edges) mid → len ≡ length (entry_of text)
+    → Saves file (none_open rows) (with_open rows (intent_at uid edges.size len)) (Err fault) file'
+    → RefusesEntry mbox file rows uid text fault mid file'
+not_intended mbox mid file file' rows uid text edges len SeenRefused ((was, some, edges_are), same) len_is saves =
+    (same, (was, some, rw (edges_are, len_is) at saves))
 not_intended mbox mid file file' rows uid text edges len NoMemory ((was, some, edges_are), same) len_is saves = (same, inl saves)
 not_intended mbox mid file file' rows uid text edges len _ measures len_is never = absurd never
 
 -- it was refused, none of it is there, and its intent was closed
-pub entry_refused : (mbox mid mbox' file file' : Stored) (rows : List Row) (uid text : List ℕ) (edges : Edges) (why : StoreFault) (fault : Fault) → Measures mbox (Ok edges) mid
-    → IsTakenBack mbox file rows uid text file' → AppendsEntry {T = Unit {0}} mid text (Err (Nothing why)) mbox' → IsStoreFault why fault → RefusesEntry mbox file rows uid text fault mbox' file'
+pub entry_refused : (mbox mid mbox' file file' : Stored) (rows : List Row) (uid text : List ℕ) (edges : Edges)
+    (why : StoreFault) (fault : Fault) → Measures mbox (Ok edges) mid
+    → IsTakenBack mbox file rows uid text file' → AppendsEntry {T = Unit {0}} mid text (Err (Nothing why)) mbox'
+    → IsStoreFault why fault → RefusesEntry mbox file rows uid text fault mbox' file'
 entry_refused mbox mid mbox' file file' rows uid text edges why fault measures back appends fault_is =
     by why (subst (λ (m : Stored). AppendsEntry {T = Unit {0}} m text (Err (Nothing why)) mbox') measures.1 appends) fault_is
   where
-    by : (w : StoreFault) → AppendsEntry {T = Unit {0}} mbox text (Err (Nothing w)) mbox' → IsStoreFault w fault → RefusesEntry mbox file rows uid text fault mbox' file'
+    by : (w : StoreFault) → AppendsEntry {T = Unit {0}} mbox text (Err (Nothing w)) mbox' → IsStoreFault w fault
+        → RefusesEntry mbox file rows uid text fault mbox' file'
     by refused.Missing (none, same) f = none_some mbox.content back.0 none back.1
     by refused.Refused same f = rw f (inl (same, inr back))
     by refused.NotMbox (other, same) f = rw f (other, same, back)
@@ -243,7 +314,8 @@ entry_refused mbox mid mbox' file file' rows uid text edges why fault measures b
 
 -- ---- one text is taken
 
-appended_one : (mbox mbox' : Stored) (was text : List ℕ) → mbox.content ≡ Some was → mbox' ≡ holding mbox (was ++ entry_of text) → Appended mbox mbox' (text ∷ [])
+appended_one : (mbox mbox' : Stored) (was text : List ℕ) → mbox.content ≡ Some was
+    → mbox' ≡ holding mbox (was ++ entry_of text) → Appended mbox mbox' (text ∷ [])
 appended_one mbox mbox' was text some is = record { content = rw (is, some, append-nil); failures = rw is }
 
 -- the lines of a body end in LF
@@ -259,24 +331,46 @@ body_whole None = inl refl
 body_whole (Some lines) = text_whole lines
 
 -- the text wasn't read whole
-pub not_held : {n : ℕ} {uid : List ℕ} {a b : Place} {store : Stores} {file : Stored} {rows : List Row} {lines : List ReportLine} {cut : Cut} → HoldsText n a (Err cut) b
+pub not_held : {n : ℕ} {uid : List ℕ} {a b : Place} {store : Stores} {file : Stored} {rows : List Row}
+    {lines : List ReportLine} {cut : Cut} → TakesText n a (Err cut) b
     → Stops AsEntries (stores n uid) (scene a store file rows lines) cut (scene b store file rows lines)
 not_held {n} (none, inl broke) =
     inl (record { none = none; turn = retr n; takes = refl; broke = broke; store = refl; file = refl; rows = refl; lines = refl })
 not_held {n} {uid} (none, inr (wants, (rest, text, fetching))) =
-    inr (inl (inl (record { none = none; number = n; uid = uid; rest = rest; text = text; is = refl; wants = wants; fetching = fetching; store = refl; file = refl; rows = refl; lines = refl })))
+    inr (inl (inl (record {
+      none = none;
+      number = n;
+      uid = uid;
+      rest = rest;
+      text = text;
+      is = refl;
+      wants =
+          wants;
+      fetching = fetching;
+      store = refl;
+      file = refl;
+      rows = refl;
+      lines = refl;
+    })))
 
 module _ {n : ℕ} {uid : List ℕ} {a b : Place} {mbox mbox' file file' : Stored} {lines lines' : List ReportLine} where
   -- it wasn't appended
-  pub text_refused : {rows rows' : List Row} (text : List ℕ) (fault : Fault) → Fetched (retr n) a text b → RefusesEntry mbox file rows uid text fault mbox' file'
-      → rows' ≡ rows → lines' ≡ lines → Stops AsEntries (stores n uid) (scene a (in_mbox mbox) file rows lines) (cut_of fault None) (scene b (in_mbox mbox') file' rows' lines')
+  pub text_refused : {rows rows' : List Row} (text : List ℕ) (fault : Fault) → Fetched (retr n) a text b
+      → RefusesEntry mbox file rows uid text fault mbox' file'
+      → rows' ≡ rows → lines' ≡ lines
+      → Stops AsEntries (stores n uid) (scene a (in_mbox mbox) file rows lines) (cut_of fault None)
+      (scene b (in_mbox mbox') file' rows' lines')
   text_refused text fault (reply, talked, is) refuses rows_are told =
       inr (inl (inr (inl (search (rules, rw is at refuses)))))
 
   -- its entry was appended, and the mark wasn't saved
-  pub entry_not_saved : {rows' : List Row} (octets : ℕ) (text : List ℕ) (mid : Stored) (seen seen' : Loaded) (fault : Fault) → Fetched (retr n) a text b → octets ≡ length text
-      → AppendsText mbox file seen uid text (Ok tt) mbox' mid seen' → seen'.rows ≡ seen.rows → Saves mid (record_state_in seen') (none_open (marked seen'.rows uid)) (Err fault) file'
-      → lines' ≡ lines ++ Delivered n octets ∷ [] → Stops AsEntries (stores n uid) (scene a (in_mbox mbox) file seen.rows lines) (cut_of fault None) (scene b (in_mbox mbox') file' rows' lines')
+  pub entry_not_saved : {rows' : List Row} (octets : ℕ) (text : List ℕ) (mid : Stored) (seen seen' : Loaded)
+      (fault : Fault) → Fetched (retr n) a text b → octets ≡ length text
+      → AppendsText mbox file seen uid text (Ok tt) mbox' mid seen' → seen'.rows ≡ seen.rows
+      → Saves mid (record_state_in seen') (none_open (marked seen'.rows uid)) (Err fault) file'
+      → lines' ≡ lines ++ Delivered n octets ∷ []
+      → Stops AsEntries (stores n uid) (scene a (in_mbox mbox) file seen.rows lines) (cut_of fault None)
+      (scene b (in_mbox mbox') file' rows' lines')
   entry_not_saved octets text mid seen seen' fault (reply, talked, is) long (was, goes_on, now, opened, saves) rows_are marks told =
       let held_is : record_state_in seen' ≡ with_open seen.rows (intent_of was uid text) = rw (rows_are, opened) in
       inr (inr (record {
@@ -287,15 +381,26 @@ module _ {n : ℕ} {uid : List ℕ} {a b : Place} {mbox mbox' file file' : Store
         is = refl;
         talked = talked;
         stored = rw (← is) (appended_one mbox mbox' was text goes_on.0 now);
-        saves = subst (λ (t : List ℕ). MarksEntry mbox file seen.rows uid t fault file') is
-            (was, goes_on.0, mid, saves, subst (λ (h : RecordState). Saves mid h (none_open (marked h.rows uid)) (Err fault) file') held_is marks);
+        saves = subst (λ (t : List ℕ). MarksEntry mbox file seen.rows uid t fault file') is (
+          was,
+          goes_on.0,
+          mid,
+          saves,
+          subst (λ (h : RecordState). Saves mid h (none_open (marked h.rows uid))
+              (Err fault) file') held_is marks,
+        );
         lines = simp (told, long, is);
       }))
 
   -- it was appended and marked
-  pub entry_stored : {rows' : List Row} (octets : ℕ) (text : List ℕ) (mid : Stored) (seen seen' : Loaded) → Fetched (retr n) a text b → octets ≡ length text
-      → AppendsText mbox file seen uid text (Ok tt) mbox' mid seen' → seen'.rows ≡ seen.rows → rows' ≡ marked seen'.rows uid → Saves mid (record_state_in seen') (none_open (marked seen'.rows uid)) (Ok tt) file'
-      → lines' ≡ lines ++ Delivered n octets ∷ [] → TakesTask AsEntries (stores n uid) (scene a (in_mbox mbox) file seen.rows lines) (Ok tt) (scene b (in_mbox mbox') file' rows' lines')
+  pub entry_stored : {rows' : List Row} (octets : ℕ) (text : List ℕ) (mid : Stored) (seen seen' : Loaded)
+      → Fetched (retr n) a text b → octets ≡ length text
+      → AppendsText mbox file seen uid text (Ok tt) mbox' mid seen' → seen'.rows ≡ seen.rows
+      → rows' ≡ marked seen'.rows uid
+      → Saves mid (record_state_in seen') (none_open (marked seen'.rows uid)) (Ok tt) file'
+      → lines' ≡ lines ++ Delivered n octets ∷ []
+      → TakesTask AsEntries (stores n uid) (scene a (in_mbox mbox) file seen.rows lines) (Ok tt)
+      (scene b (in_mbox mbox') file' rows' lines')
   entry_stored octets text mid seen seen' (reply, talked, is) long (was, goes_on, now, opened, saves) rows_are mark marks told = (
     reply ∷ [],
     record {

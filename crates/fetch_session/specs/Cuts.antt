@@ -3,7 +3,7 @@ use Rattle.std.specs.Prelude.{◌≡◌, ◌⊎◌, ◌<◌, ℕ, false, List, [
 use Rattle.std.specs.String.{string_bytes}
 use Rattle.mail_terms.specs.Listing.{Agree, Item, UidRow}
 use Rattle.mail_terms.specs.declared.listing.ScanRow.{ScanRow}
-use Rattle.mail_store.specs.MboxCalls.{IsOther}
+use Rattle.mail_store.specs.MboxCalls.{IsNoMbox}
 use Rattle.rc_file.specs.declared.settings.Settings.{Settings}
 use Rattle.fetch_rules.specs.Record.{RecordState}
 use Rattle.pop3_wire.specs.Link.{Link}
@@ -18,7 +18,7 @@ use Rattle.fetch_session.specs.declared.fault.Why.TheVariants.{Missing, Refused,
 use Rattle.fetch_session.specs.declared.report.Outcome.TheVariants.{Cut as WasCut}
 use Rattle.fetch_session.specs.declared.report.Report.{Report}
 use Rattle.fetch_session.specs.Fault.{Breaks}
-use Rattle.fetch_session.specs.Opening.{opening, Opened}
+use Rattle.fetch_session.specs.Opening.{opening, SessionOpened}
 use Rattle.fetch_session.specs.Plan.{tasks_ahead}
 use Rattle.fetch_session.specs.Readiness.{merged_in}
 use Rattle.fetch_session.specs.Record.{Keeps, Misread}
@@ -60,7 +60,8 @@ pub record Disagreed (settings : Settings) (link : Link) (new : Place) : Type 0 
   pub count : ℕ
   pub uids : List UidRow
   pub sizes : List ScanRow
-  pub opened : Opened (string_bytes settings.username) (string_bytes settings.password) (at link []) new count uids sizes
+  pub opened : SessionOpened (string_bytes settings.username) (string_bytes settings.password)
+      (at link []) new count uids sizes
   pub disagree : Agree count uids sizes → ⊥
 
 -- a folder of the Maildir isn't there, or the mboxrd file isn't
@@ -72,7 +73,7 @@ IsMissing AsEntries store = store.mbox.content ≡ None
 -- an entry may not follow the mboxrd file's bytes
 abbrev pub IsUnusable : Target → Stores → Type 0
 IsUnusable (AsFiles account) store = ⊥
-IsUnusable AsEntries store = IsOther store.mbox
+IsUnusable AsEntries store = IsNoMbox store.mbox
 
 -- a call of the store was refused
 abbrev pub StoreRose : Target → Stores → Stores → Type 0

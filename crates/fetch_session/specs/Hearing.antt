@@ -46,8 +46,8 @@ AreMerged disk files account now store file store' file' items rows =
     × (rows ≡ merged_in (target_of store account) left was items now))
 
 -- it is the listing that the server gave
-abbrev pub IsListed : Settings → Link → Link → List Item → Type 0
-IsListed settings link link' items = (mid : Place) × Enters_with settings (at link []) (Ok items) mid
+abbrev pub IsServersListing : Settings → Link → Link → List Item → Type 0
+IsServersListing settings link link' items = (mid : Place) × Enters_with settings (at link []) (Ok items) mid
     × ((more : List ℕ) × (link'.got ≡ mid.link.got ++ more))
 
 -- it is the plan of a session of an account over these devices, with this report
@@ -55,7 +55,7 @@ abbrev pub IsPlanOf : {W D F : Type 0} → WireGhosts W → DiskGhosts D → Fil
     → W → Report → List MessagePreview → Type 0
 IsPlanOf link disk files now old wire new wire' report plan =
     IsPlanned old.settings now report.total (passed_over report) (λ items rows.
-    (link.sound wire' → IsListed old.settings (link.history wire) (link.history wire') items)
+    (link.sound wire' → IsServersListing old.settings (link.history wire) (link.history wire') items)
     × AreMerged disk files (digits_of old.settings) now old.store old.file new.store new.file items rows) plan
 
 -- a listener was told of no plan, or of one of which this holds

@@ -7,7 +7,7 @@ use Rattle.mail_store.specs.declared.maildir.disk.MaildirDisk.{Ghosts as DiskGho
 use Rattle.mail_store.specs.declared.file.flat_file.FlatFile.{Ghosts as FileGhosts}
 use Rattle.mail_store.specs.Durable.{IsDurable as IsFileDurable, IsSure, MayLeave}
 use Rattle.mail_store.specs.FlatFile.{Stored}
-use Rattle.mail_store.specs.Maildir.{File, IsDurable, Maildir}
+use Rattle.mail_store.specs.Maildir.{File, IsDurableFile, Maildir}
 use Rattle.mail_store.specs.Mboxrd.{entry_of}
 use Rattle.mail_store.specs.Settling.{MayBeLeft}
 use Rattle.mail_store.specs.Power.{KeepsWhole, LastsWhole, LeavesNoMore, Outlives}
@@ -35,7 +35,7 @@ use Rattle.fetch_session.specs.Scene.{Scene, Does, WhereAllSound}
 use Rattle.fetch_session.specs.Session.{Keeping, Noted, Proceeds, SessionIn, keeping}
 use Rattle.fetch_session.specs.Target.{Target, AsFiles, AsEntries, AfterTakingIn, Stores, is_sound, mbox_of, stores_of}
 use Rattle.fetch_session.specs.Target.{target_of}
-use Rattle.fetch_session.specs.Task.{Task, Done, ids_in, ids_of, texts_of}
+use Rattle.fetch_session.specs.Task.{Task, Done, ids_in, marked_ids, done_texts}
 
 -- ---- what the devices say
 
@@ -50,8 +50,8 @@ is_sure file (InMaildir device) = Unit {0}
 is_sure file (InMbox device) = IsSure (file.disk device).now
 
 -- a file is on the disk, a loss of power leaves exactly its bytes, and no flush of it was refused
-abbrev pub IsSafe : {F : Type 0} → FileGhosts F → F → Type 0
-IsSafe file f = IsSure (file.disk f).now
+abbrev pub IsSafeFile : {F : Type 0} → FileGhosts F → F → Type 0
+IsSafeFile file f = IsSure (file.disk f).now
     × LastsWhole (file.stored f).content (IsFileDurable (file.disk f)) (MayLeave (file.disk f))
 
 -- the same for an mboxrd file, which is flushed again before an entry is appended: so it needn't be known to be on the
@@ -62,7 +62,7 @@ IsSafeStore file (InMbox device) = IsSure (file.disk device).now
     × LastsWhole (file.stored device).content (Unit {0}) (MayLeave (file.disk device))
 
 abbrev pub IsSafeWork : {D F H Z : Type 0} → FileGhosts F → Work D F H Z → Type 0
-IsSafeWork file work = IsSafe file work.ledger.file × IsSafeStore file work.store
+IsSafeWork file work = IsSafeFile file work.ledger.file × IsSafeStore file work.store
 
 -- ---- what calls keep of it
 
@@ -76,7 +76,7 @@ abbrev pub TextsLast : {D F : Type 0} → FileGhosts F → Target → List Done 
 TextsLast file (AsFiles account) dones old store = Unit {0}
 TextsLast file AsEntries dones old store =
     (was : List ℕ) → old.mbox.content ≡ Some was
-    → Outlives (may_leave_in file store) (was ++ flat_map entry_of (texts_of dones))
+    → Outlives (may_leave_in file store) (was ++ flat_map entry_of (done_texts dones))
 
 -- what is left of the record's file begins with bytes that stand for these rows; if there are none, there may be no
 -- file
@@ -98,13 +98,13 @@ KeepsWork file old new =
     KeepsMboxIn file old.store new.store × RowsStillLast file old.ledger.seen.rows old.ledger.file new.ledger.file
 
 -- this holds of whatever a loss of power leaves of a file that is there
-abbrev pub Leaves : {F : Type 0} → FileGhosts F → F → (Option (List ℕ) → Type 0) → Type 0
-Leaves file f Is = (bytes : List ℕ) → (file.stored f).content ≡ Some bytes → (left : Option (List ℕ))
+abbrev pub LeavesFile : {F : Type 0} → FileGhosts F → F → (Option (List ℕ) → Type 0) → Type 0
+LeavesFile file f Is = (bytes : List ℕ) → (file.stored f).content ≡ Some bytes → (left : Option (List ℕ))
     → MayLeave (file.disk f) left → Is left
 
 -- bytes that stand for this record, and behind them what a loss of power may leave of what was appended; nothing is
 -- appended to an empty file
-pub record IsLeft (was : RecordState) (added : List ℕ) (left : Option (List ℕ)) : Type 0 where
+pub record IsRecordLeft (was : RecordState) (added : List ℕ) (left : Option (List ℕ)) : Type 0 where
   pub bytes : List ℕ
   pub behind : List ℕ
   pub is : left ≡ Some (bytes ++ behind)
@@ -120,24 +120,24 @@ pub record AreLeft (rows others : List Row) (left : Option (List ℕ)) : Type 0 
   pub after : Option Intent
   pub grows : Grows rows before added next after
   pub next_is : (next ≡ rows) ⊎ (next ≡ others)
-  pub file : IsLeft (record_state rows before) added left
+  pub file : IsRecordLeft (record_state rows before) added left
 
 -- what these tasks stored and marked outlives a loss of power; and at most a part of one intent, or of the marks of
 -- these other ids, may be left behind it
 pub record DonesLast {D F : Type 0} (file : FileGhosts F) (target : Target) (dones : List Done) (next : List (List ℕ))
     (old : Scene) (store : Store D F) (f : F) : Type 0 where
   pub texts : TextsLast file target dones old.store store
-  pub rows : RowsLast file f (marked_all old.rows (ids_of dones))
-  pub left : Leaves file f (AreLeft (marked_all old.rows (ids_of dones))
-      (marked_all (marked_all old.rows (ids_of dones)) next))
+  pub rows : RowsLast file f (marked_all old.rows (marked_ids dones))
+  pub left : LeavesFile file f (AreLeft (marked_all old.rows (marked_ids dones))
+      (marked_all (marked_all old.rows (marked_ids dones)) next))
 
 -- one file came, and it is durable
 abbrev pub OneDurable : Maildir → Maildir → Type 0
-OneDurable old new = (f : File) × (new.files ≡ old.files ++ f ∷ []) × IsDurable f
+OneDurable old new = (f : File) × (new.files ≡ old.files ++ f ∷ []) × IsDurableFile f
 
 -- no mark of the task that was cut may be left; or its file came and is durable
 abbrev pub CutLasts : {F : Type 0} → FileGhosts F → Target → Scene → Scene → F → Type 0
-CutLasts file (AsFiles account) old new f = Leaves file f (AreLeft old.rows old.rows)
+CutLasts file (AsFiles account) old new f = LeavesFile file f (AreLeft old.rows old.rows)
     ⊎ OneDurable old.store.maildir new.store.maildir
 CutLasts file AsEntries old new f = Unit {0}
 
@@ -161,7 +161,7 @@ abbrev pub AreSure : {D F : Type 0} → FileGhosts F → Store D F → F → Typ
 AreSure files was from = is_sure files was × IsSure (files.disk from).now
 
 -- nothing was written to the record's file: a loss of power leaves no more of it than before
-pub record IsUntouched {F : Type 0} (files : FileGhosts F) (from f : F) : Type 0 where
+pub record IsRecordUntouched {F : Type 0} (files : FileGhosts F) (from f : F) : Type 0 where
   pub no_more : LeavesNoMore (MayLeave (files.disk from)) (MayLeave (files.disk f))
   pub same : files.stored f ≡ files.stored from
 
@@ -175,7 +175,7 @@ LeavesMerged files rows others from f = (left : Option (List ℕ)) → MayLeave 
 -- file had
 abbrev pub LeavesLeft : {F : Type 0} → FileGhosts F → RecordState → List ℕ → F → F → Type 0
 LeavesLeft files was added from f = (left : Option (List ℕ)) → MayLeave (files.disk f) left
-    → MayLeave (files.disk from) left ⊎ IsLeft was added left
+    → MayLeave (files.disk from) left ⊎ IsRecordLeft was added left
 
 -- what a session leaves of the record's file that was cut while it prepared the record: no more than before, or what a
 -- merge leaves
@@ -189,8 +189,8 @@ UnreadyLasts files from {target} {items} {now} {store} (inr merged) f =
 -- the record's file wasn't written; or it was written anew, and is safe
 abbrev pub KeptLasts : {F : Type 0} → FileGhosts F → F → (rows : List Row) (old new : Stored) → IsFileKept rows old new
     → F → Type 0
-KeptLasts files from rows old new (inl same) f = IsUntouched files from f
-KeptLasts files from rows old new (inr anew) f = (files.stored f ≡ new) × IsSafe files f
+KeptLasts files from rows old new (inl same) f = IsRecordUntouched files from f
+KeptLasts files from rows old new (inr anew) f = (files.stored f ≡ new) × IsSafeFile files f
 
 -- nothing is to be fetched or deleted, and this is left of the record's file; or what was found is durable, and this
 -- holds
@@ -205,7 +205,7 @@ abbrev pub ReadyLasts : {D F : Type 0} → FileGhosts F → F
     (old : Stores) (file : Stored) (result : Result Ready Fault) (after : List Row) (new : Stores) (file' : Stored)
     → Readies settings target items now old file result after new file' → Store D F → F → Type 0
 ReadyLasts files from _ _ _ _ _ file (Ok ready) after _ file' is store f =
-    UnlessQuiet files from after file file' is.durable (IsSafe files f × IsSafeStore files store) f
+    UnlessQuiet files from after file file' is.durable (IsSafeFile files f × IsSafeStore files store) f
 ReadyLasts files from _ _ _ _ _ _ (Err fault) _ _ _ unready store f = UnreadyLasts files from unready.content f
 
 -- the record was made ready, or wasn't; and if this premise holds, this is left
@@ -253,8 +253,8 @@ ProceedsLast files was from settings target now old before (Ok done) new after n
     CarriesLast files was from settings target dealt.items now dealt.mid before.store before.file []
     (Ok done) new after.store
     after.file notes.lines notes.skipped dealt.carries store f
-ProceedsLast files was from _ _ _ _ _ (Err cut) _ _ _ (inl stopped) store f = IsUntouched files from f
-ProceedsLast files was from _ _ _ _ _ (Err cut) _ _ _ (inr (inl wanting)) store f = IsUntouched files from f
+ProceedsLast files was from _ _ _ _ _ (Err cut) _ _ _ (inl stopped) store f = IsRecordUntouched files from f
+ProceedsLast files was from _ _ _ _ _ (Err cut) _ _ _ (inr (inl wanting)) store f = IsRecordUntouched files from f
 ProceedsLast files was from settings target now old before (Err cut) new after notes (inr (inr dealt)) store f =
     CarriesLast files was from settings target dealt.items now dealt.mid before.store before.file []
     (Err cut) new after.store

@@ -5,7 +5,7 @@ use Rattle.fetch_rules.specs.Record.{RecordState, Row, is_delivered, marked_all,
 use Rattle.mail_store.specs.FlatFile.{Stored}
 use Rattle.mail_store.specs.FileName.{IsAccountText}
 use Rattle.mail_store.specs.Held.{HasDurable}
-use Rattle.mail_store.specs.Maildir.{AfterTaking, AllFlushed, File, IsDurable}
+use Rattle.mail_store.specs.Maildir.{AfterTaking, AllFlushed, File, IsDurableFile}
 use Rattle.pop3_wire.specs.Link.{Link}
 use Rattle.rc_file.specs.declared.settings.Settings.{Settings}
 use Rattle.pop3_wire.specs.Reading.{WholeReply, reply_bytes}
@@ -14,8 +14,9 @@ use Rattle.fetch_session.specs.declared.fault.Fault.{Fault}
 use Rattle.fetch_session.specs.declared.fault.Cut.{Cut}
 use Rattle.fetch_session.specs.declared.fault.Fault.TheVariants.{StoreRefused, SeenRefused, NoMemory}
 use Rattle.fetch_session.specs.declared.fault.Why.TheVariants.{Refused}
-use Rattle.fetch_session.specs.Task.{Task, Done, stores, tasks_of, turns_of, replies_of, ids_of, files_of, file_from}
-use Rattle.fetch_session.specs.Task.{lines_of}
+use Rattle.fetch_session.specs.Task.{Task, Done, stores, tasks_of, turns_of, replies_of, marked_ids, files_of}
+use Rattle.fetch_session.specs.Task.{file_from}
+use Rattle.fetch_session.specs.Task.{report_lines}
 use Rattle.fetch_session.specs.Record.{Keeps, KeepsRows, Saves, Steady}
 use Rattle.fetch_session.specs.Scene.{Scene, Fell, WhereAllSound}
 use Rattle.fetch_session.specs.Target.{AsFiles, IsSoundMaildir, IsSoundMbox, maildir_of, mbox_of}
@@ -54,10 +55,10 @@ pub record CutShort (account : List ℕ) (tasks : List Task) (old : Scene) (faul
   pub split : tasks ≡ tasks_of taken ++ next
   pub good : AllZip IsGood (turns_of taken) (replies_of taken)
   pub got : CameWhole (replies_of taken) old new
-  pub told : new.lines ≡ old.lines ++ lines_of taken
+  pub told : new.lines ≡ old.lines ++ report_lines taken
   pub files : new.store.maildir.files ≡ old.store.maildir.files ++ (files_of account taken ++ extra)
   pub extra_is : ExtraIs account taken next old fault new extra
-  pub marks_are : MarksAre (ids_of taken) fault marks
+  pub marks_are : MarksAre (marked_ids taken) fault marks
   pub record_is : Keeps new.file.content (none_open (marked_all old.rows marks))
 
 -- a list of tasks that stopped leaves what tasks that were cut short leave
@@ -104,7 +105,7 @@ pub record LeavesDurable (account : List ℕ) (before after : AccountFiles) : Ty
   pub came : List File
   pub last : List File
   pub files : after.maildir.files ≡ before.maildir.files ++ (came ++ last)
-  pub durable : AllByRecursion IsDurable came
+  pub durable : AllByRecursion IsDurableFile came
   pub flushed : AllFlushed last
   pub at_most_one : length last ≤ 1
   pub shown : (was rows : List Row) (id : List ℕ) → KeepsRows before.file.content was

@@ -3,9 +3,9 @@ use Rattle.std.specs.Prelude.{◌≡◌, ◌⊎◌, ◌+◌, ℕ, Bool, false, L
 use Rattle.std.specs.Prelude.{true}
 use Rattle.mail_terms.specs.Listing.{Item}
 use Rattle.fetch_rules.specs.Record.{Row, Intent, Loaded, none_open, marked}
-use Rattle.mail_store.specs.FlatFile.{Stored, holding, counted, edges_of}
+use Rattle.mail_store.specs.FlatFile.{Stored, holding, file_refused, edges_of}
 use Rattle.mail_store.specs.Mboxrd.{MayGoOn, entry_of}
-use Rattle.mail_store.specs.MboxCalls.{EntryMayFollow, IsOther, RefusesLook}
+use Rattle.mail_store.specs.MboxCalls.{EntryMayFollow, IsNoMbox, RefusesLook}
 use Rattle.mail_store.specs.declared.fault.StoreFault.{StoreFault}
 use Rattle.mail_store.specs.declared.fault.StoreFault.TheVariants as refused
 use Rattle.pop3_wire.specs.Bodies.{Rest}
@@ -41,8 +41,9 @@ SettlesIntent None items old (Err fault) new = ⊥
 SettlesIntent (Some intent) items old (Ok whole) new = (was : List ℕ) × (old.content ≡ Some was)
     × (whole ≡ is_stored (Some intent) items was) × (new ≡ holding old (closed_file (Some intent) items was))
 SettlesIntent (Some intent) items old (Err (StoreRefused Missing)) new = (old.content ≡ None) × (new ≡ old)
-SettlesIntent (Some intent) items old (Err (StoreRefused Refused)) new = (new ≡ counted old)
-    ⊎ ((was : List ℕ) × (old.content ≡ Some was) × (new ≡ counted (holding old (closed_file (Some intent) items was))))
+SettlesIntent (Some intent) items old (Err (StoreRefused Refused)) new = (new ≡ file_refused old)
+    ⊎ ((was : List ℕ) × (old.content ≡ Some was)
+    × (new ≡ file_refused (holding old (closed_file (Some intent) items was))))
 SettlesIntent (Some intent) items old (Err NoMemory) new = new ≡ old
 SettlesIntent (Some intent) items old (Err _) new = ⊥
 
@@ -69,9 +70,9 @@ AsksMbox intent old items (Err _) new = ⊥
 -- ---- a text
 
 -- a text was read whole; the conversation broke; or memory ran out for it as it came
-abbrev pub HoldsText : ℕ → Place → Result (List ℕ) Cut → Place → Type 0
-HoldsText number start (Ok text) new = Fetched (retr number) start text new
-HoldsText number start (Err cut) new = (cut.rest ≡ None)
+abbrev pub TakesText : ℕ → Place → Result (List ℕ) Cut → Place → Type 0
+TakesText number start (Ok text) new = Fetched (retr number) start text new
+TakesText number start (Err cut) new = (cut.rest ≡ None)
     × (Breaks (retr number) start new cut.fault
     ⊎ ((cut.fault ≡ NoMemory) × ((rest : Rest) × (text : List ℕ) × Fetching (retr number) start new rest text)))
 
@@ -97,11 +98,11 @@ abbrev pub RefusesEntry : Stored → Stored → List Row → List ℕ → List �
 RefusesEntry mbox file rows uid text (StoreRefused Missing) mbox' file' = (mbox.content ≡ None) × (mbox' ≡ mbox)
     × (file' ≡ file)
 RefusesEntry mbox file rows uid text (StoreRefused Refused) mbox' file' =
-    ((mbox' ≡ counted mbox) × ((file' ≡ file) ⊎ IsTakenBack mbox file rows uid text file'))
+    ((mbox' ≡ file_refused mbox) × ((file' ≡ file) ⊎ IsTakenBack mbox file rows uid text file'))
     ⊎ (IsIntended mbox file rows uid text file'
     × ((was front rest : List ℕ) × EntryMayFollow mbox was × (entry_of text ≡ front ++ rest)
-    × (mbox' ≡ counted (counted (holding mbox (was ++ front))))))
-RefusesEntry mbox file rows uid text (StoreRefused NotMbox) mbox' file' = IsOther mbox × (mbox' ≡ mbox)
+    × (mbox' ≡ file_refused (file_refused (holding mbox (was ++ front))))))
+RefusesEntry mbox file rows uid text (StoreRefused NotMbox) mbox' file' = IsNoMbox mbox × (mbox' ≡ mbox)
     × IsTakenBack mbox file rows uid text file'
 RefusesEntry mbox file rows uid text SeenRefused mbox' file' = (mbox' ≡ mbox)
     × ((was : List ℕ) × (mbox.content ≡ Some was)
@@ -132,16 +133,16 @@ abbrev pub RefusesAgain : Stores → Fault → Stores → Type 0
 RefusesAgain old fault new = (why : StoreFault) × IsStoreFault why fault × RefusesLook old.mbox why new.mbox
 
 -- if a message was deleted, the device told the size and the ends of an mboxrd file, and an entry may follow it
-abbrev pub IsTold : Kind → List ReportLine → Stores → Option Edges → Type 0
-IsTold Files lines store told = Unit {0}
-IsTold Entries lines store told = has_deletions lines ≡ true
+abbrev pub IsToldOfMbox : Kind → List ReportLine → Stores → Option Edges → Type 0
+IsToldOfMbox Files lines store told = Unit {0}
+IsToldOfMbox Entries lines store told = has_deletions lines ≡ true
     → (was : List ℕ) × EntryMayFollow store.mbox was × (told ≡ Some (edges_of was))
 
 -- it was looked at once more; or it was refused
 abbrev pub LooksAgain : Kind → List ReportLine → Stores → Result (Option Edges) Fault → Stores → Type 0
 LooksAgain Files lines old (Ok told) new = new ≡ old
 LooksAgain Files lines old (Err fault) new = ⊥
-LooksAgain Entries lines old (Ok told) new = IsTold Entries lines old told × (new ≡ old)
+LooksAgain Entries lines old (Ok told) new = IsToldOfMbox Entries lines old told × (new ≡ old)
 LooksAgain Entries lines old (Err fault) new = (has_deletions lines ≡ true) × RefusesAgain old fault new
     × (new.maildir ≡ old.maildir)
 

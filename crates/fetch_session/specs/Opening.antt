@@ -14,7 +14,7 @@ abbrev pub opening : List ℕ → List ℕ → List Turn
 opening name password = login name password ++ (stat ∷ uidl ∷ list ∷ [])
 
 -- all of it was talked, and the replies give this count and these rows
-pub record Opened (name password : List ℕ) (old new : Place) (count : ℕ) (uids : List UidRow)
+pub record SessionOpened (name password : List ℕ) (old new : Place) (count : ℕ) (uids : List UidRow)
     (sizes : List ScanRow) : Type 0 where
   pub welcome : List WholeReply
   pub counted : WholeReply
@@ -29,9 +29,9 @@ pub record Opened (name password : List ℕ) (old new : Place) (count : ℕ) (ui
 -- out joining them
 abbrev pub Enters : List ℕ → List ℕ → Place → Result (List Item) ClientFault → Place → Type 0
 Enters name password old (Ok items) new = (count : ℕ) × (uids : List UidRow) × (sizes : List ScanRow)
-    × Opened name password old new count uids sizes × Joins count uids sizes items
+    × SessionOpened name password old new count uids sizes × Joins count uids sizes items
 Enters name password old (Err fault) new = Stopped (opening name password) old new fault
     ⊎ (((fault ≡ ListingsDisagree) × ((count : ℕ) × (uids : List UidRow) × (sizes : List ScanRow)
-    × Opened name password old new count uids sizes × (Agree count uids sizes → ⊥)))
+    × SessionOpened name password old new count uids sizes × (Agree count uids sizes → ⊥)))
     ⊎ ((fault ≡ NoMemory) × ((count : ℕ) × (uids : List UidRow) × (sizes : List ScanRow)
-    × Opened name password old new count uids sizes)))
+    × SessionOpened name password old new count uids sizes)))

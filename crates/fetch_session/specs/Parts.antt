@@ -19,10 +19,10 @@ use Rattle.fetch_session.specs.declared.step.Task.{Task as Planned}
 use Rattle.fetch_session.specs.declared.step.Task.TheVariants.{Store, Reread, Skip, Delete}
 use Rattle.fetch_session.specs.declared.work.Ledger.{Ledger}
 use Rattle.fetch_session.specs.declared.work.Work.{Work}
-use Rattle.fetch_session.specs.Lasting.{AreLeft, DoesAndLasts, IsSafe, IsSafeWork, Leaves}
+use Rattle.fetch_session.specs.Lasting.{AreLeft, DoesAndLasts, IsSafeFile, IsSafeWork, LeavesFile}
 use Rattle.fetch_session.specs.Record.{Steady, record_state_in}
 use Rattle.fetch_session.specs.Refusal.{RefusesTillCut, TookTillCut}
-use Rattle.fetch_session.specs.Report.{Adds, HasRoom}
+use Rattle.fetch_session.specs.Report.{AddsLines, HasRoom}
 use Rattle.fetch_session.specs.Target.{is_sound, kind_of, stores_of, target_of, NoneBegun}
 use Rattle.fetch_session.specs.Task.{Task, skips, stores, rereads, deletes, ids_ahead, turns_ahead, AreFresh}
 use Rattle.fetch_session.specs.Scene.{Scene, scene, WhereAllSound}
@@ -39,7 +39,8 @@ pub record IsWritten {F H Z : Type 0} (file : FileGhosts F) (ledger : Ledger F H
   pub steady : file.sound ledger.file → Steady (file.stored ledger.file).content (none_open ledger.seen.rows)
 
 -- ready for the next task: no file is begun, and all is written down
-pub record IsReady {D F H Z : Type 0} (disk : DiskGhosts D) (file : FileGhosts F) (work : Work D F H Z) : Type 0 where
+pub record IsReadyForNext {D F H Z : Type 0} (disk : DiskGhosts D) (file : FileGhosts F)
+    (work : Work D F H Z) : Type 0 where
   pub none_begun : NoneBegun disk file work.store
   pub written : IsWritten file work.ledger
 
@@ -65,7 +66,7 @@ pub record IsReadyFor {D F H Z : Type 0} (disk : DiskGhosts D) (file : FileGhost
     (work : Work D F H Z) : Type 0 where
   pub digits : IsAccountText account
   pub room : HasRoom work.ledger.lines (length tasks)
-  pub ready : IsReady disk file work
+  pub ready : IsReadyForNext disk file work
   pub legal : AllByRecursion IsLegalId (ids_ahead tasks)
   pub rows : AllByRecursion (λ (uid : List ℕ). has_row work.ledger.seen.rows uid ≡ true) (ids_ahead tasks)
   pub free : is_sound disk file work.store → AreFresh account (stores_of disk file work.store).maildir (ids_ahead tasks)
@@ -87,12 +88,12 @@ pub record KeepsLink {W : Type 0} (link : WireGhosts W) (Took : Place → Result
 pub record KeepsLedger {F H Z : Type 0} (file : FileGhosts F) (uid : List ℕ) (old : Ledger F H Z)
     (result : Result (Unit {0}) Cut)
     (new : Ledger F H Z) : Type 0 where
-  pub lines : Adds old.lines 1 new.lines
+  pub lines : AddsLines old.lines 1 new.lines
   pub sound : file.sound new.file → file.sound old.file
   pub written : OnOk result (IsWritten file new)
   pub rows : OnOk result ((uid : List ℕ) → has_row old.seen.rows uid ≡ true → has_row new.seen.rows uid ≡ true)
-  pub left : file.sound new.file → IsSafe file old.file
-      → Leaves file new.file (AreLeft old.seen.rows (marked old.seen.rows uid))
+  pub left : file.sound new.file → IsSafeFile file old.file
+      → LeavesFile file new.file (AreLeft old.seen.rows (marked old.seen.rows uid))
 
 -- nothing was noted, and the rows are the same, also those that may be left; and if all went well, at most the intent
 -- of this id is open, and all is written down
@@ -104,13 +105,13 @@ pub record KeepsRecord {F H Z : Type 0} (file : FileGhosts F) (uid : List ℕ) (
   pub opened : OnOk result (IsNoneOrOf uid new.seen.intent)
   pub steady : file.sound new.file
       → file.sound old.file × OnOk result (Steady (file.stored new.file).content (record_state_in new.seen))
-  pub lasts : file.sound new.file → IsSafe file old.file → OnOk result (IsSafe file new.file)
-      × ((others : List Row) → Leaves file new.file (AreLeft old.seen.rows others))
+  pub lasts : file.sound new.file → IsSafeFile file old.file → OnOk result (IsSafeFile file new.file)
+      × ((others : List Row) → LeavesFile file new.file (AreLeft old.seen.rows others))
 
 -- at most this many lines were noted, the store is of the same kind, and no file is begun in it
 pub record KeepsStore {D F H Z : Type 0} (disk : DiskGhosts D) (file : FileGhosts F) (most : ℕ)
     (old new : Work D F H Z) : Type 0 where
-  pub lines : Adds old.ledger.lines most new.ledger.lines
+  pub lines : AddsLines old.ledger.lines most new.ledger.lines
   pub kind : kind_of new.store ≡ kind_of old.store
   pub none_begun : is_sound disk file new.store → is_sound disk file old.store
       × ((stores_of disk file new.store).maildir.begun ≡ None)

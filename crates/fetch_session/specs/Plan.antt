@@ -10,9 +10,9 @@ use Rattle.pop3_client.specs.Turns.{quit}
 use Rattle.fetch_session.specs.declared.report.ReportLine.{ReportLine}
 use Rattle.fetch_session.specs.declared.fault.Cut.{Cut}
 use Rattle.fetch_session.specs.Task.{Task, says, tasks_planned}
-use Rattle.fetch_session.specs.Readiness.{AreDurable, IsFileKept, Settles, Unready, merged_in}
+use Rattle.fetch_session.specs.Readiness.{AreDurable, IsFileKept, SettlesStore, Unready, merged_in}
 use Rattle.fetch_session.specs.Record.{Keeps, Steady}
-use Rattle.fetch_session.specs.Target.{Target, Stores, flags_in}
+use Rattle.fetch_session.specs.Target.{Target, Stores, held_flags}
 use Rattle.fetch_session.specs.declared.report.Skips.{Skips}
 use Rattle.fetch_session.specs.Report.{none_skipped, skips_planned}
 use Rattle.fetch_session.specs.Scene.{Scene, scene, Does}
@@ -20,7 +20,7 @@ use Rattle.fetch_session.specs.Scene.{Scene, scene, Does}
 -- what a session does once its record is ready: the planned tasks, then QUIT
 abbrev pub tasks_ahead : Settings → Target → List Item → ℕ → Stores → List Row → List Task
 tasks_ahead settings target items now store rows = tasks_planned (planned settings rows items now) items
-    (flags_in target store items) ++ says quit ∷ []
+    (held_flags target store items) ++ says quit ∷ []
 
 -- the record was read, merged with the listing and saved. Nothing is to be fetched or deleted and the record's file
 -- was kept, or what was found is durable
@@ -35,7 +35,7 @@ pub record Prepared (settings : Settings) (target : Target) (items : List Item) 
   pub saved : Steady mid.file.content (none_open mid.rows)
   pub file_count : mid.file.failures ≡ file.failures
   pub place_is : mid.place ≡ place
-  pub settles : Settles target was items store mid.store
+  pub settles : SettlesStore target was items store mid.store
   pub lines_are : mid.lines ≡ lines
 
 -- it wasn't: nothing was said

@@ -8,7 +8,7 @@ use Rattle.pop3_client.specs.Turns.{quit}
 use Rattle.rc_file.specs.declared.settings.Settings.{Settings}
 use Rattle.fetch_rules.specs.Record.{Row, Intent, RecordState}
 use Rattle.fetch_rules.specs.Plan.{planned}
-use Rattle.mail_store.specs.FlatFile.{Stored, counted}
+use Rattle.mail_store.specs.FlatFile.{Stored, file_refused}
 use Rattle.mail_store.specs.Held.{flags_of}
 use Rattle.mail_store.specs.Maildir.{Maildir}
 use Rattle.mail_store.specs.Mboxrd.{MayGoOn}
@@ -23,10 +23,10 @@ use Rattle.fetch_session.specs.declared.message_preview.MessagePreview.{MessageP
 use Rattle.fetch_session.specs.Fault.{cut_of, fault_of}
 use Rattle.fetch_session.specs.Mbox.{AsksMbox}
 use Rattle.fetch_session.specs.MessagePreview.{message_previews}
-use Rattle.fetch_session.specs.Readiness.{CausesUnready, FindsRefused, Settles, merged_in}
+use Rattle.fetch_session.specs.Readiness.{CausesUnready, FindsRefused, SettlesStore, merged_in}
 use Rattle.fetch_session.specs.Record.{Keeps}
 use Rattle.fetch_session.specs.Session.{Keeping, Enters_with, LeavesLink, outcome_of}
-use Rattle.fetch_session.specs.Target.{Target, AsFiles, AsEntries, Stores, closed_file, flags_in, is_stored}
+use Rattle.fetch_session.specs.Target.{Target, AsFiles, AsEntries, Stores, closed_file, held_flags, is_stored}
 
 -- ---- nothing changes
 
@@ -51,7 +51,7 @@ abbrev pub JudgesMbox : Option Intent → List Item → Stored → Result Bool F
 JudgesMbox intent items old (Ok whole) new = ((was : List ℕ) × (old.content ≡ Some was)
     × (whole ≡ is_stored intent items was) × MayGoOn (closed_file intent items was)) × (new ≡ old)
 JudgesMbox intent items old (Err (StoreRefused Missing)) new = (old.content ≡ None) × (new ≡ old)
-JudgesMbox intent items old (Err (StoreRefused Refused)) new = new ≡ counted old
+JudgesMbox intent items old (Err (StoreRefused Refused)) new = new ≡ file_refused old
 JudgesMbox intent items old (Err (StoreRefused NotMbox)) new = ((was : List ℕ) × (old.content ≡ Some was)
     × (MayGoOn (closed_file intent items was) → ⊥)) × (new ≡ old)
 JudgesMbox intent items old (Err NoMemory) new = new ≡ old
@@ -85,9 +85,9 @@ pub record PreviewsMerged (settings : Settings) (target : Target) (items : List 
   pub was : RecordState
   pub stood : Keeps old.file.content was
   pub left : Stores
-  pub settles : Settles target was items old.store left
+  pub settles : SettlesStore target was items old.store left
   pub told_is : told ≡ previews_of settings (merged_in target old.store was items now) items
-      (flags_in target old.store items) now
+      (held_flags target old.store items) now
 
 -- a session with this listing wouldn't be ready, for this reason; of an mboxrd file it may leave something else
 pub record WouldBeUnready (target : Target) (items : List Item) (fault : Fault) (store : Stores) (file : Stored)
@@ -109,21 +109,21 @@ PreviewsWork settings target items now old (Err fault) new = WouldBeUnready targ
 -- ---- the session
 
 -- how many messages are listed, and what a run would do with each
-pub record Told : Type 0 where
+pub record PreviewTold : Type 0 where
   pub total : ℕ
   pub message_previews : List MessagePreview
 
-abbrev pub told_in : Preview → Told
-told_in preview = record {
+abbrev pub preview_told : Preview → PreviewTold
+preview_told preview = record {
   total = preview.total;
   message_previews = preview.message_previews.items;
 }
 
-abbrev pub told_nothing : ℕ → Told
+abbrev pub told_nothing : ℕ → PreviewTold
 told_nothing total = record { total = total; message_previews = [] }
 
 -- logging in or asking for the listings stopped
-pub record NotListed (settings : Settings) (old : Place) (cut : Cut) (new : Place) (told : Told) : Type 0 where
+pub record NotListed (settings : Settings) (old : Place) (cut : Cut) (new : Place) (told : PreviewTold) : Type 0 where
   pub why : ClientFault
   pub is : cut ≡ cut_of (fault_of why) None
   pub enters : Enters_with settings old (Err why) new
@@ -132,7 +132,7 @@ pub record NotListed (settings : Settings) (old : Place) (cut : Cut) (new : Plac
 -- the listing is known, and a session wouldn't be ready for it
 pub record NotReady (settings : Settings) (target : Target) (old : Place) (before : Keeping) (cut : Cut) (new : Place)
     (after : Keeping)
-    (told : Told) : Type 0 where
+    (told : PreviewTold) : Type 0 where
   pub items : List Item
   pub fault : Fault
   pub is : cut ≡ cut_of fault None
@@ -141,8 +141,8 @@ pub record NotReady (settings : Settings) (target : Target) (old : Place) (befor
   pub nothing : told ≡ told_nothing (length items)
 
 -- the preview says what would be done with the listed messages, and QUIT was sent
-pub record Listed (settings : Settings) (target : Target) (now : ℕ) (old : Place) (before : Keeping)
-    (result : Result (Unit {0}) ClientFault) (new : Place) (told : Told) : Type 0 where
+pub record ListedAndTold (settings : Settings) (target : Target) (now : ℕ) (old : Place) (before : Keeping)
+    (result : Result (Unit {0}) ClientFault) (new : Place) (told : PreviewTold) : Type 0 where
   pub items : List Item
   pub mid : Place
   pub enters : Enters_with settings old (Ok items) mid
@@ -152,16 +152,16 @@ pub record Listed (settings : Settings) (target : Target) (now : ℕ) (old : Pla
 
 -- the session came to its end, or stopped
 abbrev pub EndsOrStops : Settings → Target → ℕ → Place → Keeping → Result (Unit {0}) Cut → Place → Keeping
-    → Told → Type 0
-EndsOrStops settings target now old before (Ok done) new after told = Listed settings target now old before
+    → PreviewTold → Type 0
+EndsOrStops settings target now old before (Ok done) new after told = ListedAndTold settings target now old before
     (Ok done) new told
 EndsOrStops settings target now old before (Err cut) new after told = NotListed settings old cut new told
     ⊎ (NotReady settings target old before cut new after told
     ⊎ ((why : ClientFault) × (cut ≡ cut_of (fault_of why) None)
-    × Listed settings target now old before (Err why) new told))
+    × ListedAndTold settings target now old before (Err why) new told))
 
 abbrev pub PreviewsSession : Settings → Target → ℕ → Place → Keeping → Result (Unit {0}) Cut → Place → Keeping
-    → Told → Type 0
+    → PreviewTold → Type 0
 PreviewsSession settings target now old before result new after told =
     EndsOrStops settings target now old before result new after told × IsUntouched target before after
 
@@ -172,7 +172,7 @@ pub record Pretends (settings : Settings) (target : Target) (now : ℕ) (link : 
     (after : Keeping) : Type 0 where
   pub result : Result (Unit {0}) Cut
   pub mid : Place
-  pub ends : EndsOrStops settings target now (at link []) before result mid after (told_in preview)
+  pub ends : EndsOrStops settings target now (at link []) before result mid after (preview_told preview)
   pub leaves : LeavesLink result mid link'
   pub outcome : preview.outcome ≡ outcome_of result
   pub untouched : IsUntouched target before after

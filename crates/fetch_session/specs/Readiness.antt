@@ -22,15 +22,16 @@ use Rattle.mail_store.specs.declared.fault.StoreFault.TheVariants as refused
 use Rattle.fetch_session.specs.declared.readiness.Found.{Found}
 use Rattle.fetch_session.specs.declared.readiness.Ready.{Ready}
 use Rattle.fetch_session.specs.Mbox.{AsksMbox, IsSettledAtMost}
-use Rattle.fetch_session.specs.Record.{Keeps, Steady, Misread, ReadAs}
-use Rattle.mail_store.specs.MboxCalls.{Checks}
-use Rattle.fetch_session.specs.Target.{Kind, Files, Entries, Target, AsFiles, AsEntries, Stores, closed_file, flags_in}
-use Rattle.fetch_session.specs.Target.{in_maildir, none_held, rows_in}
+use Rattle.fetch_session.specs.Record.{Keeps, Steady, Misread, FileReadAs}
+use Rattle.mail_store.specs.MboxCalls.{ChecksMbox}
+use Rattle.fetch_session.specs.Target.{Kind, Files, Entries, Target, AsFiles, AsEntries, Stores, closed_file}
+use Rattle.fetch_session.specs.Target.{held_flags}
+use Rattle.fetch_session.specs.Target.{in_maildir, none_held, closed_rows_in}
 
 -- a folder isn't there, or a call was refused, or memory ran out
 abbrev pub FindsRefused : Maildir → Fault → Maildir → Type 0
 FindsRefused old (StoreRefused Missing) new = ((old.there.new ≡ false) ⊎ (old.there.cur ≡ false)) × (new ≡ old)
-FindsRefused old (StoreRefused Refused) new = new ≡ Rattle.mail_store.specs.Maildir.counted old
+FindsRefused old (StoreRefused Refused) new = new ≡ Rattle.mail_store.specs.Maildir.maildir_refused old
 FindsRefused old NoMemory new = new ≡ old
 FindsRefused old _ new = ⊥
 
@@ -69,14 +70,15 @@ FindsIn read_all (AsFiles account) was old items (Err fault) new = FindsRefused 
 FindsIn read_all AsEntries was old items result new = AsksMbox was.intent old.mbox items result new.mbox
 
 -- the store was asked, and in an mboxrd file what the open intent had left was cut off or counted
-abbrev pub Settles : Target → RecordState → List Item → Stores → Stores → Type 0
-Settles (AsFiles account) was items old new = new ≡ old
-Settles AsEntries was items old new = (bytes : List ℕ) × (old.mbox.content ≡ Some bytes)
+abbrev pub SettlesStore : Target → RecordState → List Item → Stores → Stores → Type 0
+SettlesStore (AsFiles account) was items old new = new ≡ old
+SettlesStore AsEntries was items old new = (bytes : List ℕ) × (old.mbox.content ≡ Some bytes)
     × (new.mbox ≡ holding old.mbox (closed_file was.intent items bytes)) × MayGoOn (closed_file was.intent items bytes)
 
 -- the record once its open intent was ended and the listing merged into it
 abbrev pub merged_in : Target → Stores → RecordState → List Item → ℕ → List Row
-merged_in target store was items now = merged (rows_in target store was items) items (flags_in target store items) now
+merged_in target store was items now = merged (closed_rows_in target store was items) items
+    (held_flags target store items) now
 
 -- what the store holds can change neither the record nor what is done: each listed id is recorded as delivered, the
 -- steps that are planned neither fetch nor delete anything, and no intent is open
@@ -89,7 +91,7 @@ pub record IsIdle (settings : Settings) (seen : Loaded) (items : List Item) (now
 
 -- the file was read as a record that must be written anew before something may be appended to it
 abbrev pub IsStale : Option (List ℕ) → Type 0
-IsStale content = (loaded : Loaded) × ReadAs content loaded × (loaded.stale ≡ true)
+IsStale content = (loaded : Loaded) × FileReadAs content loaded × (loaded.stale ≡ true)
 
 -- the file stood for these rows, with no intent open, and had to be written anew: so it was
 abbrev pub IsAnew : List Row → Stored → Stored → Type 0
@@ -104,14 +106,14 @@ IsFileKept rows old new = (new ≡ old) ⊎ IsAnew rows old new
 abbrev pub ChecksBoth : {T : Type 0} → Maildir → Result T StoreFault → Maildir → Type 0
 ChecksBoth old (Ok done) new = (old.there.new ≡ true) × (old.there.cur ≡ true) × (new ≡ old)
 ChecksBoth old (Err refused.Missing) new = ((old.there.new ≡ false) ⊎ (old.there.cur ≡ false)) × (new ≡ old)
-ChecksBoth old (Err refused.Refused) new = new ≡ Rattle.mail_store.specs.Maildir.counted old
+ChecksBoth old (Err refused.Refused) new = new ≡ Rattle.mail_store.specs.Maildir.maildir_refused old
 ChecksBoth old (Err refused.NotMbox) new = ⊥
 ChecksBoth old (Err refused.NoMemory) new = ⊥
 
 -- a store was looked at: whether both folders of a Maildir are there, or whether an entry may follow an mboxrd file
 abbrev pub ChecksStore : {T : Type 0} → Kind → Stores → Result T StoreFault → Stores → Type 0
 ChecksStore Files old result new = ChecksBoth old.maildir result new.maildir × (new.mbox ≡ old.mbox)
-ChecksStore Entries old result new = Checks old.mbox result new.mbox × (new.maildir ≡ old.maildir)
+ChecksStore Entries old result new = ChecksMbox old.mbox result new.mbox × (new.maildir ≡ old.maildir)
 
 -- nothing was done to a store, in which there is a place for what may come; or why there is none
 abbrev pub Rests : Kind → Stores → List Item → Result Ready Fault → Stores → Type 0
@@ -137,13 +139,13 @@ pub record IsReady (settings : Settings) (target : Target) (items : List Item) (
     (file : Stored) (ready : Ready) (after : List Row) (store' : Stores) (file' : Stored) : Type 0 where
   pub was : RecordState
   pub stood : Keeps file.content was
-  pub held : AreAsHeld ready.steps.items items ready.held.items (flags_in target store items)
+  pub held : AreAsHeld ready.steps.items items ready.held.items (held_flags target store items)
   pub rows : after ≡ merged_in target store was items now
   pub steps : ready.steps.items ≡ planned settings after items now
   pub durable : (All IsQuiet ready.steps.items × IsFileKept after file file') ⊎ AreDurable target was.rows items store
   pub saved : Steady file'.content (none_open after)
   pub file_count : file'.failures ≡ file.failures
-  pub settles : Settles target was items store store'
+  pub settles : SettlesStore target was items store store'
 
 -- why it isn't ready
 abbrev pub UnreadyCause : Fault → Maildir → Stored → Maildir → Stored → Type 0
@@ -152,7 +154,7 @@ UnreadyCause (BadSeen line) maildir file maildir' file' = Misread file line file
 UnreadyCause (StoreRefused Missing) maildir file maildir' file' = ((maildir.there.new ≡ false)
     ⊎ (maildir.there.cur ≡ false)) × (maildir' ≡ maildir)
 UnreadyCause (StoreRefused Refused) maildir file maildir' file' = maildir'
-    ≡ Rattle.mail_store.specs.Maildir.counted maildir
+    ≡ Rattle.mail_store.specs.Maildir.maildir_refused maildir
 UnreadyCause NoMemory maildir file maildir' file' = maildir' ≡ maildir
 UnreadyCause _ maildir file maildir' file' = ⊥
 
@@ -186,7 +188,7 @@ pub record IsMerged (target : Target) (items : List Item) (now : ℕ) (store : S
     : Type 0 where
   pub was : RecordState
   pub stood : Keeps file.content was
-  pub settles : Settles target was items store store'
+  pub settles : SettlesStore target was items store store'
   pub durable : (merged_in target store was items now ≡ was.rows) ⊎ AreDurable target was.rows items store
   pub stands : Keeps file'.content was ⊎ Keeps file'.content (none_open (merged_in target store was items now))
 

@@ -8,7 +8,7 @@ use Rattle.fetch_rules.specs.Intents.{ReadAs as BytesReadAs}
 use Rattle.fetch_rules.specs.declared.seen.SeenFault.{SeenFault}
 use Rattle.fetch_rules.specs.declared.seen.SeenFault.TheVariants.{BadHeader, BadRow, RepeatedId}
 use Rattle.fetch_rules.specs.declared.seen.SeenFault.TheVariants.{NoMemory as WantsMemory}
-use Rattle.mail_store.specs.FlatFile.{Stored, HasBytes, holding, counted}
+use Rattle.mail_store.specs.FlatFile.{Stored, HasBytes, holding, file_refused}
 use Rattle.fetch_session.specs.declared.fault.Fault.{Fault}
 use Rattle.fetch_session.specs.declared.fault.Fault.TheVariants.{SeenRefused, BadSeen, NoMemory}
 
@@ -30,8 +30,8 @@ abbrev pub Steady : Option (List ℕ) → RecordState → Type 0
 Steady content state = Means (bytes_in content) (Rows Two state.rows state.intent false)
 
 -- a file was read as this record
-abbrev pub ReadAs : Option (List ℕ) → Loaded → Type 0
-ReadAs content loaded = BytesReadAs (bytes_in content) loaded
+abbrev pub FileReadAs : Option (List ℕ) → Loaded → Type 0
+FileReadAs content loaded = BytesReadAs (bytes_in content) loaded
 
 -- the rows and the open intent of a record in memory
 abbrev pub record_state_in : Loaded → RecordState
@@ -49,12 +49,12 @@ abbrev pub with_open : List Row → Intent → RecordState
 with_open rows intent = record { rows = rows; intent = Some intent }
 
 -- the record was written whole; or, refused, the file is as it was or has the record; or memory ran out
-abbrev pub Writes : Stored → RecordState → Result (Unit {0}) Fault → Stored → Type 0
-Writes old state (Ok done) new = new ≡ holding old (file_of state.rows state.intent)
-Writes old state (Err SeenRefused) new = (new ≡ counted old)
-    ⊎ (new ≡ counted (holding old (file_of state.rows state.intent)))
-Writes old state (Err NoMemory) new = new ≡ old
-Writes old state (Err _) new = ⊥
+abbrev pub WritesRecord : Stored → RecordState → Result (Unit {0}) Fault → Stored → Type 0
+WritesRecord old state (Ok done) new = new ≡ holding old (file_of state.rows state.intent)
+WritesRecord old state (Err SeenRefused) new = (new ≡ file_refused old)
+    ⊎ (new ≡ file_refused (holding old (file_of state.rows state.intent)))
+WritesRecord old state (Err NoMemory) new = new ≡ old
+WritesRecord old state (Err _) new = ⊥
 
 -- a changed record was saved; or, refused, the file stands for the old or the new one; or memory ran out, and nothing
 -- was done
@@ -73,12 +73,13 @@ TakesBack old was new = Saves old was (none_open was.rows) (Ok tt) new
 -- the size of a file that has bytes; or the call was refused
 abbrev pub TellsSize : Stored → Result ℕ Fault → Stored → Type 0
 TellsSize old (Ok size) new = (size ≡ length (bytes_in old.content)) × (new ≡ old)
-TellsSize old (Err SeenRefused) new = new ≡ counted old
+TellsSize old (Err SeenRefused) new = new ≡ file_refused old
 TellsSize old (Err _) new = ⊥
 
 -- the first bytes of a file stand for these rows, with no intent open
 abbrev pub StandsTill : Stored → ℕ → List Row → Type 0
-StandsTill stored size rows = HasBytes stored size × Steady (Some (take size (bytes_in stored.content))) (none_open rows)
+StandsTill stored size rows = HasBytes stored size
+    × Steady (Some (take size (bytes_in stored.content))) (none_open rows)
 
 -- a record read from the file was merged and saved; or, refused, the file stands for the old or the
 -- new one; or memory ran out, and nothing was done
@@ -92,7 +93,7 @@ Merges old was now (Err _) new = ⊥
 -- the file was flushed, or a call was refused
 abbrev pub IsSecured : Stored → Result (Unit {0}) Fault → Stored → Type 0
 IsSecured old (Ok done) new = new ≡ old
-IsSecured old (Err SeenRefused) new = new ≡ counted old
+IsSecured old (Err SeenRefused) new = new ≡ file_refused old
 IsSecured old (Err _) new = ⊥
 
 -- the line of a record's fault
@@ -105,7 +106,7 @@ LineOf _ line = ⊥
 -- the bytes of the file were read
 abbrev pub Gets : {B : Type 0} → Stored → Result (Vec ℕ B) Fault → Stored → Type 0
 Gets old (Ok bytes) new = (bytes.items ≡ bytes_in old.content) × (new ≡ old)
-Gets old (Err SeenRefused) new = new ≡ counted old
+Gets old (Err SeenRefused) new = new ≡ file_refused old
 Gets old (Err _) new = ⊥
 
 -- the bytes of the file stand for no record: this line is the first that fails
@@ -114,13 +115,13 @@ Misread old line new = (why : SeenFault) × Means (bytes_in old.content) (Faulty
 
 -- the record was read, and whether the file is missing or empty; or a call was refused, or the bytes
 -- stand for no record
-abbrev pub Reads : Stored → Loaded → Result Bool Fault → Stored → Type 0
-Reads old loaded (Ok is_new) new = ReadAs old.content loaded × (is_new ≡ false → bytes_in old.content ≢ [])
+abbrev pub ReadsRecord : Stored → Loaded → Result Bool Fault → Stored → Type 0
+ReadsRecord old loaded (Ok is_new) new = FileReadAs old.content loaded × (is_new ≡ false → bytes_in old.content ≢ [])
     × (new ≡ old)
-Reads old loaded (Err SeenRefused) new = new ≡ counted old
-Reads old loaded (Err (BadSeen line)) new = Misread old line new
-Reads old loaded (Err NoMemory) new = new ≡ old
-Reads old loaded (Err _) new = ⊥
+ReadsRecord old loaded (Err SeenRefused) new = new ≡ file_refused old
+ReadsRecord old loaded (Err (BadSeen line)) new = Misread old line new
+ReadsRecord old loaded (Err NoMemory) new = new ≡ old
+ReadsRecord old loaded (Err _) new = ⊥
 
 -- the fault of a session for a fault of the record's file: its line, or out of memory
 abbrev pub IsLineFault : SeenFault → Fault → Type 0

@@ -8,7 +8,7 @@ use Rattle.fetch_session.specs.declared.report.Outcome.{Outcome}
 use Rattle.fetch_session.specs.declared.report.Outcome.TheVariants.{Ended, Cut as WasCut}
 use Rattle.fetch_session.specs.declared.report.Report.{Report}
 use Rattle.fetch_session.specs.declared.tail.Tail.TheVariants.{Nothing}
-use Rattle.fetch_session.specs.Tail.{tail, turns_in}
+use Rattle.fetch_session.specs.Tail.{tail, turns_of_tail}
 use Rattle.pop3_wire.specs.Bodies.{Rest}
 use Rattle.pop3_wire.specs.Place.{Place}
 use Rattle.mail_terms.specs.Listing.{message_limit}
@@ -69,7 +69,7 @@ TookTillCut limit old (Err cut) new = TookBefore limit old cut.rest new
 abbrev pub TookWithTail : ℕ → Place → Result (Unit {0}) Cut → Place → Type 0
 TookWithTail limit old (Ok done) new = Took limit old new
 TookWithTail limit old (Err cut) new = (before : ℕ) × TookBefore before old cut.rest new
-    × (before + most_of (turns_in (tail cut.fault)) ≤ limit)
+    × (before + most_of (turns_of_tail (tail cut.fault)) ≤ limit)
 
 -- none, as far as the count shows
 abbrev pub RefusesNone : Link → Link → Type 0

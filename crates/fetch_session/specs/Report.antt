@@ -27,14 +27,14 @@ abbrev pub HasRoom : {Z : Type 0} → Vec ReportLine Z → ℕ → Type 0
 HasRoom lines n = vec_len lines + n ≤ vec_capacity lines
 
 -- at most `n` lines were added, and no room was given up
-abbrev pub Adds : {Z : Type 0} → Vec ReportLine Z → ℕ → Vec ReportLine Z → Type 0
-Adds old n new = (vec_len new ≤ vec_len old + n) × (vec_capacity old ≤ vec_capacity new)
+abbrev pub AddsLines : {Z : Type 0} → Vec ReportLine Z → ℕ → Vec ReportLine Z → Type 0
+AddsLines old n new = (vec_len new ≤ vec_len old + n) × (vec_capacity old ≤ vec_capacity new)
 
 -- whether a line reports a text that was taken
-abbrev pub is_taken : ReportLine → Bool
-is_taken (Delivered number octets) = true
-is_taken (Held number octets) = true
-is_taken _ = false
+abbrev pub is_text_taken : ReportLine → Bool
+is_text_taken (Delivered number octets) = true
+is_text_taken (Held number octets) = true
+is_text_taken _ = false
 
 -- the length of the text that a line reports
 abbrev pub length_in : ReportLine → ℕ
@@ -52,7 +52,7 @@ abbrev pub has_deletions : List ReportLine → Bool
 has_deletions lines = list_any is_deletion lines
 
 abbrev pub retrieved_in : List ReportLine → ℕ
-retrieved_in lines = count_by is_taken lines
+retrieved_in lines = count_by is_text_taken lines
 
 abbrev pub length_of : List ReportLine → ℕ
 length_of lines = sum_by length_in lines

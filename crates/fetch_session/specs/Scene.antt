@@ -15,8 +15,8 @@ use Rattle.pop3_wire.specs.declared.unstuffer.Spot.TheVariants.{Done as AtEnd}
 use Rattle.pop3_client.specs.Texts.{Fetching, Fetched, body_text}
 use Rattle.mail_store.specs.FileName.{stem_of}
 use Rattle.fetch_session.specs.Task.{Task, says, stores, Done, IsAnswered, turns_in, tasks_of, turns_of, replies_of}
-use Rattle.fetch_session.specs.Task.{ids_of}
-use Rattle.fetch_session.specs.Task.{file_from, delivered, lines_of}
+use Rattle.fetch_session.specs.Task.{marked_ids}
+use Rattle.fetch_session.specs.Task.{file_from, delivered, report_lines}
 use Rattle.fetch_session.specs.Store.{RefusesText, Gained, Appended, Brings}
 use Rattle.fetch_session.specs.Target.{Target, AsFiles, AsEntries, Stores}
 use Rattle.fetch_session.specs.Mbox.{RefusesEntry, MarksEntry, RefusesAgain}
@@ -41,10 +41,10 @@ pub record Went (target : Target) (dones : List Done) (old new : Scene) : Type 0
   pub talked : Talked (turns_of dones) (replies_of dones) old.place new.place
   pub each : AllByRecursion IsAnswered dones
   pub stored : Brings target dones old.store new.store
-  pub rows : new.rows ≡ marked_all old.rows (ids_of dones)
+  pub rows : new.rows ≡ marked_all old.rows (marked_ids dones)
   pub saved : Steady old.file.content (none_open old.rows) → Steady new.file.content (none_open new.rows)
   pub file_count : old.file.failures ≤ new.file.failures
-  pub lines : new.lines ≡ old.lines ++ lines_of dones
+  pub lines : new.lines ≡ old.lines ++ report_lines dones
 
 -- the conversation broke, and nothing was stored
 pub record Broken (next : Task) (old new : Scene) (cut : Cut) : Type 0 where
@@ -85,7 +85,7 @@ pub record FileNotSaved (account : List ℕ) (next : Task) (old new : Scene) (cu
   pub lines : new.lines ≡ old.lines ++ delivered number reply ∷ []
 
 -- memory ran out for a text as it came, and nothing of it was stored
-pub record NoRoom (next : Task) (old new : Scene) (cut : Cut) : Type 0 where
+pub record NoRoomForText (next : Task) (old new : Scene) (cut : Cut) : Type 0 where
   pub none : cut.rest ≡ None
   pub number : ℕ
   pub uid : List ℕ
@@ -139,7 +139,8 @@ pub record NotLeft (next : Task) (old new : Scene) (cut : Cut) : Type 0 where
 -- the text wasn't stored, or QUIT wasn't said
 abbrev pub NotStored : Target → Task → Scene → Scene → Cut → Type 0
 NotStored (AsFiles account) next old new cut = NoFile account next old new cut
-NotStored AsEntries next old new cut = NoRoom next old new cut ⊎ (NoEntry next old new cut ⊎ NotLeft next old new cut)
+NotStored AsEntries next old new cut = NoRoomForText next old new cut
+    ⊎ (NoEntry next old new cut ⊎ NotLeft next old new cut)
 
 -- it was stored, and the record wasn't saved
 abbrev pub NotSaved : Target → Task → Scene → Scene → Cut → Type 0

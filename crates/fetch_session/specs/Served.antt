@@ -18,11 +18,11 @@ use Rattle.fetch_session.specs.declared.fault.Fault.TheVariants.{NoMemory}
 use Rattle.fetch_session.specs.declared.report.Outcome.TheVariants.{Ended, Cut as WasCut}
 use Rattle.fetch_session.specs.declared.report.Report.{Report}
 use Rattle.fetch_session.specs.Cuts.{ArePlanned, Extends}
-use Rattle.fetch_session.specs.Opening.{Opened}
+use Rattle.fetch_session.specs.Opening.{SessionOpened}
 use Rattle.fetch_session.specs.Readiness.{merged_in}
-use Rattle.fetch_session.specs.Record.{Keeps, ReadAs}
+use Rattle.fetch_session.specs.Record.{Keeps, FileReadAs}
 use Rattle.fetch_session.specs.Session.{Enters_with, Keeping, SessionIn}
-use Rattle.fetch_session.specs.Target.{Target, AsFiles, AsEntries, Stores, flags_in}
+use Rattle.fetch_session.specs.Target.{Target, AsFiles, AsEntries, Stores, held_flags}
 use Rattle.fetch_session.specs.Task.{file_from}
 
 -- ---- nothing fails
@@ -56,10 +56,11 @@ pub record IsServed (settings : Settings) (target : Target) (now : ℕ) (link : 
       → ArePlanned settings target now link before link' (turns ++ unsent)
       → link'.sent ≡ link.sent ++ (asking turns ++ more) → AreAnswered turns link link'
   pub agree : (count : ℕ) (uids : List UidRow) (sizes : List ScanRow) (mid : Place) → Extends mid.link link'
-      → Opened (string_bytes settings.username) (string_bytes settings.password) (at link []) mid count uids sizes
+      → SessionOpened (string_bytes settings.username) (string_bytes settings.password)
+      (at link []) mid count uids sizes
       → Agree count uids sizes
   pub usable : IsUsable target after.store
-  pub read : (loaded : Loaded) × ReadAs before.file.content loaded
+  pub read : (loaded : Loaded) × FileReadAs before.file.content loaded
   pub store_refused : refused_in target after.store ≡ refused_in target before.store
   pub file_refused : after.file.failures ≡ before.file.failures
   pub link_refused : link'.failures ≡ link.failures
@@ -76,7 +77,7 @@ HasText AsEntries store uid reply = (was : List ℕ) × (texts : List (List ℕ)
 
 -- a message was held before; or RETR was sent for it, and the text that came is stored
 abbrev pub IsStored : Target → Stores → List (Turn × WholeReply) → Stores → ℕ × Item → Type 0
-IsStored target old said new message = (flags_in target old (message.1 ∷ []) ≡ true ∷ [])
+IsStored target old said new message = (held_flags target old (message.1 ∷ []) ≡ true ∷ [])
     ⊎ ((reply : WholeReply) × Contains said (retr message.0, reply) × HasText target new message.1.uid reply)
 
 -- each message that is wanted of the listing that the server gave, by the record once that is merged into it, is stored

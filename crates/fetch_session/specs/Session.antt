@@ -64,7 +64,8 @@ pub record NotEntered (settings : Settings) (old : Place) (before : Keeping) (cu
   pub nothing : notes ≡ noted 0 none_skipped []
 
 -- memory ran out for the notes on the listed messages
-pub record NoRoom (settings : Settings) (old : Place) (before : Keeping) (cut : Cut) (new : Place) (after : Keeping)
+pub record NoRoomForNotes (settings : Settings) (old : Place) (before : Keeping) (cut : Cut)
+    (new : Place) (after : Keeping)
     (notes : Noted) : Type 0 where
   pub items : List Item
   pub is : cut ≡ cut_of NoMemory None
@@ -87,7 +88,8 @@ abbrev pub Proceeds : Settings → Target → ℕ → Place → Keeping → Resu
 Proceeds settings target now old before (Ok done) new after notes = Dealt settings target now old before
     (Ok done) new after notes
 Proceeds settings target now old before (Err cut) new after notes = NotEntered settings old before cut new after notes
-    ⊎ (NoRoom settings old before cut new after notes ⊎ Dealt settings target now old before (Err cut) new after notes)
+    ⊎ (NoRoomForNotes settings old before cut new after notes
+    ⊎ Dealt settings target now old before (Err cut) new after notes)
 
 -- how a session came out
 abbrev pub outcome_of : Result (Unit {0}) Cut → Outcome

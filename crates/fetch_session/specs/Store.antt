@@ -5,7 +5,7 @@ use Rattle.std.specs.List.{flat_map}
 use Rattle.mail_store.specs.FlatFile.{Stored}
 use Rattle.mail_store.specs.Mboxrd.{entry_of}
 use Rattle.fetch_session.specs.Target.{Target, AsFiles, AsEntries, Stores}
-use Rattle.fetch_session.specs.Task.{Done, files_of, texts_of}
+use Rattle.fetch_session.specs.Task.{Done, files_of, done_texts}
 use Rattle.pop3_wire.specs.Place.{Place}
 use Rattle.pop3_wire.specs.Bodies.{Rest}
 use Rattle.pop3_wire.specs.declared.unstuffer.Spot.TheVariants.{Done as AtEnd}
@@ -14,7 +14,7 @@ use Rattle.pop3_client.specs.Conversation.{Talked, Broke}
 use Rattle.pop3_client.specs.Turns.{retr}
 use Rattle.pop3_client.specs.Texts.{Fetching, Fetched, body_text}
 use Rattle.fetch_session.specs.declared.fault.Cut.{Cut}
-use Rattle.mail_store.specs.Maildir.{Maildir, File, Draft, MayHave, draft, mail, with_file, dropped, counted}
+use Rattle.mail_store.specs.Maildir.{Maildir, File, Draft, MayHave, draft, mail, with_file, dropped, maildir_refused}
 use Rattle.mail_store.specs.FileName.{sized_file}
 use Rattle.pop3_client.specs.declared.fault.ClientFault.{ClientFault}
 use Rattle.fetch_session.specs.declared.fault.Fault.{Fault}
@@ -38,7 +38,7 @@ pub record Appended (old new : Stored) (texts : List (List ℕ)) : Type 0 where
 -- what the texts of tasks that are done brought
 abbrev pub Brings : Target → List Done → Stores → Stores → Type 0
 Brings (AsFiles account) dones old new = Gained old.maildir new.maildir (files_of account dones)
-Brings AsEntries dones old new = Appended old.mbox new.mbox (texts_of dones)
+Brings AsEntries dones old new = Appended old.mbox new.mbox (done_texts dones)
 
 -- at most a file with this stem and its length in its name came, whose name may not be durable, and none is begun
 pub record MayGain (stem : List ℕ) (old new : Maildir) : Type 0 where
@@ -54,29 +54,29 @@ abbrev pub begun_with : Maildir → Draft → Maildir
 begun_with old d = record old { begun = Some d }
 
 -- an empty file of this name is being written, or none is
-abbrev pub Starts : Maildir → List ℕ → Result (Unit {0}) Fault → Maildir → Type 0
-Starts old name (Ok done) new = new ≡ begun_with old (draft name [])
-Starts old name (Err fault) new = ((fault ≡ StoreRefused Missing) × (old.there.tmp ≡ false) × (new ≡ old))
-    ⊎ ((fault ≡ StoreRefused Refused) × (new ≡ counted old))
+abbrev pub StartsFile : Maildir → List ℕ → Result (Unit {0}) Fault → Maildir → Type 0
+StartsFile old name (Ok done) new = new ≡ begun_with old (draft name [])
+StartsFile old name (Err fault) new = ((fault ≡ StoreRefused Missing) × (old.there.tmp ≡ false) × (new ≡ old))
+    ⊎ ((fault ≡ StoreRefused Refused) × (new ≡ maildir_refused old))
 
 -- the bytes were appended to the file that is being written, or none is any more
-abbrev pub Puts : Maildir → List ℕ → Result (Unit {0}) Fault → Maildir → Type 0
-Puts old bytes (Ok done) new = (d : Draft) → old.begun ≡ Some d
+abbrev pub PutsBytes : Maildir → List ℕ → Result (Unit {0}) Fault → Maildir → Type 0
+PutsBytes old bytes (Ok done) new = (d : Draft) → old.begun ≡ Some d
     → new ≡ begun_with old (draft d.name (d.content ++ bytes))
-Puts old bytes (Err fault) new = (fault ≡ StoreRefused Refused)
-    × ((d : Draft) → old.begun ≡ Some d → new ≡ counted (dropped old))
+PutsBytes old bytes (Err fault) new = (fault ≡ StoreRefused Refused)
+    × ((d : Draft) → old.begun ≡ Some d → new ≡ maildir_refused (dropped old))
 
 -- what was written is there under this name and durable; or, refused, it may be there
-abbrev pub Ends : Maildir → List ℕ → Result (Unit {0}) Fault → Maildir → Type 0
-Ends old name (Ok done) new = (d : Draft) → old.begun ≡ Some d → new ≡ with_file old (mail name d.content)
-Ends old name (Err fault) new = (fault ≡ StoreRefused Refused) × ((d : Draft) → old.begun ≡ Some d
-    → (new ≡ counted (dropped old)) ⊎ MayHave old (mail name d.content) new)
+abbrev pub EndsFile : Maildir → List ℕ → Result (Unit {0}) Fault → Maildir → Type 0
+EndsFile old name (Ok done) new = (d : Draft) → old.begun ≡ Some d → new ≡ with_file old (mail name d.content)
+EndsFile old name (Err fault) new = (fault ≡ StoreRefused Refused) × ((d : Draft) → old.begun ≡ Some d
+    → (new ≡ maildir_refused (dropped old)) ⊎ MayHave old (mail name d.content) new)
 
 -- the store refused a text of which this much has come: no file came, or, only if the text had come whole, its file
 -- did, which a loss of power may take
 abbrev pub RefusesText : Maildir → List ℕ → Rest → List ℕ → Fault → Maildir → Type 0
 RefusesText old stem rest text fault new = ((fault ≡ StoreRefused Missing) × (old.there.tmp ≡ false) × (new ≡ old))
-    ⊎ ((fault ≡ StoreRefused Refused) × ((new ≡ counted (dropped old))
+    ⊎ ((fault ≡ StoreRefused Refused) × ((new ≡ maildir_refused (dropped old))
     ⊎ ((rest.spot ≡ AtEnd) × MayHave old (sized_file stem text) new)))
 
 -- the link stopped, and nothing was stored; or the store refused

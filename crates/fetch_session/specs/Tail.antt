@@ -14,10 +14,10 @@ use Rattle.fetch_session.specs.declared.fault.Fault.TheVariants.{Refused, StoreR
 use Rattle.fetch_session.specs.declared.tail.Tail.{Tail}
 use Rattle.fetch_session.specs.declared.tail.Tail.TheVariants.{Nothing, Leave, Undo}
 
-abbrev pub turns_in : Tail → List Turn
-turns_in Nothing = []
-turns_in Leave = quit ∷ []
-turns_in Undo = rset ∷ quit ∷ []
+abbrev pub turns_of_tail : Tail → List Turn
+turns_of_tail Nothing = []
+turns_of_tail Leave = quit ∷ []
+turns_of_tail Undo = rset ∷ quit ∷ []
 
 -- after a refused command other than QUIT, QUIT; after a refused store or a refused or bad record, RSET, and QUIT once
 -- that is answered well; after any other fault, nothing
@@ -49,13 +49,13 @@ pub record WentOn (turns : List Turn) (old new : Place) : Type 0 where
 -- a reply, its turn and then the tail were talked, or stopped, from where that turn began, and what was sent and what
 -- came went on from before
 abbrev pub LeftBy : Fault → Option Rest → Place → Place → Type 0
-LeftBy fault None old new = (result : Result (Unit {0}) ClientFault) × Talks (turns_in (tail fault)) old result new
+LeftBy fault None old new = (result : Result (Unit {0}) ClientFault) × Talks (turns_of_tail (tail fault)) old result new
     × (tail fault ≡ Nothing → new ≡ old)
 LeftBy fault (Some rest) old new = (rest.spot ≡ Done → (result : Result (Unit {0}) ClientFault)
-    × Talks (turns_in (tail fault)) old result new)
+    × Talks (turns_of_tail (tail fault)) old result new)
     × ((number : ℕ) (start : Place) (text : List ℕ) → Fetching (retr number) start old rest text
-    → (result : Result (Unit {0}) ClientFault) × Talks (retr number ∷ turns_in (tail fault)) start result new
-    × WentOn (turns_in (tail fault)) old new)
+    → (result : Result (Unit {0}) ClientFault) × Talks (retr number ∷ turns_of_tail (tail fault)) start result new
+    × WentOn (turns_of_tail (tail fault)) old new)
 
 abbrev pub Left : Cut → Place → Place → Type 0
 Left cut old new = LeftBy cut.fault cut.rest old new

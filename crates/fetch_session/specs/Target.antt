@@ -105,9 +105,9 @@ abbrev pub none_held : List Item → List Bool
 none_held items = map (λ (item : Item). false) items
 
 -- for each message whether it is held
-abbrev pub flags_in : Target → Stores → List Item → List Bool
-flags_in (AsFiles account) store items = flags_of account store.maildir items
-flags_in AsEntries store items = none_held items
+abbrev pub held_flags : Target → Stores → List Item → List Bool
+held_flags (AsFiles account) store items = flags_of account store.maildir items
+held_flags AsEntries store items = none_held items
 
 -- whether the entry of an open intent is whole in a file, by what is listed
 abbrev pub is_stored : Option Intent → List Item → List ℕ → Bool
@@ -125,7 +125,7 @@ mail_in None = []
 mail_in (Some bytes) = bytes
 
 -- the rows of a record once its open intent is closed
-abbrev pub rows_in : Target → Stores → RecordState → List Item → List Row
-rows_in (AsFiles account) store was items = was.rows
-rows_in AsEntries store was items = closed_rows (is_stored was.intent items (mail_in store.mbox.content))
+abbrev pub closed_rows_in : Target → Stores → RecordState → List Item → List Row
+closed_rows_in (AsFiles account) store was items = was.rows
+closed_rows_in AsEntries store was items = closed_rows (is_stored was.intent items (mail_in store.mbox.content))
     was.rows was.intent

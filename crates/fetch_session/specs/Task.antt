@@ -90,8 +90,8 @@ abbrev pub replies_of : List Done → List WholeReply
 replies_of dones = flat_map (λ (d : Done). d.replies) dones
 
 -- the ids that were marked
-abbrev pub ids_of : List Done → List (List ℕ)
-ids_of dones = flat_map (λ (d : Done). ids_in d.task) dones
+abbrev pub marked_ids : List Done → List (List ℕ)
+marked_ids dones = flat_map (λ (d : Done). ids_in d.task) dones
 
 -- the file of a text stored for the account
 abbrev pub file_from : List ℕ → List ℕ → WholeReply → File
@@ -110,8 +110,8 @@ abbrev pub texts_in : Task → List WholeReply → List (List ℕ)
 texts_in (stores number uid) replies = map (λ (reply : WholeReply). body_text reply.body) replies
 texts_in _ replies = []
 
-abbrev pub texts_of : List Done → List (List ℕ)
-texts_of dones = flat_map (λ (d : Done). texts_in d.task d.replies) dones
+abbrev pub done_texts : List Done → List (List ℕ)
+done_texts dones = flat_map (λ (d : Done). texts_in d.task d.replies) dones
 
 -- the line of a text that was stored, and of one that was held
 abbrev pub delivered : ℕ → WholeReply → ReportLine
@@ -128,5 +128,5 @@ lines_in (rereads number uid) replies = map (held number) replies
 lines_in (deletes number) replies = Deleted number ∷ []
 lines_in (says turn) replies = []
 
-abbrev pub lines_of : List Done → List ReportLine
-lines_of dones = flat_map (λ (d : Done). lines_in d.task d.replies) dones
+abbrev pub report_lines : List Done → List ReportLine
+report_lines dones = flat_map (λ (d : Done). lines_in d.task d.replies) dones

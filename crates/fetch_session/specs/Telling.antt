@@ -44,12 +44,12 @@ abbrev pub date_of : ℕ → Date
 date_of second = date_of_days (days_of second) (day_within (days_of second % 146097))
 
 -- year, month and day, the last two of two digits
-abbrev pub text_of : Date → List ℕ
-text_of date = decimal date.year ++ (codes "-" ++ (decimal (date.month / 10) ++ (decimal (date.month % 10)
+abbrev pub date_digits : Date → List ℕ
+date_digits date = decimal date.year ++ (codes "-" ++ (decimal (date.month / 10) ++ (decimal (date.month % 10)
     ++ (codes "-" ++ (decimal (date.day / 10) ++ decimal (date.day % 10))))))
 
 abbrev pub date_text : ℕ → List ℕ
-date_text second = text_of (date_of second)
+date_text second = date_digits (date_of second)
 
 -- ---- lines
 
@@ -79,17 +79,17 @@ is_fetch Fetched = true
 is_fetch FetchedAndDeleted = true
 is_fetch _ = false
 
-abbrev pub is_deletion : Fate → Bool
-is_deletion Deleted = true
-is_deletion FetchedAndDeleted = true
-is_deletion _ = false
+abbrev pub is_deletion_fate : Fate → Bool
+is_deletion_fate Deleted = true
+is_deletion_fate FetchedAndDeleted = true
+is_deletion_fate _ = false
 
 abbrev pub fetched_in : List MessagePreview → ℕ
 fetched_in message_previews = count_by (λ (message_preview : MessagePreview). is_fetch message_preview.fate)
     message_previews
 
-abbrev pub deleted_in : List MessagePreview → ℕ
-deleted_in message_previews = count_by (λ (message_preview : MessagePreview). is_deletion message_preview.fate)
+abbrev pub deleted_ahead : List MessagePreview → ℕ
+deleted_ahead message_previews = count_by (λ (message_preview : MessagePreview). is_deletion_fate message_preview.fate)
     message_previews
 
 -- the last line
@@ -99,7 +99,7 @@ counts_text total fetched deleted = decimal fetched ++ (codes " of " ++ (decimal
 
 abbrev pub counts : Preview → List ℕ
 counts preview = counts_text preview.total (fetched_in preview.message_previews.items)
-    (deleted_in preview.message_previews.items)
+    (deleted_ahead preview.message_previews.items)
 
 -- what a run would do, each line ended by LF
 abbrev pub preview_text : Preview → Settings → List ℕ

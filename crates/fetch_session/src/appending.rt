@@ -11,10 +11,10 @@ ghost use Rattle.pop3_wire.specs.Link.{WhereSound};
 ghost use Rattle.pop3_wire.specs.Bodies.{items_of};
 ghost use Rattle.pop3_wire.specs.Place.{Place};
 ghost use Rattle.pop3_wire.specs.declared.unstuffer.Spot.TheVariants.{Done};
-ghost use Rattle.fetch_session.specs.Mbox.{AppendsText, HoldsText, IsStoreFault};
+ghost use Rattle.fetch_session.specs.Mbox.{AppendsText, TakesText, IsStoreFault};
 ghost use Rattle.mail_store.specs.Durable.{IsSure, MayLeave};
 ghost use Rattle.mail_store.specs.Power.{KeepsWhole};
-ghost use Rattle.fetch_session.specs.Lasting.{IsSafe, RowsStillLast};
+ghost use Rattle.fetch_session.specs.Lasting.{IsSafeFile, RowsStillLast};
 ghost use Rattle.fetch_session.specs.Parts.{KeepsLedger, KeepsLink, KeepsRecord, IsWritten};
 ghost use Rattle.fetch_session.specs.Record.{Steady};
 ghost use Rattle.fetch_session.specs.Refusal.{RefusesTillCut, TookTillCut};
@@ -46,7 +46,7 @@ fn read_text<W: Wire>(
     ensures counted { RefusesTillCut (link_of W.Wire client.old) result (link_of W.Wire client.new) }
     ensures holds { WhereSound W.sound W.leads_to client.old.wire.now client.new.wire.now
         ((number : ℕ) (start : Place) → Fetching (retr number) start (place_of W.Wire client.old) body []
-        → HoldsText number start (items_of result) (place_of W.Wire client.new)) }
+        → TakesText number start (items_of result) (place_of W.Wire client.new)) }
 {
     let mut rest = body;
     let mut text = Vec::new(alloc);
@@ -83,8 +83,8 @@ fn append_text<F: FlatFile, H: BuildHasher>(
         → KeepsWhole (F.stored mbox.old).content (MayLeave (F.disk mbox.old)) (MayLeave (F.disk mbox.new))
         × RowsStillLast F.FlatFile ledger.old.seen.rows ledger.old.file ledger.new.file }
     ensures lasts { F.sound mbox.new → F.sound ledger.new.file → IsSure (F.disk mbox.old).now
-        → IsSafe F.FlatFile ledger.old.file
-        → OnOk result (IsSafe F.FlatFile mbox.new × IsSafe F.FlatFile ledger.new.file) }
+        → IsSafeFile F.FlatFile ledger.old.file
+        → OnOk result (IsSafeFile F.FlatFile mbox.new × IsSafeFile F.FlatFile ledger.new.file) }
 {
     let edges = mbox.edges()?;
     let len = entry_len(&text);
@@ -127,8 +127,8 @@ pub(crate) fn take_into_mbox<W: Wire, F: FlatFile, H: BuildHasher>(
         → KeepsWhole (F.stored mbox.old).content (MayLeave (F.disk mbox.old)) (MayLeave (F.disk mbox.new))
         × RowsStillLast F.FlatFile ledger.old.seen.rows ledger.old.file ledger.new.file }
     ensures lasts { F.sound mbox.new → F.sound ledger.new.file → IsSure (F.disk mbox.old).now
-        → IsSafe F.FlatFile ledger.old.file
-        → OnOk result (IsSafe F.FlatFile mbox.new × IsSafe F.FlatFile ledger.new.file) }
+        → IsSafeFile F.FlatFile ledger.old.file
+        → OnOk result (IsSafeFile F.FlatFile mbox.new × IsSafeFile F.FlatFile ledger.new.file) }
 {
     conversations_are_paced();
     marked_keeps_rows();

@@ -1,10 +1,10 @@
 //! The end of a session whose planned steps were done.
 ghost use Rattle.std.specs.Prelude.{◌≡◌, ◌∷◌, ℕ, List, [], IfOk, OnOk};
 ghost use Rattle.pop3_client.specs.Turns.{quit};
-ghost use Rattle.fetch_session.specs.Mbox.{IsTold, LooksAgain, went};
+ghost use Rattle.fetch_session.specs.Mbox.{IsToldOfMbox, LooksAgain, went};
 ghost use Rattle.fetch_session.specs.Refusal.{TookWithTail, tail_limit};
 ghost use Rattle.fetch_session.specs.Lasting.{IsSafeStore, KeepsMboxIn};
-ghost use Rattle.fetch_session.specs.Parts.{RunsTasks, KeepsLink, KeepsStore, IsReady};
+ghost use Rattle.fetch_session.specs.Parts.{RunsTasks, KeepsLink, KeepsStore, IsReadyForNext};
 ghost use Rattle.fetch_session.specs.Target.{is_sound, kind_of, stores_of};
 ghost use Rattle.fetch_session.specs.Task.{says};
 
@@ -47,9 +47,9 @@ pub fn end<W: Wire, D: MaildirDisk, F: FlatFile, H: BuildHasher>(
     client: &mut Client<'_, W>,
     work: &mut Work<D, F, H>,
 ) -> Result<Option<Edges>, Cut>
-    requires { IsReady D.MaildirDisk F.FlatFile work.old }
+    requires { IsReadyForNext D.MaildirDisk F.FlatFile work.old }
     ensures told { IfOk result (λ told. is_sound D.MaildirDisk F.FlatFile work.new.store
-        → IsTold (kind_of work.old.store) work.old.ledger.lines.items
+        → IsToldOfMbox (kind_of work.old.store) work.old.ledger.lines.items
         (stores_of D.MaildirDisk F.FlatFile work.old.store) told) }
     ensures link { KeepsLink W.Wire (TookWithTail tail_limit) client.old (went result) client.new }
     ensures store { KeepsStore D.MaildirDisk F.FlatFile 0 work.old work.new }

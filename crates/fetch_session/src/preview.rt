@@ -8,7 +8,7 @@ ghost use Rattle.fetch_rules.specs.Record.{merged};
 ghost use Rattle.fetch_session.specs.Account.{digits_of};
 ghost use Rattle.fetch_session.specs.Parts.{KeepsBegun};
 ghost use Rattle.fetch_session.specs.Pretend.{JudgesMbox, LooksAtMbox, LooksIn, PreviewsWork, Pretends};
-ghost use Rattle.fetch_session.specs.Pretend.{PreviewsSession, previews_of, told_in, told_nothing};
+ghost use Rattle.fetch_session.specs.Pretend.{PreviewsSession, previews_of, preview_told, told_nothing};
 ghost use Rattle.fetch_session.specs.Scene.{WhereAllSound};
 ghost use Rattle.fetch_session.specs.Session.{keeping};
 ghost use Rattle.fetch_session.specs.Target.{AfterTakingIn, NoneBegun, is_sound, kind_of, stores_of};
@@ -156,7 +156,7 @@ fn preview_session<W: Wire, D: MaildirDisk, F: FlatFile, H: BuildHasher>(
 ) -> Result<(), Cut>
     requires valid { IsValid terms.settings.now }
     requires none_begun { NoneBegun D.MaildirDisk F.FlatFile work.old.store }
-    requires nothing { told_in preview.old ≡ told_nothing 0 }
+    requires nothing { preview_told preview.old ≡ told_nothing 0 }
     ensures link { HasSameLink client.old client.new }
     ensures kind { kind_of work.new.store ≡ kind_of work.old.store }
     ensures outcome { preview.new.outcome ≡ preview.old.outcome }
@@ -171,7 +171,7 @@ fn preview_session<W: Wire, D: MaildirDisk, F: FlatFile, H: BuildHasher>(
         (target_of work.old.store terms.entry.account.now) terms.entry.now (place_of W.Wire client.old)
         (keeping left (F.stored work.old.ledger.file)) result (place_of W.Wire client.new)
         (keeping (stores_of D.MaildirDisk F.FlatFile work.new.store) (F.stored work.new.ledger.file))
-        (told_in preview.new))) }
+        (preview_told preview.new))) }
 {
     let listing = enter(work.ledger.alloc, terms.settings, client)?;
     preview.total = listing.len();

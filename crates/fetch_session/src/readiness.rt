@@ -10,12 +10,13 @@ ghost use Rattle.fetch_session.specs.Mbox.{AsksMbox, SettlesIntent};
 ghost use Rattle.mail_store.specs.Durable.{IsSure, MayLeave};
 ghost use Rattle.mail_store.specs.Maildir.{AfterTaking, AllNamed};
 ghost use Rattle.mail_store.specs.Power.{LeavesNoMore};
-ghost use Rattle.fetch_session.specs.Lasting.{AreSure, IsSafe, IsSafeStore, LeavesMerged, ReadiesAndLasts, is_sure};
+ghost use Rattle.fetch_session.specs.Lasting.{AreSure, IsSafeFile, IsSafeStore, LeavesMerged, ReadiesAndLasts, is_sure};
 ghost use Rattle.fetch_session.specs.Parts.{KeepsBegun};
-ghost use Rattle.fetch_session.specs.Target.{AfterTakingIn, flags_in, is_sound, kind_of, stores_of, target_of};
+ghost use Rattle.fetch_session.specs.Target.{AfterTakingIn, held_flags, is_sound, kind_of, stores_of, target_of};
 ghost use Rattle.fetch_session.specs.Readiness.{AreAsHeld, ChecksStore, FindsHeld, FindsIn, HasPlan, IsIdle, Rests};
 ghost use Rattle.fetch_session.specs.Readiness.{are_undelivered, flags_found};
-ghost use Rattle.fetch_session.specs.Record.{Gets, Reads, ReadAs, Merges, IsLineFault, IsSecured, Steady, bytes_in};
+ghost use Rattle.fetch_session.specs.Record.{Gets, ReadsRecord, FileReadAs, Merges, IsLineFault, IsSecured, Steady};
+ghost use Rattle.fetch_session.specs.Record.{bytes_in};
 ghost use Rattle.fetch_session.specs.Record.{record_state_in};
 
 use crate::account::Store;
@@ -86,7 +87,7 @@ pub(crate) fn read<F: FlatFile, H: BuildHasher>(
     seen: &mut Seen<H>,
 ) -> Result<bool, Fault>
     ensures reads { F.sound file.new → F.sound file.old
-        × Reads (F.stored file.old) seen.new result (F.stored file.new) }
+        × ReadsRecord (F.stored file.old) seen.new result (F.stored file.new) }
     ensures durable { F.sound file.new → F.disk file.new ≡ F.disk file.old }
     ensures is_record { OnOk result (IsRecord seen.new.rows) }
 {
@@ -101,7 +102,7 @@ pub(crate) fn read<F: FlatFile, H: BuildHasher>(
 fn secure<F: FlatFile>(file: &mut F) -> Result<(), Fault>
     ensures same { F.sound file.new → F.sound file.old × IsSecured (F.stored file.old) result (F.stored file.new) }
     ensures keeps { F.sound file.new → LeavesNoMore (MayLeave (F.disk file.old)) (MayLeave (F.disk file.new)) }
-    ensures lasts { F.sound file.new → IsSure (F.disk file.old).now → OnOk result (IsSafe F.FlatFile file.new) }
+    ensures lasts { F.sound file.new → IsSure (F.disk file.old).now → OnOk result (IsSafeFile F.FlatFile file.new) }
 {
     match file.edges() {
         Ok(_) => Ok(()),
@@ -177,7 +178,7 @@ fn ask_mbox<F: FlatFile, H: BuildHasher>(
     ensures length { IfOk result (λ found. length found.held.items ≡ length listing.now) }
     ensures asks { F.sound mbox.new → F.sound mbox.old
         × AsksMbox seen.now.intent (F.stored mbox.old) listing.now result (F.stored mbox.new) }
-    ensures lasts { F.sound mbox.new → IsSure (F.disk mbox.old).now → OnOk result (IsSafe F.FlatFile mbox.new) }
+    ensures lasts { F.sound mbox.new → IsSure (F.disk mbox.old).now → OnOk result (IsSafeFile F.FlatFile mbox.new) }
 {
     let stored = settle(alloc, mbox, seen, listing)?;
     check_mbox(mbox)?;
@@ -186,8 +187,8 @@ fn ask_mbox<F: FlatFile, H: BuildHasher>(
 }
 
 /// Asks the store which messages it holds. In a Maildir only those are looked up that the record doesn't
-/// show as delivered, unless all are to be read, and the files of those are flushed. An open intent of the record is settled in the mboxrd
-/// file; in a Maildir it can't be, and counts as one without an entry.
+/// show as delivered, unless all are to be read, and the files of those are flushed. An open intent of the record is
+/// settled in the mboxrd file; in a Maildir it can't be, and counts as one without an entry.
 fn ask_store<D: MaildirDisk, F: FlatFile, H: BuildHasher>(
     alloc: Global,
     store: &mut Store<D, F>,
@@ -232,7 +233,7 @@ fn take_in<F: FlatFile, H: BuildHasher>(
     is_new: bool,
 ) -> Result<(), Fault>
     requires lengths { length found.now.held.items ≡ length listing.now }
-    requires stands { F.sound file.old → ReadAs (F.stored file.old).content seen.old }
+    requires stands { F.sound file.old → FileReadAs (F.stored file.old).content seen.old }
     requires begun { F.sound file.old → is_new ≡ false → bytes_in (F.stored file.old).content ≢ [] }
     ensures rows { OnOk result
         (seen.new.rows ≡ merged (closed_rows found.now.stored seen.old.rows seen.old.intent) listing.now
@@ -245,10 +246,10 @@ fn take_in<F: FlatFile, H: BuildHasher>(
         (merged (closed_rows found.now.stored seen.old.rows seen.old.intent) listing.now found.now.held.items now))
         result
         (F.stored file.new) }
-    ensures lasts { F.sound file.new → IsSafe F.FlatFile file.old → LeavesMerged F.FlatFile seen.old.rows
+    ensures lasts { F.sound file.new → IsSafeFile F.FlatFile file.old → LeavesMerged F.FlatFile seen.old.rows
         (merged (closed_rows found.now.stored seen.old.rows seen.old.intent) listing.now found.now.held.items now)
         file.old file.new
-        × OnOk result (IsSafe F.FlatFile file.new) }
+        × OnOk result (IsSafeFile F.FlatFile file.new) }
 {
     seen.close(found.stored);
     let group = seen.merge_rows(listing, &found.held, now)?;
@@ -327,7 +328,7 @@ fn stay_idle<D: MaildirDisk, F: FlatFile, H: BuildHasher>(
     steps: Vec<Step>,
 ) -> Result<Ready, Fault>
     requires stands { F.sound work.old.ledger.file
-        → ReadAs (F.stored work.old.ledger.file).content work.old.ledger.seen }
+        → FileReadAs (F.stored work.old.ledger.file).content work.old.ledger.seen }
     requires idle { IsIdle terms.settings.now work.old.ledger.seen listing.now terms.now steps.items }
     ensures store { KeepsBegun D.MaildirDisk F.FlatFile work.old work.new }
     ensures steps { IfOk result (λ ready. ready.steps.items ≡ steps.items) }
@@ -361,7 +362,7 @@ fn prepare_by_store<D: MaildirDisk, F: FlatFile, H: BuildHasher>(
     is_new: bool,
 ) -> Result<Ready, Fault>
     requires stands { F.sound work.old.ledger.file
-        → ReadAs (F.stored work.old.ledger.file).content work.old.ledger.seen }
+        → FileReadAs (F.stored work.old.ledger.file).content work.old.ledger.seen }
     requires begun { F.sound work.old.ledger.file → is_new ≡ false
         → bytes_in (F.stored work.old.ledger.file).content ≢ [] }
     requires is_record { IsRecord work.old.ledger.seen.rows }
@@ -370,7 +371,7 @@ fn prepare_by_store<D: MaildirDisk, F: FlatFile, H: BuildHasher>(
         (λ ready. HasPlan terms.entry.settings.now listing.now terms.entry.now ready work.new.ledger.seen) }
     ensures held { is_sound D.MaildirDisk F.FlatFile work.new.store → IfOk result (λ ready.
         AreAsHeld ready.steps.items listing.now ready.held.items
-        (flags_in (target_of work.old.store terms.entry.account.now)
+        (held_flags (target_of work.old.store terms.entry.account.now)
         (stores_of D.MaildirDisk F.FlatFile work.new.store) listing.now)
         × AllNamed (stores_of D.MaildirDisk F.FlatFile work.new.store).maildir.files) }
     ensures steady { F.sound work.new.ledger.file → F.sound work.old.ledger.file
@@ -379,7 +380,7 @@ fn prepare_by_store<D: MaildirDisk, F: FlatFile, H: BuildHasher>(
         → is_sound D.MaildirDisk F.FlatFile work.old.store × F.sound work.old.ledger.file
         × AfterTakingIn (stores_of D.MaildirDisk F.FlatFile work.old.store)
         (λ left. ReadiesAndLasts D.MaildirDisk F.FlatFile
-        (is_sure F.FlatFile work.old.store × IsSafe F.FlatFile work.old.ledger.file) work.old.ledger.file
+        (is_sure F.FlatFile work.old.store × IsSafeFile F.FlatFile work.old.ledger.file) work.old.ledger.file
         terms.entry.settings.now (target_of work.old.store terms.entry.account.now) listing.now terms.entry.now
         left result
         work.new.ledger.seen.rows work.new.store work.new.ledger.file) }
@@ -415,7 +416,7 @@ pub fn prepare<D: MaildirDisk, F: FlatFile, H: BuildHasher>(
     ensures held { is_sound D.MaildirDisk F.FlatFile work.new.store
         → IfOk result (λ ready. AreAsHeld ready.steps.items listing.now
         ready.held.items
-        (flags_in (target_of work.old.store terms.entry.account.now)
+        (held_flags (target_of work.old.store terms.entry.account.now)
         (stores_of D.MaildirDisk F.FlatFile work.new.store) listing.now)) }
     ensures named { is_sound D.MaildirDisk F.FlatFile work.new.store
         → IfOk result (λ ready. All IsQuiet ready.steps.items

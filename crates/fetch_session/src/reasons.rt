@@ -28,7 +28,8 @@ fn plan_by<H: BuildHasher>(
     steps: &[Step],
 ) -> Result<Vec<MessagePreview>, AllocError>
     requires all_steps { length steps.now ≡ length listing.now }
-    ensures { IfOk result (λ told. told.items ≡ message_previews terms.entry.settings.now seen.now.rows terms.entry.now 0
+    ensures { IfOk result (λ told. told.items ≡ message_previews terms.entry.settings.now
+        seen.now.rows terms.entry.now 0
         steps.now listing.now (none_held listing.now)) }
 {
     let held = vec![in alloc; false; listing.len() as usize]?;

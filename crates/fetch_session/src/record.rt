@@ -6,10 +6,10 @@ ghost use Rattle.fetch_rules.specs.Record.{RecordState, Row, has_row, none_open,
 ghost use Rattle.fetch_rules.specs.RecordFile.{Two, file_of};
 ghost use Rattle.fetch_rules.specs.RecordMeaning.{Means, Rows};
 ghost use Rattle.fetch_rules.specs.RecordGrowth.{Grows};
-ghost use Rattle.fetch_session.specs.Record.{Writes, Saves, StandsTill, Steady, TakesBack, TellsSize, bytes_in};
+ghost use Rattle.fetch_session.specs.Record.{WritesRecord, Saves, StandsTill, Steady, TakesBack, TellsSize, bytes_in};
 ghost use Rattle.fetch_session.specs.Record.{intent_at, record_state_in, with_open};
 ghost use Rattle.fetch_session.specs.Mbox.{went};
-ghost use Rattle.fetch_session.specs.Lasting.{AreLeft, IsLeft, IsSafe, RowsStillLast, Leaves, LeavesLeft};
+ghost use Rattle.fetch_session.specs.Lasting.{AreLeft, IsRecordLeft, IsSafeFile, RowsStillLast, LeavesFile, LeavesLeft};
 ghost use Rattle.mail_store.specs.Durable.{IsSure, MayLeave};
 ghost use Rattle.mail_store.specs.FlatFile.{HasBytes};
 ghost use Rattle.mail_store.specs.Power.{LeavesEither, LeavesNoMore};
@@ -24,10 +24,10 @@ pub(crate) fn save<F: FlatFile, H: BuildHasher>(file: &mut F, seen: &Seen<H>) ->
     requires closed { seen.now.intent ≡ None }
     ensures stands { Means (file_of seen.now.rows seen.now.intent) (Rows Two seen.now.rows seen.now.intent false) }
     ensures saves { F.sound file.new → F.sound file.old
-        × Writes (F.stored file.old) (record_state_in seen.now) result (F.stored file.new) }
+        × WritesRecord (F.stored file.old) (record_state_in seen.now) result (F.stored file.new) }
     ensures leaves { F.sound file.new
         → LeavesEither (MayLeave (F.disk file.old)) (file_of seen.now.rows None) (MayLeave (F.disk file.new)) }
-    ensures lasts { F.sound file.new → OnOk result (IsSafe F.FlatFile file.new) }
+    ensures lasts { F.sound file.new → OnOk result (IsSafeFile F.FlatFile file.new) }
 {
     bytes_stand();
     let bytes = seen.bytes()?;
@@ -46,10 +46,10 @@ pub(crate) fn grow<F: FlatFile>(file: &mut F, group: &[u8]) -> Result<(), Fault>
     ensures appends { F.sound file.new → OnOk result
         (bytes_in (F.stored file.new).content ≡ bytes_in (F.stored file.old).content ++ group.now) }
     ensures keeps { F.sound file.new → ((rows : List Row) → RowsStillLast F.FlatFile rows file.old file.new) }
-    ensures lasts { F.sound file.new → IsSafe F.FlatFile file.old → OnOk result (IsSafe F.FlatFile file.new) }
-    ensures leaves { F.sound file.new → IsSafe F.FlatFile file.old
+    ensures lasts { F.sound file.new → IsSafeFile F.FlatFile file.old → OnOk result (IsSafeFile F.FlatFile file.new) }
+    ensures leaves { F.sound file.new → IsSafeFile F.FlatFile file.old
         → ((was : RecordState) → Steady (F.stored file.old).content was
-        → Leaves F.FlatFile file.new (IsLeft was group.now)
+        → LeavesFile F.FlatFile file.new (IsRecordLeft was group.now)
         × LeavesLeft F.FlatFile was group.now file.old file.new) }
 {
     appended_counts();
@@ -68,7 +68,7 @@ fn measure<F: FlatFile>(file: &mut F) -> Result<u64, Fault>
     requires begun { F.sound file.old → bytes_in (F.stored file.old).content ≢ [] }
     ensures size { F.sound file.new → F.sound file.old × TellsSize (F.stored file.old) result (F.stored file.new) }
     ensures keeps { F.sound file.new → LeavesNoMore (MayLeave (F.disk file.old)) (MayLeave (F.disk file.new)) }
-    ensures lasts { F.sound file.new → IsSure (F.disk file.old).now → OnOk result (IsSafe F.FlatFile file.new) }
+    ensures lasts { F.sound file.new → IsSure (F.disk file.old).now → OnOk result (IsSafeFile F.FlatFile file.new) }
 {
     match file.edges() {
         Ok(edges) => Ok(edges.size),
@@ -93,16 +93,17 @@ pub(crate) fn intend<F: FlatFile, H: BuildHasher>(
     ensures rows { seen.new.rows ≡ seen.old.rows }
     ensures opened { OnOk result (seen.new.intent ≡ Some (intent_at uid.now start len)) }
     ensures steady { F.sound file.new → F.sound file.old
-        × IfOk result (λ size. Steady (F.stored file.new).content (with_open seen.old.rows (intent_at uid.now start len))
+        × IfOk result (λ size. Steady (F.stored file.new).content
+        (with_open seen.old.rows (intent_at uid.now start len))
         × StandsTill (F.stored file.new) size seen.old.rows) }
     ensures saves { F.sound file.new → F.sound file.old
         × Saves (F.stored file.old) (none_open seen.old.rows)
         (with_open seen.old.rows (intent_at uid.now start len)) (went result)
         (F.stored file.new) }
     ensures keeps { F.sound file.new → ((rows : List Row) → RowsStillLast F.FlatFile rows file.old file.new)
-        × (IsSafe F.FlatFile file.old
-        → ((others : List Row) → Leaves F.FlatFile file.new (AreLeft seen.old.rows others))) }
-    ensures lasts { F.sound file.new → IsSafe F.FlatFile file.old → OnOk result (IsSafe F.FlatFile file.new) }
+        × (IsSafeFile F.FlatFile file.old
+        → ((others : List Row) → LeavesFile F.FlatFile file.new (AreLeft seen.old.rows others))) }
+    ensures lasts { F.sound file.new → IsSafeFile F.FlatFile file.old → OnOk result (IsSafeFile F.FlatFile file.new) }
 {
     let line = seen.intend(uid, start, len)?;
     let size = measure(file)?;
@@ -119,9 +120,9 @@ pub(crate) fn take_back<F: FlatFile>(file: &mut F, size: u64)
         → TakesBack (F.stored file.old) was (F.stored file.new)) }
     ensures keeps { F.sound file.new → ((rows : List Row) → StandsTill (F.stored file.old) size rows
         → RowsStillLast F.FlatFile rows file.old file.new) }
-    ensures leaves { F.sound file.new → IsSafe F.FlatFile file.old
+    ensures leaves { F.sound file.new → IsSafeFile F.FlatFile file.old
         → ((rows others : List Row) → StandsTill (F.stored file.old) size rows
-        → Leaves F.FlatFile file.old (AreLeft rows others) → Leaves F.FlatFile file.new (AreLeft rows others)) }
+        → LeavesFile F.FlatFile file.old (AreLeft rows others) → LeavesFile F.FlatFile file.new (AreLeft rows others)) }
 {
     let _ = file.cut_to(size);
 }
@@ -143,9 +144,9 @@ pub(crate) fn remember<F: FlatFile, H: BuildHasher>(
         × Saves (F.stored file.old) (record_state_in seen.old) (none_open (marked seen.old.rows uid.now)) result
         (F.stored file.new) }
     ensures keeps { F.sound file.new → ((rows : List Row) → RowsStillLast F.FlatFile rows file.old file.new)
-        × (IsSafe F.FlatFile file.old
-        → Leaves F.FlatFile file.new (AreLeft seen.old.rows (marked seen.old.rows uid.now))) }
-    ensures lasts { F.sound file.new → IsSafe F.FlatFile file.old → OnOk result (IsSafe F.FlatFile file.new) }
+        × (IsSafeFile F.FlatFile file.old
+        → LeavesFile F.FlatFile file.new (AreLeft seen.old.rows (marked seen.old.rows uid.now))) }
+    ensures lasts { F.sound file.new → IsSafeFile F.FlatFile file.old → OnOk result (IsSafeFile F.FlatFile file.new) }
 {
     let group = seen.mark_rows(uid)?;
     grow(file, &group)

@@ -3,7 +3,7 @@ ghost use Rattle.std.specs.Prelude.{◌≡◌, ◌∷◌, [], List, length};
 ghost use Rattle.fetch_rules.specs.Record.{Row};
 ghost use Rattle.fetch_session.specs.Refusal.{TookTillCut};
 ghost use Rattle.fetch_session.specs.Parts.{DoesTasks, RunsTasks, IsReadyFor, KeepsLink, KeepsSession, task_of};
-ghost use Rattle.fetch_session.specs.Report.{Adds, HasRoom};
+ghost use Rattle.fetch_session.specs.Report.{AddsLines, HasRoom};
 ghost use Rattle.fetch_session.specs.Scene.{scene, TakesTask};
 ghost use Rattle.fetch_session.specs.Target.{Stores, Target};
 ghost use Rattle.fetch_session.specs.Task.{deletes, deleting, fetching, stores, tasks_planned};
@@ -85,7 +85,7 @@ fn delete<W: Wire>(
 ) -> Result<(), Cut>
     requires room { HasRoom lines.old 1 }
     ensures link { KeepsLink W.Wire (TookTillCut (most (dele number))) client.old result client.new }
-    ensures few { Adds lines.old 1 lines.new }
+    ensures few { AddsLines lines.old 1 lines.new }
     ensures deletes { (target : Target) (store : Stores) (file : Stored) (rows : List Row)
         → WhereSound W.sound W.leads_to client.old.wire.now client.new.wire.now
         (TakesTask target (deletes number)

@@ -11,12 +11,13 @@ ghost use Rattle.fetch_rules.specs.Record.{Row};
 ghost use Rattle.mail_store.specs.FlatFile.{Stored};
 ghost use Rattle.mail_store.specs.FileName.{HasRoomForSize, IsAccountText, is_held, sized, stem_of};
 ghost use Rattle.mail_store.specs.Maildir.{AllNamed, IsThere};
-ghost use Rattle.fetch_session.specs.Lasting.{AreLeft, IsSafe, Leaves, OneDurable, RowsStillLast};
+ghost use Rattle.fetch_session.specs.Lasting.{AreLeft, IsSafeFile, LeavesFile, OneDurable, RowsStillLast};
 ghost use Rattle.fetch_session.specs.Parts.{KeepsLedger, KeepsLink, IsWritten};
 ghost use Rattle.fetch_session.specs.Refusal.{RefusesTillCut, TookTillCut};
-ghost use Rattle.fetch_session.specs.Report.{Adds, HasRoom};
+ghost use Rattle.fetch_session.specs.Report.{AddsLines, HasRoom};
 ghost use Rattle.fetch_session.specs.Scene.{scene, TakesTask, WhereAllSound};
-ghost use Rattle.fetch_session.specs.Store.{Ends, MayGain, PassesText, Puts, ReadsText, Starts, StoresText};
+ghost use Rattle.fetch_session.specs.Store.{EndsFile, MayGain, PassesText, PutsBytes, ReadsText, StartsFile};
+ghost use Rattle.fetch_session.specs.Store.{StoresText};
 ghost use Rattle.fetch_session.specs.Target.{AsFiles, Stores, Target, in_maildir};
 ghost use Rattle.fetch_session.specs.Task.{rereads, stores};
 
@@ -38,7 +39,7 @@ use std::vec::Vec;
 fn begin_file<D: MaildirDisk>(disk: &mut D, name: &str) -> Result<(), Fault>
     requires { D.sound disk.old → (D.maildir disk.old).begun ≡ None }
     ensures starts { D.sound disk.new → D.sound disk.old
-        × Starts (D.maildir disk.old) name.now result (D.maildir disk.new) }
+        × StartsFile (D.maildir disk.old) name.now result (D.maildir disk.new) }
 {
     match disk.begin(name) {
         Ok(()) => Ok(()),
@@ -52,7 +53,7 @@ fn begin_file<D: MaildirDisk>(disk: &mut D, name: &str) -> Result<(), Fault>
 fn put_piece<D: MaildirDisk>(disk: &mut D, bytes: &[u8]) -> Result<(), Fault>
     requires { D.sound disk.old → IsSome (D.maildir disk.old).begun }
     ensures puts { D.sound disk.new → D.sound disk.old
-        × Puts (D.maildir disk.old) bytes.now result (D.maildir disk.new) }
+        × PutsBytes (D.maildir disk.old) bytes.now result (D.maildir disk.new) }
 {
     if bytes.is_empty() {
         return Ok(());
@@ -73,7 +74,7 @@ fn settle_file<D: MaildirDisk>(disk: &mut D, stem: String, size: u64) -> Result<
     requires not_there { D.sound disk.old → IsThere (D.maildir disk.old) (sized (string_bytes stem) size) → ⊥ }
     requires named { D.sound disk.old → AllNamed (D.maildir disk.old).files }
     ensures ends { D.sound disk.new → D.sound disk.old
-        × Ends (D.maildir disk.old) (sized (string_bytes stem) size) result (D.maildir disk.new) }
+        × EndsFile (D.maildir disk.old) (sized (string_bytes stem) size) result (D.maildir disk.new) }
 {
     let mut name = stem;
     add_size(&mut name, size);
@@ -177,7 +178,7 @@ pub(crate) fn reread<W: Wire>(
 ) -> Result<(), Cut>
     requires room { HasRoom lines.old 1 }
     ensures link { KeepsLink W.Wire (TookTillCut (most (retr number))) client.old result client.new }
-    ensures few { Adds lines.old 1 lines.new }
+    ensures few { AddsLines lines.old 1 lines.new }
     ensures rereads { (target : Target) (uid : List ℕ) (store : Stores) (file : Stored) (rows : List Row)
         → WhereSound W.sound W.leads_to client.old.wire.now client.new.wire.now
         (TakesTask target (rereads number uid)
@@ -223,9 +224,9 @@ pub(crate) fn take_into_maildir<W: Wire, D: MaildirDisk, F: FlatFile, H: BuildHa
         ledger.new.lines.items)) }
     ensures keeps { F.sound ledger.new.file
         → ((rows : List Row) → RowsStillLast F.FlatFile rows ledger.old.file ledger.new.file) }
-    ensures lasts { D.sound disk.new → F.sound ledger.new.file → IsSafe F.FlatFile ledger.old.file
-        → OnOk result (IsSafe F.FlatFile ledger.new.file)
-        × OnErr result (Leaves F.FlatFile ledger.new.file (AreLeft ledger.old.seen.rows ledger.old.seen.rows)
+    ensures lasts { D.sound disk.new → F.sound ledger.new.file → IsSafeFile F.FlatFile ledger.old.file
+        → OnOk result (IsSafeFile F.FlatFile ledger.new.file)
+        × OnErr result (LeavesFile F.FlatFile ledger.new.file (AreLeft ledger.old.seen.rows ledger.old.seen.rows)
         ⊎ OneDurable (D.maildir disk.old) (D.maildir disk.new)) }
 {
     conversations_are_paced();

@@ -4,7 +4,7 @@ ghost use Rattle.pop3_client.specs.Client.{HasSameLink, CountsRefusals, place_of
 ghost use Rattle.pop3_wire.specs.Link.{WhereSound};
 ghost use Rattle.pop3_client.specs.Conversation.{Talks};
 ghost use Rattle.fetch_session.specs.Refusal.{RefusesNone, RefusesAtMostOne};
-ghost use Rattle.fetch_session.specs.Tail.{turns_in, tail, Drops, Left};
+ghost use Rattle.fetch_session.specs.Tail.{turns_of_tail, tail, Drops, Left};
 
 use crate::fault::{Cut, Fault};
 use pop3_client::{Asked, Client, ClientFault, conversations_are_paced, turns_join};
@@ -37,7 +37,7 @@ fn say_tail<W: Wire>(client: &mut Client<'_, W>, kind: Tail) -> Result<(), Clien
     ensures nothing { kind ≡ Tail.Nothing → result ≡ Ok tt }
     ensures still { kind ≡ Tail.Nothing → place_of W.Wire client.new ≡ place_of W.Wire client.old }
     ensures talks { WhereSound W.sound W.leads_to client.old.wire.now client.new.wire.now
-        (Talks (turns_in kind) (place_of W.Wire client.old) result (place_of W.Wire client.new)) }
+        (Talks (turns_of_tail kind) (place_of W.Wire client.old) result (place_of W.Wire client.new)) }
 {
     match kind {
         Tail::Nothing => Ok(()),

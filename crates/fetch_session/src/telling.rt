@@ -1,7 +1,7 @@
 //! The text of a preview. It contains nothing of a password.
 ghost use Rattle.std.specs.Prelude.{◌≡◌, IfOk};
 ghost use Rattle.std.specs.String.{string_bytes};
-ghost use Rattle.fetch_session.specs.Telling.{counts, date_of, date_text, due_text, deleted_in, fate_text};
+ghost use Rattle.fetch_session.specs.Telling.{counts, date_of, date_text, due_text, deleted_ahead, fate_text};
 ghost use Rattle.fetch_session.specs.Telling.{fetched_in, message_preview_text, preview_text};
 
 use crate::message_preview::{Fate, MessagePreview};
@@ -111,7 +111,7 @@ fn fetched_in(message_previews: &[MessagePreview]) -> usize
 
 /// How many messages would be deleted.
 fn deleted_in(message_previews: &[MessagePreview]) -> usize
-    ensures { result ≡ deleted_in message_previews.now }
+    ensures { result ≡ deleted_ahead message_previews.now }
 {
     message_previews
         .iter()

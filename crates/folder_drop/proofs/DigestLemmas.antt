@@ -15,4 +15,5 @@ unfolding encode_with
 visible_hex [] fits = refl
 visible_hex (byte ∷ bytes) fits =
     let low : byte < 256 = fits 0 in
-    and_from _ _ (digit (byte / 16) (omega (arith, low))) (and_from _ _ (digit (byte % 16) (omega arith)) (visible_hex bytes (λ i. fits (suc i))))
+    and_from _ _ (digit (byte / 16) (omega (arith, low)))
+    (and_from _ _ (digit (byte % 16) (omega arith)) (visible_hex bytes (λ i. fits (suc i))))

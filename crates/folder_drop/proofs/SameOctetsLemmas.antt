@@ -1,5 +1,6 @@
 -- What two readers show next tells whether they have the same octets left, or leaves it to the rest.
-use Rattle.std.proofs.Common.{◌≡◌, ◌≢◌, ◌≤◌, ◌++◌, ◌∷◌, ◌∙◌, ℕ, Bool, false, List, [], Option, Some, None, IfSome, take, drop, length, refl, ap, sym, take-take, rules}
+use Rattle.std.proofs.Common.{◌≡◌, ◌≢◌, ◌≤◌, ◌++◌, ◌∷◌, ◌∙◌, ℕ, Bool, false, List, [], Option, Some, None, IfSome, take}
+use Rattle.std.proofs.Common.{drop, length, refl, ap, sym, take-take, rules}
 use Rattle.std.proofs.lemmas.Bool.{false≢true}
 use Rattle.std.proofs.lemmas.Option.{none-some}
 use Rattle.std.specs.Io.{StartsWith}

@@ -11,12 +11,12 @@ use Rattle.mail_terms.specs.MaildirName.{base}
 use Rattle.pop3_server.specs.Maildrop.{max_count, max_size}
 use Rattle.folder_drop.specs.declared.folders_look.FoldersLook.{FoldersLook}
 use Rattle.folder_drop.specs.declared.listed_file.ListedFile.{ListedFile}
-use Rattle.folder_drop.specs.MaildirNames.{digest_length, IsKey, id_of}
-use Rattle.folder_drop.specs.RealMaildir.{id_of_name, names_of}
+use Rattle.folder_drop.specs.MaildirNames.{digest_length, IsIdKey, id_of}
+use Rattle.folder_drop.specs.RealMaildir.{id_of_name, listed_names}
 
 -- they have different ids, and keep the limits
 pub record AreMessages (files : List ListedFile) : Type 0 where
-  pub distinct : AreDistinct (map id_of_name (names_of files))
+  pub distinct : AreDistinct (map id_of_name (listed_names files))
   pub count : length files ≤ max_count
   pub sizes : All (λ (file : ListedFile). file.size ≤ max_size) files
 
@@ -34,7 +34,7 @@ abbrev pub IsBefore : List ℕ → List ℕ → Type 0
 IsBefore a b = slice_cmp nat_cmp a b ≡ Less
 
 abbrev pub bases_of : List ListedFile → List (List ℕ)
-bases_of files = map base (names_of files)
+bases_of files = map base (listed_names files)
 
 -- the set has each of these ids that is as long as a digest
 abbrev pub AreSeen : {Z S : Type 0} → HashSet (Vec ℕ Z) S → List (List ℕ) → Type 0
@@ -45,7 +45,7 @@ AreSeen {Z} {S} seen ids = (key : Vec ℕ Z) → Contains ids key.items → leng
 pub record AreListed {Z S : Type 0} (seen : HashSet (Vec ℕ Z) S) (files : List ListedFile) : Type 0 where
   pub messages : AreMessages files
   pub ascending : AllPairs IsBefore (bases_of files)
-  pub keys : AreSeen seen (map id_of_name (names_of files))
+  pub keys : AreSeen seen (map id_of_name (listed_names files))
 
 -- the base comes after that of the last of these files
 abbrev pub FollowsLast : List ListedFile → List ℕ → Type 0
@@ -58,8 +58,8 @@ IsUnseen seen None = Unit {0}
 IsUnseen seen (Some key) = contains same_key seen key ≡ false
 
 -- a file of this base may be listed next: the base comes after that of the last one, and no listed file has its id
-pub record IsNext {Z S : Type 0} (seen : HashSet (Vec ℕ Z) S) (files : List ListedFile) (key : Option (Vec ℕ Z))
+pub record MayBeListed {Z S : Type 0} (seen : HashSet (Vec ℕ Z) S) (files : List ListedFile) (key : Option (Vec ℕ Z))
     (name : List ℕ) : Type 0 where
   pub behind : FollowsLast files name
-  pub is_key : IsKey key (id_of name)
+  pub is_key : IsIdKey key (id_of name)
   pub unseen : IsUnseen seen key

@@ -19,6 +19,6 @@ abbrev pub digest_length : ℕ
 digest_length = 64
 
 -- the key is this id, if that is as long as a digest; ids of other lengths have none
-abbrev pub IsKey : {Z : Type 0} → Option (Vec ℕ Z) → List ℕ → Type 0
-IsKey None id = length id ≢ digest_length
-IsKey (Some key) id = (key.items ≡ id) × (length id ≡ digest_length)
+abbrev pub IsIdKey : {Z : Type 0} → Option (Vec ℕ Z) → List ℕ → Type 0
+IsIdKey None id = length id ≢ digest_length
+IsIdKey (Some key) id = (key.items ≡ id) × (length id ≡ digest_length)

@@ -4,7 +4,7 @@ use Rattle.folder_drop.specs.declared.listed_file.ListedFile.{ListedFile}
 use Rattle.pop3_server.specs.declared.maildrop.DropFault.{DropFault}
 use Rattle.mail_terms.specs.MaildirName.{base}
 use Rattle.folder_drop.specs.MaildirNames.{id_of}
-use Rattle.pop3_server.specs.Maildrop.{Listed, Mail}
+use Rattle.pop3_server.specs.Maildrop.{ListedMessage, DropMail}
 
 -- its path; the names of the files of the last listing that succeeded, by their places; and the two counts
 pub record RealMaildir : Type 0 where
@@ -14,26 +14,26 @@ pub record RealMaildir : Type 0 where
   pub removals : ℕ
 
 -- as a maildrop: nothing is known of its messages
-abbrev pub mail_of : RealMaildir → Mail
+abbrev pub mail_of : RealMaildir → DropMail
 mail_of maildir = record { slots = []; failures = maildir.failures; removals = maildir.removals }
 
-abbrev pub name_of : ListedFile → List ℕ
-name_of file = string_bytes file.name
+abbrev pub listed_name : ListedFile → List ℕ
+listed_name file = string_bytes file.name
 
-abbrev pub names_of : List ListedFile → List (List ℕ)
-names_of files = map name_of files
+abbrev pub listed_names : List ListedFile → List (List ℕ)
+listed_names files = map listed_name files
 
-abbrev pub uid_of : Listed → List ℕ
+abbrev pub uid_of : ListedMessage → List ℕ
 uid_of entry = entry.uid
 
 abbrev pub id_of_name : List ℕ → List ℕ
 id_of_name name = id_of (base name)
 
 -- each entry has the id of its file's name
-abbrev pub HaveIds : List Listed → List (List ℕ) → Type 0
+abbrev pub HaveIds : List ListedMessage → List (List ℕ) → Type 0
 HaveIds entries names = map uid_of entries ≡ map id_of_name names
 
 -- each place has the id of its file's name; after a fault each place has the file that it had
-abbrev pub ListsNames : {Z : Type 0} → RealMaildir → Result (Vec Listed Z) DropFault → RealMaildir → Type 0
+abbrev pub ListsNames : {Z : Type 0} → RealMaildir → Result (Vec ListedMessage Z) DropFault → RealMaildir → Type 0
 ListsNames old (Ok entries) new = HaveIds entries.items new.names
 ListsNames old (Err fault) new = new.names ≡ old.names

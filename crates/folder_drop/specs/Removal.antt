@@ -32,5 +32,5 @@ abbrev pub GoesWith : FileNumber → Namesake → Type 0
 GoesWith number file = (file.number ≡ number) ⊎ (file.is_copy ≡ true)
 
 -- the file is another one, and doesn't have its octets
-abbrev pub IsOther : FileNumber → Namesake → Type 0
-IsOther number file = (file.number ≢ number) × (file.is_copy ≡ false)
+abbrev pub IsOtherFile : FileNumber → Namesake → Type 0
+IsOtherFile number file = (file.number ≢ number) × (file.is_copy ≡ false)

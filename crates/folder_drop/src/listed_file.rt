@@ -3,7 +3,7 @@ ghost use Rattle.std.specs.Prelude.{◌≡◌, IsTrue, IfSome};
 ghost use Rattle.std.specs.String.{string_bytes};
 ghost use Rattle.mail_terms.specs.MaildirName.{base as base_of};
 ghost use Rattle.folder_drop.specs.CountedSizes.{WasCounted};
-ghost use Rattle.folder_drop.specs.RealMaildir.{name_of};
+ghost use Rattle.folder_drop.specs.RealMaildir.{listed_name};
 
 use crate::maildir_names::{Folder, PlacedFile, Stamp};
 use mail_terms::base;
@@ -52,7 +52,7 @@ impl ListedFile {
 
     /// The base of its name.
     pub fn base(&self) -> &str
-        ensures { result.now ≡ base_of (name_of self.now) }
+        ensures { result.now ≡ base_of (listed_name self.now) }
     {
         base(self.name.as_str())
     }

@@ -5,8 +5,8 @@ ghost use Rattle.folder_drop.specs.FoldersLook.{IsUnchanged};
 ghost use Rattle.mail_terms.specs.Distinct.{AreDistinct};
 ghost use Rattle.mail_terms.specs.MaildirName.{base as base_of};
 ghost use Rattle.pop3_server.specs.Maildrop.{max_size};
-ghost use Rattle.folder_drop.specs.Listing.{AreListed, FollowsLast, IsNext, IsUnseen};
-ghost use Rattle.folder_drop.specs.RealMaildir.{name_of, names_of, uid_of, HaveIds};
+ghost use Rattle.folder_drop.specs.Listing.{AreListed, FollowsLast, MayBeListed, IsUnseen};
+ghost use Rattle.folder_drop.specs.RealMaildir.{listed_name, listed_names, uid_of, HaveIds};
 
 use crate::folders_look::FoldersLook;
 use crate::listed_file::ListedFile;
@@ -66,7 +66,7 @@ impl Listing {
     pub fn entries(&self, alloc: Global) -> Result<Vec<Entry>, AllocError>
         ensures within { IfOk result (λ entries. vec_len entries ≤ MAX_COUNT) }
         ensures distinct { IfOk result (λ entries. AreDistinct (map uid_of entries.items)) }
-        ensures names { IfOk result (λ entries. HaveIds entries.items (names_of self.now.files)) }
+        ensures names { IfOk result (λ entries. HaveIds entries.items (listed_names self.now.files)) }
     {
         let mut entries = Vec::with_capacity(alloc, self.files.len())?;
         for file in self.files.as_slice() {
@@ -137,7 +137,7 @@ impl ListedFiles {
 
     /// Lists one more file.
     pub fn add(&mut self, long_id: Option<Vec<u8>>, file: ListedFile) -> Result<(), AllocError>
-        ensures { OnOk result (IsNext self.old.long_ids self.old.files.items long_id (base_of (name_of file))
+        ensures { OnOk result (MayBeListed self.old.long_ids self.old.files.items long_id (base_of (listed_name file))
             → vec_len self.old.files < MAX_COUNT → file.size ≤ max_size
             → AreListed self.old.long_ids self.old.files.items → AreListed self.new.long_ids self.new.files.items) }
     {

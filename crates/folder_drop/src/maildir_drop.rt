@@ -4,8 +4,8 @@ ghost use Rattle.std.specs.Prelude.{◌≡◌, ◌≤◌, ◌<◌, ◌+◌, ◌^
 ghost use Rattle.std.specs.String.{string_bytes};
 ghost use Rattle.mail_terms.specs.Distinct.{AreDistinct};
 ghost use Rattle.mail_terms.specs.FailureCount.{Tallies, counted_up, refuses};
-ghost use Rattle.pop3_server.specs.Maildrop.{is_refusal};
-ghost use Rattle.folder_drop.specs.RealMaildir.{RealMaildir, mail_of, names_of, uid_of, ListsNames};
+ghost use Rattle.pop3_server.specs.Maildrop.{is_drop_refusal};
+ghost use Rattle.folder_drop.specs.RealMaildir.{RealMaildir, mail_of, listed_names, uid_of, ListsNames};
 
 mod listing;
 mod texts;
@@ -58,7 +58,7 @@ impl<'a, R: Files + AllocGlobal + Clone + Drop> Model for MaildirDrop<'a, R> {
 
     ghost view = { λ d. record {
       path = d.folders;
-      names = names_of d.listing.files;
+      names = listed_names d.listing.files;
       failures = d.failures;
       removals = d.removals;
     } };
@@ -132,7 +132,7 @@ impl<'a, R: Files + Clock + RandomSource + AllocGlobal + Clone + Drop> MaildirDr
     /// refusal, which is counted.
     fn refuse(&mut self, error: io::Error) -> DropFault
         ensures others { self.new ≡ record self.old { failures = self.new.failures } }
-        ensures count { Tallies (is_refusal result) self.old.failures self.new.failures }
+        ensures count { Tallies (is_drop_refusal result) self.old.failures self.new.failures }
     {
         if error.kind() == ErrorKind::OutOfMemory {
             return DropFault::NoMemory;
@@ -151,7 +151,7 @@ impl<'a, R: Files + Clock + RandomSource + AllocGlobal + Clone + Drop> Maildrop
     fn entries(&mut self) -> Result<Vec<Entry>, DropFault>
         ensures within { IfOk result (λ entries. vec_len entries ≤ MAX_COUNT) }
         ensures distinct { IfOk result (λ entries. AreDistinct (map uid_of entries.items)) }
-        ensures tally { Tallies (refuses is_refusal result) self.old.failures self.new.failures }
+        ensures tally { Tallies (refuses is_drop_refusal result) self.old.failures self.new.failures }
         ensures removes_none { self.new.removals ≡ self.old.removals }
         ensures names { ListsNames self.old result self.new }
         ensures path { self.new.path ≡ self.old.path }
@@ -174,7 +174,7 @@ impl<'a, R: Files + Clock + RandomSource + AllocGlobal + Clone + Drop> Maildrop
     }
 
     fn text(&mut self, i: usize) -> Result<Vec<u8>, DropFault>
-        ensures tally { Tallies (refuses is_refusal result) self.old.failures self.new.failures }
+        ensures tally { Tallies (refuses is_drop_refusal result) self.old.failures self.new.failures }
         ensures others { self.new ≡ record self.old { failures = self.new.failures } }
     {
         if self.failures.is_full() {
@@ -190,7 +190,7 @@ impl<'a, R: Files + Clock + RandomSource + AllocGlobal + Clone + Drop> Maildrop
         ensures within { IfOk result (λ n. n ≤ length piece.new) }
         ensures countable { IfOk result (λ n. start + n < 2 ^ 64) }
         ensures later { 0 < start → IfErr result (λ e. e ≡ DropFault.Refused) }
-        ensures tally { Tallies (refuses is_refusal result) self.old.failures self.new.failures }
+        ensures tally { Tallies (refuses is_drop_refusal result) self.old.failures self.new.failures }
         ensures others { self.new ≡ record self.old { failures = self.new.failures } }
     {
         if self.failures.is_full() {
@@ -210,7 +210,7 @@ impl<'a, R: Files + Clock + RandomSource + AllocGlobal + Clone + Drop> Maildrop
 
     fn remove(&mut self, i: usize) -> Result<(), DropFault>
         ensures err { IfErr result (λ e. e ≡ DropFault.Refused) }
-        ensures tally { Tallies (refuses is_refusal result) self.old.failures self.new.failures }
+        ensures tally { Tallies (refuses is_drop_refusal result) self.old.failures self.new.failures }
         ensures asks { self.new.removals ≡ counted_up self.old.removals }
         ensures others { (self.new.path ≡ self.old.path) × (self.new.names ≡ self.old.names) }
     {

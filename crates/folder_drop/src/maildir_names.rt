@@ -4,7 +4,7 @@ ghost use Rattle.std.specs.List.{list_all};
 ghost use Rattle.std.specs.String.{string_bytes};
 ghost use Rattle.mail_terms.specs.MaildirName.{base as base_of};
 ghost use Rattle.mail_terms.specs.UniqueId.{is_legal_id, is_id_byte};
-ghost use Rattle.folder_drop.specs.MaildirNames.{folder_name, id_of, IsKey};
+ghost use Rattle.folder_drop.specs.MaildirNames.{folder_name, id_of, IsIdKey};
 ghost use Rattle.hex.specs.Hex.{encode_lower};
 ghost use Rattle.sha2.specs.Sha256.{sha256};
 
@@ -117,7 +117,7 @@ pub fn unique_id(alloc: Global, base: &[u8]) -> Result<Vec<u8>, AllocError>
 /// The unique-id of a base if it is as long as a digest: it may be that of another base too, which any other id
 /// can't be.
 pub fn long_id(alloc: Global, base: &[u8]) -> Result<Option<Vec<u8>>, AllocError>
-    ensures { IfOk result (λ key. IsKey key (id_of base.now)) }
+    ensures { IfOk result (λ key. IsIdKey key (id_of base.now)) }
 {
     if base.len() != DIGEST_LENGTH && is_legal_id(base) {
         return Ok(None);

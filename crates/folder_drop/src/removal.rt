@@ -2,7 +2,7 @@
 ghost use Rattle.std.specs.Prelude.{◌≡◌, ◌≢◌, ◌<◌, length, true, false, IfOk, IfErr, IfSome, IfNone};
 ghost use Rattle.std.specs.List.{All, Contains, HoldsAt};
 ghost use Rattle.folder_drop.specs.declared.removal.Namesake.{Namesake};
-ghost use Rattle.folder_drop.specs.Removal.{GoesWith, HasStamp, IsInPlace, IsListedAt, IsOther, NoneIsInPlace};
+ghost use Rattle.folder_drop.specs.Removal.{GoesWith, HasStamp, IsInPlace, IsListedAt, IsOtherFile, NoneIsInPlace};
 ghost use Rattle.folder_drop.specs.Removal.{NoneIsListed};
 
 use crate::maildir_names::Stamp;
@@ -49,7 +49,7 @@ impl Namesake {
     /// Whether it goes with the listed file, which has this number.
     fn goes_with(&self, listed: FileNumber) -> bool
         ensures goes { result ≡ true → GoesWith listed self.now }
-        ensures stays { result ≡ false → IsOther listed self.now }
+        ensures stays { result ≡ false → IsOtherFile listed self.now }
     {
         self.number == listed || self.is_copy
     }
@@ -97,7 +97,7 @@ pub fn listed_place(files: &[Namesake], stamp: Stamp) -> Option<usize>
 /// one of them may be another message, that one, and none is removed.
 pub fn removed_with(listed: FileNumber, files: &[Namesake]) -> Result<&[Namesake], &Namesake>
     ensures ok { IfOk result (λ removed. (removed.now ≡ files.now) × All (GoesWith listed) files.now) }
-    ensures err { IfErr result (λ other. Contains files.now other.now × IsOther listed other.now) }
+    ensures err { IfErr result (λ other. Contains files.now other.now × IsOtherFile listed other.now) }
 {
     for file in files {
         if !file.goes_with(listed) {

@@ -1,14 +1,19 @@
 -- A file in a folder: what the calls of the folder do to what of it is durable, and what a loss of power leaves.
-use Rattle.std.proofs.Common.{◌≡◌, ℕ, refl, arith, List, [], ◌∷◌, ◌++◌, take, drop, cond, sym, ap, subst, ◌∙◌, Bool, true, false, Option, Some, None, option_map, bytes_eq, if◌then◌else◌, Result, Ok, Err, inl, inr, ⊎_elim, append_assoc, append-nil, take-append-drop, ◌⊎◌}
+use Rattle.std.proofs.Common.{◌≡◌, ℕ, refl, arith, List, [], ◌∷◌, ◌++◌, take, drop, cond, sym, ap, subst, ◌∙◌, Bool}
+use Rattle.std.proofs.Common.{true, false, Option, Some, None, option_map, bytes_eq, if◌then◌else◌, Result, Ok, Err}
+use Rattle.std.proofs.Common.{inl, inr, ⊎_elim, append_assoc, append-nil, take-append-drop, ◌⊎◌}
 use Rattle.std.proofs.lemmas.Slice.Eq.{bytes_eq-Decides}
 use Rattle.std.proofs.lemmas.Option.{same_Some}
 use Rattle.std.proofs.lemmas.Bool.{cases_Bool, cond-true, cond-false, cond_both}
 use Rattle.mail_store.specs.declared.fault.StoreFault.{StoreFault}
-use Rattle.mail_store.specs.DiskCalls.{all_flushed, appended, cut, flushed, doubted, MayBeFlushed, FlushesBoth, Becomes, BecomesInPart, IsAppended, IsPartAppended, AppendsDisk, ReplacesDisk}
+use Rattle.mail_store.specs.DiskCalls.{all_flushed, appended, cut, flushed, doubted, MayBeFlushed, FlushesBoth, Becomes}
+use Rattle.mail_store.specs.DiskCalls.{BecomesInPart, IsAppended, IsPartAppended, AppendsDisk, ReplacesDisk}
 use Rattle.mail_store.specs.Durable.{Blob, Disk, IsLeftOf, IsLeftOfOne, MayLeave, all_durable, content_in, secured}
 use Rattle.mail_store.proofs.DiskLemmas.{becomes_settled, disk_of, may_arrive}
 use Rattle.mail_store.proofs.DurableLemmas.{flushed_all, seen_all}
-use Rattle.folder_store.specs.FileFolder.{Directory, Entry, Older, entry, find, placed, making, changed, empty_blob, content_at, names_flushed, Makes, Writes, Alters, FlushesFile, FlushesNames}
+use Rattle.folder_store.specs.FileFolder.{Directory, Entry, Older, entry, find, placed, making, with_blob, empty_blob}
+use Rattle.folder_store.specs.FileFolder.{content_at, names_flushed, Makes, WritesMade, Alters, FlushesFile}
+use Rattle.folder_store.specs.FileFolder.{FlushesNames}
 use Rattle.folder_store.specs.HostFile.{PutsFlushed}
 use Rattle.folder_store.specs.PowerLoss.{left_under, WasOnce, MayBe, disk_at, older_at, PowerLeaves}
 
@@ -23,13 +28,16 @@ find_later name e es = cond-false (bytes_eq name e.name) (Some e.blob) (find nam
 pub find_placed : (name : List ℕ) (b : Blob) (es : List Entry) → find name (placed name b es) ≡ Some b
 find_placed name b [] = ap (λ (v : Bool). cond v (Some b) None) ((bytes_eq-Decides name name).1 refl)
 find_placed name b (e ∷ es) = cond_both (bytes_eq name e.name) _ _ (λ (xs : List Entry). find name xs ≡ Some b)
-    (λ _. find_here name (entry name b) es ((bytes_eq-Decides name name).1 refl)) (λ apart. find_later name e (placed name b es) apart ∙ find_placed name b es)
+    (λ _. find_here name (entry name b) es ((bytes_eq-Decides name name).1 refl))
+    (λ apart. find_later name e (placed name b es) apart ∙ find_placed name b es)
 
 -- what is durable of a file with other bytes
-disk_changed : (old new : Directory) (name : List ℕ) (b : Blob) → new ≡ changed old name b → disk_at new name ≡ record (disk_at old name) { now = Some b }
+disk_changed : (old new : Directory) (name : List ℕ) (b : Blob) → new ≡ with_blob old name b
+    → disk_at new name ≡ record (disk_at old name) { now = Some b }
 disk_changed old new name b e = rw e (ap (λ (o : Option Blob). record (disk_at old name) { now = o }) (find_placed name b old.entries))
 
-becomes : {R S : Blob → Blob → Type 0} → ((b c : Blob) → R b c → S b c) → (old new : Directory) (name : List ℕ) → Alters R old name new → Becomes S (disk_at old name) (disk_at new name)
+becomes : {R S : Blob → Blob → Type 0} → ((b c : Blob) → R b c → S b c) → (old new : Directory) (name : List ℕ)
+    → Alters R old name new → Becomes S (disk_at old name) (disk_at new name)
 becomes will old new name (b, c, at, is, e) = (b, c, at, will b c is, disk_changed old new name c e)
 
 -- `append_flushed` and `cut_flushed`: the first call was refused, or the file was changed and then flushed
@@ -50,10 +58,11 @@ flushed_becomes f Will will old mid new name r (b, c, at, is, e) flush = by r fl
     mid_is : (x : Blob) → find name mid.entries ≡ Some x → x ≡ f b
     mid_is x found = same_Some x c (sym found ∙ ap (λ (d : Disk). d.now) changed_to) ∙ is
 
-    later : (y : Blob) → new ≡ changed mid name y → disk_at new name ≡ record (disk_at old name) { now = Some y }
+    later : (y : Blob) → new ≡ with_blob mid name y → disk_at new name ≡ record (disk_at old name) { now = Some y }
     later y k = disk_changed mid new name y k ∙ ap (λ (d : Disk). record d { now = Some y }) changed_to
 
-    by : (r : Result (Unit {0}) StoreFault) → FlushesFile mid name r new → BecomesInPart (λ b c. c ≡ flushed (f b)) Will (disk_at old name) r (disk_at new name)
+    by : (r : Result (Unit {0}) StoreFault) → FlushesFile mid name r new
+        → BecomesInPart (λ b c. c ≡ flushed (f b)) Will (disk_at old name) r (disk_at new name)
     by (Ok done) (x, y, found, flush, k) = (b, y, at, flush ∙ ap flushed (mid_is x found), later y k)
     by (Err fault) (inl same) = inr (b, c, at, will b c (inl is), ap (λ (d : Directory). disk_at d name) same ∙ changed_to)
     by (Err fault) (inr (x, y, found, flush, k)) =
@@ -67,18 +76,27 @@ appended_nothing : (b : Blob) → appended b [] ≡ b
 appended_nothing b = ap (λ (zs : List ℕ). record b { content = zs }) (append-nil b.content)
 
 -- a later piece was refused, and the file has a front of it
-pub later_refused : (old mid new : Disk) (bytes done piece more : List ℕ) (fault : StoreFault) (all : List ℕ) → bytes ≡ done ++ all → all ≡ piece ++ more
+pub later_refused : (old mid new : Disk) (bytes done piece more : List ℕ) (fault : StoreFault) (all : List ℕ)
+    → bytes ≡ done ++ all → all ≡ piece ++ more
     → Becomes (IsAppended done) old mid → AppendsDisk {T = Unit {0}} mid piece (Err fault) new
     → AppendsDisk {T = Unit {0}} old bytes (Err fault) new
 later_refused old mid new bytes done piece more fault all parts split (b, c, at, is, e) (inl same) =
     let part : IsPartAppended done [] b c = record { so_far = c; is_flushed = inr is; is = inl (sym (appended_nothing c)) } in
     inr (b, c, at, (done, [], all, parts, part), same ∙ e)
-later_refused old mid new bytes done piece more fault all parts split (b, c, at, is, e) (inr (x, y, found, (first, front, rest, which, part), k)) =
+later_refused old mid new bytes done piece more fault all parts split (b, c, at, is, e)
+    (inr (x, y, found, (first, front, rest, which, part), k)) =
     let same : x ≡ flushed (appended b done) = same_Some x c (sym found ∙ ap (λ (d : Disk). d.now) e) ∙ is in
     let so_far : part.so_far ≡ flushed (appended b (done ++ first)) = ⊎_elim (λ none. none.1 ∙ same ∙ rw (none.0, append-nil done) refl)
     (λ e. e ∙ rw same (appended_twice b done first)) part.is_flushed in
     let all_so_far : IsPartAppended (done ++ first) front b y = record { so_far = part.so_far; is_flushed = inr so_far; is = part.is } in
-    inr (b, y, at, (done ++ first, front, rest ++ more, rw (parts, split, which) (simp append_assoc), all_so_far), k ∙ ap (λ (d : Disk). record d { now = Some y }) e)
+    inr (
+      b,
+      y,
+      at,
+      (done ++ first, front, rest ++ more, rw (parts, split, which) (simp append_assoc), all_so_far),
+      k
+          ∙ ap (λ (d : Disk). record d { now = Some y }) e,
+    )
 
 pub later_done : (old mid new : Disk) (done piece : List ℕ) → Becomes (IsAppended done) old mid
     → AppendsDisk {T = Unit {0}} mid piece (Ok tt) new → Becomes (IsAppended (done ++ piece)) old new
@@ -87,34 +105,45 @@ later_done old mid new done piece (b, c, at, is, e) (x, y, found, flush, k) =
     (b, y, at, rw (flush, same) (appended_twice b done piece), k ∙ ap (λ (d : Disk). record d { now = Some y }) e)
 
 -- the file made has these bytes
-made_is : (old one two : Directory) (bytes : List ℕ) → Makes {T = Unit {0}} old (Ok tt) one → Writes {T = Unit {0}} one bytes (Ok tt) two
+made_is : (old one two : Directory) (bytes : List ℕ) → Makes {T = Unit {0}} old (Ok tt) one
+    → WritesMade {T = Unit {0}} one bytes (Ok tt) two
     → two ≡ making old (Some (appended empty_blob bytes))
 made_is old one two bytes (can, e) (b, made, k) =
     let same : b ≡ empty_blob = same_Some b empty_blob (sym made ∙ ap (λ (d : Directory). d.made) e) in
     k ∙ ap (λ (d : Directory). making d (Some (appended b bytes))) e ∙ ap (λ (x : Blob). making old (Some (appended x bytes))) same
 
 -- what is durable under a name that leads to another file, before the names are flushed
-older_put : (name : List ℕ) (was : Option Blob) (older : List Older) → older_at name (record { name = name; was = was } ∷ older) ≡ was ∷ older_at name older
-older_put name was older = cond-true (bytes_eq name name) (was ∷ older_at name older) (older_at name older) ((bytes_eq-Decides name name).1 refl)
+older_put : (name : List ℕ) (was : Option Blob) (older : List Older)
+    → older_at name (record { name = name; was = was } ∷ older) ≡ was ∷ older_at name older
+older_put name was older = cond-true (bytes_eq name name) (was ∷ older_at name older) (older_at name older)
+    ((bytes_eq-Decides name name).1 refl)
 
-pub replace_done : (old one two new : Directory) (name bytes : List ℕ) (r : Result (Unit {0}) StoreFault) → Makes {T = Unit {0}} old (Ok tt) one
-    → Writes {T = Unit {0}} one bytes (Ok tt) two → PutsFlushed two name r new → ReplacesDisk (disk_at old name) bytes r (disk_at new name)
+pub replace_done : (old one two new : Directory) (name bytes : List ℕ) (r : Result (Unit {0}) StoreFault)
+    → Makes {T = Unit {0}} old (Ok tt) one
+    → WritesMade {T = Unit {0}} one bytes (Ok tt) two → PutsFlushed two name r new
+    → ReplacesDisk (disk_at old name) bytes r (disk_at new name)
 replace_done old one two new name bytes r make write put =
     by r (subst (λ (d : Directory). PutsFlushed d name r new) (made_is old one two bytes make write) put)
   where
-    held : (c : Blob) → Some (appended empty_blob bytes) ≡ Some c → find name (placed name (secured c.content) old.entries) ≡ Some (secured bytes)
+    held : (c : Blob) → Some (appended empty_blob bytes) ≡ Some c
+        → find name (placed name (secured c.content) old.entries) ≡ Some (secured bytes)
     held c made =
-        find_placed name (secured c.content) old.entries ∙ ap (λ (x : Blob). Some (secured x.content)) (sym (same_Some (appended empty_blob bytes) c made))
+        find_placed name (secured c.content) old.entries
+        ∙ ap (λ (x : Blob). Some (secured x.content)) (sym (same_Some (appended empty_blob bytes) c made))
 
-    flushed_to : (c : Blob) → Some (appended empty_blob bytes) ≡ Some c → record (disk_at old name) { now = find name (placed name (secured c.content) old.entries); older = [] } ≡ all_durable (Some bytes)
+    flushed_to : (c : Blob) → Some (appended empty_blob bytes) ≡ Some c
+        → record (disk_at old name) { now = find name (placed name (secured c.content) old.entries); older = [] }
+        ≡ all_durable (Some bytes)
     flushed_to c made = ap (λ (o : Option Blob). record (disk_at old name) { now = o; older = [] }) (held c made)
 
-    by : (r : Result (Unit {0}) StoreFault) → PutsFlushed (making old (Some (appended empty_blob bytes))) name r new → ReplacesDisk (disk_at old name) bytes r (disk_at new name)
+    by : (r : Result (Unit {0}) StoreFault) → PutsFlushed (making old (Some (appended empty_blob bytes))) name r new
+        → ReplacesDisk (disk_at old name) bytes r (disk_at new name)
     by (Ok done) (c, made, e) = rw e (flushed_to c made)
     by (Err fault) (inl (m, e)) = inl (rw e refl)
     by (Err fault) (inr (c, made, inl e)) = inr (inl (
         ap (λ (d : Directory). disk_at d name) e
-        ∙ ap (λ (o : Option Blob). disk_of o (older_at name (record { name = name; was = find name old.entries } ∷ old.older))) (held c made)
+        ∙ ap (λ (o : Option Blob). disk_of o
+        (older_at name (record { name = name; was = find name old.entries } ∷ old.older))) (held c made)
         ∙ ap (disk_of (Some (secured bytes))) (older_put name (find name old.entries) old.older)
         ))
     by (Err fault) (inr (c, made, inr e)) = inr (inr (rw e (flushed_to c made)))
@@ -125,10 +154,12 @@ in_parts xs front back n f b = rw (f, b) (sym (take-append-drop n xs))
 
 -- ---- a flush of a file and of the names
 
-disk_became : (f : Blob → Blob) (old new : Directory) (name : List ℕ) (b c : Blob) → find name old.entries ≡ Some b → c ≡ f b → new ≡ changed old name c
+disk_became : (f : Blob → Blob) (old new : Directory) (name : List ℕ) (b c : Blob) → find name old.entries ≡ Some b
+    → c ≡ f b → new ≡ with_blob old name c
     → disk_at new name ≡ record (disk_at old name) { now = option_map f (find name old.entries) }
 disk_became f old new name b c at is e =
-    disk_changed old new name c e ∙ ap (λ (o : Option Blob). record (disk_at old name) { now = o }) (ap Some is ∙ sym (ap (option_map f) at))
+    disk_changed old new name c e ∙ ap (λ (o : Option Blob). record (disk_at old name) { now = o }) (ap Some is
+    ∙ sym (ap (option_map f) at))
 
 pub both_refused : (old new : Directory) (name : List ℕ) (fault : StoreFault) → FlushesFile {T = Unit {0}} old name (Err fault) new
     → FlushesBoth {T = Unit {0}} (disk_at old name) (Err fault) (disk_at new name)
@@ -143,7 +174,8 @@ both_flushed old mid new name r (b, c, at, is, e) names = by r names
     file_is : disk_at mid name ≡ record (disk_at old name) { now = option_map flushed (find name old.entries) }
     file_is = disk_became flushed old mid name b c at is e
 
-    all_is : (d : Directory) → d ≡ names_flushed mid → disk_at d name ≡ record { now = option_map flushed (find name old.entries); older = [] }
+    all_is : (d : Directory) → d ≡ names_flushed mid
+        → disk_at d name ≡ record { now = option_map flushed (find name old.entries); older = [] }
     all_is d same = rw same (ap (λ (disk : Disk). record disk { older = [] }) file_is)
 
     by : (r : Result (Unit {0}) StoreFault) → FlushesNames mid r new → FlushesBoth (disk_at old name) r (disk_at new name)
@@ -156,7 +188,8 @@ both_flushed old mid new name r (b, c, at, is, e) names = by r names
 pub append_settled : (old new : Disk) (bytes : List ℕ) → Becomes (IsAppended bytes) old new → all_flushed old ≡ old → all_flushed new ≡ new
 append_settled old new bytes appends settled = becomes_settled (λ b. appended b bytes) old new appends settled
 
-pub cut_settled : (old new : Disk) (len : ℕ) → Becomes (λ b c. c ≡ flushed (cut b len)) old new → all_flushed old ≡ old → all_flushed new ≡ new
+pub cut_settled : (old new : Disk) (len : ℕ) → Becomes (λ b c. c ≡ flushed (cut b len)) old new → all_flushed old ≡ old
+    → all_flushed new ≡ new
 cut_settled old new len cuts settled = becomes_settled (λ b. cut b len) old new cuts settled
 
 -- ---- what a loss of power leaves of the file of a name

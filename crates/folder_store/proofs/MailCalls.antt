@@ -1,8 +1,13 @@
 -- What telling the names of the folders, and writing and settling a file, does to the Maildir of the folders.
-use Rattle.std.proofs.Common.{◌≡◌, ◌+◌, inl, inr, ⊎_elim, ℕ, List, [], ◌∷◌, refl, subst, arith, ◌⊎◌, true, sym, ap, ◌∙◌, Bool, false, not, ◌++◌, map, get_or, Contains, Option, Result, Ok, Err, IsErrAnd, IsPermutation, IsTrue, IfErr, String, Global, Vec, string_bytes, filter, if◌then◌else◌, ◌≢◌, suc, Some, append_assoc, append-nil, None}
-use Rattle.mail_store.specs.Maildir.{AfterFlushing, AfterTaking, AllNamed, AreTheirs, Checks, Draft as Begun, File, Folders, IsWithout, Lists, Maildir, MayBeNamed, MayHave, bases_told, counted, draft, dropped, is_there, mail, names_of, with_file, ListsBoth}
+use Rattle.std.proofs.Common.{◌≡◌, ◌+◌, inl, inr, ⊎_elim, ℕ, List, [], ◌∷◌, refl, subst, arith, ◌⊎◌, true, sym, ap, ◌∙◌}
+use Rattle.std.proofs.Common.{Bool, false, not, ◌++◌, map, get_or, Contains, Option, Result, Ok, Err, IsErrAnd}
+use Rattle.std.proofs.Common.{IsPermutation, IsTrue, IfErr, String, Global, Vec, string_bytes, filter, if◌then◌else◌}
+use Rattle.std.proofs.Common.{◌≢◌, suc, Some, append_assoc, append-nil, None}
+use Rattle.mail_store.specs.Maildir.{AfterFlushing, AfterTaking, AllNamed, AreTheirs, Checks, Draft as Begun, File}
+use Rattle.mail_store.specs.Maildir.{Folders, IsWithout, Lists, Maildir, MayBeNamed, MayHave, bases_told}
+use Rattle.mail_store.specs.Maildir.{maildir_refused, draft, dropped, is_there, mail, names_of, with_file, ListsBoth}
 use Rattle.mail_store.specs.Held.{is_sought}
-use Rattle.mail_store.specs.Loss.{Flushes, flushed, flushed_by}
+use Rattle.mail_store.specs.Loss.{Flushes, with_flushed, flushed_by}
 use Rattle.std.specs.List.{AllByRecursion, AllZip, filter}
 use Rattle.std.proofs.Math.Bool.{or-false, or-true}
 use Rattle.std.proofs.lemmas.Bool.{cases_Bool, cond_both, or_left, or_right}
@@ -10,18 +15,27 @@ use Rattle.std.proofs.lemmas.List.Elements.{recursion_from_All, All-weaker, filt
 use Rattle.mail_terms.specs.MaildirName.{base}
 use Rattle.mail_store.specs.declared.maildir.disk.Folder.{Folder}
 use Rattle.mail_store.specs.declared.maildir.disk.Folder.TheVariants.{New, Cur}
-use Rattle.folder_store.specs.MailFolders.{MailFile, Directories, files_at, is_left, is_taken, mail_at, MovesFile, Moved, touches, touches_new, touches_cur, name_at, is_in, entries_in, maildir_in, Draft, content_made}
+use Rattle.folder_store.specs.MailFolders.{MailFile, Directories, files_at, is_left, is_taken, mail_at, MovesFile}
+use Rattle.folder_store.specs.MailFolders.{Moved, touches, touches_new, touches_cur, name_at, is_in, entries_in}
+use Rattle.folder_store.specs.MailFolders.{maildir_in, MadeFile, content_made}
 use Rattle.folder_store.specs.declared.mail_folders.Sought.{Sought}
 use Rattle.folder_store.specs.declared.mail_folders.Sought.TheVariants.{All, Stems}
-use Rattle.folder_store.specs.MailCalls.{AreSought, Brings, ChangesMade, ChecksIn, FlushesDraft, FlushesFiles, FlushesNamesIn, GivesUp, IsUnknown, Lacks, Leads, Learns, ListsIn, LooksAtBoth, MakesDraft, PutsDraft, PutsForGood, PutsIntoNew, Rests, StandsIn, TellsBoth, TellsOne, TellsRest, Then, ToldBoth, WritesDraft, entry_flushed_by, listed, named_by, names_flushed_in, names_sought, put_as, without_taken}
+use Rattle.folder_store.specs.MailCalls.{AreSought, BringsFiles, ChangesDraft, ChecksIn, FlushesDraft, FlushesFiles}
+use Rattle.folder_store.specs.MailCalls.{FlushesNamesIn, GivesUp, IsUnknown, Lacks, Leads, Learns, ListsIn, LooksAtBoth}
+use Rattle.folder_store.specs.MailCalls.{MakesDraft, PutsDraft, PutsForGood, PutsIntoNew, SameFiles, StandsIn}
+use Rattle.folder_store.specs.MailCalls.{TellsBoth, TellsOne, TellsRest, Then, ToldBoth, WritesDraft, entry_flushed_by}
+use Rattle.folder_store.specs.MailCalls.{after_listing, named_by, names_flushed_in, names_sought, put_as, without_taken}
 use Rattle.std.proofs.lemmas.List.{map-append, get_or-map, length-map}
-use Rattle.std.proofs.lemmas.List.Sorted.{Contains-permutation, IsPermutation-append, IsPermutation-sym, IsPermutation-map, IsPermutation-trans, IsPermutation-filter_both}
+use Rattle.std.proofs.lemmas.List.Sorted.{Contains-permutation, IsPermutation-append, IsPermutation-sym}
+use Rattle.std.proofs.lemmas.List.Sorted.{IsPermutation-map, IsPermutation-trans, IsPermutation-filter_both}
 use Rattle.std.proofs.lemmas.Simd.{map-map}
 use Rattle.mail_store.specs.declared.fault.StoreFault.{StoreFault}
 use Rattle.mail_store.specs.declared.fault.StoreFault.TheVariants.{Missing, Refused}
 use Rattle.mail_terms.specs.FailureCount.{refuses}
 use Rattle.mail_store.specs.Fault.{IsDeviceFault, is_refusal}
-use Rattle.folder_store.proofs.MailMoves.{SomeIs, both_named, files_moved, files_reached, flush_keeps, leads_same, mapped_leads, moved_leads, moved_maildir, moved_rests, moved_same, rests_new, rests_on_at, same_rests_at, some_kept, some_map, there_some}
+use Rattle.folder_store.proofs.MailMoves.{SomeIs, both_named, files_moved, files_reached, flush_keeps, leads_same}
+use Rattle.folder_store.proofs.MailMoves.{mapped_leads, moved_leads, moved_maildir, moved_rests, moved_same, rests_new}
+use Rattle.folder_store.proofs.MailMoves.{rests_on_at, same_rests_at, some_kept, some_map, there_some}
 use Rattle.std.proofs.lemmas.Option.{same_Some}
 use Rattle.mail_store.proofs.MaildirLemmas.{named_same, reached_same, reaches_same, without_more, without_on, sought_bases, stem_base}
 use Rattle.mail_terms.proofs.ErrLemmas.{is_err}
@@ -33,7 +47,8 @@ left_twice [] = refl
 left_twice (s ∷ ss) = cond_both (is_left s) (s ∷ filter is_left ss) (filter is_left ss) (λ (ts : List MailFile). filter is_left ts ≡ ts)
     (λ here. rw here (ap (λ (ts : List MailFile). s ∷ ts) (left_twice ss))) (λ _. left_twice ss)
 
-pub listed_is : (folder : Folder) (a : Directories) → ((listed folder a).entries ≡ filter is_left a.entries) × ((listed folder a).there ≡ a.there)
+pub listed_is : (folder : Folder) (a : Directories) → ((after_listing folder a).entries ≡ filter is_left a.entries)
+    × ((after_listing folder a).there ≡ a.there)
 listed_is New a = (refl, refl)
 listed_is Cur a = (refl, refl)
 
@@ -49,7 +64,8 @@ left_without [] = tt
 left_without (s ∷ ss) = ⊎_elim (λ gone. rw gone ([], files_at ss, reached_same (files_at (s ∷ ss)), left_without ss))
     (λ here. rw here (without_more _ _ _ (mail_at s) (mail_at s) (reaches_same (mail_at s)) (left_without ss))) (cases_Bool s.is_gone)
 
-taken_learns : (a : Directories) (new_rests cur_rests : Bool) → Learns a (record (without_taken a) { new_rests = new_rests; cur_rests = cur_rests })
+taken_learns : (a : Directories) (new_rests cur_rests : Bool)
+    → Learns a (record (without_taken a) { new_rests = new_rests; cur_rests = cur_rests })
 taken_learns a new_rests cur_rests = record {
   there = refl;
   made = refl;
@@ -58,7 +74,7 @@ taken_learns a new_rests cur_rests = record {
   left = left_without a.entries;
 }
 
-listed_learns : (folder : Folder) (a : Directories) → Learns a (listed folder a)
+listed_learns : (folder : Folder) (a : Directories) → Learns a (after_listing folder a)
 listed_learns New a = taken_learns a true a.cur_rests
 listed_learns Cur a = taken_learns a a.new_rests true
 
@@ -92,14 +108,16 @@ learns_same a = leads_learns a a (leads_same a)
 named_leads : (folder : Folder) (a m : Directories) → Moved a m → Leads a (names_flushed_in folder m)
 named_leads folder = mapped_leads (named_by folder) (flush_keeps folder)
 
-pub flushes_leads : {T : Type 0} (folder : Folder) (a b : Directories) (r : Result T StoreFault) → Then (FlushesNamesIn folder r) a b → Leads a b
+pub flushes_leads : {T : Type 0} (folder : Folder) (a b : Directories) (r : Result T StoreFault)
+    → Then (FlushesNamesIn folder r) a b → Leads a b
 flushes_leads folder a b (Ok done) (m, v, e) = rw e (named_leads folder a m v)
 flushes_leads folder a b (Err fault) (m, v, inl lacks) = moved_same a m b v lacks.0
 flushes_leads folder a b (Err fault) (m, v, inr (refused, e)) = rw e (named_leads folder a m v)
 
-pub lists_learns : {A B : Type 0} (folder : Folder) (sought : Sought) (a b : Directories) (r : Result (Vec (String A) B) StoreFault) → Then (ListsIn folder sought r) a b → Learns a b
+pub lists_learns : {A B : Type 0} (folder : Folder) (sought : Sought) (a b : Directories)
+    (r : Result (Vec (String A) B) StoreFault) → Then (ListsIn folder sought r) a b → Learns a b
 lists_learns folder sought a b (Ok names) (m, v, (there, told, e)) =
-    rw e (learns_on a m (listed folder m) (leads_learns a m (moved_leads a m v)) (listed_learns folder m))
+    rw e (learns_on a m (after_listing folder m) (leads_learns a m (moved_leads a m v)) (listed_learns folder m))
 lists_learns folder sought a b (Err fault) (m, v, lacks) = leads_learns a b (moved_same a m b v lacks.0)
 
 -- a call that told nothing of the files came after others
@@ -108,17 +126,20 @@ leads_after a b c first next = learns_on a b c first (leads_learns b c next)
 
 -- ---- no name was told
 
-gone_since : (m b : Directories) (folder : Folder) (fault : StoreFault) → FlushesNamesIn {T = Unit {0}} folder (Err fault) m b → fault ≡ Missing
+gone_since : (m b : Directories) (folder : Folder) (fault : StoreFault)
+    → FlushesNamesIn {T = Unit {0}} folder (Err fault) m b → fault ≡ Missing
     → is_there b.there folder ≡ false
 gone_since m b folder fault (inl lacks) missing = rw lacks.0 (lacks.1 missing)
 gone_since m b folder fault (inr (refused, e)) missing = absurd cc
 
-pub one_unflushed : (a b c : Directories) (folder : Folder) (fault : StoreFault) → Learns a b → Then (FlushesNamesIn {T = Unit {0}} folder (Err fault)) b c
+pub one_unflushed : (a b c : Directories) (folder : Folder) (fault : StoreFault) → Learns a b
+    → Then (FlushesNamesIn {T = Unit {0}} folder (Err fault)) b c
     → TellsOne {A = Global} {B = Global} a folder (Err fault) c
 one_unflushed a b c folder fault led t =
     (leads_after a b c led (flushes_leads {T = Unit {0}} folder b c (Err fault) t), tt, gone_since t.0 c folder fault t.2)
 
-pub unflushed : {P Q R : Type 0} (sought : Sought) (a b c : Directories) (folder : Folder) (fault : StoreFault) (r : Result (Option (Vec (String Global) Global)) StoreFault) → IsErrAnd r (λ e. e ≡ fault)
+pub unflushed : {P Q R : Type 0} (sought : Sought) (a b c : Directories) (folder : Folder) (fault : StoreFault)
+    (r : Result (Option (Vec (String Global) Global)) StoreFault) → IsErrAnd r (λ e. e ≡ fault)
     → (Q → P × Learns a b) → (R → Q × Then (FlushesNamesIn {T = Unit {0}} folder (Err fault)) b c) → R → P × LooksAtBoth sought a r c
 unflushed sought a b c folder fault r is before call s =
     let t = call s in
@@ -126,7 +147,8 @@ unflushed sought a b c folder fault r is before call s =
     let told = one_unflushed a b c folder fault led.1 t.1 in
     (led.0, rw (is_err r is) (told.0, tt, λ missing. (folder, told.2 missing)))
 
-pub lacked : {P Q R : Type 0} (sought : Sought) (a b c : Directories) (folder : Folder) (fault : StoreFault) (r : Result (Option (Vec (String Global) Global)) StoreFault) → IsErrAnd r (λ e. e ≡ fault)
+pub lacked : {P Q R : Type 0} (sought : Sought) (a b c : Directories) (folder : Folder) (fault : StoreFault)
+    (r : Result (Option (Vec (String Global) Global)) StoreFault) → IsErrAnd r (λ e. e ≡ fault)
     → (Q → P × Learns a b) → (R → Q × Then (λ m x. Lacks m folder fault x) b c) → R → P × LooksAtBoth sought a r c
 lacked sought a b c folder fault r is before call =
     unflushed sought a b c folder fault r is before (λ s. let t = call s in (t.0, (t.1.0, t.1.1, inl t.1.2)))
@@ -137,11 +159,13 @@ abbrev title : MailFile → List ℕ
 title s = base s.name
 
 -- the names of some files were told
-told_part : {A : Type 0} (ss : List MailFile) (names : List (String A)) → IsPermutation (map name_at ss) (map string_bytes names) → IsPermutation (map title ss) (bases_told names)
+told_part : {A : Type 0} (ss : List MailFile) (names : List (String A))
+    → IsPermutation (map name_at ss) (map string_bytes names) → IsPermutation (map title ss) (bases_told names)
 told_part ss names p = rw (map-map, map-map) at (IsPermutation-map base (map name_at ss) (map string_bytes names) p)
 
 -- what is sought of the bases is what is sought of the names
-sought_on : (sought : Sought) (names more : List (List ℕ)) → names_sought sought (names ++ more) ≡ names_sought sought names ++ names_sought sought more
+sought_on : (sought : Sought) (names more : List (List ℕ))
+    → names_sought sought (names ++ more) ≡ names_sought sought names ++ names_sought sought more
 sought_on All names more = refl
 sought_on (Stems stems) names more = filter-append (is_sought stems.now) names more
 
@@ -149,8 +173,10 @@ sought_title : (sought : Sought) (names : List (List ℕ)) → map base (names_s
 sought_title All names = refl
 sought_title (Stems stems) names = sought_bases stems.now names
 
-told_both : {A : Type 0} (sought : Sought) (ss : List MailFile) (new cur : List (String A)) → AreSought sought (map name_at (entries_in New ss)) (map string_bytes new)
-    → AreSought sought (map name_at (entries_in Cur ss)) (map string_bytes cur) → AreSought sought (names_of (files_at (filter is_left ss))) (bases_told (new ++ cur))
+told_both : {A : Type 0} (sought : Sought) (ss : List MailFile) (new cur : List (String A))
+    → AreSought sought (map name_at (entries_in New ss)) (map string_bytes new)
+    → AreSought sought (map name_at (entries_in Cur ss)) (map string_bytes cur)
+    → AreSought sought (names_of (files_at (filter is_left ss))) (bases_told (new ++ cur))
 told_both sought ss new cur (first, in_new, are_new) (second, in_cur, are_cur) =
     let left = filter is_left ss in
     let both = entries_in New ss ++ entries_in Cur ss in
@@ -160,11 +186,13 @@ told_both sought ss new cur (first, in_new, are_new) (second, in_cur, are_cur) =
     let bases = IsPermutation-map base (map name_at left) (first ++ second) all in (
       map base (first ++ second),
       rw map-map (rw map-map at bases),
-      sym (map-map base string_bytes (new ++ cur)) ∙ ap (map base) (map-append string_bytes new cur ∙ rw (are_new, are_cur) (sym (sought_on sought first second))) ∙ sought_title sought (first ++ second),
+      sym (map-map base string_bytes (new ++ cur)) ∙ ap (map base) (map-append string_bytes new cur
+          ∙ rw (are_new, are_cur) (sym (sought_on sought first second))) ∙ sought_title sought (first ++ second),
     )
 
 -- what was told is still so once others moved files
-told_moved : {A : Type 0} (sought : Sought) (names : List (String A)) (a b : Directories) → Moved a b → ToldBoth sought names a → ToldBoth sought names b
+told_moved : {A : Type 0} (sought : Sought) (names : List (String A)) (a b : Directories) → Moved a b
+    → ToldBoth sought names a → ToldBoth sought names b
 told_moved sought names a b m told = record {
   new_is_there = rw m.there told.new_is_there;
   cur_is_there = rw m.there told.cur_is_there;
@@ -173,16 +201,18 @@ told_moved sought names a b m told = record {
 }
 
 -- all of it: the flushes, the lists, and `new` has rested since its own
-pub looked : {A B T : Type 0} (sought : Sought) (b0 b1 b2 b3 b4 b5 : Directories) (new cur : Vec (String A) B) (done done' : T) (rests : Bool)
+pub looked : {A B T : Type 0} (sought : Sought) (b0 b1 b2 b3 b4 b5 : Directories) (new cur : Vec (String A) B)
+    (done done' : T) (rests : Bool)
     → Then (FlushesNamesIn New (Ok done)) b0 b1 → Then (FlushesNamesIn Cur (Ok done')) b1 b2
-    → Then (ListsIn New sought (Ok new)) b2 b3 → Then (ListsIn Cur sought (Ok cur)) b3 b4 → Then (TellsRest New (Ok rests)) b4 b5 → IsTrue rests → ToldBoth sought (new.items ++ cur.items) b5
+    → Then (ListsIn New sought (Ok new)) b2 b3 → Then (ListsIn Cur sought (Ok cur)) b3 b4
+    → Then (TellsRest New (Ok rests)) b4 b5 → IsTrue rests → ToldBoth sought (new.items ++ cur.items) b5
 looked sought b0 b1 b2 b3 b4 b5 new cur done done' rests (m1, v1, s1) (m2, v2, s2) (m3, v3, s3) (m4, v4, s4) (m5, v5, s5) rested_since =
-    rw s5.0 (told_moved sought (new.items ++ cur.items) (listed Cur m4) m5 last told)
+    rw s5.0 (told_moved sought (new.items ++ cur.items) (after_listing Cur m4) m5 last told)
   where
-    last : Moved (listed Cur m4) m5
+    last : Moved (after_listing Cur m4) m5
     last = rw s4.2 at v5
 
-    still : Moved (listed New m3) m4
+    still : Moved (after_listing New m3) m4
     still = rw s3.2 at v4
 
     -- `new` rested from its own listing to that of `cur`
@@ -193,7 +223,7 @@ looked sought b0 b1 b2 b3 b4 b5 new cur done done' rests (m1, v1, s1) (m2, v2, s
     near : AllNamed (files_at m3.entries)
     near = rw (files_moved b2.entries m3.entries v3.moves) (rw s2 (both_named m1.entries m2.entries (rw s1 at v2.moves)))
 
-    told : ToldBoth sought (new.items ++ cur.items) (listed Cur m4)
+    told : ToldBoth sought (new.items ++ cur.items) (after_listing Cur m4)
     told = record {
       new_is_there = rw still.there s3.0;
       cur_is_there = s4.0;
@@ -216,7 +246,8 @@ in_touches : (folder : Folder) (s : MailFile) → is_in folder s ≡ true → to
 in_touches New s e = or_left s.is_new s.left_new e
 in_touches Cur s e = or_left (not s.is_new) s.left_cur e
 
-listed_touch : (folder : Folder) (ss : List MailFile) (name : List ℕ) → Contains (map title (filter (is_in folder) ss)) name → SomeIs (Touch folder name) ss
+listed_touch : (folder : Folder) (ss : List MailFile) (name : List ℕ)
+    → Contains (map title (filter (is_in folder) ss)) name → SomeIs (Touch folder name) ss
 listed_touch folder ss name c =
     let f = is_in folder in
     some_chosen (Touch folder name) f ss (there_some title name (λ s. touches folder s ≡ true) (filter f ss)
@@ -242,7 +273,8 @@ some_named (s ∷ ss) name (inr is) =
     (λ (fs : List File). Contains (names_of fs) name) (λ _. (suc c.0, omega (arith, c.1), c.2)) (λ _. c)
 
 theirs : {A : Type 0} (names : List (String A)) (files : List File)
-    → ((name : List ℕ) → Contains (bases_told names) name → Contains (names_of (filter (λ (f : File). f.is_named) files)) name) → AreTheirs files names
+    → ((name : List ℕ) → Contains (bases_told names) name
+    → Contains (names_of (filter (λ (f : File). f.is_named) files)) name) → AreTheirs files names
 unfolding AreTheirs
 theirs {A} names files each = λ k d inside.
     each (base (string_bytes (get_or names k d))) (
@@ -254,17 +286,25 @@ theirs {A} names files each = λ k d inside.
 pub told_one : {A B T : Type 0} (folder : Folder) (b0 b1 b2 : Directories) (names : Vec (String A) B) (done : T)
     → Then (ListsIn folder All (Ok names)) b0 b1 → Then (FlushesNamesIn folder (Ok done)) b1 b2 → TellsOne b0 folder (Ok names) b2
 told_one {A} folder b0 b1 b2 names done (m1, v1, (there, (order, same, are), e1)) (m2, v2, e2) = (
-  leads_after b0 b1 b2 (lists_learns folder All b0 b1 (Ok names) (m1, v1, (there, (order, same, are), e1))) (flushes_leads folder b1 b2 (Ok done) (m2, v2, e2)),
-  (rw (e2, v2.there, e1, (listed_is folder m1).1) there, theirs names.items (files_at b2.entries) (λ name c. some_named b2.entries name (stay name c))),
+  leads_after b0 b1 b2 (lists_learns folder All b0 b1 (Ok names) (m1, v1, (there, (order, same, are), e1)))
+      (flushes_leads folder b1 b2 (Ok done) (m2, v2, e2)),
+  (
+    rw (e2, v2.there, e1, (listed_is folder m1).1) there,
+    theirs names.items (files_at b2.entries)
+        (λ name c. some_named b2.entries name (stay name c)),
+  ),
   tt,
 )
   where
-    stay : (name : List ℕ) → Contains (bases_told names.items) name → SomeIs (λ (s : MailFile). (base s.name ≡ name) × (s.is_named ≡ true)) b2.entries
+    stay : (name : List ℕ) → Contains (bases_told names.items) name
+        → SomeIs (λ (s : MailFile). (base s.name ≡ name) × (s.is_named ≡ true)) b2.entries
     stay name c =
-        let listed = map title (entries_in folder m1.entries) in
-        let touched = listed_touch folder (filter is_left m1.entries) name (Contains-permutation (bases_told names.items) listed name
-        (IsPermutation-sym listed (bases_told names.items) (told_part (entries_in folder m1.entries) names.items (subst (IsPermutation (map name_at (entries_in folder m1.entries))) (sym are) same))) c) in
-        let still = some_kept {Will = Touch folder name} (filter is_left m1.entries) m2.entries (rw (e1, (listed_is folder m1).0) at v2.moves) touched
+        let after_listing = map title (entries_in folder m1.entries) in
+        let touched = listed_touch folder (filter is_left m1.entries) name (Contains-permutation (bases_told names.items) after_listing name
+        (IsPermutation-sym after_listing (bases_told names.items) (told_part (entries_in folder m1.entries) names.items
+        (subst (IsPermutation (map name_at (entries_in folder m1.entries))) (sym are) same))) c) in
+        let still = some_kept {Will = Touch folder name} (filter is_left m1.entries) m2.entries
+        (rw (e1, (listed_is folder m1).0) at v2.moves) touched
         (λ s t m is. (m.keeps.title ∙ is.0, still_touches folder s t m is.1)) in
         rw e2 (some_map _ (named_by folder) m2.entries still (λ s is. named_touch folder s name is.0 is.1))
 
@@ -278,7 +318,8 @@ abbrev left_in : Directories → Directories → Option (List ℕ) → ℕ → M
 left_in a b begun n = record (maildir_in a begun n) { files = files_at b.entries; taken = b.taken }
 
 -- this holds of what readers left
-seen : {Does : Maildir → Type 0} (a b : Directories) (begun : Option (List ℕ)) (n : ℕ) → Learns a b → Does (left_in a b begun n) → AfterTaking (maildir_in a begun n) Does
+seen : {Does : Maildir → Type 0} (a b : Directories) (begun : Option (List ℕ)) (n : ℕ) → Learns a b
+    → Does (left_in a b begun n) → AfterTaking (maildir_in a begun n) Does
 seen a b begun n l does = (left_in a b begun n, record { gone = l.gone; files = l.left; is = rw l.taken refl }, does)
 
 left_as : (a b : Directories) (begun : Option (List ℕ)) (m k n : ℕ) → Learns a b → m ≡ k
@@ -290,18 +331,26 @@ one_lacks there New e = inl e
 one_lacks there Cur e = inr e
 
 -- what was told
-pub told_names : {A B : Type 0} (Told : List (List ℕ) → List (List ℕ) → Type 0) (sought : Sought) → ((names told : List (List ℕ)) → AreSought sought names told → Told names told)
+pub told_names : {A B : Type 0} (Told : List (List ℕ) → List (List ℕ) → Type 0) (sought : Sought)
+    → ((names told : List (List ℕ)) → AreSought sought names told → Told names told)
     → (a b : Directories) (begun : Option (List ℕ)) (n m : ℕ) (r : Result (Vec (String A) B) StoreFault) → TellsBoth sought a r b
     → IfErr r IsDeviceFault → IsCountAfter r n m → AfterTaking (maildir_in a begun n) (λ left. ListsBoth Told left r (maildir_in b begun m))
 told_names Told sought is a b begun n m (Ok names) (l, told, _) device k =
-    seen a b begun n l (rw (sym l.there) told.new_is_there, rw (sym l.there) told.cur_is_there, is _ _ told.lists, told.named, left_as a b begun m n n l k)
+    seen a b begun n l (
+      rw (sym l.there) told.new_is_there,
+      rw (sym l.there) told.cur_is_there,
+      is _ _ told.lists,
+      told.named,
+      left_as a b begun m n n l k,
+    )
 told_names Told sought is a b begun n m (Err Missing) (l, _, missing) device k =
     let lacks = missing refl in
     seen a b begun n l (rw (sym l.there) (one_lacks b.there lacks.0 lacks.1), left_as a b begun m n n l k)
 told_names Told sought is a b begun n m (Err Refused) (l, _, missing) device k = seen a b begun n l (left_as a b begun m (n + 1) n l k)
 told_names Told sought is a b begun n m (Err _) t device k = absurd (⊎_elim (λ e. cc) (λ e. cc) device)
 
-pub told_those : {A B : Type 0} (a b : Directories) (folder : Folder) (begun : Option (List ℕ)) (n m : ℕ) (r : Result (Vec (String A) B) StoreFault) → TellsOne a folder r b
+pub told_those : {A B : Type 0} (a b : Directories) (folder : Folder) (begun : Option (List ℕ)) (n m : ℕ)
+    (r : Result (Vec (String A) B) StoreFault) → TellsOne a folder r b
     → IfErr r IsDeviceFault → IsCountAfter r n m → AfterTaking (maildir_in a begun n) (λ left. Lists left folder r (maildir_in b begun m))
 told_those a b folder begun n m (Ok names) (l, (there, theirs), _) device k =
     seen a b begun n l (rw (sym l.there) there, theirs, left_as a b begun m n n l k)
@@ -311,7 +360,8 @@ told_those a b folder begun n m (Err Refused) (l, _, _) device k =
     seen a b begun n l (left_as a b begun m (n + 1) n l k)
 told_those a b folder begun n m (Err _) t device k = absurd (⊎_elim (λ e. cc) (λ e. cc) device)
 
-pub checked : {T : Type 0} (a b : Directories) (folder : Folder) (begun : Option (List ℕ)) (n m : ℕ) (r : Result T StoreFault) → Then (ChecksIn folder r) a b
+pub checked : {T : Type 0} (a b : Directories) (folder : Folder) (begun : Option (List ℕ)) (n m : ℕ)
+    (r : Result T StoreFault) → Then (ChecksIn folder r) a b
     → IfErr r IsDeviceFault → IsCountAfter r n m → Checks (maildir_in a begun n) folder r (maildir_in b begun m)
 checked a b folder begun n m (Ok done) (mid, v, (e, there, _)) device k =
     (rw (sym v.there) there, rw k (moved_maildir a mid b begun n v e))
@@ -323,7 +373,7 @@ checked a b folder begun n m (Err _) t device k = absurd (⊎_elim (λ e. cc) (�
 -- ---- files that come to the folders, while others are moved
 
 -- a call that only changed the file made
-pub changes_rest : (a b : Directories) → Then ChangesMade a b → Rests a b
+pub changes_rest : (a b : Directories) → Then ChangesDraft a b → SameFiles a b
 changes_rest a b (m, v, (d, e)) = rw e (moved_rests a m d v)
 
 -- no file of `new` has the name, if none of either folder has its base
@@ -333,7 +383,7 @@ free_from [] name unknown = tt
 free_from (s ∷ ss) name unknown =
     (λ new same. unknown (0, omega arith, ap base same), free_from ss name (λ c. unknown (suc c.0, omega (arith, c.1), c.2)))
 
-pub flushed_rests : (b0 b1 b2 : Directories) → Then (FlushesDraft {T = Unit {0}} (Ok tt)) b0 b1 → Rests b1 b2 → Rests b0 b2
+pub flushed_rests : (b0 b1 b2 : Directories) → Then (FlushesDraft {T = Unit {0}} (Ok tt)) b0 b1 → SameFiles b1 b2 → SameFiles b0 b2
 flushed_rests b0 b1 b2 (m, v, (d, made, e)) led =
     rests_on_at b0 b1 b2 (changes_rest b0 b1 (m, v, (Some (record d { is_flushed = true }), e))) led
 
@@ -344,7 +394,12 @@ Splits ss s ts = (front : List MailFile) × (t : MailFile) × (ts ≡ front ++ t
 -- a flush of the names of `new`
 named_files : (ss : List MailFile) → AllZip MayBeNamed (files_at ss) (files_at (map (named_by New) ss))
 named_files [] = tt
-named_files (s ∷ ss) = (⊎_elim (λ (new : touches_new s ≡ true). inr (rw (new, or-true s.is_named) refl)) (λ (not : touches_new s ≡ false). inl (rw (not, or-false s.is_named) refl)) (cases_Bool (touches_new s)), named_files ss)
+named_files (s ∷ ss) = (
+  ⊎_elim (λ (new : touches_new s ≡ true). inr (rw (new, or-true s.is_named) refl))
+      (λ (not : touches_new s ≡ false). inl (rw (not, or-false s.is_named) refl))
+      (cases_Bool (touches_new s)),
+  named_files ss,
+)
 
 split_last : (ss : List MailFile) (s : MailFile) (ts : List MailFile) → AllZip MovesFile (ss ++ s ∷ []) ts → Splits ss s ts
 split_last [] s [] h = absurd h
@@ -356,12 +411,15 @@ split_last (x ∷ ss) s (t ∷ ts) h =
     (t ∷ r.0, r.1, ap (λ (us : List MailFile). t ∷ us) r.2, (h.0, r.3), r.4)
 
 -- the file made was flushed, others were moved, and it was put
-module _ (b0 b1 b2 b3 : Directories) (name : List ℕ) (f : Then (FlushesDraft {T = Unit {0}} (Ok tt)) b0 b1) (r : Rests b1 b2) (led : b1.made ≡ b2.made) (p : Then (PutsIntoNew name) b2 b3) where
-  before : Rests b0 p.0
-  before = rests_on_at b0 b2 p.0 (flushed_rests b0 b1 b2 f r) (record { there = p.1.there; taken = p.1.taken; files = files_moved b2.entries p.0.entries p.1.moves })
+module _ (b0 b1 b2 b3 : Directories) (name : List ℕ) (f : Then (FlushesDraft {T = Unit {0}} (Ok tt)) b0 b1)
+    (r : SameFiles b1 b2) (led : b1.made ≡ b2.made) (p : Then (PutsIntoNew name) b2 b3) where
+  before : SameFiles b0 p.0
+  before = rests_on_at b0 b2 p.0 (flushed_rests b0 b1 b2 f r)
+      (record { there = p.1.there; taken = p.1.taken; files = files_moved b2.entries p.0.entries p.1.moves })
 
   drafted : record f.2.0 { is_flushed = true } ≡ p.2.draft
-  drafted = same_Some (record f.2.0 { is_flushed = true }) p.2.draft (sym (ap (λ (b : Directories). b.made) f.2.2) ∙ led ∙ sym p.1.made ∙ p.2.made)
+  drafted = same_Some (record f.2.0 { is_flushed = true }) p.2.draft (sym (ap (λ (b : Directories). b.made) f.2.2) ∙ led
+      ∙ sym p.1.made ∙ p.2.made)
 
   made_at : b0.made ≡ Some f.2.0
   made_at = sym f.1.made ∙ f.2.1
@@ -382,31 +440,34 @@ module _ (b0 b1 b2 b3 : Directories) (name : List ℕ) (f : Then (FlushesDraft {
         risen = files_at p.0.entries;
         reached = rw before.files (named_same (files_at b0.entries));
         files = map-append mail_at p.0.entries (put_as name p.2.draft ∷ [])
-            ∙ ap (λ (x : Draft). files_at p.0.entries ++ mail_at (put_as name x) ∷ []) (sym drafted);
+            ∙ ap (λ (x : MadeFile). files_at p.0.entries ++ mail_at (put_as name x) ∷ []) (sym drafted);
       }),
     ),
   )
 
   mail_is : (t : MailFile) (content : List ℕ) → base t.name ≡ base name → t.content ≡ content → t.is_named ≡ true → t.is_flushed ≡ true
       → mail_at t ≡ mail name content
-  mail_is t content title same named flushed = rw (title, same, named, flushed) refl
+  mail_is t content title same named with_flushed = rw (title, same, named, with_flushed) refl
 
   -- or were
-  put_named : (m b4 : Directories) → Moved b3 m → b4 ≡ names_flushed_in New m → IsUnknown name b0 → Brings b0 (mail name f.2.0.content ∷ []) b4
+  put_named : (m b4 : Directories) → Moved b3 m → b4 ≡ names_flushed_in New m → IsUnknown name b0
+      → BringsFiles b0 (mail name f.2.0.content ∷ []) b4
   put_named m b4 v e unknown =
       let put = put_as name p.2.draft in
       let last = split_last p.0.entries put m.entries (rw (put_is unknown) at v.moves) in
       let t = last.1 in
       let moved = last.4 in
-      let flushed : p.2.draft.is_flushed ≡ true = ap (λ (x : Draft). x.is_flushed) (sym drafted) in
-      let is = mail_is (named_by New t) f.2.0.content moved.keeps.title (moved.keeps.content ∙ ap (λ (x : Draft). x.content) (sym drafted))
-      (or_right t.is_named (touches_new t) (moved.new refl)) (moved.flushed ∙ flushed) in
+      let with_flushed : p.2.draft.is_flushed ≡ true = ap (λ (x : MadeFile). x.is_flushed) (sym drafted) in
+      let is = mail_is (named_by New t) f.2.0.content moved.keeps.title (moved.keeps.content
+      ∙ ap (λ (x : MadeFile). x.content) (sym drafted))
+      (or_right t.is_named (touches_new t) (moved.new refl)) (moved.flushed ∙ with_flushed) in
       let risen = files_at (map (named_by New) last.0) in
       rw e (record {
         there = v.there ∙ ap (λ (d : Directories). d.there) (put_is unknown) ∙ before.there;
         taken = v.taken ∙ ap (λ (d : Directories). d.taken) (put_is unknown) ∙ before.taken;
         risen = risen;
-        reached = subst (λ (fs : List File). AllZip MayBeNamed fs risen) (files_moved p.0.entries last.0 last.3 ∙ before.files) (named_files last.0);
+        reached = subst (λ (fs : List File). AllZip MayBeNamed fs risen) (files_moved p.0.entries last.0 last.3
+            ∙ before.files) (named_files last.0);
         files = ap (λ (es : List MailFile). files_at (map (named_by New) es)) last.2
             ∙ ap files_at (map-append (named_by New) last.0 (t ∷ []))
             ∙ map-append mail_at (map (named_by New) last.0) (named_by New t ∷ [])
@@ -436,11 +497,12 @@ module _ (b0 b1 b2 b3 : Directories) (name : List ℕ) (f : Then (FlushesDraft {
 
 -- ---- the Maildir of the folders
 
-pub makes_rest : (a b : Directories) (r : Result (Unit {0}) StoreFault) → Then (MakesDraft r) a b → Rests a b
+pub makes_rest : (a b : Directories) (r : Result (Unit {0}) StoreFault) → Then (MakesDraft r) a b → SameFiles a b
 makes_rest a b (Ok done) (m, v, (there, e)) = changes_rest a b (m, v, (Some (record { content = []; is_flushed = false }), e))
 makes_rest a b (Err fault) (m, v, (change, missing)) = changes_rest a b (m, v, change)
 
-pub begun_anew : (a b : Directories) (begun : Option (List ℕ)) (title name : List ℕ) (n : ℕ) → title ≡ name → Then (MakesDraft {T = Unit {0}} (Ok tt)) a b
+pub begun_anew : (a b : Directories) (begun : Option (List ℕ)) (title name : List ℕ) (n : ℕ) → title ≡ name
+    → Then (MakesDraft {T = Unit {0}} (Ok tt)) a b
     → (a.there.tmp ≡ true) × (maildir_in b (Some title) n ≡ record (maildir_in a begun n) { begun = Some (draft name []) })
 begun_anew a b begun title name n same (m, v, (there, e)) =
     let h = makes_rest a b (Ok tt) (m, v, (there, e)) in
@@ -453,45 +515,51 @@ begin_missing a b begun n fault is (m, v, (change, missing)) =
     let gone = missing is in
     (rw (sym v.there) gone.0, moved_maildir a m b begun n v gone.1)
 
-pub begin_refused : (a b : Directories) (begun : Option (List ℕ)) (n k : ℕ) → k ≡ n + 1 → Rests a b → (maildir_in a begun n).begun ≡ None
-    → maildir_in b begun k ≡ counted (maildir_in a begun n)
+pub begin_refused : (a b : Directories) (begun : Option (List ℕ)) (n k : ℕ) → k ≡ n + 1 → SameFiles a b
+    → (maildir_in a begun n).begun ≡ None
+    → maildir_in b begun k ≡ maildir_refused (maildir_in a begun n)
 begin_refused a b None n k up h none = rw (h.there, h.taken, h.files, up) refl
 begin_refused a b (Some name) n k up h none = absurd cc
 
 -- ---- add
 
-begun_is : (a : Directories) (begun : Option (List ℕ)) (n : ℕ) (f : Begun) → (maildir_in a begun n).begun ≡ Some f → (begun ≡ Some f.name) × (content_made a.made ≡ f.content)
+begun_is : (a : Directories) (begun : Option (List ℕ)) (n : ℕ) (f : Begun) → (maildir_in a begun n).begun ≡ Some f
+    → (begun ≡ Some f.name) × (content_made a.made ≡ f.content)
 begun_is a None n f h = absurd cc
 begun_is a (Some title) n f h = rw (sym (same_Some (draft title (content_made a.made)) f h)) (refl, refl)
 
-pub writes_rest : (a b : Directories) (bytes : List ℕ) (r : Result (Unit {0}) StoreFault) → Then (WritesDraft bytes r) a b → Rests a b
+pub writes_rest : (a b : Directories) (bytes : List ℕ) (r : Result (Unit {0}) StoreFault) → Then (WritesDraft bytes r) a b → SameFiles a b
 writes_rest a b bytes (Ok done) (m, v, (d, made, e)) =
     changes_rest a b (m, v, (Some (record { content = d.content ++ bytes; is_flushed = false }), e))
 writes_rest a b bytes (Err fault) t = changes_rest a b t
 
-pub added : (a b : Directories) (begun : Option (List ℕ)) (bytes : List ℕ) (n : ℕ) → Then (WritesDraft {T = Unit {0}} bytes (Ok tt)) a b → (f : Begun) → (maildir_in a begun n).begun ≡ Some f
+pub added : (a b : Directories) (begun : Option (List ℕ)) (bytes : List ℕ) (n : ℕ)
+    → Then (WritesDraft {T = Unit {0}} bytes (Ok tt)) a b → (f : Begun) → (maildir_in a begun n).begun ≡ Some f
     → maildir_in b begun n ≡ record (maildir_in a begun n) { begun = Some (draft f.name (f.content ++ bytes)) }
 added a b begun bytes n (m, v, (d, made, e)) f h =
     let is = begun_is a begun n f h in
     let rests = writes_rest a b bytes (Ok tt) (m, v, (d, made, e)) in
     rw (is.0, sym is.1, sym v.made ∙ made, rests.there, rests.taken, rests.files, ap (λ (x : Directories). x.made) e) refl
 
-pub not_added : (a b : Directories) (begun : Option (List ℕ)) (n k : ℕ) → k ≡ n + 1 → Then ChangesMade a b → (f : Begun) → (maildir_in a begun n).begun ≡ Some f
-    → (content : List ℕ) × (maildir_in b begun k ≡ counted (record (maildir_in a begun n) { begun = Some (draft f.name content) }))
+pub not_added : (a b : Directories) (begun : Option (List ℕ)) (n k : ℕ) → k ≡ n + 1 → Then ChangesDraft a b
+    → (f : Begun) → (maildir_in a begun n).begun ≡ Some f
+    → (content : List ℕ) × (maildir_in b begun k ≡ maildir_refused (record (maildir_in a begun n) { begun = Some (draft f.name content) }))
 not_added a b begun n k up t f h =
     let came = changes_rest a b t in
     (content_made b.made, rw (came.there, came.taken, came.files, up, (begun_is a begun n f h).0) refl)
 
 -- ---- abandon and settle
 
-pub gives_up : (a b : Directories) → Then GivesUp a b → Rests a b
+pub gives_up : (a b : Directories) → Then GivesUp a b → SameFiles a b
 gives_up a b (m, v, e) = changes_rest a b (m, v, (None, e))
 
 -- none is being written, and the files are as they were
-pub maildir_dropped : (a b : Directories) (begun : Option (List ℕ)) (n k : ℕ) → Rests a b → maildir_in b None k ≡ record (dropped (maildir_in a begun n)) { failures = k }
+pub maildir_dropped : (a b : Directories) (begun : Option (List ℕ)) (n k : ℕ) → SameFiles a b
+    → maildir_in b None k ≡ record (dropped (maildir_in a begun n)) { failures = k }
 maildir_dropped a b begun n k h = rw (h.there, h.taken, h.files) refl
 
-pub settled : (a b : Directories) (begun : Option (List ℕ)) (name : List ℕ) (n : ℕ) → PutsForGood {T = Unit {0}} a name (Ok tt) b → IsUnknown name a
+pub settled : (a b : Directories) (begun : Option (List ℕ)) (name : List ℕ) (n : ℕ)
+    → PutsForGood {T = Unit {0}} a name (Ok tt) b → IsUnknown name a
     → (f : Begun) → (maildir_in a begun n).begun ≡ Some f
     → AfterFlushing (maildir_in a begun n) (λ risen. maildir_in b None n ≡ with_file risen (mail name f.content))
 settled a b begun name n (d, made, put) unknown f h =
@@ -499,9 +567,10 @@ settled a b begun name n (d, made, put) unknown f h =
     let same : d.content ≡ f.content = ap content_made (sym made) ∙ (begun_is a begun n f h).1 in
     (came.risen, came.reached, rw (came.there, came.taken, came.files, same) refl)
 
-pub not_settled : (a b c : Directories) (begun : Option (List ℕ)) (name : List ℕ) (n k : ℕ) (fault : StoreFault) → k ≡ n + 1 → PutsForGood {T = Unit {0}} a name (Err fault) b
+pub not_settled : (a b c : Directories) (begun : Option (List ℕ)) (name : List ℕ) (n k : ℕ) (fault : StoreFault)
+    → k ≡ n + 1 → PutsForGood {T = Unit {0}} a name (Err fault) b
     → Then GivesUp b c → IsUnknown name a → (f : Begun) → (maildir_in a begun n).begun ≡ Some f
-    → (maildir_in c None k ≡ counted (dropped (maildir_in a begun n)))
+    → (maildir_in c None k ≡ maildir_refused (dropped (maildir_in a begun n)))
     ⊎ AfterFlushing (maildir_in a begun n) (λ risen. MayHave risen (mail name f.content) (maildir_in c None k))
 not_settled a b c begun name n k fault up (inl none) gives unknown f h =
     let came = rests_on_at a b c none (gives_up b c gives) in
@@ -510,12 +579,26 @@ not_settled a b c begun name n k fault up (inr (d, made, put)) gives unknown f h
     let came = put unknown in
     let gone = gives_up b c gives in
     let same : d.content ≡ f.content = ap content_made (sym made) ∙ (begun_is a begun n f h).1 in
-    inr (came.1.risen, came.1.reached, (came.0, rw (gone.there ∙ came.1.there, gone.taken ∙ came.1.taken, gone.files ∙ came.1.files, up, same) refl))
+    inr (
+      came.1.risen,
+      came.1.reached,
+      (
+        came.0,
+        rw (
+          gone.there ∙ came.1.there,
+          gone.taken ∙ came.1.taken,
+          gone.files
+              ∙ came.1.files,
+          up,
+          same,
+        ) refl,
+      ),
+    )
 
 -- ---- the calls of settling
 
 pub not_put : (b0 b1 b2 b3 : Directories) (name : List ℕ) (fault x : StoreFault) → Then (FlushesDraft {T = Unit {0}} (Ok tt)) b0 b1
-    → Rests b1 b2 → b1.made ≡ b2.made
+    → SameFiles b1 b2 → b1.made ≡ b2.made
     → Then (PutsDraft {T = Unit {0}} name (Err fault)) b2 b3 → PutsForGood {T = Unit {0}} b0 name (Err x) b3
 not_put b0 b1 b2 b3 name fault x f led same (m, v, inl change) =
     inl (rests_on_at b0 b2 b3 (flushed_rests b0 b1 b2 f led) (changes_rest b2 b3 (m, v, change)))
@@ -534,6 +617,7 @@ module _ {A : Type 0} (stems : List (String A)) where
       rw (e, v.there, v.made, v.taken) (rw (flushed_at m.entries, files_moved a.entries m.entries v.moves) refl)
   files_flush a b begun n false (m, v, e) = moved_maildir a m b begun n v e
 
-pub files_refused : {A : Type 0} (stems : List (String A)) (a b : Directories) (begun : Option (List ℕ)) (n k : ℕ) (fault : StoreFault) → k ≡ n + 1
-    → Then (FlushesFiles stems (Err fault)) a b → maildir_in b begun k ≡ counted (maildir_in a begun n)
+pub files_refused : {A : Type 0} (stems : List (String A)) (a b : Directories) (begun : Option (List ℕ)) (n k : ℕ)
+    (fault : StoreFault) → k ≡ n + 1
+    → Then (FlushesFiles stems (Err fault)) a b → maildir_in b begun k ≡ maildir_refused (maildir_in a begun n)
 files_refused stems a b begun n k fault up (m, v, e) = rw up (moved_maildir a m b begun (n + 1) v e)

@@ -1,20 +1,24 @@
 -- What others' moves and flushes of names leave as it was.
-use Rattle.std.proofs.Common.{◌≡◌, ◌⊎◌, ◌||◌, Contains, inl, inr, ⊎_elim, ℕ, zero, suc, Bool, true, false, not, List, [], ◌∷◌, ◌++◌, map, None, Option, refl, sym, ap, ◌∙◌, arith}
+use Rattle.std.proofs.Common.{◌≡◌, ◌⊎◌, ◌||◌, Contains, inl, inr, ⊎_elim, ℕ, zero, suc, Bool, true, false, not, List}
+use Rattle.std.proofs.Common.{[], ◌∷◌, ◌++◌, map, None, Option, refl, sym, ap, ◌∙◌, arith}
 use Rattle.std.specs.List.{AllByRecursion, AllZip}
 use Rattle.std.proofs.lemmas.Bool.{or_left}
 use Rattle.mail_terms.specs.MaildirName.{base}
 use Rattle.mail_store.specs.declared.maildir.disk.Folder.{Folder}
 use Rattle.mail_store.specs.declared.maildir.disk.Folder.TheVariants.{New, Cur}
 use Rattle.mail_store.specs.Loss.{AreLeftAs}
-use Rattle.mail_store.specs.Maildir.{AreReached, File, Reaches, AllNamed}
-use Rattle.folder_store.specs.MailFolders.{Draft, MailFile, Directories, KeepsFile, MovesFile, RestsFile, Moved, mail_at, files_at, name_at, entries_in, touches_new, touches_cur, maildir_in, OneMoves, is_in}
-use Rattle.folder_store.specs.MailPower.{EntriesLeftAs, IsLeftAs, MailCanLosePower}
-use Rattle.folder_store.specs.MailCalls.{Leads, Rests, named_by}
+use Rattle.mail_store.specs.Maildir.{AreReached, File, IsAsDurable, AllNamed}
+use Rattle.folder_store.specs.MailFolders.{MadeFile, MailFile, Directories, KeepsFile, MovesFile, RestsFile, Moved}
+use Rattle.folder_store.specs.MailFolders.{mail_at, files_at, name_at, entries_in, touches_new, touches_cur, maildir_in}
+use Rattle.folder_store.specs.MailFolders.{OneMoves, is_in}
+use Rattle.folder_store.specs.MailPower.{EntriesLeftAs, IsMailLeftAs, MailCanLosePower}
+use Rattle.folder_store.specs.MailCalls.{Leads, SameFiles, named_by}
 use Rattle.mail_terms.proofs.ListLemmas.{zip_on, zip_same}
 
 -- what holds of two lists of files that are so related one by one
 pub each_by : (Does : MailFile → MailFile → Type 0) (P : List MailFile → List MailFile → Type 0) → P [] []
-    → ((s t : MailFile) (ss ts : List MailFile) → Does s t → P ss ts → P (s ∷ ss) (t ∷ ts)) → (a b : List MailFile) → AllZip Does a b → P a b
+    → ((s t : MailFile) (ss ts : List MailFile) → Does s t → P ss ts → P (s ∷ ss) (t ∷ ts)) → (a b : List MailFile)
+    → AllZip Does a b → P a b
 each_by Does P none more [] [] h = none
 each_by Does P none more [] (t ∷ ts) h = absurd h
 each_by Does P none more (s ∷ ss) [] h = absurd h
@@ -32,12 +36,14 @@ some_kept {Does} {Is} {Will} a b h is each =
     each_by Does (λ a b. SomeIs Is a → SomeIs Will b) (λ is. is)
     (λ s t ss ts d rest. ⊎_elim (λ is. inl (each s t d is)) (λ is. inr (rest is))) a b h is
 
-pub some_map : {Is : MailFile → Type 0} (Will : MailFile → Type 0) (f : MailFile → MailFile) (ss : List MailFile) → SomeIs Is ss → ((s : MailFile) → Is s → Will (f s)) → SomeIs Will (map f ss)
+pub some_map : {Is : MailFile → Type 0} (Will : MailFile → Type 0) (f : MailFile → MailFile) (ss : List MailFile)
+    → SomeIs Is ss → ((s : MailFile) → Is s → Will (f s)) → SomeIs Will (map f ss)
 some_map Will f [] is each = absurd is
 some_map Will f (s ∷ ss) (inl is) each = inl (each s is)
 some_map Will f (s ∷ ss) (inr is) each = inr (some_map Will f ss is each)
 
-pub there_some : {A : Type 0} (g : MailFile → A) (x : A) (P : MailFile → Type 0) → (ss : List MailFile) → AllByRecursion P ss → Contains (map g ss) x
+pub there_some : {A : Type 0} (g : MailFile → A) (x : A) (P : MailFile → Type 0) → (ss : List MailFile)
+    → AllByRecursion P ss → Contains (map g ss) x
     → SomeIs (λ (s : MailFile). (g s ≡ x) × P s) ss
 there_some g x P [] all c = absurd (omega (arith, c.1))
 there_some g x P (s ∷ ss) all (zero, below, is) = inl (is, all.0)
@@ -49,7 +55,7 @@ pub same_mail : (s t : MailFile) → base t.name ≡ base s.name → t.content �
     → mail_at t ≡ mail_at s
 same_mail s t title content named flushed = rw (title, content, named, flushed) refl
 
-pub reaches_at : (s t : MailFile) → KeepsFile s t → Reaches (mail_at s) (mail_at t)
+pub reaches_at : (s t : MailFile) → KeepsFile s t → IsAsDurable (mail_at s) (mail_at t)
 reaches_at s t k = record { name = k.title; content = k.content; named = k.named; flushed = k.flushed }
 
 pub files_reached : (a b : List MailFile) → AllZip KeepsFile a b → AreReached (files_at a) (files_at b)
@@ -94,7 +100,8 @@ keeps_on s t u a b = record {
 }
 
 -- others moved files, and then something was done to each that keeps it
-pub mapped_leads : (f : MailFile → MailFile) → ((s : MailFile) → KeepsFile s (f s)) → (a m : Directories) → Moved a m → Leads a (record m { entries = map f m.entries })
+pub mapped_leads : (f : MailFile → MailFile) → ((s : MailFile) → KeepsFile s (f s)) → (a m : Directories) → Moved a m
+    → Leads a (record m { entries = map f m.entries })
 mapped_leads f keeps a m v = record {
   there = v.there;
   made = v.made;
@@ -104,20 +111,26 @@ mapped_leads f keeps a m v = record {
 }
 
 -- the Maildir is as it was
-pub moved_maildir : (a m b : Directories) (begun : Option (List ℕ)) (n : ℕ) → Moved a m → b ≡ m → maildir_in b begun n ≡ maildir_in a begun n
+pub moved_maildir : (a m b : Directories) (begun : Option (List ℕ)) (n : ℕ) → Moved a m → b ≡ m
+    → maildir_in b begun n ≡ maildir_in a begun n
 moved_maildir a m b begun n v e = rw e (rw (v.there, v.made, v.taken, files_moved a.entries m.entries v.moves) refl)
 
-pub moved_rests : (a m : Directories) (d : Option Draft) → Moved a m → Rests a (record m { made = d })
+pub moved_rests : (a m : Directories) (d : Option MadeFile) → Moved a m → SameFiles a (record m { made = d })
 moved_rests a m d v = record { there = v.there; taken = v.taken; files = files_moved a.entries m.entries v.moves }
 
-pub same_rests_at : (a m b : Directories) → Moved a m → b ≡ m → Rests a b
+pub same_rests_at : (a m b : Directories) → Moved a m → b ≡ m → SameFiles a b
 same_rests_at a m b v e = rw e (record { there = v.there; taken = v.taken; files = files_moved a.entries m.entries v.moves })
 
 pub made_same : (a m b : Directories) → Moved a m → b ≡ m → a.made ≡ b.made
 made_same a m b v e = rw e (sym v.made)
 
-pub rests_on_at : (a b c : Directories) → Rests a b → Rests b c → Rests a c
-rests_on_at a b c first then = record { there = then.there ∙ first.there; taken = then.taken ∙ first.taken; files = then.files ∙ first.files }
+pub rests_on_at : (a b c : Directories) → SameFiles a b → SameFiles b c → SameFiles a c
+rests_on_at a b c first then = record {
+  there = then.there ∙ first.there;
+  taken = then.taken
+      ∙ first.taken;
+  files = then.files ∙ first.files;
+}
 
 -- ---- durable names
 
@@ -160,12 +173,14 @@ rest b = record {
   rests = λ folder quiet. (quiet, zip_same (RestsFile folder) (same_rests folder) b.entries);
 }
 
-pub each_one : (Does : MailFile → MailFile → Type 0) → ((s : MailFile) → Does s s) → (front back : List MailFile) (s t : MailFile) → Does s t
+pub each_one : (Does : MailFile → MailFile → Type 0) → ((s : MailFile) → Does s s)
+    → (front back : List MailFile) (s t : MailFile) → Does s t
     → AllZip Does (front ++ s ∷ back) (front ++ t ∷ back)
 each_one Does same [] back s t m = (m, zip_same Does same back)
 each_one Does same (x ∷ front) back s t m = (same x, each_one Does same front back s t m)
 
-pub one : (old : Directories) (front back : List MailFile) (s t : MailFile) (new : Directories) → OneMoves old front back s t new → Moved old new
+pub one : (old : Directories) (front back : List MailFile) (s t : MailFile) (new : Directories)
+    → OneMoves old front back s t new → Moved old new
 one old front back s t new o = record {
   there = o.there;
   made = o.made;
@@ -177,7 +192,14 @@ one old front back s t new o = record {
 }
 
 moves_on : (s t u : MailFile) → MovesFile s t → MovesFile t u → MovesFile s u
-moves_on s t u a b = record { keeps = keeps_on s t u a.keeps b.keeps; flushed = b.flushed ∙ a.flushed; named = b.named ∙ a.named; new = λ h. b.new (a.new h); cur = λ h. b.cur (a.cur h) }
+moves_on s t u a b = record {
+  keeps = keeps_on s t u a.keeps b.keeps;
+  flushed = b.flushed ∙ a.flushed;
+  named = b.named
+      ∙ a.named;
+  new = λ h. b.new (a.new h);
+  cur = λ h. b.cur (a.cur h);
+}
 
 still_in : (folder : Folder) (s t : MailFile) → t.is_new ≡ s.is_new → is_in folder s ≡ true → is_in folder t ≡ true
 still_in New s t e h = e ∙ h
@@ -220,7 +242,7 @@ left_as (s ∷ ss) left (inr (t, rest, e, is, l)) = inr (
 abbrev pub staying : MailFile → MailFile
 staying s = record s { is_flushed = true; is_named = true; left_new = false; left_cur = false }
 
-pub staying_left : (s : MailFile) → IsLeftAs s (staying s)
+pub staying_left : (s : MailFile) → IsMailLeftAs s (staying s)
 staying_left s = record {
   title = refl;
   in_new = λ new. ap (λ (b : Bool). b || s.left_new) new;

@@ -12,10 +12,10 @@ most_nanos = 2_000_000_000
 
 -- a listing has the folder's names at one moment if the folder's time of change is the same before and after it; else
 -- the folder is listed again, until this time has passed
-abbrev pub IsListing : ChangeTime → ChangeTime → Duration → Listing → Type 0
-IsListing before after passed Exact = before ≡ after
-IsListing before after passed Changed = (before ≢ after) × (as_nanos passed < most_nanos)
-IsListing before after passed TooBusy = (before ≢ after) × (most_nanos ≤ as_nanos passed)
+abbrev pub IsExactListing : ChangeTime → ChangeTime → Duration → Listing → Type 0
+IsExactListing before after passed Exact = before ≡ after
+IsExactListing before after passed Changed = (before ≢ after) × (as_nanos passed < most_nanos)
+IsExactListing before after passed TooBusy = (before ≢ after) × (most_nanos ≤ as_nanos passed)
 
 -- what is left of a step, in nanoseconds, where the time of change is this old, and was seen this long ago
 abbrev pub left_of : Duration → Duration → Duration → ℕ

@@ -60,8 +60,8 @@ abbrev pub making : Directory → Option Blob → Directory
 making d m = record d { made = m }
 
 -- the file of this name has other bytes
-abbrev pub changed : Directory → List ℕ → Blob → Directory
-changed d name blob = record d { entries = placed name blob d.entries }
+abbrev pub with_blob : Directory → List ℕ → Blob → Directory
+with_blob d name blob = record d { entries = placed name blob d.entries }
 
 -- the file made has a name here
 abbrev pub put_in : Directory → Blob → List ℕ → Directory
@@ -85,9 +85,9 @@ Makes old (Ok done) new = (old.can_make ≡ true) × (new ≡ making old (Some e
 Makes old (Err fault) new = ChangesMade old new × (fault ≡ Missing → (old.can_make ≡ false) × (new ≡ old))
 
 -- `write`: the bytes are appended to the file made
-abbrev pub Writes : {T : Type 0} → Directory → List ℕ → Result T StoreFault → Directory → Type 0
-Writes old bytes (Ok done) new = (b : Blob) × (old.made ≡ Some b) × (new ≡ making old (Some (appended b bytes)))
-Writes old bytes (Err fault) new = ChangesMade old new
+abbrev pub WritesMade : {T : Type 0} → Directory → List ℕ → Result T StoreFault → Directory → Type 0
+WritesMade old bytes (Ok done) new = (b : Blob) × (old.made ≡ Some b) × (new ≡ making old (Some (appended b bytes)))
+WritesMade old bytes (Err fault) new = ChangesMade old new
 
 -- `flush_made`: the bytes of the file made are on the disk; a refused call gives the file up
 abbrev pub FlushesMade : {T : Type 0} → Directory → Result T StoreFault → Directory → Type 0
@@ -99,18 +99,18 @@ abbrev pub PutsIn : Directory → List ℕ → Directory → Type 0
 PutsIn old name new = (b : Blob) × (old.made ≡ Some b) × (new ≡ put_in old b name)
 
 -- `put`: the file made is put under the name; a refused call did that, or changed only the file made
-abbrev pub Puts : {T : Type 0} → Directory → List ℕ → Result T StoreFault → Directory → Type 0
-Puts old name (Ok done) new = PutsIn old name new
-Puts old name (Err fault) new = ChangesMade old new ⊎ PutsIn old name new
+abbrev pub PutsFile : {T : Type 0} → Directory → List ℕ → Result T StoreFault → Directory → Type 0
+PutsFile old name (Ok done) new = PutsIn old name new
+PutsFile old name (Err fault) new = ChangesMade old new ⊎ PutsIn old name new
 
 -- a call that only reads a file answered a fault: there is no such file, or the call was refused
 abbrev pub LacksFile : Directory → List ℕ → StoreFault → Directory → Type 0
 LacksFile old name fault new = (new ≡ old) × (fault ≡ Missing → content_at old name ≡ None)
 
 -- `read`: the bytes of the file of this name
-abbrev pub Reads : {B : Type 0} → Directory → List ℕ → Result (Vec ℕ B) StoreFault → Directory → Type 0
-Reads old name (Ok bytes) new = (content_at old name ≡ Some bytes.items) × (new ≡ old)
-Reads old name (Err fault) new = LacksFile old name fault new
+abbrev pub ReadsFile : {B : Type 0} → Directory → List ℕ → Result (Vec ℕ B) StoreFault → Directory → Type 0
+ReadsFile old name (Ok bytes) new = (content_at old name ≡ Some bytes.items) × (new ≡ old)
+ReadsFile old name (Err fault) new = LacksFile old name fault new
 
 -- `edges`: the size and the ends of the file of this name
 abbrev pub MeasuresFile : Directory → List ℕ → Result Edges StoreFault → Directory → Type 0
@@ -128,14 +128,14 @@ ReadsPiece old name start (Ok count) buf new =
 ReadsPiece old name start (Err fault) buf new = LacksFile old name fault new
 
 -- `size`: how many bytes the file of this name has
-abbrev pub TellsSize : Directory → List ℕ → Result ℕ StoreFault → Directory → Type 0
-TellsSize old name (Ok size) new = ((was : List ℕ) × (content_at old name ≡ Some was) × (size ≡ length was))
+abbrev pub TellsFileSize : Directory → List ℕ → Result ℕ StoreFault → Directory → Type 0
+TellsFileSize old name (Ok size) new = ((was : List ℕ) × (content_at old name ≡ Some was) × (size ≡ length was))
     × (new ≡ old)
-TellsSize old name (Err fault) new = new ≡ old
+TellsFileSize old name (Err fault) new = new ≡ old
 
 -- the file of this name became one to which it has the relation
 abbrev pub Alters : (Blob → Blob → Type 0) → Directory → List ℕ → Directory → Type 0
-Alters R old name new = (b c : Blob) × (find name old.entries ≡ Some b) × R b c × (new ≡ changed old name c)
+Alters R old name new = (b c : Blob) × (find name old.entries ≡ Some b) × R b c × (new ≡ with_blob old name c)
 
 -- the file of this name became another; a refused call did a part of this, or nothing
 abbrev pub AltersInPart : {T : Type 0} → (Blob → Blob → Type 0) → (Blob → Blob → Type 0) → Directory → List ℕ

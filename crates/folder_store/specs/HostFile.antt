@@ -14,8 +14,8 @@ abbrev pub unknown_file : Stored
 unknown_file = stored_in unknown_directory [] 0
 
 -- the file made was flushed and put under the name, which may be on the disk or not
-abbrev pub StandsIn : Directory → List ℕ → Directory → Type 0
-StandsIn old name new =
+abbrev pub StandsInFolder : Directory → List ℕ → Directory → Type 0
+StandsInFolder old name new =
     (b : Blob) × (old.made ≡ Some b)
     × ((new ≡ put_in old (secured b.content) name) ⊎ (new ≡ names_flushed (put_in old (secured b.content) name)))
 
@@ -24,4 +24,4 @@ StandsIn old name new =
 abbrev pub PutsFlushed : {T : Type 0} → Directory → List ℕ → Result T StoreFault → Directory → Type 0
 PutsFlushed old name (Ok done) new =
     (b : Blob) × (old.made ≡ Some b) × (new ≡ names_flushed (put_in old (secured b.content) name))
-PutsFlushed old name (Err fault) new = ChangesMade old new ⊎ StandsIn old name new
+PutsFlushed old name (Err fault) new = ChangesMade old new ⊎ StandsInFolder old name new

@@ -15,7 +15,7 @@ use Rattle.mail_store.specs.Held.{is_sought}
 use Rattle.mail_store.specs.Loss.{is_among}
 use Rattle.folder_store.specs.declared.mail_folders.Sought.{Sought}
 use Rattle.folder_store.specs.declared.mail_folders.Sought.TheVariants.{All, Stems}
-use Rattle.folder_store.specs.MailFolders.{Directories, MailFile, Draft, KeepsFile, Moved, files_at, is_left}
+use Rattle.folder_store.specs.MailFolders.{Directories, MailFile, MadeFile, KeepsFile, Moved, files_at, is_left}
 use Rattle.folder_store.specs.MailFolders.{is_taken}
 use Rattle.folder_store.specs.MailFolders.{name_at, entries_in, rests_in, touches_new, touches_cur}
 
@@ -24,8 +24,8 @@ abbrev pub Then : (Directories → Directories → Type 0) → Directories → D
 Then Does old new = (mid : Directories) × Moved old mid × Does mid new
 
 -- the call changed only the file made
-abbrev pub ChangesMade : Directories → Directories → Type 0
-ChangesMade old new = (m : Option Draft) × (new ≡ record old { made = m })
+abbrev pub ChangesDraft : Directories → Directories → Type 0
+ChangesDraft old new = (m : Option MadeFile) × (new ≡ record old { made = m })
 
 -- a call that needs a folder answered a fault, and nothing changed
 abbrev pub Lacks : Directories → Folder → StoreFault → Directories → Type 0
@@ -43,9 +43,9 @@ without_taken d = record d {
 }
 
 -- a folder was listed, and has rested since
-abbrev pub listed : Folder → Directories → Directories
-listed New d = record (without_taken d) { new_rests = true }
-listed Cur d = record (without_taken d) { cur_rests = true }
+abbrev pub after_listing : Folder → Directories → Directories
+after_listing New d = record (without_taken d) { new_rests = true }
+after_listing Cur d = record (without_taken d) { cur_rests = true }
 
 -- `check`: the folder is there
 abbrev pub ChecksIn : {T : Type 0} → Folder → Result T StoreFault → Directories → Directories → Type 0
@@ -66,7 +66,7 @@ abbrev pub ListsIn : {A B : Type 0} → Folder → Sought → Result (Vec (Strin
     → Directories → Type 0
 ListsIn folder sought (Ok names) old new = (is_there old.there folder ≡ true)
     × AreSought sought (map name_at (entries_in folder old.entries)) (map string_bytes names.items)
-    × (new ≡ listed folder old)
+    × (new ≡ after_listing folder old)
 ListsIn folder sought (Err fault) old new = Lacks old folder fault new
 
 -- `rests`: if the answer is true, the folder has rested since it was last listed
@@ -84,17 +84,17 @@ LooksUpNew name r old new =
 abbrev pub MakesDraft : {T : Type 0} → Result T StoreFault → Directories → Directories → Type 0
 MakesDraft (Ok done) old new = (old.there.tmp ≡ true)
     × (new ≡ record old { made = Some (record { content = []; is_flushed = false }) })
-MakesDraft (Err fault) old new = ChangesMade old new × (fault ≡ Missing → (old.there.tmp ≡ false) × (new ≡ old))
+MakesDraft (Err fault) old new = ChangesDraft old new × (fault ≡ Missing → (old.there.tmp ≡ false) × (new ≡ old))
 
 -- `write`: the bytes are appended to the file made
 abbrev pub WritesDraft : {T : Type 0} → List ℕ → Result T StoreFault → Directories → Directories → Type 0
-WritesDraft bytes (Ok done) old new = (d : Draft) × (old.made ≡ Some d)
+WritesDraft bytes (Ok done) old new = (d : MadeFile) × (old.made ≡ Some d)
     × (new ≡ record old { made = Some (record { content = d.content ++ bytes; is_flushed = false }) })
-WritesDraft bytes (Err fault) old new = ChangesMade old new
+WritesDraft bytes (Err fault) old new = ChangesDraft old new
 
 -- `flush_made`: the bytes of the file made are durable; a refused call gives the file up
 abbrev pub FlushesDraft : {T : Type 0} → Result T StoreFault → Directories → Directories → Type 0
-FlushesDraft (Ok done) old new = (d : Draft) × (old.made ≡ Some d)
+FlushesDraft (Ok done) old new = (d : MadeFile) × (old.made ≡ Some d)
     × (new ≡ record old { made = Some (record d { is_flushed = true }) })
 FlushesDraft (Err fault) old new = new ≡ record old { made = None }
 
@@ -103,7 +103,7 @@ abbrev pub GivesUp : Directories → Directories → Type 0
 GivesUp old new = new ≡ record old { made = None }
 
 -- the file made, in `new`
-abbrev pub put_as : List ℕ → Draft → MailFile
+abbrev pub put_as : List ℕ → MadeFile → MailFile
 put_as name d = record {
   is_new = true;
   name = name;
@@ -121,7 +121,7 @@ IsFree name d = AllByRecursion (λ (s : MailFile). s.is_new ≡ true → s.name 
 
 -- the file made is put into `new`, if no file there has the name
 pub record PutsIntoNew (name : List ℕ) (old new : Directories) : Type 0 where
-  pub draft : Draft
+  pub draft : MadeFile
   pub made : old.made ≡ Some draft
   pub is : IsFree name old → new
       ≡ record old { entries = old.entries ++ put_as name draft ∷ []; new_rests = false; made = None }
@@ -129,7 +129,7 @@ pub record PutsIntoNew (name : List ℕ) (old new : Directories) : Type 0 where
 -- `put`: a refused call did it, or changed only the file made
 abbrev pub PutsDraft : {T : Type 0} → List ℕ → Result T StoreFault → Directories → Directories → Type 0
 PutsDraft name (Ok done) old new = PutsIntoNew name old new
-PutsDraft name (Err fault) old new = ChangesMade old new ⊎ PutsIntoNew name old new
+PutsDraft name (Err fault) old new = ChangesDraft old new ⊎ PutsIntoNew name old new
 
 -- a file once the names of a folder were flushed: if it is in this folder, or left it since they last were, some name
 -- of it is durable
@@ -161,13 +161,13 @@ FlushesFiles stems answer old new = new ≡ old
 -- ---- several calls
 
 -- all that calls see of the files is as it was, and so is what of them is durable
-pub record Rests (old new : Directories) : Type 0 where
+pub record SameFiles (old new : Directories) : Type 0 where
   pub there : new.there ≡ old.there
   pub taken : new.taken ≡ old.taken
   pub files : files_at new.entries ≡ files_at old.entries
 
 -- these files came after the others, whose names may be durable by now
-pub record Brings (old : Directories) (added : List File) (new : Directories) : Type 0 where
+pub record BringsFiles (old : Directories) (added : List File) (new : Directories) : Type 0 where
   pub there : new.there ≡ old.there
   pub taken : new.taken ≡ old.taken
   pub risen : List File
@@ -228,13 +228,13 @@ IsUnknown name d = Contains (names_of (files_at d.entries)) (base name) → ⊥
 
 -- the file made was flushed and is in one of the folders, if no file had its name; its name may be durable
 abbrev pub StandsIn : Directories → List ℕ → Directories → Type 0
-StandsIn old name new = (d : Draft) × (old.made ≡ Some d)
+StandsIn old name new = (d : MadeFile) × (old.made ≡ Some d)
     × (IsUnknown name old → (is_named : Bool)
-    × Brings old (record (mail name d.content) { is_named = is_named } ∷ []) new)
+    × BringsFiles old (record (mail name d.content) { is_named = is_named } ∷ []) new)
 
 -- the file made was flushed, put under the name, and then the names of `new` were flushed; a refused call did a part
 -- of this
 abbrev pub PutsForGood : {T : Type 0} → Directories → List ℕ → Result T StoreFault → Directories → Type 0
-PutsForGood old name (Ok done) new = (d : Draft) × (old.made ≡ Some d)
-    × (IsUnknown name old → Brings old (mail name d.content ∷ []) new)
-PutsForGood old name (Err fault) new = Rests old new ⊎ StandsIn old name new
+PutsForGood old name (Ok done) new = (d : MadeFile) × (old.made ≡ Some d)
+    × (IsUnknown name old → BringsFiles old (mail name d.content ∷ []) new)
+PutsForGood old name (Err fault) new = SameFiles old new ⊎ StandsIn old name new

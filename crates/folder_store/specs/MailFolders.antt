@@ -23,7 +23,7 @@ pub record MailFile : Type 0 where
   pub is_gone : Bool
 
 -- a file that was made and has no name in the folders yet
-pub record Draft : Type 0 where
+pub record MadeFile : Type 0 where
   pub content : List ℕ
   pub is_flushed : Bool
 
@@ -35,7 +35,7 @@ pub record Directories : Type 0 where
   pub entries : List MailFile
   pub new_rests : Bool
   pub cur_rests : Bool
-  pub made : Option Draft
+  pub made : Option MadeFile
   pub taken : List File
 
 -- what a flush of the names of `new`, or of `cur`, makes durable
@@ -128,7 +128,7 @@ mail_at s = record (mail s.name s.content) { is_named = s.is_named; is_flushed =
 abbrev pub files_at : List MailFile → List File
 files_at entries = map mail_at entries
 
-abbrev pub content_made : Option Draft → List ℕ
+abbrev pub content_made : Option MadeFile → List ℕ
 content_made None = []
 content_made (Some d) = d.content
 

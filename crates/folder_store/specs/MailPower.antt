@@ -6,7 +6,7 @@ use Rattle.folder_store.specs.MailFolders.{MailFile, Directories, touches_new, t
 
 -- a file as it is after a loss of power: in one of the places that it has or had, with all its bytes if they were
 -- flushed, else with any, and all of it is durable
-pub record IsLeftAs (s t : MailFile) : Type 0 where
+pub record IsMailLeftAs (s t : MailFile) : Type 0 where
   pub title : base t.name ≡ base s.name
   pub in_new : t.is_new ≡ true → touches_new s ≡ true
   pub in_cur : t.is_new ≡ false → touches_cur s ≡ true
@@ -21,7 +21,7 @@ abbrev pub EntriesLeftAs : List MailFile → List MailFile → Type 0
 EntriesLeftAs [] left = left ≡ []
 EntriesLeftAs (s ∷ entries) left =
     ((s.is_named ≡ false) × EntriesLeftAs entries left)
-    ⊎ ((t : MailFile) × (rest : List MailFile) × (left ≡ t ∷ rest) × IsLeftAs s t × EntriesLeftAs entries rest)
+    ⊎ ((t : MailFile) × (rest : List MailFile) × (left ≡ t ∷ rest) × IsMailLeftAs s t × EntriesLeftAs entries rest)
 
 -- the folders after a loss of power; no file is being made
 pub record LosesMail (old new : Directories) : Type 0 where

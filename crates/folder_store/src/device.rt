@@ -9,8 +9,9 @@ use mail_store::{Edges, StoreFault};
 pub trait FileFolder {
     ghost use Rattle.std.specs.Prelude.{◌≡◌, ◌≤◌, length, IfErr, IfOk, None};
     ghost use Rattle.mail_store.specs.Fault.{IsDeviceFault};
-    ghost use Rattle.folder_store.specs.FileFolder.{Directory, Makes, Writes, FlushesMade};
-    ghost use Rattle.folder_store.specs.FileFolder.{Puts, Reads, MeasuresFile, ReadsPiece, TellsSize, AppendsTo};
+    ghost use Rattle.folder_store.specs.FileFolder.{Directory, Makes, WritesMade, FlushesMade};
+    ghost use Rattle.folder_store.specs.FileFolder.{PutsFile, ReadsFile, MeasuresFile, ReadsPiece, TellsFileSize};
+    ghost use Rattle.folder_store.specs.FileFolder.{AppendsTo};
     ghost use Rattle.folder_store.specs.FileFolder.{CutsTo, FlushesFile, FlushesNames, making};
 
     // What calls see of the folder, and what is on the disk.
@@ -30,7 +31,7 @@ pub trait FileFolder {
     /// Appends bytes to the file made.
     fn write(&mut self, bytes: &[u8]) -> Result<(), StoreFault>
         ensures { sound self.new → sound self.old
-            × Writes (directory self.old) bytes.now result (directory self.new) };
+            × WritesMade (directory self.old) bytes.now result (directory self.new) };
 
     /// Flushes the bytes of the file made. If refused, gives the file up.
     fn flush_made(&mut self) -> Result<(), StoreFault>
@@ -40,7 +41,7 @@ pub trait FileFolder {
     /// Puts the file made under a name, in the place of another, if there is one.
     fn put(&mut self, name: &str) -> Result<(), StoreFault>
         ensures { sound self.new → sound self.old
-            × Puts (directory self.old) name.now result (directory self.new) };
+            × PutsFile (directory self.old) name.now result (directory self.new) };
 
     /// Gives up the file made, if there is one.
     fn discard(&mut self)
@@ -50,7 +51,7 @@ pub trait FileFolder {
     /// The bytes of a file. Missing if there is none.
     fn read(&mut self, name: &str) -> Result<Vec<u8>, StoreFault>
         ensures reads { sound self.new → sound self.old
-            × Reads (directory self.old) name.now result (directory self.new) }
+            × ReadsFile (directory self.old) name.now result (directory self.new) }
         ensures fault { IfErr result IsDeviceFault };
 
     /// The size of a file and its ends. Missing if there is none.
@@ -71,7 +72,7 @@ pub trait FileFolder {
     /// How many bytes a file has.
     fn size(&mut self, name: &str) -> Result<u64, StoreFault>
         ensures { sound self.new → sound self.old
-            × TellsSize (directory self.old) name.now result (directory self.new) };
+            × TellsFileSize (directory self.old) name.now result (directory self.new) };
 
     /// Appends bytes to a file.
     fn append(&mut self, name: &str, bytes: &[u8]) -> Result<(), StoreFault>

@@ -2,7 +2,7 @@
 
 ghost use Rattle.std.specs.Prelude.{◌≡◌, ◌≢◌, pos};
 ghost use Rattle.std.specs.Duration.{as_nanos};
-ghost use Rattle.folder_store.specs.ExactListing.{IsListing, left_of};
+ghost use Rattle.folder_store.specs.ExactListing.{IsExactListing, left_of};
 
 use crate::mail_folders::Sought;
 use crate::system::entry_in;
@@ -138,7 +138,7 @@ enum Listing {
 /// What a listing is, by the folder's time of change before and after it, and how long ago the first listing
 /// began.
 fn listing_of(before: ChangeTime, after: ChangeTime, passed: Duration) -> Listing
-    ensures { IsListing before after passed result }
+    ensures { IsExactListing before after passed result }
 {
     if before == after {
         Listing::Exact

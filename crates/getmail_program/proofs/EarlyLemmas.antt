@@ -6,7 +6,7 @@ use Rattle.fetch_session.specs.Report.{is_deletion}
 use Rattle.fetch_session.specs.declared.report.ReportLine.{ReportLine}
 use Rattle.fetch_session.specs.declared.report.ReportLine.TheVariants.{Delivered, Held, Skipped, Deleted}
 use Rattle.getmail_program.specs.declared.teller.Teller.{Teller}
-use Rattle.getmail_program.specs.Teller.{EarlyLine, TellsEarly, Wrote, WroteMore, WroteText, text_of, wrote_then}
+use Rattle.getmail_program.specs.Teller.{EarlyLine, TellsEarly, Wrote, WroteMore, WroteText, early_text, wrote_then}
 
 -- a first line, and then lines; nothing was kept before
 early_after : {O : Type 0} (contents : O → Option (List ℕ)) (settings : Settings) (first : List ℕ) (a b c : Teller O)
@@ -14,9 +14,10 @@ early_after : {O : Type 0} (contents : O → Option (List ℕ)) (settings : Sett
     → Wrote contents first a b → WroteMore contents b c
     → TellsEarly contents settings a.out.now c.notes.now.written.items c.out.now
 early_after contents settings first a b c is same none begun more =
-    let whole = subst (λ (verbose : ℕ). Wrote contents (first ++ flat_map (text_of verbose) more.lines) a c) same
+    let whole = subst (λ (verbose : ℕ). Wrote contents (first ++ flat_map (early_text verbose) more.lines) a c) same
     (wrote_then contents first _ a b c begun more.wrote) in
-    let text = subst (λ (start : List ℕ). c.notes.now.written.items ≡ start ++ (first ++ flat_map (text_of settings.verbose) more.lines)) none
+    let text = subst (λ (start : List ℕ). c.notes.now.written.items
+    ≡ start ++ (first ++ flat_map (early_text settings.verbose) more.lines)) none
     whole.kept in
     record { first = first; is_first = is; lines = more.lines; is_text = text; puts = rw (text) whole.puts }
 
@@ -30,12 +31,12 @@ early contents settings a b c same none begun more = elim begun [
 
 -- a line, or nothing
 pub one_line : {O : Type 0} (contents : O → Option (List ℕ)) (a b : Teller O) (told : EarlyLine)
-    → WroteText contents (text_of a.verbose told) a b → WroteMore contents a b
+    → WroteText contents (early_text a.verbose told) a b → WroteMore contents a b
 one_line contents a b told wrote = elim wrote [
   | inl nothing ↦ record { lines = []; wrote = nothing }
   | inr whole ↦ record {
     lines = told ∷ [];
-    wrote = subst (λ (text : List ℕ). Wrote contents text a b) (sym (append-nil (text_of a.verbose told))) whole;
+    wrote = subst (λ (text : List ℕ). Wrote contents text a b) (sym (append-nil (early_text a.verbose told))) whole;
   }
 ]
 

@@ -18,7 +18,7 @@ use Rattle.getmail_setup.specs.declared.output.OutputRefusal.{OutputRefusal}
 use Rattle.getmail_setup.specs.declared.setup.Paths.{Paths}
 use Rattle.getmail_setup.specs.declared.setup.Setup.{Setup}
 use Rattle.getmail_program.specs.Holding.{HoldsSession, holding_of}
-use Rattle.getmail_program.specs.Telling.{TellsAll, outcome_of, status_when}
+use Rattle.getmail_program.specs.Telling.{TellsAll, told_outcome, status_when}
 use Rattle.getmail_program.specs.declared.ending.Fetched.{Fetched}
 use Rattle.getmail_program.specs.declared.told.Told.{Told}
 
@@ -53,7 +53,7 @@ pub record HoldsSetup {W D F : Type 0} (link : WireGhosts W) (disk : DiskGhosts 
   pub fetches : FetchesAt link disk file (λ _ _ _ _. Unit {0}) (λ _ _. Unit {0}) setup.settings setup.paths
       setup.pretends now wire told
   pub refusal : Option OutputRefusal
-  pub status_is : status ≡ status_when (outcome_of told) refusal
+  pub status_is : status ≡ status_when (told_outcome told) refusal
 
 -- so it was, or there was none for a failure, which the status tells
 abbrev pub ConnectsAndHolds : {W D F : Type 0} → WireGhosts W → DiskGhosts D → FileGhosts F → Setup → ℕ → Type 0

@@ -14,10 +14,10 @@ use Rattle.rc_file.specs.declared.settings.Settings.{Settings}
 use Rattle.fetch_session.specs.Account.{Holding, digits_of}
 use Rattle.fetch_session.specs.declared.account.Store.{Store}
 use Rattle.fetch_session.specs.Lasting.{RunsSession}
-use Rattle.fetch_session.specs.Pretend.{Pretends, told_in, told_nothing}
+use Rattle.fetch_session.specs.Pretend.{Pretends, preview_told, told_nothing}
 use Rattle.fetch_session.specs.Refusal.{IsWithinLimits}
 use Rattle.fetch_session.specs.Session.{keeping}
-use Rattle.fetch_session.specs.Store.{Starts}
+use Rattle.fetch_session.specs.Store.{StartsFile}
 use Rattle.fetch_session.specs.Target.{AfterTakingIn, Entries, Files, Kind, is_sound, stores_of, target_of}
 use Rattle.fetch_session.specs.Telling.{is_fetch}
 use Rattle.rc_file.specs.declared.settings.Dest.{Dest}
@@ -52,7 +52,7 @@ would_store told = not told.held && is_fetch told.fate
 -- a run that begins the file of a message in a Maildir can have this fault; or memory runs out before
 abbrev pub RefusesFile : Fault → Type 0
 RefusesFile fault = (fault ≡ NoMemory)
-    ⊎ ((maildir left : InMaildir) × (name : List ℕ) × Starts maildir name (Err fault) left)
+    ⊎ ((maildir left : InMaildir) × (name : List ℕ) × StartsFile maildir name (Err fault) left)
 
 -- it is the fault of a run that would put one of these messages into its Maildir
 abbrev pub Doubts : Dest → List MessagePreview → Fault → Type 0
@@ -63,7 +63,7 @@ pub record IsCutShort (dest : Dest) (preview said : Preview) : Type 0 where
   pub fault : Fault
   pub doubts : Doubts dest preview.message_previews.items fault
   pub outcome : said.outcome ≡ Cut fault
-  pub nothing : told_in said ≡ told_nothing preview.total
+  pub nothing : preview_told said ≡ told_nothing preview.total
 
 -- what is said ahead of a run: what its preview says; or, if the preview found no fault, one that a run would have that
 -- puts messages into a Maildir

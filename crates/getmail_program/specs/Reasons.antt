@@ -62,13 +62,13 @@ reason_line settings reason =
     ++ (codes ":" ++ (decimal settings.port ++ codes ": ")))))) ++ reason) ++ codes "\n"
 
 -- the server is on this machine, as a tunnel is: a socket's path, or a loopback address
-abbrev pub is_near : List ℕ → Bool
-is_near server = starts_with nat_eq server (codes "/") || (starts_with nat_eq server (codes "127.")
+abbrev pub is_local : List ℕ → Bool
+is_local server = starts_with nat_eq server (codes "/") || (starts_with nat_eq server (codes "127.")
     || (bytes_eq server (codes "localhost") || bytes_eq server (codes "::1")))
 
 -- nothing was sent, and the server is on this machine
 abbrev pub is_by_a_tunnel : Settings → Findings → Bool
-is_by_a_tunnel settings found = length found.said.command.items == 0 && is_near (string_bytes settings.server)
+is_by_a_tunnel settings found = length found.said.command.items == 0 && is_local (string_bytes settings.server)
 
 -- what else may help: a tunnel says by itself why it ends a connection at once, and a message without an end can be
 -- passed over
@@ -81,12 +81,12 @@ hint_text settings TextTooLong found = codes "max_message_size passes such a mes
 hint_text settings fault found = []
 
 -- a line, if it has words
-abbrev pub line_with : Settings → List ℕ → List ℕ
-line_with settings words = if length words == 0 then [] else reason_line settings words
+abbrev pub line_if_any : Settings → List ℕ → List ℕ
+line_if_any settings words = if length words == 0 then [] else reason_line settings words
 
 -- the lines after that of a fault: its reason always, and then a hint, if there is one
 abbrev pub reasons_of : Settings → Fault → Findings → List ℕ
-reasons_of settings fault found = reason_line settings (reason_text fault found) ++ line_with settings
+reasons_of settings fault found = reason_line settings (reason_text fault found) ++ line_if_any settings
     (hint_text settings fault found)
 
 -- what is said of an outcome if reasons are asked for

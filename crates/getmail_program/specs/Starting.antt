@@ -3,7 +3,7 @@ use Rattle.std.specs.Prelude.{◌≡◌, ◌⊎◌, ◌&&◌, ◌≤◌, ℕ, Bo
 use Rattle.clap.specs.Words.{HasKind, fault_of, matches_of}
 use Rattle.clap.specs.declared.error.Error.{Error}
 use Rattle.clap.specs.Values.{kind_of}
-use Rattle.command_line.specs.Rules.{is_asked_for}
+use Rattle.command_line.specs.Rules.{is_asked_text}
 use Rattle.rc_file.specs.declared.flags.Flags.{Flags}
 use Rattle.getmail_setup.specs.CommandLine.{AsksFor, getmail}
 use Rattle.getmail_setup.specs.Failures.{status_of}
@@ -32,11 +32,11 @@ pub record Obeys {S : Type 0} (rehearsed : Flags → ℕ → Type 0) (gave : S �
 pub record Explains (arguments : List (List ℕ)) (status : ℕ) : Type 0 where
   pub error : Error
   pub has : HasKind (fault_of getmail arguments) error
-  pub asked : is_asked_for (kind_of error) ≡ true → status ≤ 1
-  pub fault : is_asked_for (kind_of error) ≡ false → status ≡ 2
+  pub asked : is_asked_text (kind_of error) ≡ true → status ≤ 1
+  pub fault : is_asked_text (kind_of error) ≡ false → status ≡ 2
 
 -- the arguments mean words, which are obeyed
-pub record Means {S : Type 0} (rehearsed : Flags → ℕ → Type 0) (gave : S → Reads) (refused : S → List ℕ → Type 0)
+pub record MeansWords {S : Type 0} (rehearsed : Flags → ℕ → Type 0) (gave : S → Reads) (refused : S → List ℕ → Type 0)
     (ran : Setup → Bool → ℕ → Type 0) (arguments : List (List ℕ)) (status : ℕ) : Type 0 where
   pub words : Words
   pub none : fault_of getmail arguments ≡ []
@@ -47,4 +47,4 @@ pub record Means {S : Type 0} (rehearsed : Flags → ℕ → Type 0) (gave : S �
 abbrev pub LeadsTo : {S : Type 0} → (Flags → ℕ → Type 0) → (S → Reads) → (S → List ℕ → Type 0)
     → (Setup → Bool → ℕ → Type 0) → List (List ℕ) → ℕ → Type 0
 LeadsTo rehearsed gave refused ran arguments status =
-    Explains arguments status ⊎ Means rehearsed gave refused ran arguments status
+    Explains arguments status ⊎ MeansWords rehearsed gave refused ran arguments status

@@ -20,8 +20,8 @@ pub record EarlyLine : Type 0 where
   pub line : ReportLine
 
 -- what is written of it: nothing if it tells a deletion
-abbrev pub text_of : ℕ → EarlyLine → List ℕ
-text_of verbose told = if is_deletion told.line then [] else explained_line verbose told.total told.plan told.line
+abbrev pub early_text : ℕ → EarlyLine → List ℕ
+early_text verbose told = if is_deletion told.line then [] else explained_line verbose told.total told.plan told.line
 
 -- it has the same output, keeps what it wrote in the same place, and tells as much
 abbrev pub HasSameLinks : {O : Type 0} → Teller O → Teller O → Type 0
@@ -50,7 +50,7 @@ WroteText contents text old new = Wrote contents [] old new ⊎ Wrote contents t
 -- lines were written, none of which tells a deletion
 pub record WroteMore {O : Type 0} (contents : O → Option (List ℕ)) (old new : Teller O) : Type 0 where
   pub lines : List EarlyLine
-  pub wrote : Wrote contents (flat_map (text_of old.verbose) lines) old new
+  pub wrote : Wrote contents (flat_map (early_text old.verbose) lines) old new
 
 -- of a report that was written before its session's end: its first line, and lines of messages
 pub record TellsEarly {O : Type 0} (contents : O → Option (List ℕ)) (settings : Settings) (out : Output O)
@@ -59,7 +59,7 @@ pub record TellsEarly {O : Type 0} (contents : O → Option (List ℕ)) (setting
   pub first : List ℕ
   pub is_first : (first ≡ []) ⊎ (first ≡ heading settings)
   pub lines : List EarlyLine
-  pub is_text : text ≡ first ++ flat_map (text_of settings.verbose) lines
+  pub is_text : text ≡ first ++ flat_map (early_text settings.verbose) lines
   pub puts : Puts contents out text out'
 
 last_on : (kept : List MessagePreview) (ps qs : List (List MessagePreview))
@@ -102,7 +102,8 @@ pub wrote_both : {O : Type 0} (contents : O → Option (List ℕ)) (a b c : Tell
     → WroteMore contents b c → WroteMore contents a c
 wrote_both contents a b c same p q = record {
   lines = p.lines ++ q.lines;
-  wrote = subst (λ (text : List ℕ). Wrote contents text a c) (sym (flat_map-append (text_of a.verbose) p.lines q.lines))
+  wrote = subst (λ (text : List ℕ). Wrote contents text a c)
+      (sym (flat_map-append (early_text a.verbose) p.lines q.lines))
       (wrote_then contents _ _ a b c p.wrote
-      (subst (λ (verbose : ℕ). Wrote contents (flat_map (text_of verbose) q.lines) b c) same q.wrote));
+      (subst (λ (verbose : ℕ). Wrote contents (flat_map (early_text verbose) q.lines) b c) same q.wrote));
 }

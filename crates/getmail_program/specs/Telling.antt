@@ -25,14 +25,14 @@ use Rattle.getmail_program.specs.Reasons.{reason_line, reasons_said}
 
 -- ---- what a session says
 
-abbrev pub outcome_of : Told → Outcome
-outcome_of (Done report) = report.outcome
-outcome_of (Ahead preview) = preview.outcome
+abbrev pub told_outcome : Told → Outcome
+told_outcome (Done report) = report.outcome
+told_outcome (Ahead preview) = preview.outcome
 
 -- a report has the reasons why messages were passed over, if a plan is known
-abbrev pub text_of : Settings → List MessagePreview → Told → List ℕ
-text_of settings plan (Done report) = told_report plan report settings
-text_of settings plan (Ahead preview) = preview_text preview settings
+abbrev pub told_text : Settings → List MessagePreview → Told → List ℕ
+told_text settings plan (Done report) = told_report plan report settings
+told_text settings plan (Ahead preview) = preview_text preview settings
 
 -- a report's plan is none, or the session's own
 abbrev pub IsOwnPlan : (Report → List MessagePreview → Type 0) → Told → List MessagePreview → Type 0
@@ -46,7 +46,7 @@ pub record Reported {O : Type 0} (contents : O → Option (List ℕ)) (explains 
   pub plan : List MessagePreview
   pub own : IsOwnPlan IsPlan told plan
   pub asked : explains ≡ false → plan ≡ []
-  pub puts : Puts contents out (text_of settings plan told) out'
+  pub puts : Puts contents out (told_text settings plan told) out'
 
 -- the plan passes over all that is listed, or nothing was to be done
 abbrev pub is_idle : Told → Bool
@@ -56,13 +56,13 @@ is_idle (Ahead preview) = true
 -- ---- lines
 
 -- the line of a fault
-abbrev pub fault_line : Fault → List ℕ
-fault_line fault = codes "getmail: " ++ (fault_text fault ++ codes "\n")
+abbrev pub told_fault_line : Fault → List ℕ
+told_fault_line fault = codes "getmail: " ++ (fault_text fault ++ codes "\n")
 
 -- the line of the fault that cut a session, if one did
 abbrev pub outcome_line : Outcome → List ℕ
 outcome_line Ended = []
-outcome_line (Cut fault) = fault_line fault
+outcome_line (Cut fault) = told_fault_line fault
 
 -- how many messages were left out for one reason, and its words
 abbrev pub left_out_reason : ℕ → List ℕ → List ℕ
@@ -122,11 +122,11 @@ status_when (Cut fault) why = 1
 pub record TellsErrors {E : Type 0} (contents : E → Option (List ℕ)) (settings : Settings) (told : Told)
     (refusal : Option OutputRefusal) (old : Errors E) (fetched : Fetched) (new : Errors E) : Type 0 where
   pub idle : fetched.is_idle ≡ is_idle told
-  pub status : fetched.status ≡ status_when (outcome_of told) refusal
+  pub status : fetched.status ≡ status_when (told_outcome told) refusal
   pub found : Findings
   pub said : Puts contents old.err
-      (((outcome_line (outcome_of told) ++ reasons_said settings old.says_why (outcome_of told) found)
-      ++ unwritten_line (outcome_of told) refusal) ++ left_out_said settings old.says_why told) new.err
+      (((outcome_line (told_outcome told) ++ reasons_said settings old.says_why (told_outcome told) found)
+      ++ unwritten_line (told_outcome told) refusal) ++ left_out_said settings old.says_why told) new.err
 
 -- what a session said was written to `out`, and nothing else; and the rest to `err`
 pub record TellsAll {O E : Type 0} (out_contents : O → Option (List ℕ)) (err_contents : E → Option (List ℕ))

@@ -3,7 +3,7 @@ ghost use Rattle.std.specs.Prelude.{◌≡◌, ◌++◌, IfOk, codes};
 ghost use Rattle.std.specs.String.{string_bytes};
 ghost use Rattle.fetch_session.specs.Text.{asked_text, fault_text};
 ghost use Rattle.getmail_setup.specs.Output.{Puts, number_text};
-ghost use Rattle.getmail_program.specs.Telling.{fault_line};
+ghost use Rattle.getmail_program.specs.Telling.{told_fault_line};
 
 use fetch_session::{Fault, Why, fault_text};
 use getmail_setup::Output;
@@ -55,7 +55,7 @@ fn words_of(fault: &Fault) -> (&'static str, Option<u32>)
 
 /// The line of a fault.
 fn fault_line(alloc: Global, fault: &Fault) -> Result<String, AllocError>
-    ensures { IfOk result (λ line. string_bytes line ≡ fault_line fault.now) }
+    ensures { IfOk result (λ line. string_bytes line ≡ told_fault_line fault.now) }
 {
     let text = fault_text(alloc, fault)?;
     format!(in alloc; "getmail: {text}\n")
@@ -63,7 +63,7 @@ fn fault_line(alloc: Global, fault: &Fault) -> Result<String, AllocError>
 
 /// Writes the line of a fault in pieces, which needs no memory.
 fn put_pieces<E: Write>(fault: &Fault, err: &mut Output<E>)
-    ensures { Puts E.contents err.old (fault_line fault.now) err.new }
+    ensures { Puts E.contents err.old (told_fault_line fault.now) err.new }
 {
     let (words, number) = words_of(fault);
     err.put(b"getmail: ");
@@ -74,7 +74,7 @@ fn put_pieces<E: Write>(fault: &Fault, err: &mut Output<E>)
 
 /// Writes the line of a fault: at once if there is memory for it.
 pub fn put_fault<E: Write>(alloc: Global, fault: &Fault, err: &mut Output<E>)
-    ensures { Puts E.contents err.old (fault_line fault.now) err.new }
+    ensures { Puts E.contents err.old (told_fault_line fault.now) err.new }
 {
     match fault_line(alloc, fault) {
         Ok(line) => err.put(line.as_bytes()),

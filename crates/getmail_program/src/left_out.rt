@@ -2,7 +2,8 @@
 ghost use Rattle.std.specs.Prelude.{◌≡◌, IfOk};
 ghost use Rattle.std.specs.String.{string_bytes};
 ghost use Rattle.getmail_setup.specs.Output.{Puts};
-ghost use Rattle.getmail_program.specs.Telling.{left_out_reason, left_out_line, left_out_said, left_out_text, with_comma};
+ghost use Rattle.getmail_program.specs.Telling.{left_out_reason, left_out_line, left_out_said, left_out_text};
+ghost use Rattle.getmail_program.specs.Telling.{with_comma};
 
 use crate::reason::line_of;
 use crate::told::Told;

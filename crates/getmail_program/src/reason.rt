@@ -1,7 +1,7 @@
 //! The lines after a fault's: the account, and the reason.
 ghost use Rattle.std.specs.Prelude.{◌≡◌, ◌++◌, IfOk, codes};
 ghost use Rattle.std.specs.String.{string_bytes};
-ghost use Rattle.getmail_program.specs.Reasons.{hint_text, is_by_a_tunnel, is_near, line_with, or_else, place_in};
+ghost use Rattle.getmail_program.specs.Reasons.{hint_text, is_by_a_tunnel, is_local, line_if_any, or_else, place_in};
 ghost use Rattle.getmail_program.specs.Reasons.{reason_line, reason_text, reasons_of, reasons_said, rows_text};
 
 use crate::findings::Findings;
@@ -132,7 +132,7 @@ fn reason_text(alloc: Global, fault: &Fault, found: &Findings) -> Result<Vec<u8>
 
 /// Whether a server is on this machine, as a tunnel is: a socket's path, or a loopback address.
 fn is_near(server: &str) -> bool
-    ensures { result ≡ is_near server.now }
+    ensures { result ≡ is_local server.now }
 {
     let octets = server.as_bytes();
     octets.starts_with(b"/")
@@ -184,7 +184,7 @@ pub fn line_of(alloc: Global, settings: &Settings, reason: &[u8]) -> Result<Vec<
 
 /// Such a line, if it has words.
 fn line_with(alloc: Global, settings: &Settings, words: &str) -> Result<Vec<u8>, AllocError>
-    ensures { IfOk result (λ line. line.items ≡ line_with settings.now words.now) }
+    ensures { IfOk result (λ line. line.items ≡ line_if_any settings.now words.now) }
 {
     if words.is_empty() {
         return Ok(Vec::new(alloc));

@@ -2,7 +2,7 @@
 ghost use Rattle.std.specs.Prelude.{◌≡◌, ℕ, List, [], IfOk};
 ghost use Rattle.std.specs.String.{string_bytes};
 ghost use Rattle.std.proofs.Common.{refl, ◌∙◌};
-ghost use Rattle.getmail_program.specs.Teller.{HasLast, HasSameLinks, WroteMore, WroteText, has_last, text_of};
+ghost use Rattle.getmail_program.specs.Teller.{HasLast, HasSameLinks, WroteMore, WroteText, has_last, early_text};
 ghost use Rattle.getmail_program.specs.Teller.{wrote_both, wrote_nothing};
 
 use fetch_session::{Listener, MessagePreview, ReportLine, explained_line};
@@ -93,7 +93,7 @@ impl<'a, O: Write> Teller<'a, O> {
     fn tell(&mut self, total: u32, line: &ReportLine)
         ensures links { HasSameLinks self.old self.new }
         ensures plan { HasLast [] self.old self.new }
-        ensures wrote { WroteText O.contents (text_of self.old.verbose (record {
+        ensures wrote { WroteText O.contents (early_text self.old.verbose (record {
           total = total;
           plan = self.old.notes.now.plan.items;
           line = line.now;

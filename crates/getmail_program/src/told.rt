@@ -9,7 +9,7 @@ ghost use Rattle.fetch_session.specs.Refusal.{IsWithinLimits};
 ghost use Rattle.getmail_program.specs.Holding.{HoldsSession};
 ghost use Rattle.getmail_setup.specs.Output.{Puts};
 ghost use Rattle.getmail_program.specs.Teller.{HasSameLinks, TellsEarly, WroteMore};
-ghost use Rattle.getmail_program.specs.Telling.{Reported, is_idle, outcome_of};
+ghost use Rattle.getmail_program.specs.Telling.{Reported, is_idle, told_outcome};
 
 use crate::doubt::said_ahead;
 use crate::teller::{Notes, Teller};
@@ -54,7 +54,7 @@ pub enum Told {
 impl Told {
     /// How the session came out.
     pub fn outcome(&self) -> Outcome
-        ensures { result ≡ outcome_of self.now }
+        ensures { result ≡ told_outcome self.now }
     {
         match self {
             Told::Done(report) => report.outcome,

@@ -15,13 +15,15 @@ puts_both contents old mid new first second put more = record {
 
 pub puts_three : {W : Type 0} (contents : W → Option (List ℕ)) (a b c d : Output W) (first second third : List ℕ)
     → Puts contents a first b → Puts contents b second c → Puts contents c third d → Puts contents a (first ++ (second ++ third)) d
-puts_three contents a b c d first second third put next last = puts_both contents a b d first _ put (puts_both contents b c d second third next last)
+puts_three contents a b c d first second third put next last =
+    puts_both contents a b d first _ put (puts_both contents b c d second third next last)
 
 pub puts_five : {W : Type 0} (contents : W → Option (List ℕ)) (a b c d e f : Output W) (first second third fourth fifth : List ℕ)
     → Puts contents a first b → Puts contents b second c → Puts contents c third d → Puts contents d fourth e → Puts contents e fifth f
     → Puts contents a (first ++ (second ++ (third ++ (fourth ++ fifth)))) f
 puts_five contents a b c d e f first second third fourth fifth one two three four five =
-    puts_both contents a b f first _ one (puts_both contents b c f second _ two (puts_three contents c d e f third fourth fifth three four five))
+    puts_both contents a b f first _ one
+    (puts_both contents b c f second _ two (puts_three contents c d e f third fourth fifth three four five))
 
 pub puts_six : {W : Type 0} (contents : W → Option (List ℕ)) (a b c d e f g : Output W) (first second third fourth fifth sixth : List ℕ)
     → Puts contents a first b → Puts contents b second c → Puts contents c third d → Puts contents d fourth e → Puts contents e fifth f

@@ -2,13 +2,13 @@
 use Rattle.std.specs.Prelude.{◌≡◌, ◌&&◌, ◌||◌, Bool, List, codes, not, option_map}
 use Rattle.std.specs.String.{string_bytes}
 use Rattle.clap.specs.Words.{App, Row, count_of, first_of, with_rule}
-use Rattle.command_line.specs.Rules.{flag_rule, is_given, long_flag_rule, program, value_rule}
+use Rattle.command_line.specs.Rules.{flag_rule, is_given, long_flag_rule, program, option_rule}
 use Rattle.rc_file.specs.declared.flags.Flags.{Flags}
 use Rattle.getmail_setup.specs.declared.words.Words.{Words}
 
 -- -r FILE, -g DIR
 abbrev pub with_places : App → App
-with_places app = with_rule (with_rule app (value_rule (codes "rcfile") 114)) (value_rule (codes "getmaildir") 103)
+with_places app = with_rule (with_rule app (option_rule (codes "rcfile") 114)) (option_rule (codes "getmaildir") 103)
 
 -- -v, -q, --why, --trace, --unattended
 abbrev pub with_loudness : App → App

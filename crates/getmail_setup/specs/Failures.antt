@@ -9,7 +9,8 @@ use Rattle.getmail_setup.specs.Output.{Puts}
 use Rattle.getmail_setup.specs.Places.{peer_name}
 use Rattle.getmail_setup.specs.declared.errors.Errors.{Errors}
 use Rattle.getmail_setup.specs.declared.failure.Failure.{Failure}
-use Rattle.getmail_setup.specs.declared.failure.Failure.TheVariants.{NoHome, CannotRead, Rc, OtherList, AtWork, CannotConnect}
+use Rattle.getmail_setup.specs.declared.failure.Failure.TheVariants.{NoHome, CannotRead, Rc, OtherList, AtWork}
+use Rattle.getmail_setup.specs.declared.failure.Failure.TheVariants.{CannotConnect}
 use Rattle.getmail_setup.specs.declared.failure.Failure.TheVariants.{NoMemory}
 
 -- 1 if another run is at work or no connection was made, 2 for all that is found before
@@ -38,14 +39,14 @@ other_list_line list path = codes "getmail: " ++ (list
     ++ (codes " lists what getmail6 fetched: make a record of it with from-getmail6.py, or an empty file "
     ++ (path ++ codes " to fetch all mail\n")))
 
-abbrev pub IsLine : Failure → List ℕ → Type 0
-IsLine NoHome line = line ≡ codes "getmail: HOME is not set\n"
-IsLine CannotRead line = line ≡ codes "getmail: cannot read rc file\n"
-IsLine (Rc fault) line = IsRcLine fault line
-IsLine (OtherList list path) line = line ≡ other_list_line list.now path.now
-IsLine AtWork line = line ≡ codes "getmail: another getmail is at work for this account\n"
-IsLine (CannotConnect server port) line = line ≡ unconnected_line server.now port
-IsLine NoMemory line = line ≡ out_of_memory
+abbrev pub IsFailureLine : Failure → List ℕ → Type 0
+IsFailureLine NoHome line = line ≡ codes "getmail: HOME is not set\n"
+IsFailureLine CannotRead line = line ≡ codes "getmail: cannot read rc file\n"
+IsFailureLine (Rc fault) line = IsRcLine fault line
+IsFailureLine (OtherList list path) line = line ≡ other_list_line list.now path.now
+IsFailureLine AtWork line = line ≡ codes "getmail: another getmail is at work for this account\n"
+IsFailureLine (CannotConnect server port) line = line ≡ unconnected_line server.now port
+IsFailureLine NoMemory line = line ≡ out_of_memory
 
 -- the account that a reason is about, if it is known
 abbrev pub account_front : Option Settings → List ℕ
@@ -54,22 +55,22 @@ account_front (Some settings) = string_bytes settings.username ++ (codes "@" ++ 
     ++ (codes ":" ++ (decimal settings.port ++ codes ": "))))
 
 -- a line with a reason after some words
-abbrev pub reason_line : Option Settings → List ℕ → List ℕ → List ℕ
-reason_line account words reason = codes "getmail: " ++ (account_front account ++ (words ++ (reason ++ codes "\n")))
+abbrev pub cause_line : Option Settings → List ℕ → List ℕ → List ℕ
+cause_line account words reason = codes "getmail: " ++ (account_front account ++ (words ++ (reason ++ codes "\n")))
 
 -- what follows a failure's line: one with its reason, if that is known and reasons are asked for
-abbrev pub IsCause : Bool → Option Settings → Failure → List ℕ → Type 0
-IsCause false account failure text = text ≡ []
-IsCause true account NoHome text = text ≡ []
-IsCause true account (OtherList list path) text = text ≡ []
-IsCause true account NoMemory text = text ≡ []
-IsCause true account failure text = (text ≡ []) ⊎ ((reason : List ℕ) × (text ≡ reason_line account [] reason))
+abbrev pub IsToldCause : Bool → Option Settings → Failure → List ℕ → Type 0
+IsToldCause false account failure text = text ≡ []
+IsToldCause true account NoHome text = text ≡ []
+IsToldCause true account (OtherList list path) text = text ≡ []
+IsToldCause true account NoMemory text = text ≡ []
+IsToldCause true account failure text = (text ≡ []) ⊎ ((reason : List ℕ) × (text ≡ cause_line account [] reason))
 
 -- a failure's line was written, and then what follows it
 pub record TellsFailure {E : Type 0} (contents : E → Option (List ℕ)) (account : Option Settings) (failure : Failure)
     (old new : Errors E) : Type 0 where
   pub line : List ℕ
-  pub is_line : IsLine failure line
+  pub is_line : IsFailureLine failure line
   pub cause : List ℕ
-  pub is_cause : IsCause old.says_why account failure cause
+  pub is_cause : IsToldCause old.says_why account failure cause
   pub puts : Puts contents old.err (line ++ cause) new.err

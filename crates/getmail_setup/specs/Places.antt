@@ -56,12 +56,12 @@ abbrev pub peer_name : List ℕ → ℕ → List ℕ
 peer_name server port = if is_socket server then server else server ++ (codes ":" ++ decimal port)
 
 -- the digits that tell the account of the settings apart
-abbrev pub digits_of : Settings → List ℕ
-digits_of settings = account_text (string_bytes settings.server) settings.port (string_bytes settings.username)
+abbrev pub account_digits : Settings → List ℕ
+account_digits settings = account_text (string_bytes settings.server) settings.port (string_bytes settings.username)
 
 -- a file of an account is in the folder, under a name that has the account's digits after a front
 abbrev pub account_path : List ℕ → List ℕ → Settings → List ℕ
-account_path folder front settings = joined folder (front ++ digits_of settings)
+account_path folder front settings = joined folder (front ++ account_digits settings)
 
 -- the settings are those that an rc file of these octets means, changed by the flags, which aren't opposite
 pub record AreAsked (flags : Flags) (bytes : List ℕ) (settings : Settings) : Type 0 where

@@ -49,8 +49,8 @@ meant_reason key (Some line) =
     Some (codes "line " ++ (decimal line ++ (codes ": is " ++ ((rule key).name ++ codes " meant?"))))
 
 -- a file begins with a byte order mark
-abbrev pub is_marked : List ℕ → Bool
-is_marked bytes = starts_with nat_eq bytes (239 ∷ 187 ∷ 191 ∷ [])
+abbrev pub has_byte_order_mark : List ℕ → Bool
+has_byte_order_mark bytes = starts_with nat_eq bytes (239 ∷ 187 ∷ 191 ∷ [])
 
 abbrev pub line_reason : Bool → List ℕ
 line_reason marked =
@@ -67,7 +67,7 @@ opposites words =
 -- why an rc file of these bytes has its fault; none if its line says all
 abbrev pub known_reason : Words → List ℕ → RcFault → Option (List ℕ)
 known_reason words bytes TooLong = Some (codes "an rc file has at most 65536 octets")
-known_reason words bytes (BadLine line) = Some (line_reason (line == 1 && is_marked bytes))
+known_reason words bytes (BadLine line) = Some (line_reason (line == 1 && has_byte_order_mark bytes))
 known_reason words bytes (MissingKey key) = meant_reason key (fault_line bytes)
 known_reason words bytes (UnknownType key) = Some (value_reason key (type_rule key) (fault_line bytes))
 known_reason words bytes (BadValue key) = Some (value_reason key (value_rule key) (fault_line bytes))

@@ -1,6 +1,6 @@
 //! What a run writes to standard error before its session, and what it keeps of refused calls.
 ghost use Rattle.std.specs.Prelude.{◌≡◌, ◌≤◌, ℕ, List, option_map};
-ghost use Rattle.getmail_setup.specs.Failures.{IsCause, TellsFailure, account_front, reason_line, status_of};
+ghost use Rattle.getmail_setup.specs.Failures.{IsToldCause, TellsFailure, account_front, cause_line, status_of};
 ghost use Rattle.getmail_setup.specs.Output.{Puts};
 
 use crate::failure::{Failure, tell};
@@ -91,7 +91,7 @@ fn tell_cause<E: Write>(
     account: Option<&Settings>,
     errors: &mut Errors<'_, E>,
 )
-    ensures { (text : List ℕ) × IsCause errors.old.says_why (option_map (λ settings. settings.now) account.entry)
+    ensures { (text : List ℕ) × IsToldCause errors.old.says_why (option_map (λ settings. settings.now) account.entry)
         failure.entry text × Puts E.contents errors.old.err text errors.new.err }
 {
     let reasons = errors.reasons;
@@ -132,7 +132,7 @@ fn tell_reason<E: Write>(
     err: &mut Output<E>,
 )
     ensures { Puts E.contents err.old
-        (reason_line (option_map (λ settings. settings.now) account.entry) words.now reason.now) err.new }
+        (cause_line (option_map (λ settings. settings.now) account.entry) words.now reason.now) err.new }
 {
     err.put(b"getmail: ");
     put_account(account, err);
@@ -163,7 +163,8 @@ pub fn fail<E: Write>(
 ) -> u8
     ensures status { result ≡ status_of failure.entry }
     ensures within { result ≤ 2 }
-    ensures told { TellsFailure E.contents (option_map (λ settings. settings.now) account.entry) failure.entry errors.old
+    ensures told { TellsFailure E.contents (option_map (λ settings. settings.now) account.entry)
+        failure.entry errors.old
         errors.new }
 {
     let status = tell(alloc, failure, &mut errors.err);

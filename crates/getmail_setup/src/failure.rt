@@ -2,8 +2,9 @@
 ghost use Rattle.std.specs.Prelude.{◌≡◌, ◌≢◌, ◌⊎◌, ◌≤◌, ℕ, List, true, false};
 ghost use Rattle.std.specs.IoError.{error_kind};
 ghost use Rattle.clap.specs.Values.{kind_of};
-ghost use Rattle.command_line.specs.Rules.{is_asked_for};
-ghost use Rattle.getmail_setup.specs.Failures.{IsLine, IsRcLine, line_with, other_list_line, status_of, unconnected_line};
+ghost use Rattle.command_line.specs.Rules.{is_asked_text};
+ghost use Rattle.getmail_setup.specs.Failures.{IsFailureLine, IsRcLine, line_with, other_list_line, status_of};
+ghost use Rattle.getmail_setup.specs.Failures.{unconnected_line};
 ghost use Rattle.getmail_setup.specs.Output.{Puts};
 ghost use Rattle.getmail_setup.specs.Places.{peer_name};
 
@@ -142,7 +143,7 @@ fn tell_unconnected<E: Write>(server: &str, port: u16, err: &mut Output<E>)
 
 /// Writes a failure's line.
 fn put_line<E: Write>(alloc: Global, failure: Failure<'_>, err: &mut Output<E>)
-    ensures { (line : List ℕ) × IsLine failure.entry line × Puts E.contents err.old line err.new }
+    ensures { (line : List ℕ) × IsFailureLine failure.entry line × Puts E.contents err.old line err.new }
 {
     match failure {
         Failure::NoHome => err.put(b"getmail: HOME is not set\n"),
@@ -160,7 +161,7 @@ fn put_line<E: Write>(alloc: Global, failure: Failure<'_>, err: &mut Output<E>)
 pub fn tell<E: Write>(alloc: Global, failure: Failure<'_>, err: &mut Output<E>) -> u8
     ensures status { result ≡ status_of failure.entry }
     ensures within { result ≤ 2 }
-    ensures line { (line : List ℕ) × IsLine failure.entry line × Puts E.contents err.old line err.new }
+    ensures line { (line : List ℕ) × IsFailureLine failure.entry line × Puts E.contents err.old line err.new }
 {
     put_line(alloc, failure, err);
     match failure {
@@ -176,8 +177,8 @@ pub fn explain<R: Print + Eprint + AllocGlobal, E: Write>(
     error: &Error,
     err: &mut Output<E>,
 ) -> u8
-    ensures text { is_asked_for (kind_of error.now) ≡ true → result ≤ 1 }
-    ensures other { is_asked_for (kind_of error.now) ≡ false → result ≡ 2 }
+    ensures text { is_asked_text (kind_of error.now) ≡ true → result ≤ 1 }
+    ensures other { is_asked_text (kind_of error.now) ≡ false → result ≡ 2 }
     ensures within { result ≤ 2 }
 {
     match show(rt, "getmail", error) {

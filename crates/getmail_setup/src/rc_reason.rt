@@ -2,7 +2,8 @@
 //! A reason has no octet of the file.
 ghost use Rattle.std.specs.Prelude.{◌≡◌, IfOk};
 ghost use Rattle.std.specs.Ffi.{without_last};
-ghost use Rattle.getmail_setup.specs.RcReason.{IsPathReason, IsReason, is_marked, known_reason, meant_reason, opposites};
+ghost use Rattle.getmail_setup.specs.RcReason.{IsPathReason, IsReason, has_byte_order_mark, known_reason, meant_reason};
+ghost use Rattle.getmail_setup.specs.RcReason.{opposites};
 ghost use Rattle.getmail_setup.specs.RcReason.{line_reason, type_rule, value_reason, value_rule};
 
 use crate::errors::Reasons;
@@ -99,7 +100,7 @@ fn missing_reason(
 
 /// Whether a file begins with a byte order mark.
 fn is_marked(bytes: &[u8]) -> bool
-    ensures { result ≡ is_marked bytes.now }
+    ensures { result ≡ has_byte_order_mark bytes.now }
 {
     bytes.starts_with(b"\xEF\xBB\xBF")
 }

@@ -3,7 +3,8 @@ ghost use Rattle.std.specs.Prelude.{◌≡◌, ◌⊎◌, ◌++◌, ℕ, List, S
 ghost use Rattle.std.specs.String.{string_bytes};
 ghost use Rattle.rc_file.specs.Settings.{IsValid};
 ghost use Rattle.getmail_setup.specs.NoSetup.{GivesNone, HasNoPath, HasNoSetup, MeansNone};
-ghost use Rattle.getmail_setup.specs.Places.{AreAsked, AreFor, IsSetUp, IsToldPath, account_path, digits_of, path_in};
+ghost use Rattle.getmail_setup.specs.Places.{AreAsked, AreFor, IsSetUp, IsToldPath, account_path, account_digits};
+ghost use Rattle.getmail_setup.specs.Places.{path_in};
 ghost use Rattle.getmail_setup.specs.Places.{folder_path, rc_room, whole_path};
 
 use crate::connection::is_socket;
@@ -166,7 +167,7 @@ fn settings_of<'a, R: Files + AllocGlobal, S: ReadFile, E: Write>(
 
 /// The account that the settings name.
 pub fn account_of(settings: &Settings) -> AccountId
-    ensures { result ≡ digits_of settings.now }
+    ensures { result ≡ account_digits settings.now }
 {
     account_id(
         settings.server.as_str(),
@@ -223,7 +224,8 @@ fn places<'a>(
 ) -> Result<Paths, Failure<'a>>
     ensures ok { IfOk result (AreFor (option_map (λ text. text.now) home.entry) words.now settings.now) }
     ensures err { IfErr result (λ failure.
-        HasNoPath (folder_path (option_map (λ text. text.now) home.entry) (option_map string_bytes words.now.dir)) failure
+        HasNoPath (folder_path (option_map (λ text. text.now) home.entry) (option_map string_bytes words.now.dir))
+        failure
         ⊎ HasNoPath (whole_path (option_map (λ text. text.now) home.entry) (path_in settings.now.dest)) failure) }
 {
     let destination = destination_path(alloc, home, &settings.dest)?;

@@ -31,7 +31,8 @@ module _ {M D F : Type 0} (link : WireGhosts (Loop M)) (disk : DiskGhosts D) (fi
       → IsFetch link disk file drop In text_of devices fetch → (vanished : List (List ℕ)) × ServerRemoves drop fetch vanished
       × IsCall link disk file In (λ store. is_sound disk file (In store)) text_of devices (as_call drop fetch vanished)
   is_call In text_of devices fetch is =
-      let s = is.fetched.served is.store_sound is.file_sound is.drop_sound (messages text_of (shown_by drop fetch.server) is.maildrop.each) in (
+      let s = is.fetched.served is.store_sound is.file_sound is.drop_sound
+      (messages text_of (shown_by drop fetch.server) is.maildrop.each) in (
         s.vanished,
         s.left,
         record {

@@ -34,8 +34,10 @@ no_copies front (f ∷ fs) none = elim (cases_Bool (bytes_eq front (stem f.name)
 ]
 
 -- none was taken away, so what is safe is held
-held : (mail : Mail) (maildir left : Maildir) (vanished : List (List ℕ)) (after : AccountMail) (id : List ℕ) → maildir.files ≡ [] → left.files ≡ []
-    → IsSafe mail (state_with mail (with_left mail (nothing_yet maildir) left) vanished after) id → is_held mail.account after.maildir id ≡ true
+held : (mail : Mail) (maildir left : Maildir) (vanished : List (List ℕ)) (after : AccountMail) (id : List ℕ)
+    → maildir.files ≡ [] → left.files ≡ []
+    → IsSafe mail (state_with mail (with_left mail (nothing_yet maildir) left) vanished after) id
+    → is_held mail.account after.maildir id ≡ true
 held mail maildir left vanished after id none none' safe = elim (cases_Bool (is_held mail.account after.maildir id)) [
   | inl is ↦ is
   | inr isnt ↦ absurd (let never = rw (isnt, none', none) at safe.1 in cc)
@@ -61,20 +63,31 @@ keep_mail link disk file drop empty law mail devices fetch no_file no_record acc
     let (shows, kept, then) = from_nothing link disk file drop empty law mail devices (Called fetch ∷ []) no_file no_record in
     let (vanished, removed, promised, (shows', kept')) = then account_is is in
     let left_none = none_left promised.taken.gone promised.left.files (rw no_file at promised.taken.files) in
-    let safe_held : (id : List ℕ) → IsSafe mail (state_with mail (with_left mail (nothing_yet (disk.maildir devices.store)) promised.left) vanished promised.after) id
+    let safe_held : (id : List ℕ)
+    → IsSafe mail (state_with mail (with_left mail (nothing_yet (disk.maildir devices.store)) promised.left)
+    vanished promised.after) id
     → is_held mail.account promised.after.maildir id ≡ true =
     λ id safe. held mail (disk.maildir devices.store) promised.left vanished promised.after id no_file left_none safe in (
       vanished,
       removed,
       rw (← shows'.maildir) (all_by safe_held vanished [] kept'.gone),
       λ ended. (
-        (promised.sent, promised.sent_is, (promised.promises.deletes.commands, promised.promises.deletes.asked, promised.promises.retrieved ended)),
+        (
+          promised.sent,
+          promised.sent_is,
+          (
+            promised.promises.deletes.commands,
+            promised.promises.deletes.asked,
+            promised.promises.retrieved ended,
+          ),
+        ),
         λ no_size.
             each (λ m of p. elim p [
               | inl safe ↦
                   let is_there = safe_held m.uid safe in
                   elim (kept'.holds m.uid of.legal) [
-                    | inl none ↦ absurd (true≢false (sym is_there ∙ no_copies (stem_of mail.account m.uid) promised.after.maildir.files none))
+                    | inl none ↦ absurd (true≢false (sym is_there
+                        ∙ no_copies (stem_of mail.account m.uid) promised.after.maildir.files none))
                     | inr one ↦ inl (rw (← shows'.maildir, of.text) one)
                   ]
               | inr (inl large) ↦ absurd (true≢false (rw no_size at large))

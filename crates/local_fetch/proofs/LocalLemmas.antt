@@ -26,20 +26,23 @@ use Rattle.fetch_session.specs.declared.report.Outcome.TheVariants.{Ended, Cut a
 use Rattle.fetch_session.specs.Refusal.{RefusesByOutcome}
 use Rattle.fetch_session.specs.declared.report.Report.{Report}
 use Rattle.fetch_session.specs.Session.{AccountFiles, MboxAccountFiles, Session, MboxSession}
-use Rattle.fetch_runs.specs.Conversations.{SessionsAreConversations, FollowsPlan, MboxSessionsFollowPlans, step_commands, plan_commands, IsFrontOfPlan}
-use Rattle.pop3_server.specs.Maildrop.{Mail, there}
+use Rattle.fetch_runs.specs.Conversations.{SessionsAreConversations, FollowsPlan, MboxSessionsFollowPlans}
+use Rattle.fetch_runs.specs.Conversations.{step_commands, plan_commands, IsFrontOfPlan}
+use Rattle.pop3_server.specs.Maildrop.{DropMail, there}
 use Rattle.pop3_server.specs.ServerMachine.{Machine}
-use Rattle.pop3_server.specs.HonestLoop.{IsNew, GivesHonest}
+use Rattle.pop3_server.specs.HonestLoop.{IsUnused, GivesHonest}
 use Rattle.pop3_server.specs.LoopLink.{Loop, Serves}
-use Rattle.local_fetch.specs.Local.{AreWithout, IsServed, loop_to, unused}
-use Rattle.pop3_server.specs.HonestServer.{IsOfSession, IsAsked, AreLeft}
+use Rattle.local_fetch.specs.Local.{AreWithout, IsServedByHonest, loop_to, unused}
+use Rattle.pop3_server.specs.HonestServer.{IsOfSession, IsAsked, AreLeftByQuit}
 
 -- what holds of a list holds of its front with another end
-with_end : {A : Type 0} (P : A → Type 0) (xs ys zs : List A) → AllByRecursion P (xs ++ ys) → AllByRecursion P zs → AllByRecursion P (xs ++ zs)
+with_end : {A : Type 0} (P : A → Type 0) (xs ys zs : List A) → AllByRecursion P (xs ++ ys) → AllByRecursion P zs
+    → AllByRecursion P (xs ++ zs)
 with_end P [] ys zs all end = end
 with_end P (x ∷ xs) ys zs all end = (all.0, with_end P xs ys zs all.1 end)
 
-of_session : (name word : List ℕ) (steps : List Step) (commands : List Command) → IsFrontOfPlan name word steps commands → AllByRecursion IsOfSession commands
+of_session : (name word : List ℕ) (steps : List Step) (commands : List Command) → IsFrontOfPlan name word steps commands
+    → AllByRecursion IsOfSession commands
 of_session name word steps commands front =
     let plan : AllByRecursion IsOfSession (plan_commands name word steps) = (tt, (tt, (tt, (tt, (tt, of_steps steps))))) in
     let end : AllByRecursion IsOfSession front.tail = grind (arith, front.is_tail) in
@@ -49,10 +52,14 @@ of_session name word steps commands front =
     of_steps [] = (tt, tt)
     of_steps (s ∷ steps) = grind (arith, of_steps steps)
 
-each_asked : (commands : List Command) → AllByRecursion IsOfSession commands → AllByRecursion HasNumbers commands → AllByRecursion (λ command. can_be_sent command ≡ true) commands → AllByRecursion IsAsked commands
+each_asked : (commands : List Command) → AllByRecursion IsOfSession commands → AllByRecursion HasNumbers commands
+    → AllByRecursion (λ command. can_be_sent command ≡ true) commands → AllByRecursion IsAsked commands
 each_asked [] of_session numbers sendable = tt
-each_asked (c ∷ commands) of_session numbers sendable =
-    (record { of_session = of_session.0; numbers = numbers.0; sendable = sendable.0 }, each_asked commands of_session.1 numbers.1 sendable.1)
+each_asked (c ∷ commands) of_session numbers sendable = (
+  record { of_session = of_session.0; numbers = numbers.0; sendable = sendable.0 },
+  each_asked commands
+      of_session.1 numbers.1 sendable.1,
+)
 
 -- ---- refused calls
 
@@ -65,7 +72,7 @@ few_refused old new (WasCut fault) none (inr up) = let one : new.failures ≡ 1 
 -- ---- what vanished
 
 -- the ids of the marked messages that are gone
-missing : (before : List Message) (marks : List Bool) (after : List Message) → AreLeft before marks after
+missing : (before : List Message) (marks : List Bool) (after : List Message) → AreLeftByQuit before marks after
     → (ids : List (List ℕ)) × AllByRecursion (IsMarked before marks) ids × AreWithout before ids after
 missing [] marks after none = ([], tt, (refl, none))
 missing (m ∷ before) [] after never = absurd never
@@ -90,15 +97,17 @@ pub by_kind : {D F Goal : Type 0} (disk : DiskGhosts D) (file : FileGhosts F) (s
 by_kind disk file (InMaildir device) maildir mbox sound = maildir sound
 by_kind disk file (InMbox device) maildir mbox sound = mbox sound
 
-module _ {M : Type 0} (sound : M → Type 0) (mail : M → Mail) (honesty : GivesHonest sound mail) where
+module _ {M : Type 0} (sound : M → Type 0) (mail : M → DropMail) (honesty : GivesHonest sound mail) where
   -- all that was sent over the new server's link follows a plan
-  over : (settings : Settings) {server : Machine M} {loop : Loop M} → (sent : List ℕ) × (loop.link.sent ≡ sent) × (steps : List Step) × FollowsPlan settings steps sent
-      → IsNew (loop_to server) → Serves sound mail (loop_to server) loop → sound loop.machine.drop
-      → AllByRecursion IsMessage (there (mail server.drop).slots) → IsServed mail server loop.machine loop.link
+  over : (settings : Settings) {server : Machine M} {loop : Loop M} → (sent : List ℕ) × (loop.link.sent ≡ sent)
+      × (steps : List Step) × FollowsPlan settings steps sent
+      → IsUnused (loop_to server) → Serves sound mail (loop_to server) loop → sound loop.machine.drop
+      → AllByRecursion IsMessage (there (mail server.drop).slots) → IsServedByHonest mail server loop.machine loop.link
   over settings {server} {loop} (sent, sent_is, steps, s) is_new serves sound' messages =
       let before = there (mail server.drop).slots in
       let all = honesty (loop_to server) loop s.commands s.asked.part is_new serves
-      (each_asked s.commands (of_session (string_bytes settings.username) (string_bytes settings.password) steps s.commands s.front) s.asked.numbers s.asked.sendable) s.asked.no_line
+      (each_asked s.commands (of_session (string_bytes settings.username) (string_bytes settings.password) steps
+      s.commands s.front) s.asked.numbers s.asked.sendable) s.asked.no_line
       (sent_is ∙ s.asked.whole ∙ ap (λ (l : List ℕ). l ++ s.asked.part) (sym (flat_map-map ended line_of s.commands))) sound' messages in
       elim all.3 [
         | inl still ↦ record {
@@ -112,20 +121,24 @@ module _ {M : Type 0} (sound : M → Type 0) (mail : M → Mail) (honesty : Give
             record { vanished = ids; served = record { marks = all.0; honest = all.1; marked = marked }; quits = inr quits; left = left }
       ]
 
-  pub fetches : SessionsAreConversations → (settings : Settings) (account : List ℕ) (now : ℕ) (server : Machine M) (loop : Loop M) (before : AccountFiles) (report : Report) (after : AccountFiles)
-      → IsNew (loop_to server) → IsValid settings → Serves sound mail (loop_to server) loop
+  pub fetches : SessionsAreConversations
+      → (settings : Settings) (account : List ℕ) (now : ℕ) (server : Machine M) (loop : Loop M) (before : AccountFiles)
+      (report : Report) (after : AccountFiles)
+      → IsUnused (loop_to server) → IsValid settings → Serves sound mail (loop_to server) loop
       → Session settings account now unused before report loop.link after → sound loop.machine.drop
-      → AllByRecursion IsMessage (there (mail server.drop).slots) → IsServed mail server loop.machine loop.link
+      → AllByRecursion IsMessage (there (mail server.drop).slots) → IsServedByHonest mail server loop.machine loop.link
   fetches conversations settings account now server loop before report after is_new valid serves session =
       let said = conversations settings account now unused before report loop.link after valid session in
       let follows : (steps : List Step) × FollowsPlan settings steps said.0 =
       elim said.4 [ inl opens ↦ ([], opens.follows) | inr plan ↦ (planned settings plan.rows plan.items now, plan.follows) ] in
       over settings (said.0, said.2, follows.0, follows.1) is_new serves
 
-  pub mbox_fetches : MboxSessionsFollowPlans → (settings : Settings) (now : ℕ) (server : Machine M) (loop : Loop M) (before : MboxAccountFiles) (report : Report) (after : MboxAccountFiles)
-      → IsNew (loop_to server) → IsValid settings → Serves sound mail (loop_to server) loop
+  pub mbox_fetches : MboxSessionsFollowPlans
+      → (settings : Settings) (now : ℕ) (server : Machine M) (loop : Loop M) (before : MboxAccountFiles)
+      (report : Report) (after : MboxAccountFiles)
+      → IsUnused (loop_to server) → IsValid settings → Serves sound mail (loop_to server) loop
       → MboxSession settings now unused before report loop.link after → sound loop.machine.drop
-      → AllByRecursion IsMessage (there (mail server.drop).slots) → IsServed mail server loop.machine loop.link
+      → AllByRecursion IsMessage (there (mail server.drop).slots) → IsServedByHonest mail server loop.machine loop.link
   mbox_fetches plans settings now server loop before report after is_new valid serves session =
       over settings (plans settings now unused before report loop.link after valid session) is_new serves
 

@@ -7,7 +7,7 @@ use Rattle.mail_store.specs.declared.file.flat_file.FlatFile.{Ghosts as FileGhos
 use Rattle.mail_store.specs.FileName.{is_held, stem_of}
 use Rattle.mail_store.specs.Maildir.{Maildir}
 use Rattle.pop3_wire.specs.World.{Message}
-use Rattle.pop3_wire.specs.Honest.{Asked}
+use Rattle.pop3_wire.specs.Honest.{HasSent}
 use Rattle.pop3_wire.specs.declared.command.Command.{Command}
 use Rattle.pop3_wire.specs.declared.wire.Wire.{Ghosts as WireGhosts}
 use Rattle.pop3_server.specs.declared.maildrop.Maildrop.{Ghosts as DropGhosts}
@@ -29,7 +29,7 @@ use Rattle.fetch_runs.specs.Calls.{Called, Happening, HoldsNoMore, IsLeftByLoss,
 use Rattle.fetch_runs.specs.Calls.{account_over, with_left}
 use Rattle.fetch_runs.specs.Losses.{IsCrashSafe, KeepsDurable, KeepsFronts}
 use Rattle.fetch_runs.specs.Calls.{ShowsMbox}
-use Rattle.local_fetch.specs.Local.{AreWithout, WasFetched, loop_to}
+use Rattle.local_fetch.specs.Local.{AreWithout, WasFetchedLocally, loop_to}
 
 -- one call of `fetch_local`, with its server before it, and with the link to it as it was returned
 pub record Fetch (M S F : Type 0) : Type 0 where
@@ -63,7 +63,7 @@ as_call drop fetch vanished = record {
 pub record IsFetch {M D F S : Type 0} (link : WireGhosts (Loop M)) (disk : DiskGhosts D) (file : FileGhosts F)
     (drop : DropGhosts M) (In : S → Store D F) (text_of : List ℕ → List ℕ) (devices : Devices S F) (fetch : Fetch M S F)
     : Type 0 where
-  pub fetched : WasFetched link disk file drop fetch.now (account_over In fetch.settings devices) fetch.server
+  pub fetched : WasFetchedLocally link disk file drop fetch.now (account_over In fetch.settings devices) fetch.server
       fetch.report (account_over In fetch.settings fetch.after) fetch.wire
   pub maildrop : IsMaildrop text_of (shown_by drop fetch.server)
   pub store_sound : is_sound disk file (In fetch.after.store)
@@ -120,7 +120,7 @@ FetchesFromNothing {M} {D} {F} link disk file drop = (mail : Mail) (devices : De
 
 -- as many RETRs as this were sent, among whole commands
 abbrev pub SendsRetrs : List ℕ → ℕ → Type 0
-SendsRetrs sent count = (commands : List Command) × Asked commands sent × (count ≡ count_by is_retr commands)
+SendsRetrs sent count = (commands : List Command) × HasSent commands sent × (count ≡ count_by is_retr commands)
 
 -- a law: from a Maildir without files and no record on, each message that a call removed from its server is held; and
 -- if the call is uncut, it reports as many texts as it sent RETRs, and if it has no limit on sizes, each message that

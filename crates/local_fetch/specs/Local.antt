@@ -10,8 +10,8 @@ use Rattle.fetch_runs.specs.Sessions.{Served}
 use Rattle.mail_store.specs.declared.maildir.disk.MaildirDisk.{Ghosts as DiskGhosts}
 use Rattle.mail_store.specs.declared.file.flat_file.FlatFile.{Ghosts as FileGhosts}
 use Rattle.pop3_server.specs.declared.maildrop.Maildrop.{Ghosts as DropGhosts}
-use Rattle.pop3_server.specs.Maildrop.{Mail, there}
-use Rattle.pop3_server.specs.ServerMachine.{Machine, greeting}
+use Rattle.pop3_server.specs.Maildrop.{DropMail, there}
+use Rattle.pop3_server.specs.ServerMachine.{Machine, greeting_line}
 use Rattle.pop3_server.specs.LoopLink.{Loop}
 use Rattle.fetch_session.specs.Account.{Holding}
 use Rattle.fetch_session.specs.declared.report.Report.{Report}
@@ -24,7 +24,15 @@ unused = record { sent = []; got = []; ended = false; failures = 0 }
 
 -- a link to a server, which wasn't used yet
 abbrev pub loop_to : {D : Type 0} → Machine D → Loop D
-loop_to machine = record { machine = machine; link = unused; answers = []; left = greeting; waiting = []; down = false }
+loop_to machine = record {
+  machine = machine;
+  link = unused;
+  answers = [];
+  left =
+      greeting_line;
+  waiting = [];
+  down = false;
+}
 
 -- the messages that were there before, in their order, without those whose ids vanished
 abbrev pub AreWithout : List Message → List (List ℕ) → List Message → Type 0
@@ -34,7 +42,7 @@ AreWithout (m ∷ before) vanished after = ((rest : List Message) × (after ≡ 
 
 -- what the link got came from an honest server with the messages that the server had, and those of them that vanished
 -- were marked, and vanished with a QUIT
-pub record IsServed {M : Type 0} (mail : M → Mail) (old new : Machine M) (link : Link) : Type 0 where
+pub record IsServedByHonest {M : Type 0} (mail : M → DropMail) (old new : Machine M) (link : Link) : Type 0 where
   pub vanished : List (List ℕ)
   pub served : Served (there (mail old.drop).slots) link.sent link.got vanished
   pub quits : (vanished ≡ []) ⊎ ((front behind : List Command) × (served.honest.commands ≡ front ++ Quit ∷ behind))
@@ -42,11 +50,11 @@ pub record IsServed {M : Type 0} (mail : M → Mail) (old new : Machine M) (link
 
 -- what the contract of `fetch_local` says of each call: it was a call of `session` over an unused link to this server,
 -- which did what its trait says; and if the devices and the maildrop did so too, an honest server answered
-pub record WasFetched {M D F : Type 0} (link : WireGhosts (Loop M)) (disk : DiskGhosts D) (file : FileGhosts F)
+pub record WasFetchedLocally {M D F : Type 0} (link : WireGhosts (Loop M)) (disk : DiskGhosts D) (file : FileGhosts F)
     (drop : DropGhosts M) (now : ℕ) (old : Holding D F) (server : Machine M) (report : Report) (new : Holding D F)
     (wire : Loop M) : Type 0 where
   pub made : WasMade link disk file now old (loop_to server) report new wire
   pub link_sound : link.sound wire
   pub served : is_sound disk file new.store → file.sound new.file → drop.sound wire.machine.drop
       → AllByRecursion IsMessage (there (drop.mail server.drop).slots)
-      → IsServed drop.mail server wire.machine wire.link
+      → IsServedByHonest drop.mail server wire.machine wire.link

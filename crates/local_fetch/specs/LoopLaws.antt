@@ -5,13 +5,13 @@ use Rattle.std.proofs.Common.{append-nil, true≢false}
 use Rattle.std.proofs.lemmas.Grind.{flat_map-append}
 use Rattle.std.proofs.lemmas.Bool.{cases_Bool}
 use Rattle.pop3_wire.specs.Line.{ended}
-use Rattle.pop3_server.specs.Maildrop.{Mail}
+use Rattle.pop3_server.specs.Maildrop.{DropMail}
 use Rattle.pop3_server.specs.ServerMachine.{Machine}
 use Rattle.pop3_server.specs.AnswersLines.{AnswersLines, SameServer}
 use Rattle.pop3_server.specs.RunLaws.{runs_on, lines_on}
-use Rattle.pop3_server.specs.LoopLink.{Loop, Serves, IsAnswered, IsTold}
+use Rattle.pop3_server.specs.LoopLink.{Loop, Serves, AnswersWholeLines, TellsAnswers}
 
-pub same_refl : {D : Type 0} (sound : D → Type 0) (mail : D → Mail) (m : Machine D) → SameServer sound mail m m
+pub same_refl : {D : Type 0} (sound : D → Type 0) (mail : D → DropMail) (m : Machine D) → SameServer sound mail m m
 same_refl sound mail m = record {
   user = refl;
   pass = refl;
@@ -19,7 +19,7 @@ same_refl sound mail m = record {
   unanswered = record { failures = refl; removals = refl; messages = λ s. (s, refl) };
 }
 
-pub same_trans : {D : Type 0} (sound : D → Type 0) (mail : D → Mail) (a b c : Machine D)
+pub same_trans : {D : Type 0} (sound : D → Type 0) (mail : D → DropMail) (a b c : Machine D)
     → SameServer sound mail a b → SameServer sound mail b c → SameServer sound mail a c
 same_trans sound mail a b c p q = record {
   user = q.user ∙ p.user;
@@ -34,9 +34,10 @@ same_trans sound mail a b c p q = record {
 }
 
 -- no line was answered
-pub serves_none : {D : Type 0} (sound : D → Type 0) (mail : D → Mail) (old new : Loop D)
+pub serves_none : {D : Type 0} (sound : D → Type 0) (mail : D → DropMail) (old new : Loop D)
     → SameServer sound mail old.machine new.machine
-    → new.answers ≡ old.answers → new.link.sent ≡ old.link.sent → new.waiting ≡ old.waiting → (IsTold old → IsTold new)
+    → new.answers ≡ old.answers → new.link.sent ≡ old.link.sent → new.waiting ≡ old.waiting
+    → (TellsAnswers old → TellsAnswers new)
     → (new.down ≡ false → new.machine ≡ old.machine) → (old.down ≡ true → new.down ≡ true) → Serves sound mail old new
 serves_none sound mail old new same answers sent waiting told stays goes = record {
   lines = [];
@@ -55,12 +56,12 @@ serves_none sound mail old new same answers sent waiting told stays goes = recor
   over = λ down. (refl, refl, refl, goes down);
 }
 
-pub serves_same : {D : Type 0} (sound : D → Type 0) (mail : D → Mail) (w : Loop D) → Serves sound mail w w
+pub serves_same : {D : Type 0} (sound : D → Type 0) (mail : D → DropMail) (w : Loop D) → Serves sound mail w w
 serves_same sound mail w = serves_none sound mail w w (same_refl sound mail w.machine) refl refl refl (λ h. h)
     (λ _. refl) (λ h. h)
 
 -- if the link was down after the first part, nothing was answered in the second one
-pub serves_on : {D : Type 0} (sound : D → Type 0) (mail : D → Mail) (u v w : Loop D) → Serves sound mail u v
+pub serves_on : {D : Type 0} (sound : D → Type 0) (mail : D → DropMail) (u v w : Loop D) → Serves sound mail u v
     → Serves sound mail v w → Serves sound mail u w
 serves_on {D} sound mail u v w p q = record {
   lines = p.lines ++ q.lines;
@@ -90,7 +91,7 @@ serves_on {D} sound mail u v w p q = record {
     ran : (last : Machine D) × AnswersLines sound mail u.machine (p.lines ++ q.lines)
         ((p.more ++ q.more) ++ (p.lost ++ q.lost)) last
         × SameServer sound mail last w.machine
-        × (w.down ≡ false → (p.lost ++ q.lost ≡ []) × (w.machine ≡ last) × (IsAnswered u → IsAnswered w))
+        × (w.down ≡ false → (p.lost ++ q.lost ≡ []) × (w.machine ≡ last) × (AnswersWholeLines u → AnswersWholeLines w))
     ran = elim (cases_Bool v.down) [
       | inl down ↦
           let over = q.over down in

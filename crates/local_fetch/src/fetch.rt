@@ -1,7 +1,7 @@
 //! One session of an account over a server in memory.
 ghost use Rattle.std.specs.Prelude.{◌≡◌};
-ghost use Rattle.pop3_server.specs.HonestLoop.{IsNew};
-ghost use Rattle.local_fetch.specs.Local.{WasFetched, loop_to};
+ghost use Rattle.pop3_server.specs.HonestLoop.{IsUnused};
+ghost use Rattle.local_fetch.specs.Local.{WasFetchedLocally, loop_to};
 
 use crate::loop_wire::LoopWire;
 use fetch_runs::{mbox_sessions_follow_plans, sessions_are_conversations};
@@ -24,9 +24,10 @@ pub fn fetch_local<D: MaildirDisk, F: FlatFile, H: BuildHasher, M: Maildrop>(
     server: Server<M>,
     now: u64,
 ) -> (Report, LoopWire<M>)
-    requires new { IsNew (loop_to server) }
+    requires new { IsUnused (loop_to server) }
     ensures settings { account.new.settings ≡ account.old.settings }
-    ensures fetched { WasFetched ⟦<LoopWire<M> as Wire>⟧ D.MaildirDisk F.FlatFile M.Maildrop now account.old server
+    ensures fetched { WasFetchedLocally ⟦<LoopWire<M> as Wire>⟧ D.MaildirDisk F.FlatFile
+        M.Maildrop now account.old server
         result.0 account.new result.1 }
 {
     sessions_are_conversations();

@@ -4,8 +4,8 @@ ghost use Rattle.std.specs.Prelude.{take, drop, true, false, IfOk, IfErr, IfSome
 ghost use Rattle.pop3_wire.specs.Link.{with_failures, CountsFailure, Sends, Receives, WhereSound};
 ghost use Rattle.mail_terms.specs.FailureCount.{greatest_count, counted_up};
 ghost use Rattle.pop3_wire.specs.Place.{HasLine};
-ghost use Rattle.pop3_server.specs.ServerMachine.{greeting, is_open};
-ghost use Rattle.pop3_server.specs.LoopLink.{Loop, Serves, IsAnswered};
+ghost use Rattle.pop3_server.specs.ServerMachine.{greeting_line, is_open};
+ghost use Rattle.pop3_server.specs.LoopLink.{Loop, Serves, AnswersWholeLines};
 ghost use Rattle.local_fetch.specs.LoopLaws.{serves_same, serves_on};
 
 use mail_terms::FailureCount;
@@ -36,7 +36,7 @@ pub struct LoopWire<D: Maildrop> {
 
 impl<D: Maildrop> Model for LoopWire<D> {
     ghost use Rattle.std.specs.Prelude.{◌≡◌, ◌≤◌, ◌<◌, ◌++◌, length, take, drop, false};
-    ghost use Rattle.pop3_server.specs.ServerMachine.{greeting};
+    ghost use Rattle.pop3_server.specs.ServerMachine.{greeting_line};
     ghost use Rattle.pop3_server.specs.LoopLink.{Loop};
 
     ghost Value = { Loop D };
@@ -45,17 +45,17 @@ impl<D: Maildrop> Model for LoopWire<D> {
       machine = w.server;
       link = record {
         sent = w.sent.items;
-        got = take w.given (greeting ++ w.answers.items);
+        got = take w.given (greeting_line ++ w.answers.items);
         ended = w.ended;
         failures = w.failures;
       };
       answers = w.answers.items;
-      left = drop w.given (greeting ++ w.answers.items);
+      left = drop w.given (greeting_line ++ w.answers.items);
       waiting = drop w.used w.sent.items;
       down = w.down;
     } };
 
-    ghost invariant = { λ w. (w.used ≤ length w.sent.items) × (w.given ≤ length (greeting ++ w.answers.items))
+    ghost invariant = { λ w. (w.used ≤ length w.sent.items) × (w.given ≤ length (greeting_line ++ w.answers.items))
         × (w.down ≡ false → w.failures ≡ 0) };
 }
 
@@ -66,7 +66,7 @@ impl<D: Maildrop> LoopWire<D> {
           machine = server;
           link = record { sent = []; got = []; ended = false; failures = 0 };
           answers = [];
-          left = greeting;
+          left = greeting_line;
           waiting = [];
           down = false;
         } }
@@ -95,7 +95,7 @@ impl<D: Maildrop> LoopWire<D> {
     fn next_line(&self) -> Option<usize>
         ensures some { IfSome result (λ n. (is_open self.now.machine.state ≡ true)
             × HasLine (length self.now.waiting) self.now.waiting n) }
-        ensures none { IfNone result (IsAnswered self.now) }
+        ensures none { IfNone result (AnswersWholeLines self.now) }
     {
         if !self.server.is_open() {
             return None;
@@ -134,7 +134,7 @@ impl<D: Maildrop> LoopWire<D> {
     fn answer_lines(&mut self) -> Result<(), WireDown>
         requires up { self.old.down ≡ false }
         ensures link { self.new.link ≡ self.old.link }
-        ensures up { IfOk result (λ _. (self.new.down ≡ false) × IsAnswered self.new) }
+        ensures up { IfOk result (λ _. (self.new.down ≡ false) × AnswersWholeLines self.new) }
         ensures down { IfErr result (λ _. self.new.down ≡ true) }
         ensures serves { Serves D.sound D.mail self.old self.new }
     {
@@ -185,7 +185,8 @@ impl<D: Maildrop> Wire for LoopWire<D> {
             (Sends self.old.link bytes.now result self.new.link) }
         // A call that succeeds has answered every whole line that was sent to an open server; after a
         // refused one all calls are refused.
-        ensures answered { IfOk result (λ _. (self.old.down ≡ false) × (self.new.down ≡ false) × IsAnswered self.new) }
+        ensures answered { IfOk result (λ _. (self.old.down ≡ false) × (self.new.down ≡ false)
+            × AnswersWholeLines self.new) }
         ensures down { IfErr result (λ _. self.new.down ≡ true) }
     {
         if self.down {

@@ -1,5 +1,8 @@
 -- What is durable of a file after each call of its device, and what a crash leaves then.
-use Rattle.std.proofs.Common.{◌≡◌, ℕ, ◌+◌, ◌<◌, zero, suc, length, refl, arith, List, [], ◌∷◌, ◌++◌, take, drop, sym, ap, subst, ◌∙◌, Option, Some, None, option_map, Result, Ok, Err, inl, inr, ⊎_elim, append_assoc, append-nil, take-append-drop, ◌⊎◌, ◌-◌, ◌≤◌, min, length-append, slice_index, true, false, ◌==◌, ◌%◌, ◌/◌, OnOk, if◌then◌else◌}
+use Rattle.std.proofs.Common.{◌≡◌, ℕ, ◌+◌, ◌<◌, zero, suc, length, refl, arith, List, [], ◌∷◌, ◌++◌, take, drop, sym}
+use Rattle.std.proofs.Common.{ap, subst, ◌∙◌, Option, Some, None, option_map, Result, Ok, Err, inl, inr, ⊎_elim}
+use Rattle.std.proofs.Common.{append_assoc, append-nil, take-append-drop, ◌⊎◌, ◌-◌, ◌≤◌, min, length-append}
+use Rattle.std.proofs.Common.{slice_index, true, false, ◌==◌, ◌%◌, ◌/◌, OnOk, if◌then◌else◌}
 use Rattle.std.proofs.lemmas.Option.{same_Some}
 use Rattle.std.proofs.lemmas.Bool.{cases_Bool, cases_lt, eq-eqb}
 use Rattle.std.proofs.lemmas.List.{take-append-le, take-take, length-take, get_or-take, get_or_append_left, get_or-append-add}
@@ -9,8 +12,12 @@ use Rattle.std.specs.List.{list_all}
 use Rattle.mail_terms.specs.FailureCount.{is_refused}
 use Rattle.mail_store.specs.declared.fault.StoreFault.{StoreFault}
 use Rattle.mail_store.specs.declared.fault.StoreFault.TheVariants.{Missing, Refused, NotMbox, NoMemory}
-use Rattle.mail_store.specs.DiskCalls.{appended, cut, flushed, doubted, MayBeFlushed, all_flushed, MayFlush, DeniesDisk, FlushesDisk, Becomes, BecomesInPart, IsSoFar, IsPartAppended, IsFrontAppended, AppendsDisk, CutsDisk, ReplacesDisk, FlushesForGood, AppendsForGood, CutsForGood, ReplacesForGood, FlushesLast, AppendsLast, CutsLast, ReplacesLast}
-use Rattle.mail_store.specs.Durable.{Blob, Disk, IsByteLeft, IsDurable, IsFlushed, IsLeft, IsLeftOf, IsLeftOfOne, IsSure, IsTorn, MayLeave, all_durable, content_in, secured, seen_on}
+use Rattle.mail_store.specs.DiskCalls.{appended, cut, flushed, doubted, MayBeFlushed, all_flushed, MayFlush, DeniesDisk}
+use Rattle.mail_store.specs.DiskCalls.{FlushesDisk, Becomes, BecomesInPart, IsSoFar, IsPartAppended, IsFrontAppended}
+use Rattle.mail_store.specs.DiskCalls.{AppendsDisk, CutsDisk, ReplacesDisk, FlushesForGood, AppendsForGood, CutsForGood}
+use Rattle.mail_store.specs.DiskCalls.{ReplacesForGood, FlushesLast, AppendsLast, CutsLast, ReplacesLast}
+use Rattle.mail_store.specs.Durable.{Blob, Disk, IsByteLeft, IsDurable, IsFlushed, IsLeft, IsLeftOf, IsLeftOfOne}
+use Rattle.mail_store.specs.Durable.{IsSure, IsTorn, MayLeave, all_durable, content_in, secured, seen_on}
 use Rattle.mail_store.specs.FlatFile.{Stored, Appends, Cuts, Replaces}
 use Rattle.mail_store.specs.Power.{IsLonger, LeavesNoMore}
 use Rattle.mail_store.specs.Settling.{block_size, MayBeLeft}
@@ -27,7 +34,8 @@ flushed_doubted : (b : Blob) → b.is_doubted ≡ true → flushed b ≡ b
 flushed_doubted b doubt = rw doubt refl
 
 flushed_twice : (b : Blob) → flushed (flushed b) ≡ flushed b
-flushed_twice b = ⊎_elim (λ doubt. ap flushed (flushed_doubted b doubt)) (λ sure. ap flushed (flushed_sure b sure) ∙ sym (flushed_sure b sure)) (cases_Bool b.is_doubted)
+flushed_twice b = ⊎_elim (λ doubt. ap flushed (flushed_doubted b doubt)) (λ sure. ap flushed (flushed_sure b sure)
+    ∙ sym (flushed_sure b sure)) (cases_Bool b.is_doubted)
 
 abbrev pub disk_of : Option Blob → List (Option Blob) → Disk
 disk_of now older = record { now = now; older = older }
@@ -44,7 +52,8 @@ pub flushed_settled : (old new : Disk) → new ≡ all_flushed old → all_flush
 flushed_settled old new e = ap all_flushed e ∙ all_flushed_twice old ∙ sym e
 
 -- nor does it after a write that was flushed
-pub becomes_settled : (f : Blob → Blob) (old new : Disk) → Becomes (λ b c. c ≡ flushed (f b)) old new → all_flushed old ≡ old → all_flushed new ≡ new
+pub becomes_settled : (f : Blob → Blob) (old new : Disk) → Becomes (λ b c. c ≡ flushed (f b)) old new
+    → all_flushed old ≡ old → all_flushed new ≡ new
 becomes_settled f old new (b, c, at, is, e) settled =
     let named : [] ≡ old.older = ap (λ (disk : Disk). disk.older) settled in
     let same : flushed c ≡ c = ap flushed is ∙ flushed_twice (f b) ∙ sym is in
@@ -63,7 +72,8 @@ no_more b c (inr (inl e)) (Some left) h = ⊎_elim (λ doubt. rw (e ∙ flushed_
 no_more b c (inr (inr e)) (Some left) h = subst (λ (x : Blob). IsLeft x left) e h
 
 -- what is left of a file that was appended to begins with what could have been left before
-torn_longer : (b : Blob) (bytes left : List ℕ) → IsTorn (b.content ++ bytes) b.flushed b.uncut left → IsLeft b (take (length b.content) left)
+torn_longer : (b : Blob) (bytes left : List ℕ) → IsTorn (b.content ++ bytes) b.flushed b.uncut left
+    → IsLeft b (take (length b.content) left)
 torn_longer b bytes left t = elim (cases_lt (length b.content) b.uncut) [
   | inl short ↦
       let more = take (b.uncut - length b.content) bytes in
@@ -97,15 +107,23 @@ torn_longer b bytes left t = elim (cases_lt (length b.content) b.uncut) [
         → IsByteLeft b.content b.flushed (take (length b.content) left) i
     byte i below (inl (in_all, e)) = inl (below, same i below ∙ e ∙ get_or_append_left b.content bytes 0 i below)
     byte i below (inr (inl (in_flushed, e))) = inr (inl (in_flushed, same i below ∙ e))
-    byte i below (inr (inr (in_all, zeros))) = inr (inr (below, λ j from in_left block. same j (within j in_left).0 ∙ zeros j from (within j in_left).1 block))
+    byte i below (inr (inr (in_all, zeros))) = inr (inr (
+      below,
+      λ j from in_left block. same j (within j in_left).0
+          ∙ zeros j from (within j in_left).1 block,
+    ))
 
 appended_longer : (b : Blob) (bytes : List ℕ) → Leaves IsLonger b (appended b bytes)
 appended_longer b bytes None h = absurd h
 appended_longer b bytes (Some left) (inl e) = (Some left, inl e, inl refl)
 appended_longer b bytes (Some left) (inr (inl e)) = (Some b.content, inr (inl refl), inr (b.content, bytes, refl, ap Some e))
 appended_longer b bytes (Some left) (inr (inr t)) =
-    let size = length b.content in
-    (Some (take size left), torn_longer b bytes left t, inr (take size left, drop size left, refl, ap Some (sym (take-append-drop size left))))
+    let size = length b.content in (
+      Some (take size left),
+      torn_longer b bytes left t,
+      inr
+          (take size left, drop size left, refl, ap Some (sym (take-append-drop size left))),
+    )
 
 longer_on : (one two three : Option (List ℕ)) → IsLonger one two → IsLonger two three → IsLonger one three
 longer_on one two three (inl e) more = subst (λ (o : Option (List ℕ)). IsLonger o three) e more
@@ -125,7 +143,8 @@ part_longer : (b c : Blob) (first front : List ℕ) → IsPartAppended first fro
 part_longer b c first front is left h =
     let late = may_longer is.so_far c front is.is left h in
     let before : Leaves IsLonger b is.so_far =
-    ⊎_elim (λ none was k. (was, subst (λ (x : Blob). IsLeftOf (Some x) was) none.1 k, inl refl)) (λ e. may_longer b is.so_far first (inr (inl e))) is.is_flushed in
+    ⊎_elim (λ none was k. (was, subst (λ (x : Blob). IsLeftOf (Some x) was) none.1 k, inl refl))
+    (λ e. may_longer b is.so_far first (inr (inl e))) is.is_flushed in
     let early = before late.0 late.1 in
     (early.0, early.1, longer_on early.0 late.0 left early.2 late.2)
 
@@ -133,7 +152,8 @@ torn_front : (b : Blob) (len : ℕ) (left : List ℕ) → b.uncut ≤ len → Is
     → IsTorn b.content b.flushed b.uncut left
 torn_front b len left le t = record {
   behind = t.behind;
-  kept = t.kept ∙ ap (λ (xs : List ℕ). xs ++ t.behind) (ap (λ (n : ℕ). take n (take len b.content)) size ∙ take-take b.uncut len b.content le);
+  kept = t.kept ∙ ap (λ (xs : List ℕ). xs ++ t.behind) (ap (λ (n : ℕ). take n (take len b.content)) size
+      ∙ take-take b.uncut len b.content le);
   most = ⊎_elim (λ short. inl (omega (arith, short, length-take len b.content))) inr t.most;
   each = λ i from below. byte i (t.each i (omega (arith, from, size)) below);
 }
@@ -182,7 +202,8 @@ pub may_arrive : (o : Option Blob) → IsLeftOf o (option_map content_in o)
 may_arrive None = tt
 may_arrive (Some b) = inr (inl refl)
 
-leaves_become : (R : Option (List ℕ) → Option (List ℕ) → Type 0) {S : Blob → Blob → Type 0} (old new : Disk) → ((left : Option (List ℕ)) → R left left)
+leaves_become : (R : Option (List ℕ) → Option (List ℕ) → Type 0) {S : Blob → Blob → Type 0} (old new : Disk)
+    → ((left : Option (List ℕ)) → R left left)
     → ((b c : Blob) → S b c → Leaves R b c) → (new ≡ old) ⊎ Becomes S old new
     → (left : Option (List ℕ)) → MayLeave new left → (was : Option (List ℕ)) × MayLeave old was × R was left
 leaves_become R old new same leaves (inl e) left may = (left, subst (λ (disk : Disk). MayLeave disk left) e may, same left)
@@ -204,12 +225,14 @@ durable_sure disk is = by disk.now is.flushed
 
 -- ---- a flush
 
-now_no_more : (o : Option Blob) (f : Blob → Blob) → ((b : Blob) → MayBeFlushed b (f b)) → LeavesNoMore (IsLeftOf o) (IsLeftOf (option_map f o))
+now_no_more : (o : Option Blob) (f : Blob → Blob) → ((b : Blob) → MayBeFlushed b (f b))
+    → LeavesNoMore (IsLeftOf o) (IsLeftOf (option_map f o))
 now_no_more None f is left h = h
 now_no_more (Some b) f is left h = no_more b (f b) (is b) left h
 
 flush_no_more : (old new : Disk) (f : Blob → Blob) (older : List (Option Blob)) → ((b : Blob) → MayBeFlushed b (f b))
-    → ((left : Option (List ℕ)) → IsLeftOfOne older left → IsLeftOfOne old.older left) → new ≡ record { now = option_map f old.now; older = older }
+    → ((left : Option (List ℕ)) → IsLeftOfOne older left → IsLeftOfOne old.older left)
+    → new ≡ record { now = option_map f old.now; older = older }
     → LeavesNoMore (MayLeave old) (MayLeave new)
 flush_no_more old new f older is once e left may =
     ⊎_elim (λ now. may_now old left (now_no_more old.now f is left now)) (λ was. may_once old left (once left was))
@@ -238,7 +261,8 @@ denied_no_more old new NoMemory t = may_no_more old new t
 pub all_sure : (old new : Disk) → new ≡ all_flushed old → IsSure old.now → IsDurable new
 all_sure old new e sure = subst (λ (disk : Disk). IsDurable disk) (sym e) (record { named = refl; flushed = flushed_now old.now sure })
 
-pub flushes_for_good : {T : Type 0} (old new : Disk) (result : Result T StoreFault) → FlushesDisk old result new → FlushesForGood old result new
+pub flushes_for_good : {T : Type 0} (old new : Disk) (result : Result T StoreFault) → FlushesDisk old result new
+    → FlushesForGood old result new
 flushes_for_good old new (Ok done) e = record { no_more = all_no_more old new e; durable = all_sure old new e }
 flushes_for_good old new (Err fault) t = record { no_more = denied_no_more old new fault t; durable = λ sure. tt }
 
@@ -289,20 +313,24 @@ pub one_piece : (bytes front rest : List ℕ) (b c : Blob) → bytes ≡ front +
 one_piece bytes front rest b c parts is = ([], front, rest, parts, record { so_far = b; is_flushed = inl (refl, refl); is = is })
 
 -- some of the bytes were appended, whatever that answered: a call that was to append all was refused
-pub front_of_all : {T : Type 0} (S : Type 0) (old new : Disk) (bytes piece more : List ℕ) (r : Result T StoreFault) (fault : StoreFault) → bytes ≡ piece ++ more
+pub front_of_all : {T : Type 0} (S : Type 0) (old new : Disk) (bytes piece more : List ℕ) (r : Result T StoreFault)
+    (fault : StoreFault) → bytes ≡ piece ++ more
     → AppendsDisk old piece r new → AppendsDisk {T = S} old bytes (Err fault) new
-front_of_all S old new bytes piece more (Ok done) fault parts (b, c, at, is, e) = inr (b, c, at, one_piece bytes piece more b c parts (inr (inl is)), e)
+front_of_all S old new bytes piece more (Ok done) fault parts (b, c, at, is, e) =
+    inr (b, c, at, one_piece bytes piece more b c parts (inr (inl is)), e)
 front_of_all S old new bytes piece more (Err why) fault parts (inl same) = inl same
 front_of_all S old new bytes piece more (Err why) fault parts (inr (b, c, at, (first, front, rest, is, part), e)) =
     inr (b, c, at, (first, front, rest ++ more, rw (parts, is) (simp append_assoc), part), e)
 
-part_later : (place : ℕ) (first more left : List ℕ) → MayBeLeft (place + length first) more left → MayBeLeft place (first ++ more) (first ++ left)
+part_later : (place : ℕ) (first more left : List ℕ) → MayBeLeft (place + length first) more left
+    → MayBeLeft place (first ++ more) (first ++ left)
 part_later place [] more left is = subst (λ (n : ℕ). MayBeLeft n more left) (omega arith) is
 part_later place (byte ∷ first) more left is =
     (inl refl, part_later (place + 1) first more left (subst (λ (n : ℕ). MayBeLeft n more left) (omega arith) is))
 
 -- zeros up to the end of a block, by their places and by recursion
-are_zeros : (n : ℕ) (bytes : List ℕ) → ((j : ℕ) → j < n → j < length bytes → slice_index bytes j ≡ 0) → list_all (λ byte. byte == 0) (take n bytes) ≡ true
+are_zeros : (n : ℕ) (bytes : List ℕ) → ((j : ℕ) → j < n → j < length bytes → slice_index bytes j ≡ 0)
+    → list_all (λ byte. byte == 0) (take n bytes) ≡ true
 are_zeros zero bytes zeros = refl
 are_zeros (suc n) [] zeros = refl
 are_zeros (suc n) (byte ∷ bytes) zeros =
@@ -317,9 +345,11 @@ each_part : (place : ℕ) (bytes left : List ℕ) → length left ≤ length byt
 each_part place bytes [] le each = tt
 each_part place [] (byte ∷ left) le each = absurd (omega (arith, le))
 each_part place (word ∷ bytes) (byte ∷ left) le each = (
-  ⊎_elim inl (λ zeros. inr (are_zeros (block_size - place % block_size) (byte ∷ left) (λ j below within. zeros j (omega arith) within (omega (arith, below))))) (each 0 (omega arith)),
+  ⊎_elim inl (λ zeros. inr (are_zeros (block_size - place % block_size) (byte ∷ left)
+      (λ j below within. zeros j (omega arith) within (omega (arith, below))))) (each 0 (omega arith)),
   each_part (place + 1) bytes left (omega (arith, le)) (λ i below. ⊎_elim inl
-      (λ zeros. inr (λ j from within block. zeros (suc j) (omega (arith, from)) (omega (arith, within)) (omega (arith, block)))) (each (suc i) (omega (arith, below)))),
+      (λ zeros. inr (λ j from within block. zeros (suc j) (omega (arith, from)) (omega (arith, within))
+      (omega (arith, block)))) (each (suc i) (omega (arith, below)))),
 )
 
 -- of a durable file the old bytes are left, and a part of those that were appended
@@ -351,7 +381,8 @@ some_behind was bytes left t = (
     byte i (inr (inr (in_content, zeros))) =
         inr (λ j from within block. sym (at j) ∙ zeros (length was + j) (omega (arith, from)) (omega (arith, within, size)) block)
 
-loose_behind : (was bytes : List ℕ) (left : Option (List ℕ)) → IsLeftOf (Some (appended (secured was) bytes)) left → LeavesBehind was bytes left
+loose_behind : (was bytes : List ℕ) (left : Option (List ℕ)) → IsLeftOf (Some (appended (secured was) bytes)) left
+    → LeavesBehind was bytes left
 loose_behind was bytes None h = absurd h
 loose_behind was bytes (Some left) (inl e) = ([], ap Some (e ∙ sym (append-nil was)), tt)
 loose_behind was bytes (Some left) (inr (inl e)) = (bytes, ap Some e, rw (append-nil bytes) at (part_later (length was) bytes [] [] tt))
@@ -369,7 +400,8 @@ pieces_behind was bytes first front rest c left parts is h =
           (part_left (length was + length first) front rest t.0 (subst (λ (n : ℕ). MayBeLeft n front t.0) (length-append was first) t.2))),
     )
 
-pub appends_for_good : {T : Type 0} (old new : Disk) (bytes : List ℕ) (r : Result T StoreFault) → AppendsDisk old bytes r new → AppendsForGood old bytes r new
+pub appends_for_good : {T : Type 0} (old new : Disk) (bytes : List ℕ) (r : Result T StoreFault)
+    → AppendsDisk old bytes r new → AppendsForGood old bytes r new
 appends_for_good old new bytes r t =
     let part = in_part (λ b c is. one_piece bytes bytes [] b c (sym (append-nil bytes)) (inr (inl is))) old new r t in
     record {
@@ -396,7 +428,8 @@ loose_cut was left len t =
     (λ after. ⊎_elim (λ p. absurd (omega (arith, after, p.0))) (⊎_elim (λ p. p.1) (λ p. absurd (omega (arith, after, p.0))))
     (t.each i (subst (λ (n : ℕ). n ≤ i) size after) below)) (cases_lt i (length (take len was)))))) t.most
 
-left_cut : (was : List ℕ) (len : ℕ) (left : Option (List ℕ)) → IsLeftOf (Some (cut (secured was) len)) left → (left ≡ Some was) ⊎ (left ≡ Some (take len was))
+left_cut : (was : List ℕ) (len : ℕ) (left : Option (List ℕ)) → IsLeftOf (Some (cut (secured was) len)) left
+    → (left ≡ Some was) ⊎ (left ≡ Some (take len was))
 left_cut was len None h = absurd h
 left_cut was len (Some left) (inl e) = inl (ap Some e)
 left_cut was len (Some left) (inr (inl e)) = inr (ap Some e)
@@ -427,12 +460,15 @@ cuts_for_good old new len r t =
 
 -- ---- `replace`
 
-of_new : {P : Type 0} (new : Disk) (bytes : List ℕ) (older : List (Option Blob)) → new ≡ record { now = Some (secured bytes); older = older }
+of_new : {P : Type 0} (new : Disk) (bytes : List ℕ) (older : List (Option Blob))
+    → new ≡ record { now = Some (secured bytes); older = older }
     → (left : Option (List ℕ)) → (IsLeftOfOne older left → P) → MayLeave new left → P ⊎ (left ≡ Some bytes)
 of_new new bytes older e left was may =
-    ⊎_elim (λ now. inr (left_flushed (Some (secured bytes)) left refl now)) (λ once. inl (was once)) (may_of (record { now = Some (secured bytes); older = older }) new left e may)
+    ⊎_elim (λ now. inr (left_flushed (Some (secured bytes)) left refl now)) (λ once. inl (was once))
+    (may_of (record { now = Some (secured bytes); older = older }) new left e may)
 
-pub replaces_for_good : {T : Type 0} (old new : Disk) (bytes : List ℕ) (r : Result T StoreFault) → ReplacesDisk old bytes r new → ReplacesForGood old bytes r new
+pub replaces_for_good : {T : Type 0} (old new : Disk) (bytes : List ℕ) (r : Result T StoreFault)
+    → ReplacesDisk old bytes r new → ReplacesForGood old bytes r new
 replaces_for_good old new bytes (Ok done) e = record {
   leaves = λ left. of_new new bytes [] e left (λ was. absurd was);
   durable = subst (λ (disk : Disk). IsDurable disk) (sym e) (record { named = refl; flushed = refl });
@@ -440,7 +476,8 @@ replaces_for_good old new bytes (Ok done) e = record {
 replaces_for_good old new bytes (Err fault) (inl e) = record { leaves = λ left may. inl (same_leaves e left may); durable = tt }
 replaces_for_good old new bytes (Err fault) (inr (inl e)) =
     record { leaves = λ left. of_new new bytes (old.now ∷ old.older) e left (⊎_elim (may_now old left) (may_once old left)); durable = tt }
-replaces_for_good old new bytes (Err fault) (inr (inr e)) = record { leaves = λ left. of_new new bytes [] e left (λ was. absurd was); durable = tt }
+replaces_for_good old new bytes (Err fault) (inr (inr e)) =
+    record { leaves = λ left. of_new new bytes [] e left (λ was. absurd was); durable = tt }
 
 -- ---- what calls see
 
@@ -477,7 +514,8 @@ pub cuts : {T : Type 0} (old new : Disk) (len n m : ℕ) (r : Result T StoreFaul
     → m ≡ (if is_refused r then n + 1 else n) → Cuts (stored_on old n) len r (stored_on new m)
 cuts old new len n m (Ok done) (b, c, at, is, e) up = λ was here. rw (up, e, is, content_is old was b at here) refl
 cuts old new len n m (Err fault) (inl e) up = λ was is. inl (rw (up, e) refl)
-cuts old new len n m (Err fault) (inr (b, c, at, is, e)) up = λ was here. inr (rw (up, e, may_content (cut b len) c is, content_is old was b at here) refl)
+cuts old new len n m (Err fault) (inr (b, c, at, is, e)) up =
+    λ was here. inr (rw (up, e, may_content (cut b len) c is, content_is old was b at here) refl)
 
 pub replaces : {T : Type 0} (old new : Disk) (bytes : List ℕ) (n m : ℕ) (r : Result T StoreFault) → ReplacesDisk old bytes r new
     → m ≡ (if is_refused r then n + 1 else n) → Replaces (stored_on old n) bytes r (stored_on new m)
@@ -494,7 +532,8 @@ all_stay None = refl
 all_stay (Some bytes) = refl
 
 -- whatever a call that flushes it answers
-pub stays_flushed : {T : Type 0} (content : Option (List ℕ)) (result : Result T StoreFault) (new : Disk) → new ≡ all_durable content → FlushesDisk (all_durable content) result new
+pub stays_flushed : {T : Type 0} (content : Option (List ℕ)) (result : Result T StoreFault) (new : Disk)
+    → new ≡ all_durable content → FlushesDisk (all_durable content) result new
 stays_flushed content (Ok done) new e = e ∙ all_stay content
 stays_flushed content (Err Missing) new e = e
 stays_flushed content (Err NotMbox) new e = e ∙ all_stay content

@@ -1,7 +1,9 @@
 -- What a crash leaves of a file that is durable.
-use Rattle.std.proofs.Common.{◌≡◌, ◌∙◌, ⊎_elim, ℕ, List, [], ◌∷◌, ◌++◌, length, Option, Some, None, refl, sym, inl, inr, ap, subst, arith, length-append, append-nil, ◌≤◌, option_map}
+use Rattle.std.proofs.Common.{◌≡◌, ◌∙◌, ⊎_elim, ℕ, List, [], ◌∷◌, ◌++◌, length, Option, Some, None, refl, sym, inl, inr}
+use Rattle.std.proofs.Common.{ap, subst, arith, length-append, append-nil, ◌≤◌, option_map}
 use Rattle.std.proofs.Math.Seq.{take-length}
-use Rattle.mail_store.specs.Durable.{Blob, Crashes, CrashesHappen, Disk, DurableIsLeft, IsDurable, IsFlushed, IsLeft, IsLeftOf, MayLeave, all_durable, content_in, secured, seen_on}
+use Rattle.mail_store.specs.Durable.{Blob, Crashes, CrashesHappen, Disk, DurableIsLeft, IsDurable, IsFlushed, IsLeft}
+use Rattle.mail_store.specs.Durable.{IsLeftOf, MayLeave, all_durable, content_in, secured, seen_on}
 
 pub no_rest : (xs rest : List ℕ) → length (xs ++ rest) ≤ length xs → xs ++ rest ≡ xs
 no_rest xs [] le = append-nil xs
@@ -13,7 +15,8 @@ left_of bytes left (inl e) = e
 left_of bytes left (inr (inl e)) = e
 left_of bytes left (inr (inr t)) =
     let e : left ≡ bytes ++ t.behind = t.kept ∙ ap (λ (xs : List ℕ). xs ++ t.behind) (take-length bytes) in
-    e ∙ no_rest bytes t.behind (subst (λ (xs : List ℕ). length xs ≤ length bytes) e (⊎_elim (λ le. le) (λ same. omega (arith, same)) t.most))
+    e ∙ no_rest bytes t.behind (subst (λ (xs : List ℕ). length xs ≤ length bytes) e
+    (⊎_elim (λ le. le) (λ same. omega (arith, same)) t.most))
 
 pub left_flushed : (o : Option Blob) (left : Option (List ℕ)) → IsFlushed o → IsLeftOf o left → left ≡ option_map content_in o
 left_flushed None None is h = refl

@@ -1,11 +1,13 @@
 -- What a loss of power leaves of a Maildir, and what keeps its files flushed.
-use Rattle.std.proofs.Common.{◌≡◌, ℕ, suc, zero, Bool, true, List, [], ◌∷◌, ◌++◌, refl, sym, ap, ◌∙◌, arith, inl, inr, Contains, map, Result, Ok, Err}
+use Rattle.std.proofs.Common.{◌≡◌, ℕ, suc, zero, Bool, true, List, [], ◌∷◌, ◌++◌, refl, sym, ap, ◌∙◌, arith, inl, inr}
+use Rattle.std.proofs.Common.{Contains, map, Result, Ok, Err}
 use Rattle.std.specs.List.{AllZip}
 use Rattle.std.proofs.lemmas.Bool.{false_from_ne_true, false≢true}
 use Rattle.mail_store.specs.declared.fault.StoreFault.{StoreFault}
 use Rattle.mail_store.specs.declared.fault.StoreFault.TheVariants.{Missing, Refused, NoMemory}
 use Rattle.mail_store.specs.Loss.{AreLeftAs, IsLeftAs}
-use Rattle.mail_store.specs.Maildir.{AllDurable, AllFlushed, AreReached, Delivers, File, IsDurable, IsNamed, IsPart, IsWithout, Maildir, MayBeNamed, Reaches, mail, names_of}
+use Rattle.mail_store.specs.Maildir.{AllDurable, AllFlushed, AreReached, Delivers, File, IsDurableFile, IsNamed, IsPart}
+use Rattle.mail_store.specs.Maildir.{IsWithout, Maildir, MayBeNamed, IsAsDurable, mail, names_of}
 use Rattle.mail_store.proofs.MaildirLemmas.{reached_same, without_more}
 use Rattle.mail_terms.proofs.ListLemmas.{all_append}
 
@@ -21,21 +23,24 @@ file_is : (f : File) (name content : List ℕ) (is_named is_flushed : Bool) → 
 file_is f name content is_named is_flushed n c d b = rw (n, c, d, b) refl
 
 -- a durable file is left as it was
-left_same : (f g : File) → IsDurable f → IsLeftAs f g → g ≡ f
-left_same f g on left = file_is f g.name g.content g.is_named g.is_flushed left.name (left.content on.1) (left.durable.0 ∙ sym on.0) (left.durable.1 ∙ sym on.1)
+left_same : (f g : File) → IsDurableFile f → IsLeftAs f g → g ≡ f
+left_same f g on left = file_is f g.name g.content g.is_named g.is_flushed left.name (left.content on.1) (left.durable.0
+    ∙ sym on.0) (left.durable.1 ∙ sym on.1)
 
 pub names_left : (files left : List File) (f : File) → AreLeftAs files left → Contains files f → IsNamed f → Contains (names_of left) f.name
 names_left [] left f are c named = absurd (omega (arith, c.1))
-names_left (h ∷ files) left f (inl (gone, are)) (zero, below, is) named = absurd (false≢true (sym gone ∙ ap (λ (x : File). x.is_named) is ∙ named))
+names_left (h ∷ files) left f (inl (gone, are)) (zero, below, is) named =
+    absurd (false≢true (sym gone ∙ ap (λ (x : File). x.is_named) is ∙ named))
 names_left (h ∷ files) left f (inl (gone, are)) (suc k, below, is) named = names_left files left f are (k, omega (arith, below), is) named
 names_left (h ∷ files) left f (inr (g, rest, made, kept, are)) (zero, below, is) named =
     rw (made, sym (ap (λ (x : File). x.name) is), ← kept.name) (first g.name (names_of rest))
 names_left (h ∷ files) left f (inr (g, rest, made, kept, are)) (suc k, below, is) named =
     rw made (later g.name (names_of rest) f.name (names_left files rest f are (k, omega (arith, below), is) named))
 
-pub files_left : (files left : List File) (f : File) → AreLeftAs files left → Contains files f → IsDurable f → Contains left f
+pub files_left : (files left : List File) (f : File) → AreLeftAs files left → Contains files f → IsDurableFile f → Contains left f
 files_left [] left f are c on = absurd (omega (arith, c.1))
-files_left (h ∷ files) left f (inl (gone, are)) (zero, below, is) on = absurd (false≢true (sym gone ∙ ap (λ (x : File). x.is_named) is ∙ on.0))
+files_left (h ∷ files) left f (inl (gone, are)) (zero, below, is) on =
+    absurd (false≢true (sym gone ∙ ap (λ (x : File). x.is_named) is ∙ on.0))
 files_left (h ∷ files) left f (inl (gone, are)) (suc k, below, is) on = files_left files left f are (k, omega (arith, below), is) on
 files_left (h ∷ files) left f (inr (g, rest, made, kept, are)) (zero, below, is) on =
     rw (made, left_same f g on (rw is at kept)) (first f rest)
@@ -50,7 +55,13 @@ part_left (f ∷ files) left all (inl (gone, are)) =
     (f ∷ others, ([], files, reached_same (f ∷ files), is))
 part_left (f ∷ files) left all (inr (g, rest, made, kept, are)) =
     let (others, is) = part_left files rest all.1 are in
-    let reaches : Reaches f g = record { name = kept.name; content = kept.content all.0; named = λ _. kept.durable.0; flushed = λ _. kept.durable.1 } in
+    let reaches : IsAsDurable f g = record {
+      name = kept.name;
+      content = kept.content all.0;
+      named =
+          λ _. kept.durable.0;
+      flushed = λ _. kept.durable.1;
+    } in
     (others, rw made (without_more others files rest f g reaches is))
 
 -- if all is durable, all is left
@@ -119,7 +130,7 @@ flushed_delivers old new name text (Err fault) is all = absurd is
 
 -- ---- what may be left after more calls
 
-before_reached : (f g h : File) → Reaches f g → IsLeftAs g h → IsLeftAs f h
+before_reached : (f g h : File) → IsAsDurable f g → IsLeftAs g h → IsLeftAs f h
 before_reached f g h reaches left = record {
   name = left.name ∙ reaches.name;
   content = λ is. left.content (reaches.flushed is) ∙ reaches.content;

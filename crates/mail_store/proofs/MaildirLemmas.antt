@@ -1,9 +1,13 @@
 -- Names of files and what they hold; the files of a Maildir in memory; which stems are flushed.
-use Rattle.std.proofs.Common.{◌≡◌, ℕ, zero, suc, ◌/◌, ◌%◌, ◌==◌, ◌<◌, Bool, true, false, List, [], ◌∷◌, ◌++◌, length, get_or, slice_index, refl, sym, ap, ◌∙◌, arith, Ok, inl, inr, All, not, codes, ◌+◌, take, map, String, string_bytes, HoldsAt, Contains, IsPermutation, ◌||◌, ◌&&◌, bytes_eq, below_more}
+use Rattle.std.proofs.Common.{◌≡◌, ℕ, zero, suc, ◌/◌, ◌%◌, ◌==◌, ◌<◌, Bool, true, false, List, [], ◌∷◌, ◌++◌, length}
+use Rattle.std.proofs.Common.{get_or, slice_index, refl, sym, ap, ◌∙◌, arith, Ok, inl, inr, All, not, codes, ◌+◌, take}
+use Rattle.std.proofs.Common.{map, String, string_bytes, HoldsAt, Contains, IsPermutation, ◌||◌, ◌&&◌, bytes_eq}
+use Rattle.std.proofs.Common.{below_more}
 use Rattle.std.specs.List.{AllPass, AllZip, before_first, filter, position_or_len, list_any}
 use Rattle.std.specs.Fmt.{decimal, digits, digits_onto, digit_glyph}
 use Rattle.std.proofs.lemmas.Bool.{cases_lt, cond_both}
-use Rattle.std.proofs.lemmas.List.{append-nil, append_cancel_left, take_all, take-append-le, get_or-take, get_or_past, length-take, append_assoc, length-map, get_or-map, take_more}
+use Rattle.std.proofs.lemmas.List.{append-nil, append_cancel_left, take_all, take-append-le, get_or-take, get_or_past}
+use Rattle.std.proofs.lemmas.List.{length-take, append_assoc, length-map, get_or-map, take_more}
 use Rattle.std.proofs.lemmas.List.Elements.{All-nil, All-cons, All-append, All-from_recursion, Contains-get_or}
 use Rattle.std.proofs.lemmas.List.Sums.{AllPass-from_list_all, fails_before_first, position_or_len_is, prefix_len-le-length}
 use Rattle.std.proofs.lemmas.List.Folds.{prefix_len-append, list_any-append, list_any_at, Any-from_list_any}
@@ -22,13 +26,16 @@ use Rattle.std.specs.Int.{w32, to_be_bytes}
 use Rattle.mail_terms.specs.UniqueId.{IsLegalId, HasIdRanges}
 use Rattle.mail_terms.specs.MaildirName.{base, is_colon}
 use Rattle.mail_terms.specs.Listing.{Item, has_item, is_flagged}
-use Rattle.mail_store.specs.FileName.{account_text, is_comma, is_lower_hex_digit, name_of, stem, stem_of, IsAccountText, mail_file, names_id, is_held}
-use Rattle.mail_store.specs.Maildir.{AllNamed, AreReached, AreTheirs, File, IsNamed, IsThere, IsWithout, Maildir, MayBeNamed, Reaches, WereTaken, bases_told, name_in, names_of, with_file}
+use Rattle.mail_store.specs.FileName.{account_text, is_comma, is_lower_hex_digit, name_of, stem, stem_of, IsAccountText}
+use Rattle.mail_store.specs.FileName.{mail_file, names_id, is_held}
+use Rattle.mail_store.specs.Maildir.{AllNamed, AreReached, AreTheirs, File, IsNamed, IsThere, IsWithout, Maildir}
+use Rattle.mail_store.specs.Maildir.{MayBeNamed, IsAsDurable, WereTaken, bases_told, name_in, names_of, with_file}
 use Rattle.mail_store.specs.declared.maildir.disk.Folder.{Folder}
 use Rattle.mail_store.specs.declared.maildir.disk.Folder.TheVariants.{New, Cur}
 use Rattle.mail_store.specs.MemoryMaildir.{MemoryMail, files_of_folder, shown}
-use Rattle.mail_store.specs.Held.{AreAmong, FoundDurable, HasDurable, HasStem, HasStems, any_name, flags_asked, flags_of, flags_sought, is_sought, sought_among}
-use Rattle.mail_store.specs.Loss.{flushed, flushed_by, is_among}
+use Rattle.mail_store.specs.Held.{AreAmong, FoundDurable, HasDurable, HasStem, HasStems, any_name, flags_asked}
+use Rattle.mail_store.specs.Held.{flags_of, flags_sought, is_sought, sought_among}
+use Rattle.mail_store.specs.Loss.{with_flushed, flushed_by, is_among}
 use Rattle.mail_terms.proofs.ListLemmas.{list_any-map, zip_on, zip_same}
 
 -- ---- digits
@@ -89,7 +96,8 @@ table_is_plain k = elim (cases_lt k 16) [
 -- a name in which no byte passes is whole before the first that does
 all_before : (p : ℕ → Bool) (name : List ℕ) → All (λ byte. p byte ≡ false) name → before_first p name ≡ name
 all_before p name h =
-    rw (position_or_len_is p name (length name) 0 (omega arith) (λ k lt. h k 0 lt) (λ lt. absurd (omega arith))) (take_all (length name) name (omega arith))
+    rw (position_or_len_is p name (length name) 0 (omega arith) (λ k lt. h k 0 lt) (λ lt. absurd (omega arith)))
+    (take_all (length name) name (omega arith))
 
 stem_is_plain : (account uid : List ℕ) → IsAccountText account → All IsPlain (stem_of account uid)
 stem_is_plain account uid h =
@@ -107,7 +115,8 @@ stem_stem_of account uid h =
 glyph_is_no_colon : (d : ℕ) → d < 10 → is_colon (digit_glyph false d) ≡ false
 glyph_is_no_colon d small = grind (arith, nat_tests)
 
-onto_has_no_colon : (k n : ℕ) (acc : List ℕ) → All (λ byte. is_colon byte ≡ false) acc → All (λ byte. is_colon byte ≡ false) (digits_onto k 10 false n acc)
+onto_has_no_colon : (k n : ℕ) (acc : List ℕ) → All (λ byte. is_colon byte ≡ false) acc
+    → All (λ byte. is_colon byte ≡ false) (digits_onto k 10 false n acc)
 onto_has_no_colon zero n acc h = h
 onto_has_no_colon (suc k) n acc h =
     let more = All-cons (λ byte. is_colon byte ≡ false) (digit_glyph false (n % 10)) acc (glyph_is_no_colon (n % 10) (omega arith)) h in
@@ -128,9 +137,11 @@ base_name_of account uid size h =
     (decimal_has_no_colon size))
 
 -- what follows a byte that passes doesn't matter
-before_first-cut : (p : ℕ → Bool) (front rest : List ℕ) (mark : ℕ) → p mark ≡ true → before_first p (front ++ mark ∷ rest) ≡ before_first p front
+before_first-cut : (p : ℕ → Bool) (front rest : List ℕ) (mark : ℕ) → p mark ≡ true
+    → before_first p (front ++ mark ∷ rest) ≡ before_first p front
 before_first-cut p front rest mark passes =
-    let same : position_or_len p (front ++ mark ∷ rest) ≡ position_or_len p front = grind (arith, prefix_len-append (λ x. not (p x)) front (mark ∷ rest), nat_tests) in
+    let same : position_or_len p (front ++ mark ∷ rest) ≡ position_or_len p front =
+    grind (arith, prefix_len-append (λ x. not (p x)) front (mark ∷ rest), nat_tests) in
     rw same (take-append-le (position_or_len p front) front (mark ∷ rest) (prefix_len-le-length (λ x. not (p x)) front))
 
 pub stem_name_of : (account uid : List ℕ) (size : ℕ) → IsAccountText account → stem (name_of account uid size) ≡ stem_of account uid
@@ -166,7 +177,13 @@ decode_of_legal ranges uid digits legal same = ap decode_of (sym same)
 
 pub stem_of_injective : HaveRanges → (account a b : List ℕ) → IsLegalId a → IsLegalId b → stem_of account a ≡ stem_of account b → a ≡ b
 stem_of_injective ranges account a b la lb same =
-    grind (arith, append_cancel_left {A = ℕ}, decode_of_legal ranges a (encode_lower a) la refl, decode_of_legal ranges b (encode_lower b) lb refl)
+    grind (
+      arith,
+      append_cancel_left {A = ℕ},
+      decode_of_legal ranges a (encode_lower a) la refl,
+      decode_of_legal ranges
+          b (encode_lower b) lb refl,
+    )
 
 pub Contains-map : {A B : Type 0} (f : A → B) (xs : List A) (x : A) → Contains xs x → Contains (map f xs) (f x)
 Contains-map f xs x c = (c.0, omega (arith, c.1, length-map xs f), get_or-map f xs c.0 x (f x) c.1 ∙ ap f c.2)
@@ -174,8 +191,10 @@ Contains-map f xs x c = (c.0, omega (arith, c.1, length-map xs f), get_or-map f 
 -- ---- names that are told
 
 -- the names that are told of files are those that the files are shown under
-bases_shown : {Z : Type 0} (names : List (String Z)) (files : List File) → map string_bytes names ≡ names_of files → bases_told names ≡ names_of (map shown files)
-bases_shown names files told = sym (map-map base string_bytes names) ∙ ap (map base) told ∙ map-map base name_in files ∙ sym (map-map name_in shown files)
+bases_shown : {Z : Type 0} (names : List (String Z)) (files : List File) → map string_bytes names ≡ names_of files
+    → bases_told names ≡ names_of (map shown files)
+bases_shown names files told = sym (map-map base string_bytes names) ∙ ap (map base) told ∙ map-map base name_in files
+    ∙ sym (map-map name_in shown files)
 
 -- all that is in memory counts as durable
 pub all_shown : (files : List File) → AllNamed (map shown files)
@@ -203,10 +222,10 @@ told_all files names told = rw (bases_shown names files told) (IsPermutation-ref
 
 -- ---- files that readers took away
 
-pub reaches_same : (f : File) → Reaches f f
+pub reaches_same : (f : File) → IsAsDurable f f
 reaches_same f = record { name = refl; content = refl; named = λ is. is; flushed = λ is. is }
 
-reaches_on : (f g h : File) → Reaches f g → Reaches g h → Reaches f h
+reaches_on : (f g h : File) → IsAsDurable f g → IsAsDurable g h → IsAsDurable f h
 reaches_on f g h first next = record {
   name = next.name ∙ first.name;
   content = next.content ∙ first.content;
@@ -215,13 +234,13 @@ reaches_on f g h first next = record {
 }
 
 pub reached_same : (files : List File) → AreReached files files
-reached_same = zip_same Reaches reaches_same
+reached_same = zip_same IsAsDurable reaches_same
 
 pub named_same : (files : List File) → AllZip MayBeNamed files files
 named_same = zip_same MayBeNamed (λ f. inl refl)
 
 reached_on : (files mid left : List File) → AreReached files mid → AreReached mid left → AreReached files left
-reached_on = zip_on Reaches reaches_on
+reached_on = zip_on IsAsDurable reaches_on
 
 -- more was durable first, and then some were taken
 without_reached : (gone files mid left : List File) → AreReached files mid → IsWithout mid gone left → IsWithout files gone left
@@ -235,13 +254,15 @@ reached_without (f ∷ gone) files mid left (front, back, first, is) are =
     (front, back, first, reached_without gone (front ++ back) mid left is are)
 
 -- what was taken first, and then of the rest
-pub without_on : (first next files mid left : List File) → IsWithout files first mid → IsWithout mid next left → IsWithout files (first ++ next) left
+pub without_on : (first next files mid left : List File) → IsWithout files first mid → IsWithout mid next left
+    → IsWithout files (first ++ next) left
 without_on [] next files mid left are second = without_reached next files mid left are second
 without_on (f ∷ first) next files mid left (front, back, are, is) second =
     (front, back, are, without_on first next (front ++ back) mid left is second)
 
 -- nothing was taken of one more
-pub without_more : (gone files left : List File) (f g : File) → Reaches f g → IsWithout files gone left → IsWithout (f ∷ files) gone (g ∷ left)
+pub without_more : (gone files left : List File) (f g : File) → IsAsDurable f g → IsWithout files gone left
+    → IsWithout (f ∷ files) gone (g ∷ left)
 without_more [] files left f g one are = (one, are)
 without_more (h ∷ gone) files left f g one (front, back, are, is) =
     (f ∷ front, back, (reaches_same f, are), without_more gone (front ++ back) left f g one is)
@@ -258,7 +279,13 @@ taken_on a b c first next = record {
 }
 
 pub same_digits : (account a b : List ℕ) → bytes_eq (account ++ 46 ∷ a) (account ++ 46 ∷ b) ≡ bytes_eq a b
-same_digits account a b = grind (arith, bytes_eq-Decides (account ++ 46 ∷ a) (account ++ 46 ∷ b), bytes_eq-Decides a b, append_cancel_left {A = ℕ})
+same_digits account a b =
+    grind (
+      arith,
+      bytes_eq-Decides (account ++ 46 ∷ a) (account ++ 46 ∷ b),
+      bytes_eq-Decides a b,
+      append_cancel_left {A = ℕ},
+    )
 
 -- ---- all names and all items
 
@@ -277,18 +304,24 @@ pub flags_found : {Z : Type 0} (account : List ℕ) (maildir : Maildir) (items :
 flags_found account maildir items found names texts told = simp (held_by_names account maildir found names texts told)
 
 -- and which of those that are asked for
-pub flags_of_many : {Z : Type 0} (account : List ℕ) (maildir : Maildir) (items : List Item) (flags : List Bool) (found : List ℕ → Bool) (names : List (String Z))
+pub flags_of_many : {Z : Type 0} (account : List ℕ) (maildir : Maildir) (items : List Item) (flags : List Bool)
+    (found : List ℕ → Bool) (names : List (String Z))
     → ((q : List ℕ) → found q ≡ any_name account q names) → IsPermutation (names_of maildir.files) (bases_told names)
     → sought_among found items flags ≡ flags_sought account maildir items flags
 flags_of_many account maildir [] flags found names texts told = refl
 flags_of_many account maildir (item ∷ items) [] found names texts told = refl
 flags_of_many account maildir (item ∷ items) (flag ∷ flags) found names texts told =
-    rw (held_by_names account maildir found names texts told item.uid, flags_of_many account maildir items flags found names texts told) refl
+    rw (
+      held_by_names account maildir found names texts told item.uid,
+      flags_of_many account maildir items flags
+          found names texts told,
+    ) refl
 
 -- ---- the names with some stems
 
 -- a base has one of them exactly if its name has
-pub sought_bases : {A : Type 0} (stems : List (String A)) (names : List (List ℕ)) → map base (filter (is_sought stems) names) ≡ filter (is_sought stems) (map base names)
+pub sought_bases : {A : Type 0} (stems : List (String A)) (names : List (List ℕ))
+    → map base (filter (is_sought stems) names) ≡ filter (is_sought stems) (map base names)
 sought_bases stems [] = refl
 sought_bases stems (name ∷ names) = let rest = sought_bases stems names in let same = stem_base name in grind (arith, rest, same)
 
@@ -303,39 +336,55 @@ told_sought stems files kept is = (
 )
 
 -- the digits in the stems of the names show which of the items that are asked for are held
-pub flags_among : {A B : Type 0} (account : List ℕ) (maildir : Maildir) (stems : List (String A)) (items : List Item) (flags : List Bool) (found : List ℕ → Bool) (names : List (String B))
-    → ((q : List ℕ) → found q ≡ any_name account q names) → AreAmong stems (names_of maildir.files) (bases_told names) → HasStems account items flags flags (length items) stems
+pub flags_among : {A B : Type 0} (account : List ℕ) (maildir : Maildir) (stems : List (String A)) (items : List Item)
+    (flags : List Bool) (found : List ℕ → Bool) (names : List (String B))
+    → ((q : List ℕ) → found q ≡ any_name account q names) → AreAmong stems (names_of maildir.files) (bases_told names)
+    → HasStems account items flags flags (length items) stems
     → sought_among found items flags ≡ flags_sought account maildir items flags
 flags_among account maildir stems [] flags found names texts told has = refl
 flags_among account maildir stems (item ∷ items) [] found names texts told has = refl
 flags_among account maildir stems (item ∷ items) (false ∷ flags) found names texts told has =
-    ap (λ (bs : List Bool). false ∷ bs) (flags_among account maildir stems items flags found names texts told (λ k below. has (suc k) (omega (arith, below))))
+    ap (λ (bs : List Bool). false ∷ bs) (flags_among account maildir stems items flags found names texts told
+    (λ k below. has (suc k) (omega (arith, below))))
 flags_among {A} {B} account maildir stems (item ∷ items) (true ∷ flags) found names texts (order, same, told) has =
-    rw (held (has 0 (omega arith) item (λ d. refl) (λ d. refl) (λ d. refl)), flags_among account maildir stems items flags found names texts (order, same, told) (λ k below. has (suc k) (omega (arith, below)))) refl
+    rw (
+      held (has 0 (omega arith) item (λ d. refl) (λ d. refl) (λ d. refl)),
+      flags_among account maildir stems items
+          flags found names texts (order, same, told) (λ k below. has (suc k) (omega (arith, below))),
+    ) refl
   where
     held : is_among stems (stem_of account item.uid) ≡ true → found (encode_lower item.uid) ≡ is_held account maildir item.uid
     held among =
         let ids = names_id account item.uid in
-        let of_one : (name : List ℕ) → ids name ≡ true → is_sought stems name ≡ true = λ name is. rw (← (bytes_eq-Decides (stem_of account item.uid) (stem name)).0 is, among) refl in
-        let any = list_any-IsPermutation ids (names_of maildir.files) order same ∙ sym (any-filter_same ids (is_sought stems) true of_one order) ∙ ap (list_any ids) (sym told) in
+        let of_one : (name : List ℕ) → ids name ≡ true
+        → is_sought stems name ≡ true =
+        λ name is. rw (← (bytes_eq-Decides (stem_of account item.uid) (stem name)).0 is, among) refl in
+        let any = list_any-IsPermutation ids (names_of maildir.files) order same
+        ∙ sym (any-filter_same ids (is_sought stems) true of_one order) ∙ ap (list_any ids) (sym told) in
         texts (encode_lower item.uid) ∙ sym (simp (list_any-map, stem_base) at any)
 
 -- of one item more
 sought_pushed : (found : List ℕ → Bool) (items : List Item) (flags : List Bool) (item : Item) (flag : Bool) → length flags ≡ length items
-    → sought_among found (items ++ item ∷ []) (flags ++ flag ∷ []) ≡ sought_among found items flags ++ (flag && found (encode_lower item.uid)) ∷ []
+    → sought_among found (items ++ item ∷ []) (flags ++ flag ∷ []) ≡ sought_among found items flags
+    ++ (flag && found (encode_lower item.uid)) ∷ []
 sought_pushed found [] [] item flag same = refl
 sought_pushed found [] (f ∷ flags) item flag same = absurd (omega (arith, same))
 sought_pushed found (i ∷ items) [] item flag same = absurd (omega (arith, same))
-sought_pushed found (i ∷ items) (f ∷ flags) item flag same = ap (λ (bs : List Bool). (f && found (encode_lower i.uid)) ∷ bs) (sought_pushed found items flags item flag (omega (arith, same)))
+sought_pushed found (i ∷ items) (f ∷ flags) item flag same =
+    ap (λ (bs : List Bool). (f && found (encode_lower i.uid)) ∷ bs)
+    (sought_pushed found items flags item flag (omega (arith, same)))
 
-pub sought_more : (found : List ℕ → Bool) (items : List Item) (flags : List Bool) (i : ℕ) (none : Item) (unset : Bool) → i < length items → length flags ≡ length items
+pub sought_more : (found : List ℕ → Bool) (items : List Item) (flags : List Bool) (i : ℕ) (none : Item) (unset : Bool)
+    → i < length items → length flags ≡ length items
     → sought_among found (take (i + 1) items) (take (i + 1) flags)
     ≡ sought_among found (take i items) (take i flags) ++ (get_or flags i unset && found (encode_lower (get_or items i none).uid)) ∷ []
 sought_more found items flags i none unset inside same =
     rw (take_more items i none inside, take_more flags i unset (omega (arith, inside, same)))
-    (sought_pushed found (take i items) (take i flags) (get_or items i none) (get_or flags i unset) (rw (length-take i flags, length-take i items, same) refl))
+    (sought_pushed found (take i items) (take i flags) (get_or items i none) (get_or flags i unset)
+    (rw (length-take i flags, length-take i items, same) refl))
 
-pub length-sought : (found : List ℕ → Bool) (items : List Item) (flags : List Bool) → length flags ≡ length items → length (sought_among found items flags) ≡ length items
+pub length-sought : (found : List ℕ → Bool) (items : List Item) (flags : List Bool) → length flags ≡ length items
+    → length (sought_among found items flags) ≡ length items
 length-sought found [] flags same = refl
 length-sought found (item ∷ items) [] same = same
 length-sought found (item ∷ items) (flag ∷ flags) same = ap suc (length-sought found items flags (omega (arith, same)))
@@ -343,10 +392,12 @@ length-sought found (item ∷ items) (flag ∷ flags) same = ap suc (length-soug
 -- ---- names that are there
 
 -- an id is held if a file has its name
-pub held_where_there : (account uid : List ℕ) (size : ℕ) (maildir : Maildir) → IsAccountText account → IsThere maildir (name_of account uid size)
+pub held_where_there : (account uid : List ℕ) (size : ℕ) (maildir : Maildir) → IsAccountText account
+    → IsThere maildir (name_of account uid size)
     → is_held account maildir uid ≡ true
 held_where_there account uid size maildir a c =
-    let same = (bytes_eq-Decides (stem_of account uid) _).1 (sym (stem_base (name_of account uid size) ∙ stem_name_of account uid size a)) in
+    let same = (bytes_eq-Decides (stem_of account uid) _).1 (sym (stem_base (name_of account uid size)
+    ∙ stem_name_of account uid size a)) in
     rw list_any-map at (list_any_at (names_id account uid) (names_of maildir.files) c.0 _ c.1 (ap (names_id account uid) c.2 ∙ same))
 
 -- a file that came under an id's name makes that id held, and no other
@@ -356,7 +407,13 @@ held_with_file ranges account a b content maildir h la lb =
     let f = mail_file account a content in
     let one : names_id account b f.name ≡ bytes_eq b a =
     ap (bytes_eq (stem_of account b)) (stem_base (name_of account a (length content)) ∙ stem_name_of account a (length content) h)
-    ∙ grind (arith, bytes_eq-Decides (stem_of account b) (stem_of account a), bytes_eq-Decides b a, stem_of_injective ranges account b a lb la) in
+    ∙ grind (
+      arith,
+      bytes_eq-Decides (stem_of account b) (stem_of account a),
+      bytes_eq-Decides b a,
+      stem_of_injective
+          ranges account b a lb la,
+    ) in
     rw (list_any-append (λ (f : File). names_id account b f.name) maildir.files (f ∷ []), one, or-false (bytes_eq b a))
 
 -- ---- flags of a listing
@@ -376,38 +433,44 @@ flagged_where_held account maildir (item ∷ items) uid =
 -- ---- the stems
 
 -- the stem of one item more was added
-pub stems_more : {A : Type 0} (account : List ℕ) (items : List Item) (held flags : List Bool) (i : ℕ) (stems : List (String A)) (x : String A) (uid : List ℕ)
+pub stems_more : {A : Type 0} (account : List ℕ) (items : List Item) (held flags : List Bool) (i : ℕ)
+    (stems : List (String A)) (x : String A) (uid : List ℕ)
     → HasStems account items held flags i stems → HoldsAt (λ (item : Item). uid ≡ item.uid) items i → string_bytes x ≡ stem_of account uid
     → HasStems account items held flags (i + 1) (stems ++ x ∷ [])
 stems_more account items held flags i stems x uid has at is = below_more (HasStem account items held flags (stems ++ x ∷ [])) i
     (λ k below item here h f. rw (pushed item.uid, has k below item here h f) refl)
     (λ item here h f.
-    let same = (bytes_eq-Decides (stem_of account item.uid) (string_bytes x)).1 (ap (λ (y : Item). stem_of account y.uid) (sym (here item)) ∙ ap (stem_of account) (sym (at item)) ∙ sym is) in
+    let same = (bytes_eq-Decides (stem_of account item.uid) (string_bytes x)).1
+    (ap (λ (y : Item). stem_of account y.uid) (sym (here item)) ∙ ap (stem_of account) (sym (at item)) ∙ sym is) in
     rw (pushed item.uid, same) (or-true _))
   where
-    pushed : (q : List ℕ) → is_among (stems ++ x ∷ []) (stem_of account q) ≡ (is_among stems (stem_of account q) || (bytes_eq (stem_of account q) (string_bytes x) || false))
+    pushed : (q : List ℕ) → is_among (stems ++ x ∷ []) (stem_of account q)
+        ≡ (is_among stems (stem_of account q) || (bytes_eq (stem_of account q) (string_bytes x) || false))
     pushed q = list_any-append (λ other. bytes_eq (stem_of account q) (string_bytes other)) stems (x ∷ [])
 
 -- ---- the files
 
 -- a flush changes only what is durable
 held_flushed : {A : Type 0} (account : List ℕ) (maildir : Maildir) (stems : List (String A)) (uid : List ℕ)
-    → is_held account (flushed stems maildir) uid ≡ is_held account maildir uid
+    → is_held account (with_flushed stems maildir) uid ≡ is_held account maildir uid
 held_flushed account maildir stems uid = list_any-map (λ (f : File). names_id account uid f.name) (flushed_by stems) maildir.files
 
 pub flags_flushed : {A : Type 0} (account : List ℕ) (maildir : Maildir) (stems : List (String A)) (items : List Item)
-    → flags_of account (flushed stems maildir) items ≡ flags_of account maildir items
+    → flags_of account (with_flushed stems maildir) items ≡ flags_of account maildir items
 flags_flushed account maildir stems [] = refl
-flags_flushed account maildir stems (item ∷ items) = rw (held_flushed account maildir stems item.uid, flags_flushed account maildir stems items) refl
+flags_flushed account maildir stems (item ∷ items) =
+    rw (held_flushed account maildir stems item.uid, flags_flushed account maildir stems items) refl
 
 sought_flushed : {A : Type 0} (account : List ℕ) (maildir : Maildir) (stems : List (String A)) (items : List Item) (flags : List Bool)
-    → flags_sought account (flushed stems maildir) items flags ≡ flags_sought account maildir items flags
+    → flags_sought account (with_flushed stems maildir) items flags ≡ flags_sought account maildir items flags
 sought_flushed account maildir stems [] flags = refl
 sought_flushed account maildir stems (item ∷ items) [] = refl
-sought_flushed account maildir stems (item ∷ items) (flag ∷ flags) = rw (held_flushed account maildir stems item.uid, sought_flushed account maildir stems items flags) refl
+sought_flushed account maildir stems (item ∷ items) (flag ∷ flags) =
+    rw (held_flushed account maildir stems item.uid, sought_flushed account maildir stems items flags) refl
 
-pub asked_flushed : {A : Type 0} (all : Bool) (account : List ℕ) (maildir : Maildir) (stems : List (String A)) (items : List Item) (flags : List Bool)
-    → flags_asked all account (flushed stems maildir) items flags ≡ flags_asked all account maildir items flags
+pub asked_flushed : {A : Type 0} (all : Bool) (account : List ℕ) (maildir : Maildir) (stems : List (String A))
+    (items : List Item) (flags : List Bool)
+    → flags_asked all account (with_flushed stems maildir) items flags ≡ flags_asked all account maildir items flags
 asked_flushed true account maildir stems items flags = flags_flushed account maildir stems items
 asked_flushed false account maildir stems items flags = sought_flushed account maildir stems items flags
 
@@ -421,33 +484,39 @@ reached_flushed stems (f ∷ files) =
     (record { name = refl; content = refl; named = λ is. is; flushed = λ is. rw is refl }, reached_flushed stems files)
 
 -- what readers left and was then flushed is what they left
-pub taken_flushed : {A : Type 0} (stems : List (String A)) (old left : Maildir) → WereTaken old left → WereTaken old (flushed stems left)
+pub taken_flushed : {A : Type 0} (stems : List (String A)) (old left : Maildir) → WereTaken old left
+    → WereTaken old (with_flushed stems left)
 taken_flushed stems old left taken = record {
   gone = taken.gone;
   files = reached_without taken.gone old.files left.files _ taken.files (reached_flushed stems left.files);
-  is = ap (flushed stems) taken.is;
+  is = ap (with_flushed stems) taken.is;
 }
 
 -- the files of these stems were flushed, so that of each id whose stem is among them a file is durable
 durable_flushed : {A : Type 0} (account : List ℕ) (maildir : Maildir) (stems : List (String A)) → AllNamed maildir.files
     → (uid : List ℕ) → is_among stems (stem_of account uid) ≡ true → is_held account maildir uid ≡ true
-    → HasDurable account (flushed stems maildir) uid
+    → HasDurable account (with_flushed stems maildir) uid
 durable_flushed account maildir stems all uid among held =
     let of = Any-from_list_any (λ (f : File). names_id account uid f.name) maildir.files held in
     let same = (bytes_eq-Decides (stem_of account uid) (stem of.1.name)).0 of.4 in
-    let named : of.1.is_named ≡ true = rw of.3 at (All-from_recursion IsNamed maildir.files all of.0 of.1 of.2) in
-    (flushed_by stems of.1, Contains-map (flushed_by stems) maildir.files of.1 (of.0, of.2, of.3), of.4, (named, rw (rw same at among) (or-true _)))
+    let named : of.1.is_named ≡ true = rw of.3 at (All-from_recursion IsNamed maildir.files all of.0 of.1 of.2) in (
+      flushed_by stems of.1,
+      Contains-map (flushed_by stems) maildir.files of.1 (of.0, of.2, of.3),
+      of.4,
+      (named, rw (rw same at among) (or-true _)),
+    )
 
 -- the same of what the flush left
 pub durable_left : {A : Type 0} (account : List ℕ) (maildir : Maildir) (stems : List (String A)) → AllNamed maildir.files
-    → (uid : List ℕ) → is_among stems (stem_of account uid) ≡ true → is_held account (flushed stems maildir) uid ≡ true
-    → HasDurable account (flushed stems maildir) uid
+    → (uid : List ℕ) → is_among stems (stem_of account uid) ≡ true → is_held account (with_flushed stems maildir) uid ≡ true
+    → HasDurable account (with_flushed stems maildir) uid
 durable_left account maildir stems all uid among held =
     durable_flushed account maildir stems all uid among (rw (held_flushed account maildir stems uid) at held)
 
 pub found_durable : {A : Type 0} (all : Bool) (account : List ℕ) (maildir : Maildir) (stems : List (String A))
     → ((uid : List ℕ) → is_among stems (stem_of account uid) ≡ true → is_held account maildir uid ≡ true → HasDurable account maildir uid)
-    → (items : List Item) (flags : List Bool) → HasStems account items (flags_asked all account maildir items flags) flags (length items) stems
+    → (items : List Item) (flags : List Bool)
+    → HasStems account items (flags_asked all account maildir items flags) flags (length items) stems
     → FoundDurable account maildir items flags
 found_durable true account maildir stems durable (item ∷ items) (flag ∷ flags) has = (
   λ is held. durable item.uid (has 0 (omega arith) item (λ d. refl) (λ d. held) (λ d. is)) held,

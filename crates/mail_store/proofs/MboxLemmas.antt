@@ -1,9 +1,14 @@
 -- Lines, quoting, entries and groups of lines of an mboxrd file.
-use Rattle.std.proofs.Common.{◌≡◌, ◌≢◌, inl, inr, ℕ, zero, suc, ◌+◌, ◌<◌, ◌≤◌, List, [], ◌∷◌, ◌++◌, length, take, drop, refl, sym, ap, ◌∙◌, arith, append_assoc, ◌-◌, ◌*◌, true, false, map, get_or, slice_index, ◌==◌, cond, codes}
+use Rattle.std.proofs.Common.{◌≡◌, ◌≢◌, inl, inr, ℕ, zero, suc, ◌+◌, ◌<◌, ◌≤◌, List, [], ◌∷◌, ◌++◌, length, take, drop}
+use Rattle.std.proofs.Common.{refl, sym, ap, ◌∙◌, arith, append_assoc, ◌-◌, ◌*◌, true, false, map, get_or, slice_index}
+use Rattle.std.proofs.Common.{◌==◌, cond, codes}
 use Rattle.std.specs.List.{flat_map, onto_first, AllByRecursion}
 use Rattle.std.proofs.lemmas.Bool.{ne_eqb, cond_both, true≢false}
 use Rattle.std.proofs.lemmas.Bool.Decides.{eqb_tells, Decides-eqb}
-use Rattle.std.proofs.lemmas.List.{drop-append-le, drop_all, drop_more, take_all, length-take-le, get_or-drop, get_or-take, get_or_default, length-take, length-drop, take-append-drop, take_more, append-nil, drop_at, length-append, take_at, append_cancel_right, flat_map_more, map-append}
+use Rattle.std.proofs.lemmas.List.{drop-append-le, drop_all, drop_more, take_all, length-take-le, get_or-drop}
+use Rattle.std.proofs.lemmas.List.{get_or-take, get_or_default, length-take, length-drop, take-append-drop, take_more}
+use Rattle.std.proofs.lemmas.List.{append-nil, drop_at, length-append, take_at, append_cancel_right, flat_map_more}
+use Rattle.std.proofs.lemmas.List.{map-append}
 use Rattle.std.proofs.lemmas.List.Elements.{recursion_from_All, All-from_recursion, All-map}
 use Rattle.std.proofs.lemmas.List.Sums.{sum_by-append}
 use Rattle.std.proofs.lemmas.List.Concat.{flat_map-append}
@@ -11,7 +16,10 @@ use Rattle.std.proofs.lemmas.Slice.Eq.{starts_is}
 use Rattle.std.proofs.lemmas.List.Folds.{flat_map-map}
 use Rattle.mail_terms.specs.Text.{IsWhole, HasNoLf}
 use Rattle.mail_store.specs.FlatFile.{edges_of, piece_at}
-use Rattle.mail_store.specs.Mboxrd.{lines_of, IsLine, from_words, begins_entry, is_marked, quoted, unquoted, quoted_text, unquoted_text, wire_size, UnquotesQuoted, separator, entry_of, Group, IsInner, IsGroup, group_bytes, group_text, MboxFile, MayGoOn, EntryAddsText, OneReading, IsApart, OpensEntry, CutsGroup, CutsLine, HoldsText}
+use Rattle.mail_store.specs.Mboxrd.{lines_of, IsMboxLine, from_words, begins_entry, is_marked, quoted, unquoted}
+use Rattle.mail_store.specs.Mboxrd.{quoted_text, unquoted_text, wire_size, UnquotesQuoted, separator, entry_of, Group}
+use Rattle.mail_store.specs.Mboxrd.{IsInner, IsMboxGroup, group_bytes, group_text, MboxFile, MayGoOn, EntryAddsText}
+use Rattle.mail_store.specs.Mboxrd.{OneListOfTexts, IsApart, OpensEntry, CutsGroup, CutsLine, HoldsText}
 use Rattle.mail_terms.proofs.ListLemmas.{all_append}
 
 -- ---- lists of lines
@@ -39,9 +47,10 @@ words_first [] rest plain = refl
 words_first (byte ∷ words) rest plain = rw (ne_eqb byte 10 plain.0, words_first words rest plain.1) refl
 
 -- a line and what follows it
-pub line_first : (line rest : List ℕ) → IsLine line → lines_of (line ++ rest) ≡ line ∷ lines_of rest
+pub line_first : (line rest : List ℕ) → IsMboxLine line → lines_of (line ++ rest) ≡ line ∷ lines_of rest
 line_first line rest is =
-    ap (λ (l : List ℕ). lines_of (l ++ rest)) is.ended ∙ words_first is.words rest is.plain ∙ ap (λ (l : List ℕ). l ∷ lines_of rest) (sym is.ended)
+    ap (λ (l : List ℕ). lines_of (l ++ rest)) is.ended ∙ words_first is.words rest is.plain
+    ∙ ap (λ (l : List ℕ). l ∷ lines_of rest) (sym is.ended)
 
 -- a last piece without LF
 pub piece_alone : (piece : List ℕ) → HasNoLf piece → 0 < length piece → lines_of piece ≡ piece ∷ []
@@ -58,7 +67,7 @@ cut_at text n inside none at = record {
   ended = inl is;
 }
   where
-    is : IsLine (take (n + 1) text)
+    is : IsMboxLine (take (n + 1) text)
     is = record {
       words = take n text;
       plain = plain_all (take n text) (λ k below.
@@ -68,10 +77,13 @@ cut_at text n inside none at = record {
     }
 
 -- what follows the last LF but the one at the end is a line
-pub line_back : (front : List ℕ) (n : ℕ) → n ≤ length front → ((k : ℕ) → n ≤ k → k < length front → slice_index front k ≢ 10) → IsLine (drop n (front ++ 10 ∷ []))
+pub line_back : (front : List ℕ) (n : ℕ) → n ≤ length front
+    → ((k : ℕ) → n ≤ k → k < length front → slice_index front k ≢ 10) → IsMboxLine (drop n (front ++ 10 ∷ []))
 line_back front n within none = record {
   words = drop n front;
-  plain = plain_all (drop n front) (λ k inside at. none (n + k) (omega arith) (omega (arith, inside, length-drop n front)) (sym (get_or-drop n front k 0) ∙ at));
+  plain = plain_all (drop n front)
+      (λ k inside at. none (n + k) (omega arith) (omega (arith, inside, length-drop n front))
+      (sym (get_or-drop n front k 0) ∙ at));
   ended = drop-append-le n front (10 ∷ []) within;
 }
 
@@ -86,26 +98,33 @@ lines_joined (byte ∷ rest) = elim (eqb_tells byte 10) [
 ]
 
 -- lines are the lines of what they make up
-pub lines_kept : (lines : List (List ℕ)) (rest : List ℕ) → AllByRecursion IsLine lines → lines_of (joined lines ++ rest) ≡ lines ++ lines_of rest
+pub lines_kept : (lines : List (List ℕ)) (rest : List ℕ) → AllByRecursion IsMboxLine lines
+    → lines_of (joined lines ++ rest) ≡ lines ++ lines_of rest
 lines_kept [] rest all = refl
 lines_kept (line ∷ lines) rest all =
     ap lines_of (append_assoc line (joined lines) rest) ∙ line_first line (joined lines ++ rest) all.0
     ∙ ap (λ (ls : List (List ℕ)). line ∷ ls) (lines_kept lines rest all.1)
 
-pub empty_line : IsLine (10 ∷ [])
+pub empty_line : IsMboxLine (10 ∷ [])
 empty_line = record { words = []; plain = tt; ended = refl }
 
-ended_lines : (front : List ℕ) → (line : List ℕ) × (lines : List (List ℕ)) × (lines_of (front ++ 10 ∷ []) ≡ line ∷ lines) × AllByRecursion IsLine (line ∷ lines)
+ended_lines : (front : List ℕ) → (line : List ℕ) × (lines : List (List ℕ))
+    × (lines_of (front ++ 10 ∷ []) ≡ line ∷ lines) × AllByRecursion IsMboxLine (line ∷ lines)
 ended_lines [] = (10 ∷ [], [], refl, (empty_line, tt))
 ended_lines (byte ∷ front) =
     let later = ended_lines front in elim (eqb_tells byte 10) [
       | inl p ↦ (10 ∷ [], later.0 ∷ later.1, rw (p.0, later.2) refl, (empty_line, later.3))
       | inr p ↦
-          let more : IsLine (byte ∷ later.0) = record { words = byte ∷ later.3.0.words; plain = (p.1, later.3.0.plain); ended = ap (λ (l : List ℕ). byte ∷ l) later.3.0.ended } in
+          let more : IsMboxLine (byte ∷ later.0) = record {
+            words = byte ∷ later.3.0.words;
+            plain =
+                (p.1, later.3.0.plain);
+            ended = ap (λ (l : List ℕ). byte ∷ l) later.3.0.ended;
+          } in
           (byte ∷ later.0, later.1, rw (p.0, later.2) refl, (more, later.3.1))
     ]
 
-pub whole_lines : (text : List ℕ) → IsWhole text → AllByRecursion IsLine (lines_of text)
+pub whole_lines : (text : List ℕ) → IsWhole text → AllByRecursion IsMboxLine (lines_of text)
 whole_lines text whole = elim whole [
   | inl e ↦ rw e tt
   | inr p ↦ let ended = ended_lines p.0 in rw (p.1, ended.2) ended.3
@@ -149,14 +168,21 @@ entry_marked (byte ∷ rest) is = elim (eqb_tells byte 62) [
 pub quoted_apart : (line : List ℕ) → begins_entry (quoted line) ≡ false
 quoted_apart line = cond_both (is_marked line) (62 ∷ line) line (λ l. begins_entry l ≡ false) (λ _. refl) (entry_marked line)
 
-pub quoted_line : (line : List ℕ) → IsLine line → IsLine (quoted line)
-quoted_line line is = cond_both (is_marked line) (62 ∷ line) line IsLine (λ _. record { words = 62 ∷ is.words; plain = (omega arith, is.plain); ended = ap (λ (l : List ℕ). 62 ∷ l) is.ended }) (λ _. is)
+pub quoted_line : (line : List ℕ) → IsMboxLine line → IsMboxLine (quoted line)
+quoted_line line is = cond_both (is_marked line) (62 ∷ line) line IsMboxLine
+    (λ _. record {
+      words = 62 ∷ is.words;
+      plain = (omega arith, is.plain);
+      ended =
+          ap (λ (l : List ℕ). 62 ∷ l) is.ended;
+    }) (λ _. is)
 
 -- ---- whole texts
 
-pub quoted_lines : (lines : List (List ℕ)) → AllByRecursion IsLine lines → lines_of (flat_map quoted lines) ≡ map quoted lines
+pub quoted_lines : (lines : List (List ℕ)) → AllByRecursion IsMboxLine lines → lines_of (flat_map quoted lines) ≡ map quoted lines
 quoted_lines [] all = refl
-quoted_lines (line ∷ lines) all = rw (line_first (quoted line) (flat_map quoted lines) (quoted_line line all.0), quoted_lines lines all.1) refl
+quoted_lines (line ∷ lines) all =
+    rw (line_first (quoted line) (flat_map quoted lines) (quoted_line line all.0), quoted_lines lines all.1) refl
 
 pub lines_read : (lines : List (List ℕ)) → flat_map unquoted (map quoted lines) ≡ joined lines
 lines_read [] = refl
@@ -175,7 +201,8 @@ pub record Copies (shows : List ℕ → List ℕ) (out run rest text : List ℕ)
   pub fits : length rest ≤ length run
   pub shown : out ++ (front ++ flat_map shows (lines_of rest)) ≡ flat_map shows (lines_of text)
 
-pub front_taken : (run front rest : List ℕ) → run ≡ front ++ rest → (take (length run - length rest) run ≡ front) × (drop (length run - length rest) run ≡ rest)
+pub front_taken : (run front rest : List ℕ) → run ≡ front ++ rest → (take (length run - length rest) run ≡ front)
+    × (drop (length run - length rest) run ≡ rest)
 front_taken run front rest e =
     let size : length front ≡ length (front ++ rest) - length rest = omega (arith, length-append front rest) in
     rw e (take_at front rest _ size, drop_at front rest _ size)
@@ -198,7 +225,8 @@ copies_changed shows out run rest text line after extra kept new later was cut c
   front = kept;
   split = split;
   fits = omega (arith, ap length split, length-append kept after);
-  shown = rw (is, (front_taken run was.front rest was.split).0) (simp append_assoc (simp append_assoc at (rw (cut.lines, changed) at was.shown)));
+  shown = rw (is, (front_taken run was.front rest was.split).0)
+      (simp append_assoc (simp append_assoc at (rw (cut.lines, changed) at was.shown)));
 }
 
 longer_lines : (lines : List (List ℕ)) → length (joined lines) ≤ length (flat_map quoted lines)
@@ -210,14 +238,16 @@ longer_lines (line ∷ lines) =
 pub quoted_longer : (text : List ℕ) → length text ≤ length (quoted_text text)
 quoted_longer text = omega (arith, longer_lines (lines_of text), ap length (lines_joined text))
 
-pub quoted_first : (line after : List ℕ) → IsLine line → quoted_text (line ++ after) ≡ quoted line ++ quoted_text after
+pub quoted_first : (line after : List ℕ) → IsMboxLine line → quoted_text (line ++ after) ≡ quoted line ++ quoted_text after
 quoted_first line after is = ap (flat_map quoted) (line_first line after is)
 
-pub quoted_last : (front line : List ℕ) → IsWhole front → IsLine line → quoted_text (front ++ line) ≡ quoted_text front ++ quoted line
+pub quoted_last : (front line : List ℕ) → IsWhole front → IsMboxLine line → quoted_text (front ++ line) ≡ quoted_text front ++ quoted line
 quoted_last front line whole is =
     let parts = lines_kept (lines_of front) line (whole_lines front whole) in
-    ap (λ (l : List ℕ). quoted_text (l ++ line)) (sym (lines_joined front)) ∙ ap (flat_map quoted) parts ∙ flat_map-append quoted (lines_of front) (lines_of line)
-    ∙ ap (λ (l : List ℕ). quoted_text front ++ l) (ap quoted_text (sym (append-nil line)) ∙ quoted_first line [] is ∙ append-nil (quoted line))
+    ap (λ (l : List ℕ). quoted_text (l ++ line)) (sym (lines_joined front)) ∙ ap (flat_map quoted) parts
+    ∙ flat_map-append quoted (lines_of front) (lines_of line)
+    ∙ ap (λ (l : List ℕ). quoted_text front ++ l) (ap quoted_text (sym (append-nil line)) ∙ quoted_first line [] is
+    ∙ append-nil (quoted line))
 
 -- of the text, the lines before `from` are where they were, and the others are quoted and end at `end`
 pub record Quoting (text old bytes : List ℕ) (from to end : ℕ) : Type 0 where
@@ -252,14 +282,19 @@ pub record Sizes (text rest : List ℕ) (size : ℕ) : Type 0 where
   pub few : size + 2 * length rest ≤ 2 * length text
 
 -- one more line
-pub sizes_line : (text rest line after : List ℕ) (size more : ℕ) → Sizes text rest size → CutsLine rest line after → more ≡ wire_size (unquoted line)
+pub sizes_line : (text rest line after : List ℕ) (size more : ℕ) → Sizes text rest size → CutsLine rest line after
+    → more ≡ wire_size (unquoted line)
     → more ≤ 2 * length line → Sizes text after (size + more)
 sizes_line text rest line after size more was cut is bound =
     let show = unquoted line in
     let shown = ap (λ (ls : List (List ℕ)). wire_size (flat_map unquoted ls)) cut.lines in
     let parts = sum_by-append (λ (byte : ℕ). cond (byte == 10) 1 0) show (unquoted_text after) in
     let whole = ap length cut.whole ∙ length-append line after in
-    record { total = omega (arith, was.total, shown, parts, length-append show (unquoted_text after), is); few = omega (arith, was.few, whole, bound) }
+    record {
+      total = omega (arith, was.total, shown, parts, length-append show (unquoted_text after), is);
+      few =
+          omega (arith, was.few, whole, bound);
+    }
 
 -- ---- groups as lists of lines
 
@@ -267,16 +302,17 @@ sizes_line text rest line after size more was cut is bound =
 abbrev pub group_lines : Group → List (List ℕ)
 group_lines group = group.head ∷ (group.lines ++ (10 ∷ []) ∷ [])
 
-pub inner_lines : (lines : List (List ℕ)) → AllByRecursion IsInner lines → AllByRecursion IsLine lines
-inner_lines lines all = recursion_from_All IsLine lines (λ k d inside. (All-from_recursion IsInner lines all k d inside).0)
+pub inner_lines : (lines : List (List ℕ)) → AllByRecursion IsInner lines → AllByRecursion IsMboxLine lines
+inner_lines lines all = recursion_from_All IsMboxLine lines (λ k d inside. (All-from_recursion IsInner lines all k d inside).0)
 
 -- the lines of bytes that begin with a group
-pub group_first : (group : Group) (rest : List ℕ) → IsLine group.head → AllByRecursion IsLine group.lines
+pub group_first : (group : Group) (rest : List ℕ) → IsMboxLine group.head → AllByRecursion IsMboxLine group.lines
     → lines_of (group_bytes group ++ rest) ≡ group_lines group ++ lines_of rest
 group_first group rest head lines = rw (flat_map_more (λ (line : List ℕ). line) [] group.lines (10 ∷ []))
-    (lines_kept (group_lines group) rest (head, all_append IsLine group.lines ((10 ∷ []) ∷ []) lines (empty_line, tt)))
+    (lines_kept (group_lines group) rest (head, all_append IsMboxLine group.lines ((10 ∷ []) ∷ []) lines (empty_line, tt)))
 
-pub groups_lines : (groups : List Group) → AllByRecursion IsGroup groups → lines_of (flat_map group_bytes groups) ≡ flat_map group_lines groups
+pub groups_lines : (groups : List Group) → AllByRecursion IsMboxGroup groups
+    → lines_of (flat_map group_bytes groups) ≡ flat_map group_lines groups
 groups_lines [] are = refl
 groups_lines (group ∷ groups) are =
     rw (group_first group (flat_map group_bytes groups) are.0.0.0 (inner_lines group.lines are.0.1), groups_lines groups are.1) refl
@@ -287,11 +323,12 @@ pub inner_apart : (lines : List (List ℕ)) → AllByRecursion IsInner lines →
 inner_apart [] all = (refl, tt)
 inner_apart (line ∷ lines) all = (all.0.1, inner_apart lines all.1)
 
-pub opens_groups : (groups : List Group) → AllByRecursion IsGroup groups → OpensEntry (flat_map group_lines groups)
+pub opens_groups : (groups : List Group) → AllByRecursion IsMboxGroup groups → OpensEntry (flat_map group_lines groups)
 opens_groups [] are = tt
 opens_groups (group ∷ groups) are = are.0.0.1
 
-pub same_span : (xs ys rest other : List (List ℕ)) → AllByRecursion IsApart xs → AllByRecursion IsApart ys → OpensEntry rest → OpensEntry other
+pub same_span : (xs ys rest other : List (List ℕ)) → AllByRecursion IsApart xs → AllByRecursion IsApart ys
+    → OpensEntry rest → OpensEntry other
     → xs ++ rest ≡ ys ++ other → (xs ≡ ys) × (rest ≡ other)
 same_span [] [] rest other apart others opens begins e = (refl, e)
 same_span [] (y ∷ ys) rest other apart others opens begins e = absurd (true≢false (sym (rw e at opens) ∙ others.0))
@@ -300,27 +337,28 @@ same_span (x ∷ xs) (y ∷ ys) rest other apart others opens begins e =
     let same = same_span xs ys rest other apart.1 others.1 opens begins (cc) in
     (cc, same.1)
 
-same_texts : (groups others : List Group) → AllByRecursion IsGroup groups → AllByRecursion IsGroup others
+same_texts : (groups others : List Group) → AllByRecursion IsMboxGroup groups → AllByRecursion IsMboxGroup others
     → flat_map group_lines groups ≡ flat_map group_lines others → map group_text groups ≡ map group_text others
 same_texts [] [] are be e = refl
 same_texts (group ∷ groups) (other ∷ others) are be e =
-    let span = same_span (group.lines ++ (10 ∷ []) ∷ []) (other.lines ++ (10 ∷ []) ∷ []) (flat_map group_lines groups) (flat_map group_lines others)
+    let span = same_span (group.lines ++ (10 ∷ []) ∷ []) (other.lines ++ (10 ∷ []) ∷ []) (flat_map group_lines groups)
+    (flat_map group_lines others)
     (inner_apart group.lines are.0.1) (inner_apart other.lines be.0.1) (opens_groups groups are.1) (opens_groups others be.1) (cc) in
     cc (append_cancel_right group.lines other.lines ((10 ∷ []) ∷ []) span.0, same_texts groups others are.1 be.1 span.1)
 same_texts groups others are be e = absurd (cc)
 
-pub one_reading : OneReading
+pub one_reading : OneListOfTexts
 one_reading file texts others left right =
     let same = sym (groups_lines left.groups left.are) ∙ ap lines_of (sym left.whole ∙ right.whole) ∙ groups_lines right.groups right.are in
     cc (left.read, right.read, same_texts left.groups right.groups left.are right.are same)
 
 -- ---- one more group
 
-pub adds_group : (file : List ℕ) (texts : List (List ℕ)) (group : Group) → MboxFile file texts → IsGroup group
+pub adds_group : (file : List ℕ) (texts : List (List ℕ)) (group : Group) → MboxFile file texts → IsMboxGroup group
     → MboxFile (file ++ group_bytes group) (texts ++ group_text group ∷ [])
 adds_group file texts group was is = record {
   groups = was.groups ++ group ∷ [];
-  are = all_append IsGroup was.groups (group ∷ []) was.are (is, tt);
+  are = all_append IsMboxGroup was.groups (group ∷ []) was.are (is, tt);
   whole = ap (λ (f : List ℕ). f ++ group_bytes group) was.whole ∙ flat_map_more group_bytes [] was.groups group;
   read = ap (λ (ts : List (List ℕ)). ts ++ group_text group ∷ []) was.read ∙ sym (map-append group_text was.groups (group ∷ []));
 }
@@ -331,11 +369,14 @@ adds_group file texts group was is = record {
 abbrev pub entry_group : List ℕ → Group
 entry_group text = record { head = separator; lines = map quoted (lines_of text) }
 
-pub entry_is_group : (text : List ℕ) → IsWhole text → IsGroup (entry_group text)
+pub entry_is_group : (text : List ℕ) → IsWhole text → IsMboxGroup (entry_group text)
 entry_is_group text whole = (
   (record { words = codes "From MAILER-DAEMON Thu Jan  1 00:00:00 1970"; plain = omega arith; ended = refl }, refl),
-  recursion_from_All IsInner (map quoted (lines_of text)) (All-map IsInner quoted (lines_of text) (λ k d inside.
-      (quoted_line _ (All-from_recursion IsLine (lines_of text) (whole_lines text whole) k d inside), quoted_apart (get_or (lines_of text) k d)))),
+  recursion_from_All IsInner (map quoted (lines_of text)) (All-map IsInner quoted (lines_of text) (λ k d inside. (
+    quoted_line _ (All-from_recursion IsMboxLine (lines_of text) (whole_lines text whole) k d inside),
+    quoted_apart
+        (get_or (lines_of text) k d),
+  ))),
 )
 
 pub entry_bytes : (text : List ℕ) → group_bytes (entry_group text) ≡ entry_of text
@@ -343,7 +384,8 @@ entry_bytes text = ap (λ (l : List ℕ). separator ++ (l ++ 10 ∷ [])) (flat_m
 
 pub entry_lines : (text : List ℕ) → IsWhole text → lines_of (entry_of text) ≡ group_lines (entry_group text)
 entry_lines text whole =
-    ap lines_of (sym (entry_bytes text) ∙ sym (append-nil (group_bytes (entry_group text)))) ∙ groups_lines (entry_group text ∷ []) (entry_is_group text whole, tt)
+    ap lines_of (sym (entry_bytes text) ∙ sym (append-nil (group_bytes (entry_group text))))
+    ∙ groups_lines (entry_group text ∷ []) (entry_is_group text whole, tt)
     ∙ append-nil (group_lines (entry_group text))
 
 pub adds_entry : EntryAddsText
@@ -353,25 +395,29 @@ adds_entry file text texts was whole =
 
 -- ---- an entry may follow texts
 
-lines_end : (line : List ℕ) (lines : List (List ℕ)) → IsLine line → AllByRecursion IsLine lines → (front : List ℕ) × (joined (line ∷ lines) ≡ front ++ 10 ∷ [])
+lines_end : (line : List ℕ) (lines : List (List ℕ)) → IsMboxLine line → AllByRecursion IsMboxLine lines
+    → (front : List ℕ) × (joined (line ∷ lines) ≡ front ++ 10 ∷ [])
 lines_end line [] is all = (is.words, append-nil line ∙ is.ended)
 lines_end line (next ∷ lines) is all =
     let later = lines_end next lines all.0 all.1 in
     (line ++ later.0, ap (λ (l : List ℕ). line ++ l) later.1 ∙ sym (append_assoc line later.0 (10 ∷ [])))
 
-pub joined_whole : (lines : List (List ℕ)) → AllByRecursion IsLine lines → IsWhole (joined lines)
+pub joined_whole : (lines : List (List ℕ)) → AllByRecursion IsMboxLine lines → IsWhole (joined lines)
 joined_whole [] all = inl refl
 joined_whole (line ∷ lines) all = inr (lines_end line lines all.0 all.1)
 
 abbrev pub EndsTwice : List ℕ → Type 0
 EndsTwice bytes = (front : List ℕ) × (bytes ≡ front ++ 10 ∷ 10 ∷ [])
 
-pub group_ends : (group : Group) → IsGroup group → EndsTwice (group_bytes group)
+pub group_ends : (group : Group) → IsMboxGroup group → EndsTwice (group_bytes group)
 group_ends group is =
-    let ended = lines_end group.head group.lines is.0.0 (inner_lines group.lines is.1) in
-    (ended.0, sym (append_assoc group.head (joined group.lines) (10 ∷ [])) ∙ ap (λ (l : List ℕ). l ++ 10 ∷ []) ended.1 ∙ append_assoc ended.0 (10 ∷ []) (10 ∷ []))
+    let ended = lines_end group.head group.lines is.0.0 (inner_lines group.lines is.1) in (
+      ended.0,
+      sym (append_assoc group.head (joined group.lines) (10 ∷ [])) ∙ ap (λ (l : List ℕ). l ++ 10 ∷ []) ended.1
+          ∙ append_assoc ended.0 (10 ∷ []) (10 ∷ []),
+    )
 
-pub groups_go_on : (groups : List Group) → AllByRecursion IsGroup groups → MayGoOn (flat_map group_bytes groups)
+pub groups_go_on : (groups : List Group) → AllByRecursion IsMboxGroup groups → MayGoOn (flat_map group_bytes groups)
 groups_go_on [] are = inl refl
 groups_go_on (group ∷ groups) are = inr (
   rw (begins_with group.head are.0.0.1) refl,
@@ -394,15 +440,17 @@ pub record ReadsOn (bytes rest : List ℕ) (texts : List (List ℕ)) : Type 0 wh
 pub record Agrees (group after : List ℕ) : Type 0 where
   pub first : Group
   pub groups : List Group
-  pub are : AllByRecursion IsGroup (first ∷ groups)
+  pub are : AllByRecursion IsMboxGroup (first ∷ groups)
   pub bytes : group ≡ group_bytes first
   pub whole : after ≡ flat_map group_bytes groups
 
-pub agrees : (rest group after : List ℕ) (groups : List Group) → CutsGroup rest group after → 0 < length rest → AllByRecursion IsGroup groups
+pub agrees : (rest group after : List ℕ) (groups : List Group) → CutsGroup rest group after → 0 < length rest
+    → AllByRecursion IsMboxGroup groups
     → rest ≡ flat_map group_bytes groups → Agrees group after
 agrees rest group after [] cut some are whole = absurd (omega (arith, ap length whole))
 agrees rest group after (first ∷ groups) cut some are whole =
-    let lines : cut.0.head ∷ (cut.0.inner ++ lines_of after) ≡ first.head ∷ ((first.lines ++ (10 ∷ []) ∷ []) ++ flat_map group_lines groups) =
+    let lines : cut.0.head ∷ (cut.0.inner ++ lines_of after)
+    ≡ first.head ∷ ((first.lines ++ (10 ∷ []) ∷ []) ++ flat_map group_lines groups) =
     sym cut.0.lines ∙ ap lines_of whole ∙ groups_lines (first ∷ groups) are in
     let span = same_span cut.0.inner (first.lines ++ (10 ∷ []) ∷ []) (lines_of after) (flat_map group_lines groups)
     cut.0.apart (inner_apart first.lines are.0.1) cut.1 (opens_groups groups are.1) (cc) in
@@ -412,7 +460,8 @@ agrees rest group after (first ∷ groups) cut some are whole =
       first = first;
       groups = groups;
       are = are;
-      bytes = append_cancel_right group (group_bytes first) after (sym cut.0.whole ∙ whole ∙ ap (λ (l : List ℕ). group_bytes first ++ l) (sym rest-is));
+      bytes = append_cancel_right group (group_bytes first) after (sym cut.0.whole ∙ whole
+          ∙ ap (λ (l : List ℕ). group_bytes first ++ l) (sym rest-is));
       whole = rest-is;
     }
 
@@ -423,17 +472,19 @@ group_of head text = record { head = head; lines = lines_of text }
 pub group_of_bytes : (head text : List ℕ) → group_bytes (group_of head text) ≡ head ++ (text ++ 10 ∷ [])
 group_of_bytes head text = ap (λ (l : List ℕ). head ++ (l ++ 10 ∷ [])) (lines_joined text)
 
-inner_from : (lines : List (List ℕ)) → AllByRecursion IsLine lines → AllByRecursion IsApart (lines ++ (10 ∷ []) ∷ [])
+inner_from : (lines : List (List ℕ)) → AllByRecursion IsMboxLine lines → AllByRecursion IsApart (lines ++ (10 ∷ []) ∷ [])
     → AllByRecursion IsInner lines
 inner_from [] all apart = tt
 inner_from (line ∷ lines) all apart = ((all.0, apart.0), inner_from lines all.1 apart.1)
 
-pub holds_group : (rest group after text : List ℕ) → CutsGroup rest group after → (held : HoldsText group text) → IsGroup (group_of held.head text)
+pub holds_group : (rest group after text : List ℕ) → CutsGroup rest group after → (held : HoldsText group text)
+    → IsMboxGroup (group_of held.head text)
 holds_group rest group after text cut held =
     let all = whole_lines text held.whole in
     let same : group ≡ group_bytes (group_of held.head text) = held.split ∙ sym (group_of_bytes held.head text) in
     let lines : cut.0.head ∷ (cut.0.inner ++ lines_of after) ≡ held.head ∷ ((lines_of text ++ (10 ∷ []) ∷ []) ++ lines_of after) =
-    sym cut.0.lines ∙ ap lines_of (cut.0.whole ∙ ap (λ (l : List ℕ). l ++ after) same) ∙ group_first (group_of held.head text) after held.begins.0 all in
+    sym cut.0.lines ∙ ap lines_of (cut.0.whole ∙ ap (λ (l : List ℕ). l ++ after) same)
+    ∙ group_first (group_of held.head text) after held.begins.0 all in
     let inner = append_cancel_right cut.0.inner (lines_of text ++ (10 ∷ []) ∷ []) (lines_of after) (cc) in
     (held.begins, inner_from (lines_of text) all (rw inner at cut.0.apart))
 
@@ -442,7 +493,12 @@ holds_group rest group after text cut held =
 pub tail_is : (was : List ℕ) → (edges_of was).tail ≡ drop (length was) (0 ∷ 0 ∷ was)
 tail_is was =
     let xs : List ℕ = 0 ∷ 0 ∷ was in
-    rw (drop_more xs (length was) 0 (omega arith), drop_more xs (length was + 1) 0 (omega arith), drop_all (length was + 1 + 1) xs (omega arith))
+    rw (
+      drop_more xs (length was) 0 (omega arith),
+      drop_more xs (length was + 1) 0 (omega arith),
+      drop_all
+          (length was + 1 + 1) xs (omega arith),
+    )
 
 last_two : (n : ℕ) (was : List ℕ) → drop n (take (suc (suc n)) was) ≡ take 2 (drop n was)
 last_two zero was = refl
@@ -451,7 +507,8 @@ last_two (suc n) (a ∷ rest) = last_two n rest
 
 front_tail : (n : ℕ) (was : List ℕ) → n ≤ length was → 2 ≤ n → (edges_of (take n was)).tail ≡ take 2 (drop (n - 2) was)
 front_tail (suc (suc n)) was within two =
-    tail_is (take (suc (suc n)) was) ∙ ap (λ k. drop k (0 ∷ 0 ∷ take (suc (suc n)) was)) (length-take-le (suc (suc n)) was within) ∙ last_two n was
+    tail_is (take (suc (suc n)) was)
+    ∙ ap (λ k. drop k (0 ∷ 0 ∷ take (suc (suc n)) was)) (length-take-le (suc (suc n)) was within) ∙ last_two n was
     ∙ ap (λ k. take 2 (drop k was)) (omega arith)
 front_tail n was within two = absurd (grind arith)
 
@@ -463,7 +520,8 @@ front_head n was five within = absurd (grind arith)
 pub front_ends : (n : ℕ) (was : List ℕ) → 5 ≤ n → n ≤ length was
     → record { size = n; head = (edges_of was).head; tail = take 2 (drop (n - 2) was) } ≡ edges_of (take n was)
 front_ends n was five within = sym (
-    ap (λ size. record { size = size; head = (edges_of (take n was)).head; tail = (edges_of (take n was)).tail }) (length-take-le n was within)
+    ap (λ size. record { size = size; head = (edges_of (take n was)).head; tail = (edges_of (take n was)).tail })
+    (length-take-le n was within)
     ∙ ap (λ head. record { size = n; head = head; tail = (edges_of (take n was)).tail }) (front_head n was five within)
     ∙ ap (λ tail. record { size = n; head = (edges_of was).head; tail = tail }) (front_tail n was within (omega (arith, five))))
 
@@ -477,8 +535,10 @@ few_are_other bytes n is some few (inl none) = some (is ∙ ap length none)
 few_are_other bytes n is some few (inr begun) = omega (arith, is, few, begins_long bytes begun.0)
 
 -- a buffer of two bytes has what was read into it, if there was as much
-pub read_whole : (start count : ℕ) (buf was : List ℕ) → length buf ≡ 2 → start + 2 ≤ length was → count ≡ length (piece_at start (length buf) was)
+pub read_whole : (start count : ℕ) (buf was : List ℕ) → length buf ≡ 2 → start + 2 ≤ length was
+    → count ≡ length (piece_at start (length buf) was)
     → take count buf ≡ piece_at start (length buf) was → buf ≡ take 2 (drop start was)
 read_whole start count buf was two within many read =
-    let all : length (piece_at start (length buf) was) ≡ length buf = length-take-le (length buf) (drop start was) (omega (arith, two, within, length-drop start was)) in
+    let all : length (piece_at start (length buf) was) ≡ length buf = length-take-le (length buf) (drop start was)
+    (omega (arith, two, within, length-drop start was)) in
     sym (take_all count buf (omega (arith, many, all))) ∙ read ∙ ap (λ n. take n (drop start was)) two

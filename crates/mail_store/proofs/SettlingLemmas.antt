@@ -1,9 +1,13 @@
 -- What a loss of power may leave of a file and of an entry in it, and what settling does to that file.
-use Rattle.std.proofs.Common.{◌≡◌, inl, inr, ℕ, ◌+◌, List, [], ◌∷◌, ◌++◌, length, take, Option, Some, None, is_some, take-append-drop, refl, sym, ap, ◌∙◌, append_assoc, append-nil, Bool, false, ◌&&◌, drop, arith, length-append, ◌⊎◌, suc, ◌-◌, ◌≤◌, ◌%◌, true, subst, not, nat_eq, ◌==◌}
+use Rattle.std.proofs.Common.{◌≡◌, inl, inr, ℕ, ◌+◌, List, [], ◌∷◌, ◌++◌, length, take, Option, Some, None, is_some}
+use Rattle.std.proofs.Common.{take-append-drop, refl, sym, ap, ◌∙◌, append_assoc, append-nil, Bool, false, ◌&&◌, drop}
+use Rattle.std.proofs.Common.{arith, length-append, ◌⊎◌, suc, ◌-◌, ◌≤◌, ◌%◌, true, subst, not, nat_eq, ◌==◌}
 use Rattle.std.proofs.lemmas.Option.{same_Some}
 use Rattle.std.proofs.Math.Seq.{take-append_seam, drop-append_seam}
 use Rattle.std.specs.List.{list_all, starts_with, AllByRecursion}
-use Rattle.std.proofs.lemmas.Bool.{and_cases, and_parts, and_right, eqb-true, ne_eqb, not-false, true≢false, false≢true, not_from_false, cases_Bool, cases_lt, or_right, true_from_ne_false, lt-ltb, le-leb, eq-eqb}
+use Rattle.std.proofs.lemmas.Bool.{and_cases, and_parts, and_right, eqb-true, ne_eqb, not-false, true≢false, false≢true}
+use Rattle.std.proofs.lemmas.Bool.{not_from_false, cases_Bool, cases_lt, or_right, true_from_ne_false, lt-ltb, le-leb}
+use Rattle.std.proofs.lemmas.Bool.{eq-eqb}
 use Rattle.std.proofs.lemmas.Bool.Decides.{eqb_tells, Decides-eqb}
 use Rattle.std.proofs.Math.Bool.{and-false, or-true}
 use Rattle.std.proofs.Math.Logic.{⊎_map}
@@ -15,9 +19,12 @@ use Rattle.memchr.specs.Find.{FindsNeedle, OccursAt}
 use Rattle.memchr.proofs.lemmas.MatchLemmas.{OccursAt-from_part, OccursAt-split}
 use Rattle.mail_terms.specs.Text.{HasNoLf, IsWhole}
 use Rattle.mail_store.specs.Power.{IsLonger, LeavesFront, LeavesLonger, Outlives, KeepsBytes}
-use Rattle.mail_store.specs.Settling.{MayBeLeft, is_one_entry, block_size, is_lost, is_torn, begin_with, ends_empty, is_ours, is_entry, has_size, stands_whole, settled_file, LeftoversAreSettled, WholeEntriesCount}
+use Rattle.mail_store.specs.Settling.{MayBeLeft, is_one_entry, block_size, is_lost, is_torn, begin_with, ends_empty}
+use Rattle.mail_store.specs.Settling.{is_ours, is_entry, has_size, stands_whole, settled_file, LeftoversAreSettled}
+use Rattle.mail_store.specs.Settling.{WholeEntriesCount}
 use Rattle.mail_store.specs.Mboxrd.{lines_of, from_words, begins_entry, separator, quoted_text, entry_of, text_in, IsApart}
-use Rattle.mail_store.proofs.MboxLemmas.{first_of, onto_parts, begins_with, unquotes_quoted, inner_apart, entry_bytes, entry_group, entry_lines, entry_is_group, group_ends}
+use Rattle.mail_store.proofs.MboxLemmas.{first_of, onto_parts, begins_with, unquotes_quoted, inner_apart, entry_bytes}
+use Rattle.mail_store.proofs.MboxLemmas.{entry_group, entry_lines, entry_is_group, group_ends}
 
 -- what begins with these bytes
 abbrev pub Begins : List ℕ → Option (List ℕ) → Type 0
@@ -28,14 +35,16 @@ begins_longer : (bytes : List ℕ) (was left : Option (List ℕ)) → Begins byt
 begins_longer bytes was left begins (inl same) = (begins.0, same ∙ begins.1)
 begins_longer bytes was left begins (inr (some, behind, is, longer)) = (
   begins.0 ++ behind,
-  longer ∙ ap (λ (l : List ℕ). Some (l ++ behind)) (same_Some some (bytes ++ begins.0) (sym is ∙ begins.1)) ∙ ap Some (append_assoc bytes begins.0 behind),
+  longer ∙ ap (λ (l : List ℕ). Some (l ++ behind)) (same_Some some (bytes ++ begins.0) (sym is ∙ begins.1))
+      ∙ ap Some (append_assoc bytes begins.0 behind),
 )
 
 pub longer_keeps : (m m' : Option (List ℕ) → Type 0) → LeavesLonger m m' → KeepsBytes m m'
 longer_keeps m m' longer = λ bytes held left may. let was = longer left may in begins_longer bytes was.0 left (held was.0 was.1) was.2
 
 -- bytes that outlived stay if more are appended and the file is cut back to them
-pub cut_keeps : (m m' m'' : Option (List ℕ) → Type 0) (was front : List ℕ) (content : Option (List ℕ)) → Outlives m was → LeavesLonger m m' → content ≡ Some (was ++ front)
+pub cut_keeps : (m m' m'' : Option (List ℕ) → Type 0) (was front : List ℕ) (content : Option (List ℕ)) → Outlives m was
+    → LeavesLonger m m' → content ≡ Some (was ++ front)
     → LeavesFront content (length was) m' m'' → Outlives m'' was
 cut_keeps m m' m'' was front content outlives longer is fronts = λ left may. elim (fronts (was ++ front) is left may) [
   | inl before ↦ longer_keeps m m' longer was outlives left before
@@ -58,7 +67,8 @@ abbrev pub needle : List ℕ
 needle = 10 ∷ from_words
 
 -- the first line begins with words without LF exactly if the bytes do
-first_begins : (words bytes : List ℕ) → HasNoLf words → starts_with nat_eq (first_of (lines_of bytes)) words ≡ starts_with nat_eq bytes words
+first_begins : (words bytes : List ℕ) → HasNoLf words
+    → starts_with nat_eq (first_of (lines_of bytes)) words ≡ starts_with nat_eq bytes words
 first_begins [] bytes plain = refl
 first_begins (word ∷ words) [] plain = refl
 first_begins (word ∷ words) (byte ∷ rest) plain = elim (eqb_tells byte 10) [
@@ -66,7 +76,9 @@ first_begins (word ∷ words) (byte ∷ rest) plain = elim (eqb_tells byte 10) [
   | inr p ↦ rw (p.0, (onto_parts byte (lines_of rest)).1) (ap (λ (b : Bool). word == byte && b) (first_begins words rest plain.1))
 ]
 
-lines_apart : (lines : List (List ℕ)) → list_all (λ line. not (begins_entry line)) lines ≡ (not (begins_entry (first_of lines)) && list_all (λ line. not (begins_entry line)) (drop 1 lines))
+lines_apart : (lines : List (List ℕ))
+    → list_all (λ line. not (begins_entry line)) lines ≡ (not (begins_entry (first_of lines)) && list_all
+    (λ line. not (begins_entry line)) (drop 1 lines))
 lines_apart [] = refl
 lines_apart (line ∷ lines) = refl
 
@@ -79,14 +91,15 @@ one_entry_step byte rest = elim (eqb_tells byte 10) [
 -- if such a line follows, the needle is somewhere
 needle_split : (bytes : List ℕ) → is_one_entry bytes ≡ false → (front : List ℕ) × (back : List ℕ) × (bytes ≡ front ++ (needle ++ back))
 needle_split [] e = absurd (true≢false e)
-needle_split (byte ∷ rest) e = elim (and_cases (not (byte == 10 && begins_entry rest)) (is_one_entry rest) (sym (one_entry_step byte rest) ∙ e)) [
-  | inl here ↦
-      let parts = and_parts (byte == 10) (begins_entry rest) (not-false _ here) in
-      ([], drop 5 rest, ap (λ (b : ℕ). b ∷ rest) (eqb-true byte 10 parts.0) ∙ ap (λ (l : List ℕ). 10 ∷ l) (begins_with rest parts.1))
-  | inr later ↦
-      let s = needle_split rest later in
-      (byte ∷ s.0, s.1, ap (λ (l : List ℕ). byte ∷ l) s.2)
-]
+needle_split (byte ∷ rest) e =
+    elim (and_cases (not (byte == 10 && begins_entry rest)) (is_one_entry rest) (sym (one_entry_step byte rest) ∙ e)) [
+      | inl here ↦
+          let parts = and_parts (byte == 10) (begins_entry rest) (not-false _ here) in
+          ([], drop 5 rest, ap (λ (b : ℕ). b ∷ rest) (eqb-true byte 10 parts.0) ∙ ap (λ (l : List ℕ). 10 ∷ l) (begins_with rest parts.1))
+      | inr later ↦
+          let s = needle_split rest later in
+          (byte ∷ s.0, s.1, ap (λ (l : List ℕ). byte ∷ l) s.2)
+    ]
 
 -- and the other way round
 needle_there : (front back : List ℕ) → is_one_entry (front ++ (needle ++ back)) ≡ false
@@ -94,7 +107,8 @@ needle_there [] back = one_entry_step 10 (from_words ++ back)
 needle_there (byte ∷ front) back = one_entry_step byte (front ++ (needle ++ back)) ∙ and_right _ _ (needle_there front back)
 
 needle_occurs : (front back : List ℕ) → OccursAt (front ++ (needle ++ back)) needle (length front)
-needle_occurs front back = OccursAt-from_part (front ++ (needle ++ back)) needle (length front) (omega (arith, length-append front (needle ++ back)))
+needle_occurs front back = OccursAt-from_part (front ++ (needle ++ back)) needle (length front)
+    (omega (arith, length-append front (needle ++ back)))
     (ap (take 6) (drop-append_seam front (needle ++ back)))
 
 -- a search for the needle finds such a line
@@ -113,8 +127,11 @@ pub lost_parts : (place byte : ℕ) (rest : List ℕ) → is_lost place (byte �
     → (byte ≡ 0) × (((place + 1) % block_size ≡ 0 → ⊥) → is_lost (place + 1) rest ≡ true)
 lost_parts place byte rest lost =
     let room : block_size - place % block_size ≡ suc (511 - place % block_size) = omega arith in
-    let parts = and_parts (byte == 0) (list_all (λ b. b == 0) (take (511 - place % block_size) rest)) (rw room at lost) in
-    (eqb-true byte 0 parts.0, λ inside. let next : block_size - (place + 1) % block_size ≡ 511 - place % block_size = omega (arith, inside) in rw next parts.1)
+    let parts = and_parts (byte == 0) (list_all (λ b. b == 0) (take (511 - place % block_size) rest)) (rw room at lost) in (
+      eqb-true byte 0 parts.0,
+      λ inside. let next : block_size - (place + 1) % block_size ≡ 511 - place % block_size =
+          omega (arith, inside) in rw next parts.1,
+    )
 
 -- the last byte is zero
 abbrev pub EndsInZero : List ℕ → Type 0
@@ -162,7 +179,8 @@ left_begins place (word ∷ words) more (byte ∷ left) is = elim is.0 [
 ]
 
 -- bytes without zeros were in the words
-left_from : (place : ℕ) (front more words : List ℕ) → AllByRecursion (λ b. b ≡ 0 → ⊥) front → MayBeLeft place words (front ++ more) → (w : List ℕ) × (words ≡ front ++ w)
+left_from : (place : ℕ) (front more words : List ℕ) → AllByRecursion (λ b. b ≡ 0 → ⊥) front
+    → MayBeLeft place words (front ++ more) → (w : List ℕ) × (words ≡ front ++ w)
 left_from place [] more words plain is = (words, refl)
 left_from place (byte ∷ front) more [] plain is = absurd is
 left_from place (byte ∷ front) more (word ∷ words) plain is = elim is.0 [
@@ -173,7 +191,8 @@ left_from place (byte ∷ front) more (word ∷ words) plain is = elim is.0 [
 ]
 
 -- nor do they get into the words from elsewhere
-left_holds : (place : ℕ) (words front part more : List ℕ) → AllByRecursion (λ b. b ≡ 0 → ⊥) part → MayBeLeft place words (front ++ (part ++ more))
+left_holds : (place : ℕ) (words front part more : List ℕ) → AllByRecursion (λ b. b ≡ 0 → ⊥) part
+    → MayBeLeft place words (front ++ (part ++ more))
     → (before : List ℕ) × (after : List ℕ) × (words ≡ before ++ (part ++ after))
 left_holds place words [] part more plain is = let w = left_from place part more words plain is in ([], w.0, w.1)
 left_holds place (word ∷ words) (byte ∷ front) part more plain is =
@@ -185,7 +204,8 @@ left_ours : (place : ℕ) (text left : List ℕ) → IsWhole text → MayBeLeft 
 left_ours place text left whole is =
     let lines = (entry_group text).lines ++ (10 ∷ []) ∷ [] in
     let apart = inner_apart (entry_group text).lines (entry_is_group text whole).1 in
-    let one = list_all-from_AllPass (λ line. not (begins_entry line)) lines (λ k d inside. not_from_false _ (All-from_recursion IsApart lines apart k d inside)) in
+    let one = list_all-from_AllPass (λ line. not (begins_entry line)) lines
+    (λ k d inside. not_from_false _ (All-from_recursion IsApart lines apart k d inside)) in
     let ours = true_from_ne_false (is_one_entry left) (λ fails.
     let found = needle_split left fails in
     let held = left_holds place (entry_of text) found.0 needle found.1 (omega arith) (subst (MayBeLeft place (entry_of text)) found.2 is) in
@@ -195,7 +215,8 @@ left_ours place text left whole is =
 -- ---- settling
 
 -- it is whole
-settles_whole : (start len : ℕ) (listed : Option ℕ) (was : List ℕ) → stands_whole start len listed was ≡ true → settled_file start len listed was ≡ was
+settles_whole : (start len : ℕ) (listed : Option ℕ) (was : List ℕ) → stands_whole start len listed was ≡ true
+    → settled_file start len listed was ≡ was
 settles_whole start len listed was whole = simp (whole, and-false)
 
 pub left_settled : LeftoversAreSettled
@@ -206,7 +227,8 @@ left_settled file text left listed whole is =
     elim (cases_Bool (stands_whole start len listed (file ++ left))) [
       | inl stands ↦
           let sized = and_parts (length left == len) (is_entry start left && has_size listed (text_in left)) (rw seam at stands) in
-          let formed = and_parts (is_ours start left) (not (is_torn start left) && ends_empty left) (and_parts (is_entry start left) _ sized.1).0 in
+          let formed = and_parts (is_ours start left) (not (is_torn start left) && ends_empty left)
+          (and_parts (is_entry start left) _ sized.1).0 in
           let ends = and_parts (not (is_torn start left)) (ends_empty left) formed.1 in
           elim (same_or_broken start (entry_of text) left is (eqb-true (length left) len sized.0)) [
             | inl same ↦ inl (stands, settles_whole start len listed (file ++ left) stands, same)
@@ -214,12 +236,24 @@ left_settled file text left listed whole is =
             | inr (inr last) ↦
                 let front = take (length left - 2) left in
                 let twice = (ends_is Decides-eqb left (10 ∷ 10 ∷ []) (ends_empty left) refl).0 ends.1 in
-                absurd (omega (arith, (same_from_push last.0 (front ++ 10 ∷ []) 0 10 (sym last.1 ∙ twice ∙ sym (append_assoc front (10 ∷ []) (10 ∷ [])))).1))
+                absurd (omega (
+                  arith,
+                  (same_from_push last.0 (front ++ 10 ∷ []) 0 10 (sym last.1 ∙ twice
+                      ∙ sym (append_assoc front (10 ∷ []) (10 ∷ [])))).1,
+                ))
           ]
       | inr fails ↦ inr (
         fails,
         elim (cases_lt 0 (length left)) [
-          | inl some ↦ rw (fails, seam, lt-ltb 0 (length left) some, le-leb (length left) len (left_short start (entry_of text) left is), left_ours start text left whole is) (take-append_seam file left)
+          | inl some ↦ rw (
+            fails,
+            seam,
+            lt-ltb 0 (length left) some,
+            le-leb (length left) len
+                (left_short start (entry_of text) left is),
+            left_ours start text left whole is,
+          )
+              (take-append_seam file left)
           | inr none ↦ rw (nil_from_length left (omega (arith, none)), drop-append_seam file []) (append-nil file)
         ],
       )
@@ -228,7 +262,9 @@ left_settled file text left listed whole is =
 -- an entry has its text
 entry_text : (text : List ℕ) → IsWhole text → text_in (entry_of text) ≡ text
 entry_text text whole =
-    let size : length (entry_of text) - (length separator + 1) ≡ length (quoted_text text) = omega (arith, length-append separator (quoted_text text ++ 10 ∷ []), length-append (quoted_text text) (10 ∷ [])) in
+    let size : length (entry_of text) - (length separator + 1) ≡ length (quoted_text text) =
+    omega (arith, length-append separator (quoted_text text ++ 10 ∷ []), length-append (quoted_text text) (10 ∷ []))
+    in
     rw (size, take-append_seam (quoted_text text) (10 ∷ [])) (unquotes_quoted text whole)
 
 pub whole_counts : WholeEntriesCount
@@ -240,10 +276,26 @@ whole_counts file text listed whole =
     let seam = drop-append_seam file entry in (
       λ sized unbroken.
           let stands : stands_whole start (length entry) listed (file ++ entry) ≡ true =
-          rw (seam, eq-eqb (length entry) (length entry) refl, left_ours start text entry whole (all_left start entry), unbroken, empty, entry_text text whole, sized) in
+          rw (
+            seam,
+            eq-eqb (length entry) (length entry) refl,
+            left_ours start text entry whole (all_left start entry),
+            unbroken,
+            empty,
+            entry_text text whole,
+            sized,
+          ) in
           (stands, settles_whole start (length entry) listed (file ++ entry) stands, refl),
       λ other. elim (left_settled file text entry listed whole (all_left start entry)) [
-        | inl is ↦ absurd (false≢true (rw (seam, entry_text text whole, other, and-false (is_entry start entry), and-false (length entry == length entry)) at is.0))
+        | inl is ↦ absurd (false≢true
+            (rw (
+              seam,
+              entry_text text whole,
+              other,
+              and-false (is_entry start entry),
+              and-false
+                  (length entry == length entry),
+            ) at is.0))
         | inr is ↦ is
       ],
     )

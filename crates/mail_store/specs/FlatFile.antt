@@ -16,8 +16,8 @@ abbrev pub holding : Stored → List ℕ → Stored
 holding old bytes = record old { content = Some bytes }
 
 -- one more refusal
-abbrev pub counted : Stored → Stored
-counted old = record old { failures = old.failures + 1 }
+abbrev pub file_refused : Stored → Stored
+file_refused old = record old { failures = old.failures + 1 }
 
 -- the size of some bytes, the first five of them, and the last two; a byte that isn't there is zero
 -- (`slice_index` gives 0 past the end)
@@ -32,7 +32,7 @@ edges_of bytes = record {
 -- a call that only reads failed: there is no file, or the call was refused
 abbrev pub Denies : Stored → StoreFault → Stored → Type 0
 Denies old Missing new = (old.content ≡ None) × (new ≡ old)
-Denies old Refused new = new ≡ counted old
+Denies old Refused new = new ≡ file_refused old
 Denies old fault new = ⊥
 
 -- `load` and `peek`: the file's bytes
@@ -62,19 +62,19 @@ abbrev pub Appends : {T : Type 0} → Stored → List ℕ → Result T StoreFaul
 Appends old bytes (Ok done) new = (was : List ℕ) → old.content ≡ Some was → new ≡ holding old (was ++ bytes)
 Appends old bytes (Err fault) new =
     (was : List ℕ) → old.content ≡ Some was
-    → (front rest : List ℕ) × (bytes ≡ front ++ rest) × (new ≡ counted (holding old (was ++ front)))
+    → (front rest : List ℕ) × (bytes ≡ front ++ rest) × (new ≡ file_refused (holding old (was ++ front)))
 
 -- `cut_to`: the first bytes are kept; a refused call leaves the old ones or these
 abbrev pub Cuts : {T : Type 0} → Stored → ℕ → Result T StoreFault → Stored → Type 0
 Cuts old len (Ok done) new = (was : List ℕ) → old.content ≡ Some was → new ≡ holding old (take len was)
 Cuts old len (Err fault) new =
     (was : List ℕ) → old.content ≡ Some was
-    → (new ≡ counted old) ⊎ (new ≡ counted (holding old (take len was)))
+    → (new ≡ file_refused old) ⊎ (new ≡ file_refused (holding old (take len was)))
 
 -- `replace`: the bytes are the file's; a refused call leaves the file as it was, or with these bytes
 abbrev pub Replaces : {T : Type 0} → Stored → List ℕ → Result T StoreFault → Stored → Type 0
 Replaces old bytes (Ok done) new = new ≡ holding old bytes
-Replaces old bytes (Err fault) new = (new ≡ counted old) ⊎ (new ≡ counted (holding old bytes))
+Replaces old bytes (Err fault) new = (new ≡ file_refused old) ⊎ (new ≡ file_refused (holding old bytes))
 
 -- the file is there, and has at least this many bytes
 abbrev pub HasBytes : Stored → ℕ → Type 0

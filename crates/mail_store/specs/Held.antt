@@ -11,7 +11,7 @@ use Rattle.hex.specs.Hex.{encode_lower}
 use Rattle.mail_terms.specs.Listing.{Item}
 use Rattle.mail_store.specs.declared.fault.StoreFault.{StoreFault}
 use Rattle.mail_store.specs.declared.fault.StoreFault.TheVariants.{Missing, Refused, NotMbox, NoMemory}
-use Rattle.mail_store.specs.Maildir.{AllNamed, File, IsDurable, Maildir, counted, ListsBoth}
+use Rattle.mail_store.specs.Maildir.{AllNamed, File, IsDurableFile, Maildir, maildir_refused, ListsBoth}
 use Rattle.mail_store.specs.FileName.{is_held, names_id, stem, stem_of}
 use Rattle.mail_store.specs.Loss.{is_among}
 
@@ -22,7 +22,7 @@ flags_of account maildir items = map (λ (item : Item). is_held account maildir 
 -- a durable file that holds this id is there
 abbrev pub HasDurable : List ℕ → Maildir → List ℕ → Type 0
 HasDurable account maildir uid = (f : File) × Contains maildir.files f × (names_id account uid f.name ≡ true)
-    × IsDurable f
+    × IsDurableFile f
 
 -- whether the id of each item is asked for and held, in order; an item is asked for if its flag is set
 abbrev pub flags_sought : List ℕ → Maildir → List Item → List Bool → List Bool
@@ -41,7 +41,7 @@ abbrev pub FindsFlags : {B : Type 0} → List Bool → Maildir → Result (Vec B
 FindsFlags found old (Ok flags) new =
     (flags.items ≡ found) × (new ≡ old) × (old.there.new ≡ true) × (old.there.cur ≡ true) × AllNamed old.files
 FindsFlags found old (Err Missing) new = ((old.there.new ≡ false) ⊎ (old.there.cur ≡ false)) × (new ≡ old)
-FindsFlags found old (Err Refused) new = new ≡ counted old
+FindsFlags found old (Err Refused) new = new ≡ maildir_refused old
 FindsFlags found old (Err NotMbox) new = ⊥
 FindsFlags found old (Err NoMemory) new = new ≡ old
 

@@ -3,7 +3,7 @@ use Rattle.std.specs.Prelude.{◌≡◌, ◌⊎◌, ◌||◌, ℕ, List, [], ◌
 use Rattle.std.specs.Prelude.{String, string_bytes}
 use Rattle.std.specs.List.{list_any}
 use Rattle.mail_store.specs.declared.fault.StoreFault.{StoreFault}
-use Rattle.mail_store.specs.Maildir.{File, IsDurable, Maildir, counted, with_files}
+use Rattle.mail_store.specs.Maildir.{File, IsDurableFile, Maildir, maildir_refused, with_files}
 use Rattle.mail_store.specs.FileName.{stem}
 
 -- whether one of these texts is this one
@@ -14,14 +14,14 @@ is_among texts text = list_any (λ other. bytes_eq text (string_bytes other)) te
 abbrev pub flushed_by : {A : Type 0} → List (String A) → File → File
 flushed_by stems f = record f { is_flushed = f.is_flushed || is_among stems (stem f.name) }
 
-abbrev pub flushed : {A : Type 0} → List (String A) → Maildir → Maildir
-flushed stems old = with_files (map (flushed_by stems) old.files) old
+abbrev pub with_flushed : {A : Type 0} → List (String A) → Maildir → Maildir
+with_flushed stems old = with_files (map (flushed_by stems) old.files) old
 
 -- `flush`: the bytes of each file with one of these stems are durable, if the answer is true
 abbrev pub Flushes : {A : Type 0} → Maildir → List (String A) → Result Bool StoreFault → Maildir → Type 0
-Flushes old stems (Ok true) new = new ≡ flushed stems old
+Flushes old stems (Ok true) new = new ≡ with_flushed stems old
 Flushes old stems (Ok false) new = new ≡ old
-Flushes old stems (Err fault) new = new ≡ counted old
+Flushes old stems (Err fault) new = new ≡ maildir_refused old
 
 -- ---- a loss of power
 
@@ -29,7 +29,7 @@ Flushes old stems (Err fault) new = new ≡ counted old
 pub record IsLeftAs (f g : File) : Type 0 where
   pub name : g.name ≡ f.name
   pub content : f.is_flushed ≡ true → g.content ≡ f.content
-  pub durable : IsDurable g
+  pub durable : IsDurableFile g
 
 -- the files after it, one by one: a file is gone only if its name wasn't durable
 abbrev pub AreLeftAs : List File → List File → Type 0

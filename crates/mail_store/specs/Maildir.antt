@@ -60,8 +60,8 @@ abbrev pub draft : List ℕ → List ℕ → Draft
 draft name content = record { name = name; content = content }
 
 -- a file of a device in memory, and the one that it is writing
-abbrev pub file_of : {A B : Type 0} → String A × Vec ℕ B → File
-file_of pair = file (string_bytes pair.0) pair.1.items
+abbrev pub memory_file : {A B : Type 0} → String A × Vec ℕ B → File
+memory_file pair = file (string_bytes pair.0) pair.1.items
 
 abbrev pub draft_of : {A B : Type 0} → String A × Vec ℕ B → Draft
 draft_of pair = draft (string_bytes pair.0) pair.1.items
@@ -73,8 +73,8 @@ abbrev pub IsNamed : File → Type 0
 IsNamed f = f.is_named ≡ true
 
 -- so are its bytes: a loss of power leaves it whole
-abbrev pub IsDurable : File → Type 0
-IsDurable f = (f.is_named ≡ true) × (f.is_flushed ≡ true)
+abbrev pub IsDurableFile : File → Type 0
+IsDurableFile f = (f.is_named ≡ true) × (f.is_flushed ≡ true)
 
 -- the name of each file is durable; its bytes are; both
 abbrev pub AllNamed : List File → Type 0
@@ -87,7 +87,7 @@ abbrev pub AllDurable : List File → Type 0
 AllDurable files = AllNamed files × AllFlushed files
 
 -- the same file, of which more may be durable
-pub record Reaches (f g : File) : Type 0 where
+pub record IsAsDurable (f g : File) : Type 0 where
   pub name : g.name ≡ f.name
   pub content : g.content ≡ f.content
   pub named : f.is_named ≡ true → g.is_named ≡ true
@@ -98,8 +98,8 @@ abbrev pub bases_told : {A : Type 0} → List (String A) → List (List ℕ)
 bases_told names = map (λ name. base (string_bytes name)) names
 
 -- one more refusal
-abbrev pub counted : Maildir → Maildir
-counted old = record old { failures = old.failures + 1 }
+abbrev pub maildir_refused : Maildir → Maildir
+maildir_refused old = record old { failures = old.failures + 1 }
 
 -- no file is being written
 abbrev pub dropped : Maildir → Maildir
@@ -115,7 +115,7 @@ name_begun maildir = option_map (λ (d : Draft). d.name) maildir.begun
 
 -- the same files, in order, of each of which more may be durable
 abbrev pub AreReached : List File → List File → Type 0
-AreReached files risen = AllZip Reaches files risen
+AreReached files risen = AllZip IsAsDurable files risen
 
 -- what is left of some files, in order, once these were taken from them, one after another; at each moment more may
 -- be durable
@@ -169,7 +169,7 @@ abbrev pub Lists : {A B : Type 0} → Maildir → Folder → Result (Vec (String
 Lists old folder (Ok names) new =
     (is_there old.there folder ≡ true) × AreTheirs old.files names.items × (new ≡ old)
 Lists old folder (Err Missing) new = (is_there old.there folder ≡ false) × (new ≡ old)
-Lists old folder (Err Refused) new = new ≡ counted old
+Lists old folder (Err Refused) new = new ≡ maildir_refused old
 Lists old folder (Err fault) new = ⊥
 
 -- the names of the files of `new` and `cur` were told so, and each is durable
@@ -180,25 +180,25 @@ ListsBoth Told old (Ok names) new =
     × AllNamed old.files
     × (new ≡ old)
 ListsBoth Told old (Err Missing) new = ((old.there.new ≡ false) ⊎ (old.there.cur ≡ false)) × (new ≡ old)
-ListsBoth Told old (Err Refused) new = new ≡ counted old
+ListsBoth Told old (Err Refused) new = new ≡ maildir_refused old
 ListsBoth Told old (Err fault) new = ⊥
 
 -- `all_names`: the name of each file, in any order
-abbrev pub ListsAll : {A B : Type 0} → Maildir → Result (Vec (String A) B) StoreFault → Maildir → Type 0
-ListsAll old result new = ListsBoth IsPermutation old result new
+abbrev pub ListsAllNames : {A B : Type 0} → Maildir → Result (Vec (String A) B) StoreFault → Maildir → Type 0
+ListsAllNames old result new = ListsBoth IsPermutation old result new
 
 -- `check`: the folder is there
 abbrev pub Checks : {T : Type 0} → Maildir → Folder → Result T StoreFault → Maildir → Type 0
 Checks old folder (Ok done) new = (is_there old.there folder ≡ true) × (new ≡ old)
 Checks old folder (Err Missing) new = (is_there old.there folder ≡ false) × (new ≡ old)
-Checks old folder (Err Refused) new = new ≡ counted old
+Checks old folder (Err Refused) new = new ≡ maildir_refused old
 Checks old folder (Err fault) new = ⊥
 
 -- `begin`: an empty file of this name is being written; after a fault none is
 abbrev pub Begins : {T : Type 0} → Maildir → List ℕ → Result T StoreFault → Maildir → Type 0
 Begins old name (Ok done) new = (old.there.tmp ≡ true) × (new ≡ record old { begun = Some (draft name []) })
 Begins old name (Err Missing) new = (old.there.tmp ≡ false) × (new ≡ old)
-Begins old name (Err Refused) new = new ≡ counted old
+Begins old name (Err Refused) new = new ≡ maildir_refused old
 Begins old name (Err fault) new = ⊥
 
 -- `add`: the bytes follow those of the file that is being written; a refused call leaves that file
@@ -208,11 +208,11 @@ Adds old bytes (Ok done) new =
     (d : Draft) → old.begun ≡ Some d → new ≡ record old { begun = Some (draft d.name (d.content ++ bytes)) }
 Adds old bytes (Err fault) new =
     (d : Draft) → old.begun ≡ Some d
-    → (content : List ℕ) × (new ≡ counted (record old { begun = Some (draft d.name content) }))
+    → (content : List ℕ) × (new ≡ maildir_refused (record old { begun = Some (draft d.name content) }))
 
 -- the file came, and its bytes are durable, but its name needn't be
 abbrev pub MayHave : Maildir → File → Maildir → Type 0
-MayHave old f new = (is_named : Bool) × (new ≡ counted (with_file old (record f { is_named = is_named })))
+MayHave old f new = (is_named : Bool) × (new ≡ maildir_refused (with_file old (record f { is_named = is_named })))
 
 -- `settle`: what was written is there under this name, and durable; a refused call leaves it out, or there with
 -- durable bytes
@@ -221,13 +221,14 @@ Settles old name (Ok done) new =
     (d : Draft) → old.begun ≡ Some d → AfterFlushing old (λ risen. new ≡ with_file risen (mail name d.content))
 Settles old name (Err fault) new =
     (d : Draft) → old.begun ≡ Some d
-    → (new ≡ counted (dropped old)) ⊎ AfterFlushing old (λ risen. MayHave risen (mail name d.content) new)
+    → (new ≡ maildir_refused (dropped old)) ⊎ AfterFlushing old (λ risen. MayHave risen (mail name d.content) new)
 
 -- `deliver`: the file is there and durable, or nothing changed, or, if refused, one of the two
 abbrev pub Delivers : {T : Type 0} → Maildir → File → Result T StoreFault → Maildir → Type 0
 Delivers old f (Ok done) new = AfterFlushing old (λ risen. new ≡ with_file risen f)
 Delivers old f (Err Missing) new = (old.there.tmp ≡ false) × (new ≡ old)
-Delivers old f (Err Refused) new = (new ≡ counted (dropped old)) ⊎ AfterFlushing old (λ risen. MayHave risen f new)
+Delivers old f (Err Refused) new = (new ≡ maildir_refused (dropped old))
+    ⊎ AfterFlushing old (λ risen. MayHave risen f new)
 Delivers old f (Err NotMbox) new = ⊥
 Delivers old f (Err NoMemory) new = new ≡ old
 

@@ -7,7 +7,7 @@ use Rattle.mail_store.specs.Fault.{is_refusal}
 use Rattle.mail_store.specs.declared.fault.StoreFault.{StoreFault}
 use Rattle.mail_store.specs.declared.fault.StoreFault.TheVariants.{Missing, Refused, NotMbox, NoMemory}
 use Rattle.mail_store.specs.declared.file.flat_file.Edges.{Edges}
-use Rattle.mail_store.specs.FlatFile.{Stored, Denies, holding, counted, edges_of}
+use Rattle.mail_store.specs.FlatFile.{Stored, Denies, holding, file_refused, edges_of}
 use Rattle.mail_store.specs.Mboxrd.{MayGoOn, MboxFile, HasNoTexts, entry_of}
 
 -- the file has these bytes, and an entry may follow them
@@ -15,12 +15,12 @@ abbrev pub EntryMayFollow : Stored → List ℕ → Type 0
 EntryMayFollow stored was = (stored.content ≡ Some was) × MayGoOn was
 
 -- an entry may not follow the file's bytes
-abbrev pub IsOther : Stored → Type 0
-IsOther stored = (was : List ℕ) × (stored.content ≡ Some was) × (MayGoOn was → ⊥)
+abbrev pub IsNoMbox : Stored → Type 0
+IsNoMbox stored = (was : List ℕ) × (stored.content ≡ Some was) × (MayGoOn was → ⊥)
 
 -- a file that was only looked at: there is none; the call was refused; or no entry may follow its bytes
 abbrev pub RefusesLook : Stored → StoreFault → Stored → Type 0
-RefusesLook old NotMbox new = IsOther old × (new ≡ old)
+RefusesLook old NotMbox new = IsNoMbox old × (new ≡ old)
 RefusesLook old fault new = Denies old fault new
 
 -- `peek_ends`: the size and the ends of a file that an entry may follow
@@ -29,9 +29,9 @@ Looks old (Ok edges) new = ((was : List ℕ) × EntryMayFollow old was × (edges
 Looks old (Err fault) new = RefusesLook old fault new
 
 -- `check_mbox` and `peek_mbox`: an entry may follow the file
-abbrev pub Checks : {T : Type 0} → Stored → Result T StoreFault → Stored → Type 0
-Checks old (Ok done) new = ((was : List ℕ) × EntryMayFollow old was) × (new ≡ old)
-Checks old (Err fault) new = RefusesLook old fault new
+abbrev pub ChecksMbox : {T : Type 0} → Stored → Result T StoreFault → Stored → Type 0
+ChecksMbox old (Ok done) new = ((was : List ℕ) × EntryMayFollow old was) × (new ≡ old)
+ChecksMbox old (Err fault) new = RefusesLook old fault new
 
 -- `peek_front`: an entry may follow this many of the file's first bytes
 abbrev pub ChecksFront : {T : Type 0} → ℕ → Stored → Result T StoreFault → Stored → Type 0
@@ -47,12 +47,12 @@ abbrev pub AppendsEntry : {T : Type 0} → Stored → List ℕ → Result T Entr
 AppendsEntry old text (Ok done) new = (was : List ℕ) × EntryMayFollow old was
     × (new ≡ holding old (was ++ entry_of text))
 AppendsEntry old text (Err (Nothing Missing)) new = (old.content ≡ None) × (new ≡ old)
-AppendsEntry old text (Err (Nothing Refused)) new = new ≡ counted old
-AppendsEntry old text (Err (Nothing NotMbox)) new = IsOther old × (new ≡ old)
+AppendsEntry old text (Err (Nothing Refused)) new = new ≡ file_refused old
+AppendsEntry old text (Err (Nothing NotMbox)) new = IsNoMbox old × (new ≡ old)
 AppendsEntry old text (Err (Nothing NoMemory)) new = new ≡ old
 AppendsEntry old text (Err Front) new = (was front rest : List ℕ) × EntryMayFollow old was
     × (entry_of text ≡ front ++ rest)
-    × (new ≡ counted (counted (holding old (was ++ front))))
+    × (new ≡ file_refused (file_refused (holding old (was ++ front))))
 
 -- the count rises if a call was refused, and once more if the cut that follows was refused too
 abbrev pub TalliesEntry : {T : Type 0} → Result T EntryFault → ℕ → ℕ → Type 0
@@ -61,12 +61,12 @@ TalliesEntry (Err (Nothing fault)) old new = Tallies (is_refusal fault) old new
 TalliesEntry (Err Front) old new = new ≡ counted_up (counted_up old)
 
 -- the bytes of each text
-abbrev pub texts_of : {A B : Type 0} → Vec (Vec ℕ A) B → List (List ℕ)
-texts_of texts = map (λ text. text.items) texts.items
+abbrev pub text_bytes : {A B : Type 0} → Vec (Vec ℕ A) B → List (List ℕ)
+text_bytes texts = map (λ text. text.items) texts.items
 
 -- `read_mbox`: the texts that the bytes stand for; they stand for none; or memory ran out
 abbrev pub ReadsMbox : {A B : Type 0} → List ℕ → Result (Vec (Vec ℕ A) B) StoreFault → Type 0
-ReadsMbox bytes (Ok texts) = MboxFile bytes (texts_of texts)
+ReadsMbox bytes (Ok texts) = MboxFile bytes (text_bytes texts)
 ReadsMbox bytes (Err NotMbox) = HasNoTexts bytes
 ReadsMbox bytes (Err NoMemory) = Unit {0}
 ReadsMbox bytes (Err fault) = ⊥

@@ -13,7 +13,7 @@ lines_of [] = []
 lines_of (byte ∷ rest) = if byte == 10 then (10 ∷ []) ∷ lines_of rest else onto_first byte (lines_of rest)
 
 -- a line with the LF that ends it
-pub record IsLine (line : List ℕ) : Type 0 where
+pub record IsMboxLine (line : List ℕ) : Type 0 where
   pub words : List ℕ
   pub plain : HasNoLf words
   pub ended : line ≡ words ++ 10 ∷ []
@@ -80,14 +80,14 @@ pub record Group : Type 0 where
 
 -- a line that begins with `From `, and a line that doesn't
 abbrev pub IsHead : List ℕ → Type 0
-IsHead line = IsLine line × (begins_entry line ≡ true)
+IsHead line = IsMboxLine line × (begins_entry line ≡ true)
 
 abbrev pub IsInner : List ℕ → Type 0
-IsInner line = IsLine line × (begins_entry line ≡ false)
+IsInner line = IsMboxLine line × (begins_entry line ≡ false)
 
 -- the first line of a group begins with `From `, the others don't
-abbrev pub IsGroup : Group → Type 0
-IsGroup group = IsHead group.head × AllByRecursion IsInner group.lines
+abbrev pub IsMboxGroup : Group → Type 0
+IsMboxGroup group = IsHead group.head × AllByRecursion IsInner group.lines
 
 -- the lines of a group and the empty one after them, as bytes
 abbrev pub group_bytes : Group → List ℕ
@@ -101,7 +101,7 @@ group_text group = flat_map unquoted group.lines
 -- with `From `, lines that don't, and an empty last one, which unquote to the texts
 pub record MboxFile (file : List ℕ) (texts : List (List ℕ)) : Type 0 where
   pub groups : List Group
-  pub are : AllByRecursion IsGroup groups
+  pub are : AllByRecursion IsMboxGroup groups
   pub whole : file ≡ flat_map group_bytes groups
   pub read : texts ≡ map group_text groups
 
@@ -119,8 +119,8 @@ EntryAddsText = (file text : List ℕ) (texts : List (List ℕ)) → MboxFile fi
     → MboxFile (file ++ entry_of text) (texts ++ text ∷ [])
 
 -- a law: a file stands for one list of texts only
-abbrev pub OneReading : Type 0
-OneReading = (file : List ℕ) (texts others : List (List ℕ)) → MboxFile file texts → MboxFile file others
+abbrev pub OneListOfTexts : Type 0
+OneListOfTexts = (file : List ℕ) (texts others : List (List ℕ)) → MboxFile file texts → MboxFile file others
     → texts ≡ others
 
 -- a law: an entry may follow each file that stands for texts
@@ -141,7 +141,7 @@ OpensEntry (line ∷ lines) = begins_entry line ≡ true
 pub record CutsLine (bytes line rest : List ℕ) : Type 0 where
   pub lines : lines_of bytes ≡ line ∷ lines_of rest
   pub whole : bytes ≡ line ++ rest
-  pub ended : IsLine line ⊎ (rest ≡ [])
+  pub ended : IsMboxLine line ⊎ (rest ≡ [])
 
 -- a front of some bytes is their first line and lines that don't begin with `From `
 pub record StartsGroup (bytes front rest : List ℕ) : Type 0 where

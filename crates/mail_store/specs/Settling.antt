@@ -11,7 +11,7 @@ use Rattle.mail_store.specs.declared.fault.StoreFault.{StoreFault}
 use Rattle.mail_store.specs.declared.fault.StoreFault.TheVariants.{Missing, Refused, NotMbox, NoMemory}
 use Rattle.mail_store.specs.declared.mboxrd.settling.Behind.{Behind}
 use Rattle.mail_store.specs.declared.mboxrd.settling.Behind.TheVariants.{Others, Whole, Torn}
-use Rattle.mail_store.specs.FlatFile.{Stored, Denies, holding, counted}
+use Rattle.mail_store.specs.FlatFile.{Stored, Denies, holding, file_refused}
 use Rattle.mail_store.specs.Mboxrd.{MayGoOn, lines_of, begins_entry, separator, entry_of, text_in, wire_size}
 
 -- ---- what a loss of power leaves
@@ -145,8 +145,9 @@ SettlesFile old start len listed (Ok whole) new =
     (was : List ℕ) × (old.content ≡ Some was) × (whole ≡ stands_whole start len listed was)
     × (new ≡ holding old (settled_file start len listed was))
 SettlesFile old start len listed (Err Missing) new = (old.content ≡ None) × (new ≡ old)
-SettlesFile old start len listed (Err Refused) new = (new ≡ counted old)
-    ⊎ ((was : List ℕ) × (old.content ≡ Some was) × (new ≡ counted (holding old (settled_file start len listed was))))
+SettlesFile old start len listed (Err Refused) new = (new ≡ file_refused old)
+    ⊎ ((was : List ℕ) × (old.content ≡ Some was)
+    × (new ≡ file_refused (holding old (settled_file start len listed was))))
 SettlesFile old start len listed (Err NotMbox) new = ⊥
 SettlesFile old start len listed (Err NoMemory) new = new ≡ old
 

@@ -10,7 +10,8 @@ pub zip_same : {A : Type 0} (R : A → A → Type 0) → ((x : A) → R x x) →
 zip_same R same [] = tt
 zip_same R same (x ∷ xs) = (same x, zip_same R same xs)
 
-pub zip_on : {A : Type 0} (R : A → A → Type 0) → ((x y z : A) → R x y → R y z → R x z) → (xs ys zs : List A) → AllZip R xs ys → AllZip R ys zs → AllZip R xs zs
+pub zip_on : {A : Type 0} (R : A → A → Type 0) → ((x y z : A) → R x y → R y z → R x z) → (xs ys zs : List A)
+    → AllZip R xs ys → AllZip R ys zs → AllZip R xs zs
 zip_on R on [] [] zs a b = b
 zip_on R on [] (y ∷ ys) zs a b = absurd a
 zip_on R on (x ∷ xs) [] zs a b = absurd a

@@ -1,5 +1,6 @@
 -- The rows of a listing, found by their numbers.
-use Rattle.std.proofs.Common.{◌≡◌, ℕ, suc, ◌<◌, ◌≤◌, ◌+◌, ◌-◌, List, [], ◌∷◌, ◌++◌, length, get_or, map, take, drop, All, refl, sym, subst, ◌∙◌, ap, arith, rules, length-append, length-drop, take_all}
+use Rattle.std.proofs.Common.{◌≡◌, ℕ, suc, ◌<◌, ◌≤◌, ◌+◌, ◌-◌, List, [], ◌∷◌, ◌++◌, length, get_or, map, take, drop}
+use Rattle.std.proofs.Common.{All, refl, sym, subst, ◌∙◌, ap, arith, rules, length-append, length-drop, take_all}
 use Rattle.std.proofs.lemmas.List.{get_or-map, get_or_default, length-map, map-append, drop-append-le, take-append-le}
 use Rattle.std.proofs.Math.Seq.{drop-append_seam}
 use Rattle.std.proofs.lemmas.Simd.{map-map}
@@ -14,7 +15,8 @@ use Rattle.mail_terms.specs.Listing.{Item, UidRow, Joins, message_limit}
 use Rattle.mail_terms.specs.IdPlaces.{id_at, row_at, item_at, IsIdAt, HoldRows, AreAt}
 
 -- the place that is found for a row's number is the row's own
-pub place_of_row : {Row : Type 0} (number : Row → ℕ) (n : ℕ) (rows : List Row) (places : List ℕ) → IsNumbering n (map number rows) → IsOrderOf n (map number rows) places
+pub place_of_row : {Row : Type 0} (number : Row → ℕ) (n : ℕ) (rows : List Row) (places : List ℕ)
+    → IsNumbering n (map number rows) → IsOrderOf n (map number rows) places
     → (k : ℕ) (row : Row) → k < length rows → (number (get_or rows k row) - 1 < n) × (get_or places (number (get_or rows k row) - 1) 0 ≡ k)
 place_of_row number n rows places numbering order k row inside =
     let there : k < length (map number rows) = omega (arith, length-map rows number) in

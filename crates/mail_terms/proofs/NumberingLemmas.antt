@@ -1,19 +1,24 @@
 -- The table of places and the list of numbers.
-use Rattle.std.proofs.Common.{◌≡◌, ℕ, ◌<◌, ◌≤◌, ◌+◌, ◌-◌, List, Option, Some, None, true, false, length, get_or, set, is_some, sym, ◌∙◌, ap, inl, inr, arith, below_more}
+use Rattle.std.proofs.Common.{◌≡◌, ℕ, ◌<◌, ◌≤◌, ◌+◌, ◌-◌, List, Option, Some, None, true, false, length, get_or, set}
+use Rattle.std.proofs.Common.{is_some, sym, ◌∙◌, ap, inl, inr, arith, below_more}
 use Rattle.std.proofs.lemmas.Bool.{cases_eq}
 use Rattle.std.proofs.lemmas.Option.{none-some, same_Some}
 use Rattle.std.proofs.lemmas.List.{get_or-set_same, get_or-set_other, length-set, get_or_default}
 use Rattle.mail_terms.specs.Numbering.{IsNumbering, HasPlaces, IsOrderOf}
 
 -- a list with a number whose slot isn't free isn't a numbering
-pub not_numbering_taken : (n : ℕ) (xs : List ℕ) (i : ℕ) (slots : List (Option ℕ)) (slot : Option ℕ) → HasPlaces n xs i slots → i < length xs → 1 ≤ get_or xs i 0 → get_or xs i 0 ≤ n → slot ≡ get_or slots (get_or xs i 0 - 1) slot → is_some slot ≡ true → IsNumbering n xs → ⊥
+pub not_numbering_taken : (n : ℕ) (xs : List ℕ) (i : ℕ) (slots : List (Option ℕ)) (slot : Option ℕ)
+    → HasPlaces n xs i slots → i < length xs → 1 ≤ get_or xs i 0 → get_or xs i 0 ≤ n
+    → slot ≡ get_or slots (get_or xs i 0 - 1) slot → is_some slot ≡ true → IsNumbering n xs → ⊥
 not_numbering_taken n xs i slots None has inside low high is there numbering = cc
 not_numbering_taken n xs i slots (Some place) has inside low high is there numbering =
     let held = has.back (get_or xs i 0 - 1) place (get_or_default slots _ None (Some place) (omega (arith, has.room)) ∙ sym is) in
     numbering.distinct place i 0 held.0 inside (omega (arith, held.1))
 
 -- a number whose slot is free gets its place there
-pub has_places_free : (n : ℕ) (xs : List ℕ) (i : ℕ) (slots : List (Option ℕ)) (slot : Option ℕ) → HasPlaces n xs i slots → 1 ≤ get_or xs i 0 → get_or xs i 0 ≤ n → slot ≡ get_or slots (get_or xs i 0 - 1) slot → is_some slot ≡ false → HasPlaces n xs (i + 1) (set slots (get_or xs i 0 - 1) (Some i))
+pub has_places_free : (n : ℕ) (xs : List ℕ) (i : ℕ) (slots : List (Option ℕ)) (slot : Option ℕ) → HasPlaces n xs i slots
+    → 1 ≤ get_or xs i 0 → get_or xs i 0 ≤ n → slot ≡ get_or slots (get_or xs i 0 - 1) slot → is_some slot ≡ false
+    → HasPlaces n xs (i + 1) (set slots (get_or xs i 0 - 1) (Some i))
 has_places_free n xs i slots (Some place) has low high is free = cc
 has_places_free n xs i slots None has low high free is =
     let own = get_or xs i 0 - 1 in
@@ -36,14 +41,16 @@ has_places_free n xs i slots None has low high free is =
     }
 
 -- a list whose table has no place for a number isn't a numbering
-pub not_numbering_missing : (n : ℕ) (xs : List ℕ) (slots : List (Option ℕ)) (k : ℕ) → HasPlaces n xs (length xs) slots → k < n → get_or slots k None ≡ None → IsNumbering n xs → ⊥
+pub not_numbering_missing : (n : ℕ) (xs : List ℕ) (slots : List (Option ℕ)) (k : ℕ) → HasPlaces n xs (length xs) slots
+    → k < n → get_or slots k None ≡ None → IsNumbering n xs → ⊥
 not_numbering_missing n xs slots k has inside free numbering =
     let there = numbering.complete (k + 1) (omega arith) (omega arith) in
     let same : get_or xs there.0 0 - 1 ≡ k = omega (arith, there.2, get_or_default xs there.0 0 (k + 1) there.1) in
     none-some there.0 (sym free ∙ ap (λ j. get_or slots j None) (sym same) ∙ has.found there.0 there.1)
 
 -- a list whose table has no free slot is a numbering
-pub numbering_from_places : (n : ℕ) (xs : List ℕ) (slots : List (Option ℕ)) (places : List ℕ) → HasPlaces n xs (length xs) slots → length places ≡ n
+pub numbering_from_places : (n : ℕ) (xs : List ℕ) (slots : List (Option ℕ)) (places : List ℕ)
+    → HasPlaces n xs (length xs) slots → length places ≡ n
     → ((k : ℕ) → k < n → get_or slots k None ≡ Some (get_or places k 0)) → IsNumbering n xs × IsOrderOf n xs places
 numbering_from_places n xs slots places has count full = (
   record {
@@ -59,6 +66,7 @@ numbering_from_places n xs slots places has count full = (
   record {
     count = count;
     within = λ k inside. (has.back k (get_or places k 0) (full k inside)).0;
-    found = λ place inside. sym (same_Some place _ (sym (has.found place inside) ∙ full (get_or xs place 0 - 1) (omega (arith, has.within place inside))));
+    found = λ place inside. sym (same_Some place _ (sym (has.found place inside)
+        ∙ full (get_or xs place 0 - 1) (omega (arith, has.within place inside))));
   },
 )

@@ -1,5 +1,6 @@
 -- Texts split into lines.
-use Rattle.std.proofs.Common.{◌≡◌, inl, inr, ℕ, zero, suc, ◌+◌, ◌<◌, List, [], ◌∷◌, Option, Some, None, length, take, drop, refl, arith, sym, unwrap_or}
+use Rattle.std.proofs.Common.{◌≡◌, inl, inr, ℕ, zero, suc, ◌+◌, ◌<◌, List, [], ◌∷◌, Option, Some, None, length, take}
+use Rattle.std.proofs.Common.{drop, refl, arith, sym, unwrap_or}
 use Rattle.std.specs.List.{position_or_len}
 use Rattle.std.proofs.lemmas.Bool.{false_from_ne_true}
 use Rattle.std.proofs.lemmas.Bool.Decides.{eqb_tells}
@@ -8,11 +9,14 @@ use Rattle.memchr.specs.Find.{IsFirstByte, is_byte}
 use Rattle.mail_terms.specs.Text.{is_line_feed, lines_of_text}
 
 -- the end of the first line: where the first LF was found, or the text's end
-pub end_found : (text : List ℕ) (found : Option ℕ) → IsFirstByte (is_byte 10) text found → unwrap_or found (length text) ≡ position_or_len is_line_feed text
+pub end_found : (text : List ℕ) (found : Option ℕ) → IsFirstByte (is_byte 10) text found
+    → unwrap_or found (length text) ≡ position_or_len is_line_feed text
 end_found text None none =
-    sym (position_or_len_is is_line_feed text (length text) 0 (omega arith) (λ k low. false_from_ne_true _ (none k (omega arith) low)) (λ low. absurd (omega (arith, low))))
+    sym (position_or_len_is is_line_feed text (length text) 0 (omega arith)
+    (λ k low. false_from_ne_true _ (none k (omega arith) low)) (λ low. absurd (omega (arith, low))))
 end_found text (Some n) first =
-    sym (position_or_len_is is_line_feed text n 0 (omega (arith, first.0.high)) (λ k low. false_from_ne_true _ (first.0.before k (omega arith) low)) (λ low. first.1))
+    sym (position_or_len_is is_line_feed text n 0 (omega (arith, first.0.high))
+    (λ k low. false_from_ne_true _ (first.0.before k (omega arith) low)) (λ low. first.1))
 
 -- a text without LF is one line
 pub one_text_line : (text : List ℕ) → 0 < length text → position_or_len is_line_feed text ≡ length text → lines_of_text text ≡ text ∷ []
@@ -27,7 +31,8 @@ one_text_line (byte ∷ next ∷ rest) some h = elim (eqb_tells byte 10) [
 ]
 
 -- otherwise its first line ends at the first LF
-pub first_text_line : (text : List ℕ) (n : ℕ) → n ≡ position_or_len is_line_feed text → n < length text → lines_of_text text ≡ take n text ∷ lines_of_text (drop (n + 1) text)
+pub first_text_line : (text : List ℕ) (n : ℕ) → n ≡ position_or_len is_line_feed text → n < length text
+    → lines_of_text text ≡ take n text ∷ lines_of_text (drop (n + 1) text)
 first_text_line [] n h some = absurd (omega arith)
 first_text_line (byte ∷ rest) zero h some = elim (eqb_tells byte 10) [
   | inl p ↦ rw p.0 refl

@@ -1,6 +1,8 @@
 -- How the parts of a turn make a turn, and turns make a conversation, and what holds of every conversation.
 use Rattle.pop3_wire.specs.Link.{Link}
-use Rattle.std.proofs.Common.{Some, Option, true, ◌≡◌, inl, inr, ◌<◌, ◌≤◌, ◌+◌, ◌*◌, ℕ, false, List, [], ◌∷◌, ◌++◌, length, take, drop, None, Result, Ok, Err, refl, sym, ap, subst, ◌∙◌, arith, append_assoc, length-append, codes, append-nil, take_all, length-take, ◌≢◌, ◌⊎◌, IfOk, IfErr, rules}
+use Rattle.std.proofs.Common.{Some, Option, true, ◌≡◌, inl, inr, ◌<◌, ◌≤◌, ◌+◌, ◌*◌, ℕ, false, List, [], ◌∷◌, ◌++◌}
+use Rattle.std.proofs.Common.{length, take, drop, None, Result, Ok, Err, refl, sym, ap, subst, ◌∙◌, arith, append_assoc}
+use Rattle.std.proofs.Common.{length-append, codes, append-nil, take_all, length-take, ◌≢◌, ◌⊎◌, IfOk, IfErr, rules}
 use Rattle.std.specs.List.{flat_map, AllZip, AllByRecursion}
 use Rattle.pop3_wire.specs.Line.{crlf, IsLine, ended}
 use Rattle.pop3_wire.specs.Reply.{IsFirstLine}
@@ -14,10 +16,15 @@ use Rattle.pop3_wire.specs.Commands.{line_of}
 use Rattle.pop3_wire.specs.Place.{Place, at, GoesOn, Gains, HasLine, HasNoLine}
 use Rattle.pop3_client.specs.declared.fault.Asked.{Asked}
 use Rattle.pop3_client.specs.declared.fault.ClientFault.{ClientFault}
-use Rattle.pop3_client.specs.declared.fault.ClientFault.TheVariants.{ConnectionEnded, ReplyTooLong, ReadFailed, BadReply, Refused, TooMany, BadListing, ListingsDisagree, NoMemory}
-use Rattle.pop3_client.specs.Turns.{Turn, turn_bytes, Names, stat, Fits, IsBody, IsGood, line_limit, IsShort, most, asking, uidl, list, IsRow, IsListing, LinesFit, text_limit, retr}
+use Rattle.pop3_client.specs.declared.fault.ClientFault.TheVariants.{ConnectionEnded, ReplyTooLong, ReadFailed}
+use Rattle.pop3_client.specs.declared.fault.ClientFault.TheVariants.{BadReply, Refused, TooMany, BadListing}
+use Rattle.pop3_client.specs.declared.fault.ClientFault.TheVariants.{ListingsDisagree, NoMemory}
+use Rattle.pop3_client.specs.Turns.{Turn, turn_bytes, Names, stat, Fits, IsBody, IsGood, line_limit, IsShort, most}
+use Rattle.pop3_client.specs.Turns.{asking, uidl, list, IsListingRow, AsksListing, LinesFit, text_limit, retr}
 use Rattle.pop3_client.specs.Causes.{Cause, BeginsPositive, FirstLine, IsPartOfListing, IsPartOfBody, HasRows, RowBehind}
-use Rattle.pop3_client.specs.Conversation.{NoLineCause, Opened, Talked, TakesRefusal, Heard, Broke, NotAnswered, Stopped, Sent, GivesFew, AsksTurn, Completes, Talks, most_of, IsFrontOfNext, Paced, ConversationsArePaced}
+use Rattle.pop3_client.specs.Conversation.{NoLineCause, Opened, Talked, TakesRefusal, Heard, Broke, NotAnswered}
+use Rattle.pop3_client.specs.Conversation.{Stopped, Sent, GivesFew, AsksTurn, Completes, Talks, most_of, IsFrontOfNext}
+use Rattle.pop3_client.specs.Conversation.{Paced, ConversationsArePaced}
 use Rattle.pop3_wire.specs.declared.command.Command.TheVariants.{UidlAll, ListAll, Retr}
 use Rattle.std.proofs.lemmas.List.Elements.{All-push, All-from_recursion, recursion_from_All}
 use Rattle.std.proofs.lemmas.Slice.Zip.{AllZip-long, all_zipped_more}
@@ -66,17 +73,25 @@ pub none_in_all : (limit : ℕ) (bytes : List ℕ) → HasNoLine limit bytes →
 none_in_all limit bytes none short = subst IsLine (take_all limit bytes (omega arith)) none.none
 
 -- a cause depends on the old link only by its failure count
-pub cause_since : (fault : ClientFault) (turn : Turn) (old said new : Link) (bytes : List ℕ) → said.failures ≡ old.failures → Cause fault turn said new bytes → Cause fault turn old new bytes
+pub cause_since : (fault : ClientFault) (turn : Turn) (old said new : Link) (bytes : List ℕ)
+    → said.failures ≡ old.failures → Cause fault turn said new bytes → Cause fault turn old new bytes
 cause_since ReadFailed turn old said new bytes same why = (subst (λ (n : ℕ). n < new.failures) same why.0, why.1)
 cause_since other turn old said new bytes same why = why
 
 -- what waits begins with the line, which is short, and its CR LF
-pub line_at : {n : ℕ} {bytes : List ℕ} → HasLine line_limit bytes n → IsShort (take n bytes) × (bytes ≡ ended (take n bytes) ++ drop (n + 2) bytes)
-line_at {n} {bytes} has = (omega (arith, has.within, length-take n bytes), has.whole ∙ sym (append_assoc (take n bytes) crlf (drop (n + 2) bytes)))
+pub line_at : {n : ℕ} {bytes : List ℕ} → HasLine line_limit bytes n → IsShort (take n bytes)
+    × (bytes ≡ ended (take n bytes) ++ drop (n + 2) bytes)
+line_at {n} {bytes} has = (
+  omega (arith, has.within, length-take n bytes),
+  has.whole
+      ∙ sym (append_assoc (take n bytes) crlf (drop (n + 2) bytes)),
+)
 
 -- a turn was sent whole, and its first line taken
-pub opened : {old : Place} {said : Link} {mid : Place} {n : ℕ} {bytes : List ℕ} (turn : Turn) → said ≡ record old.link { sent = old.link.sent ++ bytes } → bytes ≡ turn_bytes turn
-    → (heard : Heard turn (at said old.waiting) (Ok n) mid) → Fits turn heard.4.0 → Opened turn (take n mid.waiting) old (at mid.link (drop (n + 2) mid.waiting))
+pub opened : {old : Place} {said : Link} {mid : Place} {n : ℕ} {bytes : List ℕ} (turn : Turn)
+    → said ≡ record old.link { sent = old.link.sent ++ bytes } → bytes ≡ turn_bytes turn
+    → (heard : Heard turn (at said old.waiting) (Ok n) mid) → Fits turn heard.4.0
+    → Opened turn (take n mid.waiting) old (at mid.link (drop (n + 2) mid.waiting))
 opened turn is same heard fits =
     let gains = rw (is, same) at heard.1 in
     let on = rw is at heard.3 in
@@ -97,13 +112,25 @@ pub drew_of : {old new : Place} {gained : List ℕ} → Gains old new gained →
 drew_of gains = record { got = gains.got; sent = gains.sent }
 
 -- nothing was used
-heard_unused : {fault : ClientFault} {turn : Turn} {old new : Place} {gained : List ℕ} → Gains old new gained → Cause fault turn old.link new.link (old.waiting ++ gained)
+heard_unused : {fault : ClientFault} {turn : Turn} {old new : Place} {gained : List ℕ} → Gains old new gained
+    → Cause fault turn old.link new.link (old.waiting ++ gained)
     → TakesRefusal fault [] → Heard turn old (Err fault) new
 heard_unused {gained = gained} gains cause takes =
-    record { gained = gained; used = []; sent = gains.sent; got = gains.got; heard = sym gains.waiting; within = omega arith; cause = cause; takes = takes }
+    record {
+      gained = gained;
+      used = [];
+      sent = gains.sent;
+      got = gains.got;
+      heard = sym gains.waiting;
+      within =
+          omega arith;
+      cause = cause;
+      takes = takes;
+    }
 
 -- no line came
-pub heard_none : (fault : ClientFault) {turn : Turn} {old new : Place} {gained : List ℕ} → Gains old new gained → NoLineCause fault old.link new.link new.waiting
+pub heard_none : (fault : ClientFault) {turn : Turn} {old new : Place} {gained : List ℕ} → Gains old new gained
+    → NoLineCause fault old.link new.link new.waiting
     → Heard turn old (Err fault) new
 heard_none ConnectionEnded gains why = let here = rw gains.waiting at why in heard_unused gains (here.0, inl here.1) tt
 heard_none ReadFailed gains why = let here = rw gains.waiting at why in heard_unused gains (here.0, inl here.1) tt
@@ -113,9 +140,17 @@ heard_none other gains why = absurd why
 -- a line came
 module _ {old mid : Place} {gained : List ℕ} {n : ℕ} (gains : Gains old mid gained) (has : HasLine line_limit mid.waiting n) where
   abbrev pub first_came : FirstLine (old.waiting ++ gained) (take n mid.waiting)
-  first_came = record { after = drop (n + 2) mid.waiting; is = has.line; short = (line_at has).0; whole = sym gains.waiting ∙ (line_at has).1 }
+  first_came = record {
+    after = drop (n + 2) mid.waiting;
+    is = has.line;
+    short = (line_at has).0;
+    whole =
+        sym gains.waiting ∙ (line_at has).1;
+  }
 
-  pub heard_refused : (turn : Turn) (to : Asked) (rest : List ℕ) → Names to turn → IsFirstLine (take n mid.waiting) Negative rest → Heard turn old (Err (Refused to)) (at mid.link (drop (n + 2) mid.waiting))
+  pub heard_refused : (turn : Turn) (to : Asked) (rest : List ℕ) → Names to turn
+      → IsFirstLine (take n mid.waiting) Negative rest
+      → Heard turn old (Err (Refused to)) (at mid.link (drop (n + 2) mid.waiting))
   heard_refused turn to rest names first = record {
     gained = gained;
     used = ended (take n mid.waiting);
@@ -127,8 +162,15 @@ module _ {old mid : Place} {gained : List ℕ} {n : ℕ} (gains : Gains old mid 
     takes = (take n mid.waiting, has.line, refl);
   }
 
-  pub heard_bad : (turn : Turn) → ((status : Status) (rest : List ℕ) → IsFirstLine (take n mid.waiting) status rest → ⊥) → Heard turn old (Err BadReply) mid
-  heard_bad turn none = heard_unused gains (take n mid.waiting, first_came, none Negative, λ rest first. absurd (none Positive rest first)) tt
+  pub heard_bad : (turn : Turn) → ((status : Status) (rest : List ℕ) → IsFirstLine (take n mid.waiting) status rest → ⊥)
+      → Heard turn old (Err BadReply) mid
+  heard_bad turn none = heard_unused gains (
+    take n mid.waiting,
+    first_came,
+    none Negative,
+    λ rest first. absurd
+        (none Positive rest first),
+  ) tt
 
   -- STAT's line isn't good
   pub few_heard : (fault : ClientFault) → GivesFew (take n mid.waiting) (Err fault) → Heard stat old (Err fault) mid
@@ -138,7 +180,8 @@ module _ {old mid : Place} {gained : List ℕ} {n : ℕ} (gains : Gains old mid 
 
 -- a turn was sent whole, and its reply isn't good
 pub broke_there : (turn : Turn) (old : Place) (said : Link) (new : Place) (fault : ClientFault)
-    → said ≡ record old.link { sent = old.link.sent ++ turn_bytes turn } → Heard turn (at said old.waiting) (Err fault) new → Broke turn old new fault
+    → said ≡ record old.link { sent = old.link.sent ++ turn_bytes turn }
+    → Heard turn (at said old.waiting) (Err fault) new → Broke turn old new fault
 broke_there turn old said new fault is heard =
     let why = rw is at heard in
     inr (inl record {
@@ -148,7 +191,8 @@ broke_there turn old said new fault is heard =
       got = why.got;
       heard = why.heard;
       within = omega (arith, most_least turn, why.within);
-      cause = cause_since fault turn old.link (record old.link { sent = old.link.sent ++ turn_bytes turn }) new.link (old.waiting ++ why.gained) refl why.cause;
+      cause = cause_since fault turn old.link (record old.link { sent = old.link.sent ++ turn_bytes turn }) new.link
+          (old.waiting ++ why.gained) refl why.cause;
       takes = why.takes;
     })
 
@@ -166,12 +210,22 @@ pub nothing_said : (link : Link) → link ≡ record link { sent = link.sent ++ 
 nothing_said link = rw append-nil
 
 -- a turn wasn't sent whole
-pub broke_saying : (turn : Turn) (old new : Place) (fault : ClientFault) → Sent (turn_bytes turn) old.link (Err fault) new.link → new.waiting ≡ old.waiting → Broke turn old new fault
+pub broke_saying : (turn : Turn) (old new : Place) (fault : ClientFault)
+    → Sent (turn_bytes turn) old.link (Err fault) new.link → new.waiting ≡ old.waiting → Broke turn old new fault
 broke_saying turn old new fault said waits =
     let is = said.1.3 in
     inl (
       said.0,
-      record { front = said.1.0; rest = said.1.1; split = said.1.2; sent = rw is; got = rw is; waiting = waits; risen = rw is (omega arith) },
+      record {
+        front = said.1.0;
+        rest = said.1.1;
+        split = said.1.2;
+        sent = rw is;
+        got = rw is;
+        waiting =
+            waits;
+        risen = rw is (omega arith);
+      },
     )
 
 -- ---- turns in a row
@@ -194,19 +248,23 @@ good_on [] ys [] ms first then = then
 good_on (x ∷ xs) ys (l ∷ ls) ms first then = (first.0, good_on xs ys ls ms first.1 then)
 good_on _ ys _ ms first then = absurd first
 
-pub talked_on : (xs ys : List Turn) (ls ms : List WholeReply) (a b c : Place) → Talked xs ls a b → Talked ys ms b c → Talked (xs ++ ys) (ls ++ ms) a c
+pub talked_on : (xs ys : List Turn) (ls ms : List WholeReply) (a b c : Place) → Talked xs ls a b → Talked ys ms b c
+    → Talked (xs ++ ys) (ls ++ ms) a c
 talked_on xs ys ls ms a b c first then = record {
   gained = first.gained ++ then.gained;
   sent = simp (then.sent, first.sent, flat_map-append, append_assoc);
   got = simp (then.got, first.got, append_assoc);
-  heard = append_on a.waiting first.gained (flat_map reply_bytes ls) b.waiting then.gained first.heard ∙ simp (then.heard, flat_map-append, append_assoc);
+  heard = append_on a.waiting first.gained (flat_map reply_bytes ls) b.waiting then.gained first.heard
+      ∙ simp (then.heard, flat_map-append, append_assoc);
   good = good_on xs ys ls ms first.good then.good;
   goes_on = goes_further first.goes_on then.goes_on;
 }
 
 -- a turn whose first line was taken, and then the body of its reply, if there is one
-pub talked_reply : {turn : Turn} {line : List ℕ} {old mid new : Place} {gained : List ℕ} (body : Option (List (List ℕ))) → Opened turn line old mid → Drew mid.link new.link gained
-    → GoesOn mid.link new.link → mid.waiting ++ gained ≡ body_bytes body ++ new.waiting → IsBody turn body → Talked (turn ∷ []) (record { first = line; body = body } ∷ []) old new
+pub talked_reply : {turn : Turn} {line : List ℕ} {old mid new : Place} {gained : List ℕ} (body : Option (List (List ℕ)))
+    → Opened turn line old mid → Drew mid.link new.link gained
+    → GoesOn mid.link new.link → mid.waiting ++ gained ≡ body_bytes body ++ new.waiting → IsBody turn body
+    → Talked (turn ∷ []) (record { first = line; body = body } ∷ []) old new
 talked_reply {line = line} {old} {mid} {gained = gained} body begun drew onward heard is = record {
   gained = begun.gained ++ gained;
   sent = simp (drew.sent, begun.sent, append-nil);
@@ -220,12 +278,15 @@ talked_reply {line = line} {old} {mid} {gained = gained} body begun drew onward 
 pub talked_line : (turn : Turn) (line : List ℕ) (old new : Place) → Opened turn line old new → gives_body turn ≡ false
     → Talked (turn ∷ []) (record { first = line; body = None } ∷ []) old new
 talked_line turn line old new begun none =
-    talked_reply None begun (record { got = sym (append-nil new.link.got); sent = refl }) (record { ended = refl; failures = refl }) (append-nil new.waiting) none
+    talked_reply None begun (record { got = sym (append-nil new.link.got); sent = refl })
+    (record { ended = refl; failures = refl }) (append-nil new.waiting) none
 
 -- a turn broke after its good first line
-pub not_answered_behind : {turn : Turn} {line : List ℕ} {old mid new : Place} {gained : List ℕ} (fault : ClientFault) (used : List ℕ) → Opened turn line old mid
+pub not_answered_behind : {turn : Turn} {line : List ℕ} {old mid new : Place} {gained : List ℕ} (fault : ClientFault)
+    (used : List ℕ) → Opened turn line old mid
     → Drew mid.link new.link gained → Cause fault turn mid.link new.link (ended line ++ (mid.waiting ++ gained))
-    → mid.waiting ++ gained ≡ used ++ new.waiting → line_limit + length used ≤ most turn → TakesRefusal fault (ended line ++ used) → NotAnswered turn old new fault
+    → mid.waiting ++ gained ≡ used ++ new.waiting → line_limit + length used ≤ most turn
+    → TakesRefusal fault (ended line ++ used) → NotAnswered turn old new fault
 not_answered_behind {turn} {line} {old} {mid} {new} {gained} fault used begun drew why rest small takes =
     let heard = append_on old.waiting begun.gained (ended line) mid.waiting gained begun.heard in
     record {
@@ -235,16 +296,19 @@ not_answered_behind {turn} {line} {old} {mid} {new} {gained} fault used begun dr
       got = simp (drew.got, begun.got, append_assoc);
       heard = heard ∙ simp (rest, append_assoc);
       within = omega (arith, length-append {A = ℕ}, begun.short);
-      cause = cause_since fault turn old.link mid.link new.link (old.waiting ++ (begun.gained ++ gained)) begun.goes_on.failures (rw heard why);
+      cause = cause_since fault turn old.link mid.link new.link (old.waiting ++ (begun.gained ++ gained))
+          begun.goes_on.failures (rw heard why);
       takes = takes;
     }
 
-pub stopped_first : (turn : Turn) (turns : List Turn) (old new : Place) (fault : ClientFault) → Broke turn old new fault → Stopped (turn ∷ turns) old new fault
+pub stopped_first : (turn : Turn) (turns : List Turn) (old new : Place) (fault : ClientFault) → Broke turn old new fault
+    → Stopped (turn ∷ turns) old new fault
 stopped_first turn turns old new fault broke =
     record { done = []; replies = []; next = turn; later = turns; mid = old; split = refl; talked = talked_none old; broke = broke }
 
 -- after turns that were talked, others stopped
-pub stopped_behind : (xs ys : List Turn) (rs : List WholeReply) (a b new : Place) (fault : ClientFault) → Talked xs rs a b → Stopped ys b new fault → Stopped (xs ++ ys) a new fault
+pub stopped_behind : (xs ys : List Turn) (rs : List WholeReply) (a b new : Place) (fault : ClientFault)
+    → Talked xs rs a b → Stopped ys b new fault → Stopped (xs ++ ys) a new fault
 stopped_behind xs ys rs a b new fault first then = record {
   done = xs ++ then.done;
   replies = rs ++ then.replies;
@@ -257,35 +321,51 @@ stopped_behind xs ys rs a b new fault first then = record {
 }
 
 -- a turn whose first line was taken has a reply that begins well
-pub begins_of : {turn : Turn} {line : List ℕ} {old mid : Place} (after : List ℕ) → Opened turn line old mid → BeginsPositive (ended line ++ after) after
-begins_of {line = line} after begun = record { line = line; rest = begun.rest; is = begun.is; short = begun.short; whole = refl; positive = begun.positive }
+pub begins_of : {turn : Turn} {line : List ℕ} {old mid : Place} (after : List ℕ) → Opened turn line old mid
+    → BeginsPositive (ended line ++ after) after
+begins_of {line = line} after begun = record {
+  line = line;
+  rest = begun.rest;
+  is = begun.is;
+  short =
+      begun.short;
+  whole = refl;
+  positive = begun.positive;
+}
 
 -- a turn with a reply of one line was completed, or it broke
-pub asks_completes : (turn : Turn) (old new : Place) (result : Result (Unit {0}) ClientFault) → gives_body turn ≡ false → AsksTurn turn old result new → Completes turn old result new
+pub asks_completes : (turn : Turn) (old new : Place) (result : Result (Unit {0}) ClientFault) → gives_body turn ≡ false
+    → AsksTurn turn old result new → Completes turn old result new
 asks_completes turn old new (Ok done) none asks = (record { first = asks.0; body = None }, talked_line turn asks.0 old new asks.1 none)
 asks_completes turn old new (Err fault) none asks = asks
 
 -- one turn is a conversation
-pub completes_talks : (turn : Turn) (old new : Place) (result : Result (Unit {0}) ClientFault) → Completes turn old result new → Talks (turn ∷ []) old result new
+pub completes_talks : (turn : Turn) (old new : Place) (result : Result (Unit {0}) ClientFault)
+    → Completes turn old result new → Talks (turn ∷ []) old result new
 completes_talks turn old new (Ok done) completes = (completes.0 ∷ [], completes.1)
 completes_talks turn old new (Err fault) completes = stopped_first turn [] old new fault completes
 
 -- a turn before a conversation
 pub completes_then : (turn : Turn) (turns : List Turn) (old mid new : Place) (reply : WholeReply) (result : Result (Unit {0}) ClientFault)
     → Talked (turn ∷ []) (reply ∷ []) old mid → Talks turns mid result new → Talks (turn ∷ turns) old result new
-completes_then turn turns old mid new reply (Ok done) first then = (reply ∷ then.0, talked_on (turn ∷ []) turns (reply ∷ []) then.0 old mid new first then.1)
-completes_then turn turns old mid new reply (Err fault) first then = stopped_behind (turn ∷ []) turns (reply ∷ []) old mid new fault first then
+completes_then turn turns old mid new reply (Ok done) first then =
+    (reply ∷ then.0, talked_on (turn ∷ []) turns (reply ∷ []) then.0 old mid new first then.1)
+completes_then turn turns old mid new reply (Err fault) first then =
+    stopped_behind (turn ∷ []) turns (reply ∷ []) old mid new fault first then
 
 -- ---- what holds of every conversation
 
 -- the replies to some turns before others keep to what all of them may have
-replies_within : (turns rest : List Turn) (replies : List WholeReply) → AllZip IsGood turns replies → length (flat_map reply_bytes replies) + most_of rest ≤ most_of (turns ++ rest)
+replies_within : (turns rest : List Turn) (replies : List WholeReply) → AllZip IsGood turns replies
+    → length (flat_map reply_bytes replies) + most_of rest ≤ most_of (turns ++ rest)
 replies_within [] rest [] good = omega arith
-replies_within (turn ∷ turns) rest (reply ∷ replies) good = omega (arith, length-append {A = ℕ}, reply_within turn reply good.0, replies_within turns rest replies good.1)
+replies_within (turn ∷ turns) rest (reply ∷ replies) good =
+    omega (arith, length-append {A = ℕ}, reply_within turn reply good.0, replies_within turns rest replies good.1)
 replies_within _ rest _ good = absurd good
 
 -- some of the turns were completed, `part` of the others' octets was sent, and `used` was used of what waited and came after that
-behind : {done : List Turn} {replies : List WholeReply} {old mid new : Place} (rest : List Turn) → Talked done replies old mid → (part later gained used : List ℕ)
+behind : {done : List Turn} {replies : List WholeReply} {old mid new : Place} (rest : List Turn)
+    → Talked done replies old mid → (part later gained used : List ℕ)
     → IsFrontOfNext part rest → asking rest ≡ part ++ later → new.link.sent ≡ mid.link.sent ++ part → new.link.got ≡ mid.link.got ++ gained
     → mid.waiting ++ gained ≡ used ++ new.waiting → length used ≤ most_of rest → Paced (done ++ rest) old new
 behind {done} {replies} {old} {mid} rest talked part later gained used begun front sent got heard small = record {
@@ -302,27 +382,38 @@ behind {done} {replies} {old} {mid} rest talked part later gained used begun fro
   got = simp (got, talked.got, append_assoc);
   good = talked.good;
   heard = append_on old.waiting talked.gained (flat_map reply_bytes replies) mid.waiting gained talked.heard;
-  within = omega (arith, length-append {A = ℕ}, replies_within done rest replies talked.good, ap length talked.heard, ap length heard, small);
+  within = omega (
+    arith,
+    length-append {A = ℕ},
+    replies_within done rest replies talked.good,
+    ap length talked.heard,
+    ap length heard,
+    small,
+  );
 }
 
 pub paced : ConversationsArePaced
 paced turns old new (Ok done) talks =
-    rw append-nil at (behind {new = new} [] talks.1 [] [] [] [] refl refl (sym (append-nil new.link.sent)) (sym (append-nil new.link.got)) (append-nil new.waiting) (omega arith))
+    rw append-nil at (behind {new = new} [] talks.1 [] [] [] [] refl refl (sym (append-nil new.link.sent))
+    (sym (append-nil new.link.got)) (append-nil new.waiting) (omega arith))
 paced turns old new (Err fault) at =
     let front = behind {new = new} (at.next ∷ at.later) at.talked in
     rw at.split (elim at.broke [
-      | inl cut ↦ front cut.1.front (cut.1.rest ++ asking at.later) [] [] (cut.1.rest, cut.1.split) (simp (cut.1.split, append_assoc)) cut.1.sent
+      | inl cut ↦ front cut.1.front (cut.1.rest ++ asking at.later) [] [] (cut.1.rest, cut.1.split)
+          (simp (cut.1.split, append_assoc)) cut.1.sent
           (cut.1.got ∙ sym (append-nil at.mid.link.got)) (append-nil at.mid.waiting ∙ sym cut.1.waiting) (omega arith)
-      | inr (inl bad) ↦ front (turn_bytes at.next) (asking at.later) bad.gained bad.used ([], sym (append-nil (turn_bytes at.next))) refl bad.sent bad.got bad.heard
+      | inr (inl bad) ↦ front (turn_bytes at.next) (asking at.later) bad.gained bad.used
+          ([], sym (append-nil (turn_bytes at.next))) refl bad.sent bad.got bad.heard
           (omega (arith, bad.within))
-      | inr (inr none) ↦ front [] (asking (at.next ∷ at.later)) [] [] (turn_bytes at.next, refl) refl (rw (none.2, append-nil)) (rw (none.2, append-nil))
+      | inr (inr none) ↦ front [] (asking (at.next ∷ at.later)) [] [] (turn_bytes at.next, refl) refl
+          (rw (none.2, append-nil)) (rw (none.2, append-nil))
           (append-nil at.mid.waiting ∙ sym (ap (λ (p : Place). p.waiting) none.2)) (omega arith)
     ])
 
 -- ---- the bodies of replies: the rows of a listing, taken one by one, and a text that is being taken
 
 -- what holds of both listings
-pub by_listing : (P : Turn → Type 0) → P uidl → P list → (turn : Turn) → IsListing turn → P turn
+pub by_listing : (P : Turn → Type 0) → P uidl → P list → (turn : Turn) → AsksListing turn → P turn
 by_listing P first second turn (inl is) = rw is first
 by_listing P first second turn (inr is) = rw is second
 
@@ -339,7 +430,8 @@ pub record TookRows {R : Type 0} (turn : Turn) (StandsFor : List ℕ → R → T
   pub drew : Drew old.link new.link gained
   pub goes_on : GoesOn old.link new.link
 
-pub took_none : {R : Type 0} (turn : Turn) (StandsFor : List ℕ → R → Type 0) (place : Place) → IsListing turn → TookRows turn StandsFor place place []
+pub took_none : {R : Type 0} (turn : Turn) (StandsFor : List ℕ → R → Type 0) (place : Place) → AsksListing turn
+    → TookRows turn StandsFor place place []
 took_none turn StandsFor place listing = record {
   lines = [];
   gained = [];
@@ -349,19 +441,23 @@ took_none turn StandsFor place listing = record {
   goes_on = record { ended = refl; failures = refl };
 }
 
-all_push : (P : List ℕ → Type 0) (lines : List (List ℕ)) (line : List ℕ) → AllByRecursion P lines → P line → AllByRecursion P (lines ++ line ∷ [])
+all_push : (P : List ℕ → Type 0) (lines : List (List ℕ)) (line : List ℕ) → AllByRecursion P lines → P line
+    → AllByRecursion P (lines ++ line ∷ [])
 all_push P lines line all is = recursion_from_All P (lines ++ line ∷ []) (All-push P lines line (All-from_recursion P lines all) is)
 
-module _ {R : Type 0} {turn : Turn} {StandsFor : List ℕ → R → Type 0} {old here : Place} {rows : List R} (now : TookRows turn StandsFor old here rows) where
+module _ {R : Type 0} {turn : Turn} {StandsFor : List ℕ → R
+    → Type 0} {old here : Place} {rows : List R} (now : TookRows turn StandsFor old here rows) where
   -- more was got, and nothing taken yet
-  more_waits : {new : Place} {more : List ℕ} → Gains here new more → HasRows turn (old.waiting ++ (now.gained ++ more)) new.waiting now.lines
+  more_waits : {new : Place} {more : List ℕ} → Gains here new more
+      → HasRows turn (old.waiting ++ (now.gained ++ more)) new.waiting now.lines
   more_waits {more = more} gains = record {
     listing = now.has.listing;
     content = now.has.content;
     short = now.has.short;
     rows = now.has.rows;
     few = now.has.few;
-    whole = append_on old.waiting now.gained (flat_map ended now.lines) here.waiting more now.has.whole ∙ ap (λ (l : List ℕ). flat_map ended now.lines ++ l) (sym gains.waiting);
+    whole = append_on old.waiting now.gained (flat_map ended now.lines) here.waiting more now.has.whole
+        ∙ ap (λ (l : List ℕ). flat_map ended now.lines ++ l) (sym gains.waiting);
   }
 
   pub took_on : {new : Place} {more : List ℕ} → Gains here new more → GoesOn here.link new.link → TookRows turn StandsFor old new rows
@@ -381,7 +477,9 @@ module _ {R : Type 0} {turn : Turn} {StandsFor : List ℕ → R → Type 0} {old
   -- a row waits
   module _ {n : ℕ} (has : HasLine line_limit here.waiting n) (other : take n here.waiting ≢ dot) where
     -- it was taken
-    pub took_row : {row : R} → IsRow turn (take n here.waiting) → StandsFor (take n here.waiting) row → length rows < message_limit → TookRows turn StandsFor old (at here.link (drop (n + 2) here.waiting)) (rows ++ row ∷ [])
+    pub took_row : {row : R} → IsListingRow turn (take n here.waiting) → StandsFor (take n here.waiting) row
+        → length rows < message_limit
+        → TookRows turn StandsFor old (at here.link (drop (n + 2) here.waiting)) (rows ++ row ∷ [])
     took_row {row} good read few =
         let line = take n here.waiting in record {
           lines = now.lines ++ line ∷ [];
@@ -390,9 +488,10 @@ module _ {R : Type 0} {turn : Turn} {StandsFor : List ℕ → R → Type 0} {old
             listing = now.has.listing;
             content = all_push IsContent now.lines line now.has.content (has.line, other);
             short = all_push IsShort now.lines line now.has.short ((line_at has).0);
-            rows = all_push (IsRow turn) now.lines line now.has.rows good;
+            rows = all_push (IsListingRow turn) now.lines line now.has.rows good;
             few = omega (arith, length-append now.lines (line ∷ []), AllZip-long StandsFor now.lines rows now.read);
-            whole = now.has.whole ∙ ap (λ (l : List ℕ). flat_map ended now.lines ++ l) (line_at has).1 ∙ simp (flat_map-append, append-nil, append_assoc);
+            whole = now.has.whole ∙ ap (λ (l : List ℕ). flat_map ended now.lines ++ l) (line_at has).1
+                ∙ simp (flat_map-append, append-nil, append_assoc);
           };
           read = all_zipped_more StandsFor now.lines rows line row now.read read;
           drew = now.drew;
@@ -417,7 +516,8 @@ module _ {R : Type 0} {turn : Turn} {StandsFor : List ℕ → R → Type 0} {old
         rows_stop TooMany (take n here.waiting, subst (RowBehind turn (old.waiting ++ now.gained) (take n here.waiting)) count row_behind)
 
   -- no line came
-  pub rows_cause : {new : Place} {more : List ℕ} (fault : ClientFault) → Gains here new more → NoLineCause fault here.link new.link new.waiting → NotTaken turn old new fault
+  pub rows_cause : {new : Place} {more : List ℕ} (fault : ClientFault) → Gains here new more
+      → NoLineCause fault here.link new.link new.waiting → NotTaken turn old new fault
   rows_cause {new} {more} fault gains why = record {
     gained = now.gained ++ more;
     used = now.lines;
@@ -426,36 +526,44 @@ module _ {R : Type 0} {turn : Turn} {StandsFor : List ℕ → R → Type 0} {old
     has = more_waits gains;
   }
     where
-      by : (f : ClientFault) → NoLineCause f here.link new.link new.waiting → RowsCause f turn old.link new.link (old.waiting ++ (now.gained ++ more))
+      by : (f : ClientFault) → NoLineCause f here.link new.link new.waiting
+          → RowsCause f turn old.link new.link (old.waiting ++ (now.gained ++ more))
       by ConnectionEnded w = (w.0, (new.waiting, now.lines, more_waits gains, w.1))
       by ReadFailed w = (subst (λ (k : ℕ). k < new.link.failures) now.goes_on.failures w.0, (new.waiting, now.lines, more_waits gains, w.1))
       by ReplyTooLong w = (new.waiting, now.lines, more_waits gains, w)
       by _ w = absurd w
 
   -- the end mark waits: it is taken
-  pub rows_end : {n : ℕ} → HasLine line_limit here.waiting n → take n here.waiting ≡ dot → TakesRows turn StandsFor old (Ok rows) (at here.link (drop (n + 2) here.waiting))
+  pub rows_end : {n : ℕ} → HasLine line_limit here.waiting n → take n here.waiting ≡ dot
+      → TakesRows turn StandsFor old (Ok rows) (at here.link (drop (n + 2) here.waiting))
   rows_end {n} has is =
-      let waits : here.waiting ≡ ended dot ++ drop (n + 2) here.waiting = (line_at has).1 ∙ ap (λ (l : List ℕ). ended l ++ drop (n + 2) here.waiting) is in (
+      let waits : here.waiting ≡ ended dot ++ drop (n + 2) here.waiting = (line_at has).1
+      ∙ ap (λ (l : List ℕ). ended l ++ drop (n + 2) here.waiting) is in (
         now.lines,
         record {
           gained = now.gained;
           drew = now.drew;
           goes_on = now.goes_on;
           content = now.has.content;
-          fit = by_listing (λ t. AllByRecursion (IsRow t) now.lines → LinesFit t now.lines) (λ rows. (now.has.few, now.has.short, rows)) (λ rows. (now.has.few, now.has.short, rows)) turn now.has.listing now.has.rows;
+          fit = by_listing (λ t. AllByRecursion (IsListingRow t) now.lines
+              → LinesFit t now.lines) (λ rows. (now.has.few, now.has.short, rows))
+              (λ rows. (now.has.few, now.has.short, rows)) turn now.has.listing now.has.rows;
           heard = now.has.whole ∙ ap (λ (l : List ℕ). flat_map ended now.lines ++ l) waits ∙ simp append_assoc;
         },
         now.read,
       )
 
-part_of_body : (bytes : List ℕ) (turn : Turn) → IsListing turn → IsPartOfListing turn bytes → IsPartOfBody turn bytes
+part_of_body : (bytes : List ℕ) (turn : Turn) → AsksListing turn → IsPartOfListing turn bytes → IsPartOfBody turn bytes
 part_of_body bytes = by_listing (λ (turn : Turn). IsPartOfListing turn bytes → IsPartOfBody turn bytes) (λ part. part) (λ part. part)
 
 -- why a listing isn't good, as a cause of its whole reply
-cause_of_rows : (fault : ClientFault) (turn : Turn) (old new : Link) (bytes after used : List ℕ) → BeginsPositive bytes after → IsListing turn
+cause_of_rows : (fault : ClientFault) (turn : Turn) (old new : Link) (bytes after used : List ℕ)
+    → BeginsPositive bytes after → AsksListing turn
     → RowsCause fault turn old new after → Cause fault turn old new bytes × TakesRefusal fault used
-cause_of_rows ConnectionEnded turn old new bytes after used begins listing why = ((why.0, inr (after, begins, part_of_body after turn listing why.1)), tt)
-cause_of_rows ReadFailed turn old new bytes after used begins listing why = ((why.0, inr (after, begins, part_of_body after turn listing why.1)), tt)
+cause_of_rows ConnectionEnded turn old new bytes after used begins listing why =
+    ((why.0, inr (after, begins, part_of_body after turn listing why.1)), tt)
+cause_of_rows ReadFailed turn old new bytes after used begins listing why =
+    ((why.0, inr (after, begins, part_of_body after turn listing why.1)), tt)
 cause_of_rows ReplyTooLong turn old new bytes after used begins listing why = (inr (after, why.0, why.1, begins, why.2, why.3), tt)
 cause_of_rows BadListing turn old new bytes after used begins listing why = ((why.0, why.1, (after, begins, why.2), why.3, why.4), tt)
 cause_of_rows TooMany turn old new bytes after used begins listing why = (inr (why.0, (after, begins, why.1)), tt)
@@ -463,8 +571,9 @@ cause_of_rows NoMemory turn old new bytes after used begins listing why = ((why.
 cause_of_rows _ turn old new bytes after used begins listing why = absurd why
 
 -- a listing was asked for, and its rows taken or not
-pub lists_of : {R : Type 0} (turn : Turn) (IsThisRow : List ℕ → R → Type 0) (line : List ℕ) (old mid new : Place) (result : Result (List R) ClientFault)
-    → Opened turn line old mid → IsListing turn → TakesRows turn IsThisRow mid result new → ListsRows turn IsThisRow old result new
+pub lists_of : {R : Type 0} (turn : Turn) (IsThisRow : List ℕ → R
+    → Type 0) (line : List ℕ) (old mid new : Place) (result : Result (List R) ClientFault)
+    → Opened turn line old mid → AsksListing turn → TakesRows turn IsThisRow mid result new → ListsRows turn IsThisRow old result new
 lists_of turn IsThisRow line old mid new (Ok rows) begun listing takes = (
   record { first = line; body = Some takes.0 },
   talked_reply (Some takes.0) begun takes.1.drew takes.1.goes_on takes.1.heard (takes.1.content, takes.1.fit),
@@ -473,12 +582,21 @@ lists_of turn IsThisRow line old mid new (Ok rows) begun listing takes = (
 lists_of turn IsThisRow line old mid new (Err fault) begun listing takes =
     let after = mid.waiting ++ takes.gained in
     let used = flat_map ended takes.used in
-    let cause = cause_of_rows fault turn mid.link new.link (ended line ++ after) after (ended line ++ used) (begins_of after begun) listing takes.cause in
+    let cause = cause_of_rows fault turn mid.link new.link (ended line ++ after) after (ended line ++ used)
+    (begins_of after begun) listing takes.cause in
     inr (inl (not_answered_behind fault used begun takes.drew cause.0 takes.has.whole
-    (omega (arith, takes.has.few, lines_within takes.used takes.has.short, by_listing (λ (t : Turn). most t ≡ line_limit + line_limit * (message_limit + 1)) refl refl turn listing)) cause.1))
+    (omega (
+      arith,
+      takes.has.few,
+      lines_within takes.used takes.has.short,
+      by_listing
+          (λ (t : Turn). most t ≡ line_limit + line_limit * (message_limit + 1)) refl refl turn listing,
+    )) cause.1))
 
 -- both listings were completed
-pub listed : (old mid new : Place) (uids : List UidRow) (sizes : List ScanRow) → ListsRows uidl IsUidLine old (Ok uids) mid → ListsRows list IsScanLine mid (Ok sizes) new → Listed old new uids sizes
+pub listed : (old mid new : Place) (uids : List UidRow) (sizes : List ScanRow)
+    → ListsRows uidl IsUidLine old (Ok uids) mid → ListsRows list IsScanLine mid (Ok sizes) new
+    → Listed old new uids sizes
 listed old mid new uids sizes first second = record {
   first = first.0;
   second = second.0;
@@ -488,27 +606,36 @@ listed old mid new uids sizes first second = record {
 }
 
 -- and joined, or not
-pub lists_joined : (count : ℕ) (old new : Place) (uids : List UidRow) (sizes : List ScanRow) (result : Result (List Item) ClientFault) → Listed old new uids sizes
-    → IfOk result (Joins count uids sizes) → IfErr result (λ fault. ((fault ≡ ListingsDisagree) × (Agree count uids sizes → ⊥)) ⊎ (fault ≡ NoMemory)) → GetsListing count old result new
+pub lists_joined : (count : ℕ) (old new : Place) (uids : List UidRow) (sizes : List ScanRow)
+    (result : Result (List Item) ClientFault) → Listed old new uids sizes
+    → IfOk result (Joins count uids sizes)
+    → IfErr result (λ fault. ((fault ≡ ListingsDisagree) × (Agree count uids sizes → ⊥)) ⊎ (fault ≡ NoMemory))
+    → GetsListing count old result new
 lists_joined count old new uids sizes (Ok items) all ok err = (uids, sizes, all, ok)
 lists_joined count old new uids sizes (Err fault) all ok err = search rules
 
 -- ---- a text
 
 -- a text that has ended was taken whole
-pub fetched : {number : ℕ} {old new : Place} {body : Rest} {text : List ℕ} → Fetching (retr number) old new body text → body.spot ≡ Done → Fetched (retr number) old text new
+pub fetched : {number : ℕ} {old new : Place} {body : Rest} {text : List ℕ} → Fetching (retr number) old new body text
+    → body.spot ≡ Done → Fetched (retr number) old text new
 fetched {new = new} {text = text} now done =
     let is : Body now.under.used text = rw done at now.under.reached in (
       record { first = now.line; body = Some is.lines },
-      talked_reply (Some is.lines) now.opened now.under.drew now.under.goes_on (now.under.heard ∙ ap (λ (b : List ℕ). b ++ new.waiting) is.whole) (is.content, omega (arith, now.under.sizes, ap length is.whole)),
+      talked_reply (Some is.lines) now.opened now.under.drew now.under.goes_on (now.under.heard
+          ∙ ap (λ (b : List ℕ). b ++ new.waiting) is.whole)
+          (is.content, omega (arith, now.under.sizes, ap length is.whole)),
       is.read,
     )
 
 -- the turn broke while its text was being taken
 module _ {number : ℕ} {start mid : Place} {line : List ℕ} (begun : Opened (retr number) line start mid) where
-  pub broke_text : {new : Place} {gained : List ℕ} (fault : ClientFault) (leaves : LeavesRest text_limit mid new) → Drew mid.link new.link gained
-      → (BeginsPositive (ended line ++ (mid.waiting ++ gained)) (mid.waiting ++ gained) → Cause fault (retr number) mid.link new.link (ended line ++ (mid.waiting ++ gained)))
+  pub broke_text : {new : Place} {gained : List ℕ} (fault : ClientFault) (leaves : LeavesRest text_limit mid new)
+      → Drew mid.link new.link gained
+      → (BeginsPositive (ended line ++ (mid.waiting ++ gained)) (mid.waiting ++ gained)
+      → Cause fault (retr number) mid.link new.link (ended line ++ (mid.waiting ++ gained)))
       → TakesRefusal fault (ended line ++ leaves.used) → NotAnswered (retr number) start new fault
   broke_text {new} {gained} fault leaves drew cause takes =
       let same : leaves.gained ≡ gained = append_cancel_left mid.link.got leaves.gained gained (sym leaves.got ∙ drew.got) in
-      not_answered_behind fault leaves.used begun drew (cause (begins_of (mid.waiting ++ gained) begun)) (rw same at leaves.heard) (omega (arith, leaves.within)) takes
+      not_answered_behind fault leaves.used begun drew (cause (begins_of (mid.waiting ++ gained) begun))
+      (rw same at leaves.heard) (omega (arith, leaves.within)) takes

@@ -15,7 +15,8 @@ use Rattle.pop3_client.specs.declared.fault.ClientFault.TheVariants.{ReplyTooLon
 use Rattle.pop3_client.specs.declared.fault.ClientFault.TheVariants.{Refused, BadListing, ListingsDisagree, TooMany}
 use Rattle.pop3_client.specs.declared.fault.ClientFault.TheVariants.{TextTooLong, NoMemory}
 use Rattle.mail_terms.specs.Listing.{message_limit}
-use Rattle.pop3_client.specs.Turns.{Turn, Names, gives_count, retr, line_limit, text_limit, IsShort, IsListing, IsRow}
+use Rattle.pop3_client.specs.Turns.{Turn, Names, gives_count, retr, line_limit, text_limit, IsShort, AsksListing}
+use Rattle.pop3_client.specs.Turns.{IsListingRow}
 
 -- the octets begin with a positive first line, and these follow it
 pub record BeginsPositive (bytes after : List ℕ) : Type 0 where
@@ -28,10 +29,10 @@ pub record BeginsPositive (bytes after : List ℕ) : Type 0 where
 
 -- the octets begin with these rows of a listing, no more than the limit, and these octets follow them
 pub record HasRows (turn : Turn) (bytes after : List ℕ) (lines : List (List ℕ)) : Type 0 where
-  pub listing : IsListing turn
+  pub listing : AsksListing turn
   pub content : AllByRecursion IsContent lines
   pub short : AllByRecursion IsShort lines
-  pub rows : AllByRecursion (IsRow turn) lines
+  pub rows : AllByRecursion (IsListingRow turn) lines
   pub few : length lines ≤ message_limit
   pub whole : bytes ≡ flat_map ended lines ++ after
 
@@ -93,7 +94,7 @@ Cause BadReply turn old new bytes = (line : List ℕ) × FirstLine bytes line
 Cause (Refused to) turn old new bytes = Names to turn
     × ((line rest : List ℕ) × FirstLine bytes line × IsFirstLine line Negative rest)
 Cause BadListing turn old new bytes = (row : List ℕ) × (rows : ℕ) × NextLine turn bytes row rows
-    × (rows < message_limit) × (IsRow turn row → ⊥)
+    × (rows < message_limit) × (IsListingRow turn row → ⊥)
 Cause ListingsDisagree turn old new bytes = ⊥
 Cause TooMany turn old new bytes =
     ((gives_count turn ≡ true) × ((line rest : List ℕ) × (count size : ℕ) × FirstLine bytes line
@@ -103,4 +104,4 @@ Cause TextTooLong turn old new bytes = ((number : ℕ) × (turn ≡ retr number)
     × ((after : List ℕ) × BeginsPositive bytes after
     × HasNoBody (take text_limit after) × (text_limit ≤ length after))
 Cause NoMemory turn old new bytes = (row : List ℕ) × (rows : ℕ) × NextLine turn bytes row rows
-    × (rows < message_limit) × IsRow turn row
+    × (rows < message_limit) × IsListingRow turn row

@@ -5,7 +5,7 @@ use Rattle.pop3_wire.specs.Link.{Link, CountsRefusal, WhereSound}
 use Rattle.pop3_wire.specs.Place.{Place, at}
 use Rattle.pop3_client.specs.declared.client.Client.{Client}
 use Rattle.pop3_client.specs.declared.fault.ClientFault.{ClientFault}
-use Rattle.pop3_client.specs.Conversation.{is_refusal}
+use Rattle.pop3_client.specs.Conversation.{is_link_refusal}
 
 -- the link, and the octets of it that wait to be used
 abbrev pub place_of : {W : Type 0} → Ghosts W → Client W → Place
@@ -21,7 +21,7 @@ HasSameLink old new = new.wire.ghost_name ≡ old.wire.ghost_name
 
 -- the failure count of its link rises by one, up to its greatest value, if a call was refused, and stays otherwise
 abbrev pub CountsRefusals : {W T : Type 0} → Ghosts W → Client W → Result T ClientFault → Client W → Type 0
-CountsRefusals link old result new = CountsRefusal is_refusal (link.history old.wire.now) result
+CountsRefusals link old result new = CountsRefusal is_link_refusal (link.history old.wire.now) result
     (link.history new.wire.now)
 
 -- what is known of a call if the link is sound after it: it was sound before, the old link leads to the new

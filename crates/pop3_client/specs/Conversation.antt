@@ -215,7 +215,7 @@ GivesFew line (Err TooMany) = (rest : List ℕ) × (count size : ℕ) × IsFirst
 GivesFew line (Err _) = ⊥
 
 -- whether a fault is a refused call of the link
-abbrev pub is_refusal : ClientFault → Bool
-is_refusal ReadFailed = true
-is_refusal WriteFailed = true
-is_refusal _ = false
+abbrev pub is_link_refusal : ClientFault → Bool
+is_link_refusal ReadFailed = true
+is_link_refusal WriteFailed = true
+is_link_refusal _ = false

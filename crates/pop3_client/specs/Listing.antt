@@ -11,7 +11,7 @@ use Rattle.mail_terms.specs.declared.listing.ScanRow.{ScanRow}
 use Rattle.pop3_client.specs.declared.fault.ClientFault.{ClientFault}
 use Rattle.pop3_client.specs.declared.fault.ClientFault.TheVariants.{ConnectionEnded, ReadFailed, ReplyTooLong}
 use Rattle.pop3_client.specs.declared.fault.ClientFault.TheVariants.{BadListing, ListingsDisagree, TooMany, NoMemory}
-use Rattle.pop3_client.specs.Turns.{Turn, uidl, list, IsRow, LinesFit}
+use Rattle.pop3_client.specs.Turns.{Turn, uidl, list, IsListingRow, LinesFit}
 use Rattle.pop3_client.specs.Causes.{IsPartOfListing, HasRows, IsOverlong, RowBehind}
 use Rattle.pop3_client.specs.Conversation.{Talked, Stopped, Broke}
 
@@ -36,9 +36,9 @@ GetsListing count old (Err fault) new = Stopped (uidl ∷ list ∷ []) old new f
 -- ---- the parts of a listing
 
 -- the rows that a call returned
-abbrev pub rows_in : {S R E : Type 0} → (S → List R) → Result S E → Result (List R) E
-rows_in rows (Ok taken) = Ok (rows taken)
-rows_in rows (Err fault) = Err fault
+abbrev pub rows_taken : {S R E : Type 0} → (S → List R) → Result S E → Result (List R) E
+rows_taken rows (Ok taken) = Ok (rows taken)
+rows_taken rows (Err fault) = Err fault
 
 -- why a listing isn't good, given the octets after its first line
 abbrev pub RowsCause : ClientFault → Turn → Link → Link → List ℕ → Type 0
@@ -47,10 +47,10 @@ RowsCause ReadFailed turn old new after = (old.failures < new.failures) × IsPar
 RowsCause ReplyTooLong turn old new after = (behind : List ℕ) × (lines : List (List ℕ))
     × HasRows turn after behind lines × IsOverlong behind
 RowsCause BadListing turn old new after = (row : List ℕ) × (rows : ℕ) × RowBehind turn after row rows
-    × (rows < message_limit) × (IsRow turn row → ⊥)
+    × (rows < message_limit) × (IsListingRow turn row → ⊥)
 RowsCause TooMany turn old new after = (row : List ℕ) × RowBehind turn after row message_limit
 RowsCause NoMemory turn old new after = (row : List ℕ) × (rows : ℕ) × RowBehind turn after row rows
-    × (rows < message_limit) × IsRow turn row
+    × (rows < message_limit) × IsListingRow turn row
 RowsCause _ turn old new after = ⊥
 
 -- the lines of a listing were taken, its end mark included

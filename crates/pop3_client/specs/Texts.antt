@@ -30,9 +30,9 @@ pub record Fetching (turn : Turn) (old new : Place) (body : Rest) (text : List �
   pub under : UnderWay text_limit mid new body text
 
 -- a text was asked for, and can be taken; or its turn broke
-abbrev pub Opens : Turn → Place → Result Rest ClientFault → Place → Type 0
-Opens turn old (Ok body) new = Fetching turn old new body []
-Opens turn old (Err fault) new = Broke turn old new fault
+abbrev pub OpensText : Turn → Place → Result Rest ClientFault → Place → Type 0
+OpensText turn old (Ok body) new = Fetching turn old new body []
+OpensText turn old (Err fault) new = Broke turn old new fault
 
 -- a piece was taken of what was left of a body: what it adds to the text is in the buffer, it says whether the body has
 -- ended, and if it hasn't, less is left

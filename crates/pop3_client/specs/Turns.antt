@@ -108,21 +108,21 @@ Fits turn rest = gives_count turn ≡ true → (count size : ℕ) × (number_and
     × (count ≤ message_limit)
 
 -- a listing is asked for
-abbrev pub IsListing : Turn → Type 0
-IsListing turn = (turn ≡ uidl) ⊎ (turn ≡ list)
+abbrev pub AsksListing : Turn → Type 0
+AsksListing turn = (turn ≡ uidl) ⊎ (turn ≡ list)
 
 -- a line of a listing stands for a row
-abbrev pub IsRow : Turn → List ℕ → Type 0
-IsRow (Some UidlAll) line = IsOk (number_and_id (unstuffed line))
-IsRow (Some ListAll) line = IsOk (number_and_size (unstuffed line))
-IsRow _ line = ⊥
+abbrev pub IsListingRow : Turn → List ℕ → Type 0
+IsListingRow (Some UidlAll) line = IsOk (number_and_id (unstuffed line))
+IsListingRow (Some ListAll) line = IsOk (number_and_size (unstuffed line))
+IsListingRow _ line = ⊥
 
 -- what the lines of a body have to be
 abbrev pub LinesFit : Turn → List (List ℕ) → Type 0
 LinesFit (Some UidlAll) lines = (length lines ≤ message_limit) × AllByRecursion IsShort lines
-    × AllByRecursion (IsRow uidl) lines
+    × AllByRecursion (IsListingRow uidl) lines
 LinesFit (Some ListAll) lines = (length lines ≤ message_limit) × AllByRecursion IsShort lines
-    × AllByRecursion (IsRow list) lines
+    × AllByRecursion (IsListingRow list) lines
 LinesFit (Some (Retr number)) lines = length (body_of lines) ≤ text_limit
 LinesFit _ lines = ⊥
 

@@ -3,7 +3,7 @@ ghost use Rattle.std.specs.Prelude.{◌≡◌, ◌≤◌, ◌⊎◌, All, IfOk, 
 ghost use Rattle.mail_terms.specs.Listing.{Agree, Joins, message_limit};
 ghost use Rattle.mail_terms.specs.UniqueId.{IsLegalId};
 ghost use Rattle.pop3_client.specs.Client.{HasSameLink, CountsRefusals, WhereLinkSound};
-ghost use Rattle.pop3_client.specs.Listing.{rows_in, TakesRows, ListsRows, GetsListing};
+ghost use Rattle.pop3_client.specs.Listing.{rows_taken, TakesRows, ListsRows, GetsListing};
 
 use crate::client::Client;
 use crate::fault::ClientFault;
@@ -41,7 +41,7 @@ impl<'a, W: Wire> Client<'a, W> {
         ensures link { HasSameLink self.old self.new }
         ensures counted { CountsRefusals W.Wire self.old result self.new }
         ensures takes { WhereLinkSound W.Wire self.old self.new
-            (λ old new. TakesRows R.turn R.stands_for old (rows_in R.rows result) new) }
+            (λ old new. TakesRows R.turn R.stands_for old (rows_taken R.rows result) new) }
     {
         let mut rows = R::no_rows(alloc);
         'rows: loop {
@@ -63,7 +63,7 @@ impl<'a, W: Wire> Client<'a, W> {
         ensures link { HasSameLink self.old self.new }
         ensures counted { CountsRefusals W.Wire self.old result self.new }
         ensures lists { WhereLinkSound W.Wire self.old self.new
-            (λ old new. ListsRows R.turn R.stands_for old (rows_in R.rows result) new) }
+            (λ old new. ListsRows R.turn R.stands_for old (rows_taken R.rows result) new) }
     {
         self.ask(R::asked(), R::command())?;
         self.rows(alloc)

@@ -4,7 +4,7 @@ ghost use Rattle.std.proofs.Common.{inl, inr, refl, ap, is_ok};
 ghost use Rattle.mail_terms.specs.Listing.{UidRow, message_limit};
 ghost use Rattle.mail_terms.specs.declared.listing.ScanRow.{ScanRow as SizeRow};
 ghost use Rattle.pop3_wire.specs.Reading.{IsScanLine, IsUidLine};
-ghost use Rattle.pop3_client.specs.Turns.{Turn, IsListing, IsRow, Names, list, turn_bytes, uidl};
+ghost use Rattle.pop3_client.specs.Turns.{Turn, AsksListing, IsListingRow, Names, list, turn_bytes, uidl};
 
 use crate::fault::{Asked, ClientFault};
 use mail_terms::{ScanRow, UidRows};
@@ -47,13 +47,13 @@ pub(crate) trait ListedRows: Drop {
         requires { length (rows self.old) < message_limit }
         ensures ok { IfOk result
             (λ _. (row : Row) × stands_for line.now row × (rows self.new ≡ rows self.old ++ row ∷ [])) }
-        ensures err { IfErr result (λ fault. ((fault ≡ ClientFault.NoMemory) × IsRow turn line.now)
-            ⊎ ((fault ≡ ClientFault.BadListing) × (IsRow turn line.now → ⊥))) };
+        ensures err { IfErr result (λ fault. ((fault ≡ ClientFault.NoMemory) × IsListingRow turn line.now)
+            ⊎ ((fault ≡ ClientFault.BadListing) × (IsListingRow turn line.now → ⊥))) };
 
     // The turn asks for a listing, and a line that stands for a row is one of its rows.
-    ghost is_listing: { IsListing turn };
+    ghost is_listing: { AsksListing turn };
 
-    ghost is_row: { (line : List ℕ) (row : Row) → stands_for line row → IsRow turn line };
+    ghost is_row: { (line : List ℕ) (row : Row) → stands_for line row → IsListingRow turn line };
 }
 
 impl ListedRows for UidRows {

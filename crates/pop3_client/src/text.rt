@@ -4,7 +4,7 @@ ghost use Rattle.pop3_wire.specs.declared.unstuffer.Spot.TheVariants.{Done};
 ghost use Rattle.pop3_wire.specs.Place.{Place};
 ghost use Rattle.pop3_client.specs.Client.{HasSameLink, CountsRefusals, WhereLinkSound, place_of};
 ghost use Rattle.pop3_client.specs.Turns.{retr, text_limit};
-ghost use Rattle.pop3_client.specs.Texts.{Fetching, Opens, TookPiece, FetchesPiece, TakesRest};
+ghost use Rattle.pop3_client.specs.Texts.{Fetching, OpensText, TookPiece, FetchesPiece, TakesRest};
 
 use crate::client::Client;
 use crate::fault::{Asked, ClientFault};
@@ -23,7 +23,7 @@ impl<'a, W: Wire> Client<'a, W> {
         ensures counted { CountsRefusals W.Wire self.old result self.new }
         ensures open { IfOk result (λ body. body.spot ≢ Done) }
         ensures within { IfOk result (λ body. body.left ≤ text_limit) }
-        ensures opens { WhereLinkSound W.Wire self.old self.new (λ old new. Opens (retr number) old result new) }
+        ensures opens { WhereLinkSound W.Wire self.old self.new (λ old new. OpensText (retr number) old result new) }
     {
         let line = command_line(alloc, &Command::Retr(number))?;
         self.ask(Asked::Retr(number), &line)?;

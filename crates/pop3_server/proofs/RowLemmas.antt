@@ -1,15 +1,17 @@
 -- Rows, marked and unmarked.
-use Rattle.std.proofs.Common.{◌≡◌, ℕ, zero, suc, ◌<◌, ◌≤◌, Bool, true, List, [], ◌∷◌, ◌++◌, map, length, get_or, slice_set, refl, ap, arith, All}
+use Rattle.std.proofs.Common.{◌≡◌, ℕ, zero, suc, ◌<◌, ◌≤◌, Bool, true, List, [], ◌∷◌, ◌++◌, map, length, get_or}
+use Rattle.std.proofs.Common.{slice_set, refl, ap, arith, All}
 use Rattle.pop3_server.specs.declared.rows.MessageRow.{MessageRow}
 use Rattle.std.proofs.lemmas.List.Elements.{All-push}
 use Rattle.pop3_wire.specs.World.{Message}
-use Rattle.pop3_server.specs.Maildrop.{entry_of, max_size}
-use Rattle.pop3_server.specs.ServerMachine.{marked, unmarked, mark_at, IsSmall, SamePlaces}
+use Rattle.pop3_server.specs.Maildrop.{listed_message, max_size}
+use Rattle.pop3_server.specs.ServerMachine.{with_mark, unmarked, mark_at, IsSmall, SamePlaces}
 
 -- a row that is written back with its mark
-pub set_mark : (rows : List MessageRow) (i : ℕ) (row : MessageRow) → row ≡ get_or rows i row → i < length rows → slice_set rows i (record { entry = row.entry; marked = true }) ≡ mark_at rows i
+pub set_mark : (rows : List MessageRow) (i : ℕ) (row : MessageRow) → row ≡ get_or rows i row → i < length rows
+    → slice_set rows i (record { entry = row.entry; marked = true }) ≡ mark_at rows i
 set_mark [] i row is fits = absurd (omega arith)
-set_mark (first ∷ rows) zero row is fits = ap (λ (r : MessageRow). marked r ∷ rows) is
+set_mark (first ∷ rows) zero row is fits = ap (λ (r : MessageRow). with_mark r ∷ rows) is
 set_mark (first ∷ rows) (suc i) row is fits = ap (λ l. first ∷ l) (set_mark rows i row is (omega arith))
 
 pub same_rows : (rows : List MessageRow) → SamePlaces rows rows
@@ -34,7 +36,7 @@ small_push rows row all small = All-push IsSmall rows row all small
 
 -- the rows of messages with their marks
 abbrev pub row_with : Message → Bool → MessageRow
-row_with message mark = record { entry = entry_of message; marked = mark }
+row_with message mark = record { entry = listed_message message; marked = mark }
 
 abbrev pub rows_with : List Message → List Bool → List MessageRow
 rows_with [] marks = []

@@ -1,12 +1,15 @@
 -- How far a server that serves a link has come, and why it ends.
 use Rattle.pop3_wire.specs.Link.{Link}
-use Rattle.std.proofs.Common.{Bool, true, ◌⊎◌, Ok, ◌≡◌, ◌<◌, ◌≤◌, ◌+◌, ℕ, zero, suc, List, [], ◌∷◌, ◌++◌, length, take, drop, refl, sym, ap, subst, ◌∙◌, arith, append_assoc, length-append, length-take-le, take-append-drop, take_all, append-nil, length-drop, inl, inr, false, Option, Some, Result, Err, codes}
+use Rattle.std.proofs.Common.{Bool, true, ◌⊎◌, Ok, ◌≡◌, ◌<◌, ◌≤◌, ◌+◌, ℕ, zero, suc, List, [], ◌∷◌, ◌++◌, length, take}
+use Rattle.std.proofs.Common.{drop, refl, sym, ap, subst, ◌∙◌, arith, append_assoc, length-append, length-take-le}
+use Rattle.std.proofs.Common.{take-append-drop, take_all, append-nil, length-drop, inl, inr, false, Option, Some}
+use Rattle.std.proofs.Common.{Result, Err, codes}
 use Rattle.std.proofs.lemmas.List.{nil_from_length, take-append-le}
 use Rattle.std.proofs.Math.Seq.{take-add}
 use Rattle.pop3_wire.specs.Line.{crlf, IsLine, ended}
 use Rattle.pop3_wire.specs.Place.{HasLine, HasNoLine}
 use Rattle.pop3_server.specs.Got.{Waiting}
-use Rattle.pop3_server.specs.Serving.{Hears, Queues, LastSent, SendsAnswer, Served, WentOut}
+use Rattle.pop3_server.specs.Serving.{Hears, Queues, LastSent, SendsAnswer, ServedLines, WentOut}
 use Rattle.pop3_server.specs.declared.intake.NextLine.TheVariants.{LongLine, End, Line}
 use Rattle.pop3_wire.specs.Bodies.{Drew}
 use Rattle.std.specs.List.{flat_map, AllByRecursion}
@@ -16,8 +19,8 @@ use Rattle.pop3_wire.specs.CommandLine.{command_of}
 use Rattle.pop3_server.specs.declared.fault.ServerFault.{ServerFault}
 use Rattle.pop3_server.specs.declared.fault.ServerFault.TheVariants.{ReadFailed, WriteFailed, MaildropFailed, NoMemory}
 use Rattle.pop3_server.specs.declared.text_part.TextBody.{TextBody}
-use Rattle.pop3_server.specs.Maildrop.{Mail}
-use Rattle.pop3_server.specs.ServerMachine.{Machine, greeting, said, is_open}
+use Rattle.pop3_server.specs.Maildrop.{DropMail}
+use Rattle.pop3_server.specs.ServerMachine.{Machine, greeting_line, said, is_open}
 use Rattle.pop3_server.specs.RunLaws.{lines_on, runs_on}
 use Rattle.pop3_server.specs.AnswersLines.{AnswersLines, AnswersLine, MakesAnswer}
 use Rattle.std.proofs.lemmas.Grind.{flat_map-append}
@@ -26,16 +29,19 @@ use Rattle.pop3_wire.proofs.BodyLemmas.{IsLine-front, IsLine-back}
 -- ---- octets that are dropped in pieces and make one line
 
 -- two pieces that share an octet are a line if both are
-no_split : (part back : List ℕ) (b : ℕ) → IsLine (part ++ b ∷ []) → IsLine (b ∷ back) → (front rest : List ℕ) → part ++ b ∷ back ≡ front ++ (crlf ++ rest) → ⊥
+no_split : (part back : List ℕ) (b : ℕ) → IsLine (part ++ b ∷ []) → IsLine (b ∷ back) → (front rest : List ℕ)
+    → part ++ b ∷ back ≡ front ++ (crlf ++ rest) → ⊥
 no_split [] back b first second front rest e = second front rest e
 no_split (p ∷ []) back b first second [] rest e = first [] [] (cc)
 no_split (p ∷ q ∷ ps) back b first second [] rest e = first [] (ps ++ b ∷ []) (cc)
-no_split (p ∷ ps) back b first second (f ∷ front) rest e = no_split ps back b (IsLine-back (p ∷ []) (ps ++ b ∷ []) first) second front rest (cc)
+no_split (p ∷ ps) back b first second (f ∷ front) rest e =
+    no_split ps back b (IsLine-back (p ∷ []) (ps ++ b ∷ []) first) second front rest (cc)
 
 pub spliced : (part octets : List ℕ) (n : ℕ) → IsLine (part ++ take 1 octets) → IsLine (take n octets) → IsLine (part ++ take n octets)
 spliced part [] zero first second = first
 spliced part [] (suc n) first second = first
-spliced part (b ∷ octets) zero first second = IsLine-front (part ++ []) (b ∷ []) (subst IsLine (ap (λ (l : List ℕ). l ++ b ∷ []) (sym (append-nil part))) first)
+spliced part (b ∷ octets) zero first second =
+    IsLine-front (part ++ []) (b ∷ []) (subst IsLine (ap (λ (l : List ℕ). l ++ b ∷ []) (sym (append-nil part))) first)
 spliced part (b ∷ octets) (suc n) first second = no_split part (take n octets) b first second
 
 -- what was got, and waits behind what waited, except for this part in front
@@ -43,7 +49,8 @@ abbrev pub Waits : Waiting → Link → List ℕ → Waiting → Link → Type 0
 Waits before from part now to = (gained : List ℕ) × Drew from to gained × Queues before part now gained
 
 -- more came
-pub waits_more : {before now after : Waiting} {from to next : Link} {part piece : List ℕ} → Waits before from part now to → Drew to next piece
+pub waits_more : {before now after : Waiting} {from to next : Link} {part piece : List ℕ}
+    → Waits before from part now to → Drew to next piece
     → after.octets ≡ now.octets ++ piece → length piece + after.left ≡ now.left → Waits before from part after next
 waits_more {before} {now} {from = from} {part = part} {piece = piece} (gained, drew, takes) more octets left = (
   gained ++ piece,
@@ -55,8 +62,10 @@ waits_more {before} {now} {from = from} {part = part} {piece = piece} (gained, d
 )
 
 -- nothing more came, and what waits has no line's end
-pub waits_end : {before now after : Waiting} {from to next : Link} {part piece : List ℕ} → Waits before from part now to → IsLine (part ++ now.octets) → Drew to next piece
-    → after.octets ≡ now.octets ++ piece → length piece + after.left ≡ now.left → length piece ≡ 0 → (next.ended ≡ true) ⊎ (after.left ≡ 0) → Hears from before (Ok End) next after
+pub waits_end : {before now after : Waiting} {from to next : Link} {part piece : List ℕ} → Waits before from part now to
+    → IsLine (part ++ now.octets) → Drew to next piece
+    → after.octets ≡ now.octets ++ piece → length piece + after.left ≡ now.left → length piece ≡ 0 → (next.ended ≡ true)
+    ⊎ (after.left ≡ 0) → Hears from before (Ok End) next after
 waits_end {part = part} {piece = piece} waits line more octets left none why =
     let all = waits_more waits more octets left in
     (all.0, part, all.1, all.2, rw (octets, nil_from_length piece none, append-nil) line, why)
@@ -122,7 +131,8 @@ module _ (before now : Waiting) (from to : Link) where
   reads_long false waits none long = drops_first waits none long
   reads_long true d none long = drops_more d none long
 
-  module _ (after : Waiting) {next : Link} {piece : List ℕ} (more : Drew to next piece) (octets : after.octets ≡ now.octets ++ piece) (left : length piece + after.left ≡ now.left) where
+  module _ (after : Waiting) {next : Link} {piece : List ℕ} (more : Drew to next piece)
+      (octets : after.octets ≡ now.octets ++ piece) (left : length piece + after.left ≡ now.left) where
     pub reads_more : (is_long : Bool) → Reading is_long before from now to → Reading is_long before from after next
     reads_more false waits = waits_more waits more octets left
     reads_more true d = drops_on d more octets left
@@ -130,12 +140,14 @@ module _ (before now : Waiting) (from to : Link) where
     -- nothing more came
     pub reads_end : (is_long : Bool) → Reading is_long before from now to → HasNoLine 512 now.octets → length now.octets < 512
         → length piece ≡ 0 → (next.ended ≡ true) ⊎ (after.left ≡ 0) → Hears from before (Ok End) next after
-    reads_end false waits none short = waits_end {part = []} waits (rw (take_all 512 now.octets (omega arith)) at none.none) more octets left
+    reads_end false waits none short =
+        waits_end {part = []} waits (rw (take_all 512 now.octets (omega arith)) at none.none) more octets left
     reads_end true d none short =
         waits_end d.waits (rw (take_all 512 now.octets (omega arith)) at (spliced d.part now.octets 512 d.line none.none)) more octets left
 
     -- the link refused to read
-    pub reads_cut : (is_long : Bool) → Reading is_long before from now to → (gained dropped : List ℕ) × Drew from next gained × Queues before dropped after gained
+    pub reads_cut : (is_long : Bool) → Reading is_long before from now to → (gained dropped : List ℕ)
+        × Drew from next gained × Queues before dropped after gained
     reads_cut false waits = let all = waits_more waits more octets left in (all.0, [], all.1, all.2)
     reads_cut true d = let all = waits_more d.waits more octets left in (all.0, d.part, all.1, all.2)
 
@@ -150,11 +162,12 @@ pub record Came (before after : List ℕ) (lines : List (List ℕ)) (rest : List
   pub all : length gained + left ≡ 16777216
 
 -- the greeting and the answers to all lines that came whole were sent
-pub record Progress {D : Type 0} (sound : D → Type 0) (mail : D → Mail) (old : Machine D) (before : Link) (server : Machine D) (link : Link) (waiting : Waiting) : Type 0 where
+pub record Progress {D : Type 0} (sound : D → Type 0) (mail : D
+    → DropMail) (old : Machine D) (before : Link) (server : Machine D) (link : Link) (waiting : Waiting) : Type 0 where
   pub lines : List (List ℕ)
   pub answers : List ℕ
   pub came : Came before.got link.got lines waiting.octets waiting.left
-  pub sent : link.sent ≡ before.sent ++ (greeting ++ answers)
+  pub sent : link.sent ≡ before.sent ++ (greeting_line ++ answers)
   pub run : AnswersLines sound mail old lines answers server
 
 -- a line came behind what waited
@@ -165,7 +178,8 @@ pub record LineCame (waiting after : Waiting) (link taken : Link) (line : List �
   pub is : IsLine line
 
 -- a line that waits, and what is left after it
-pub line_came : {before mid after : Waiting} {link taken : Link} {seen : List ℕ} {n : ℕ} → Hears link before (Ok (Line n)) taken mid → seen ≡ mid.octets
+pub line_came : {before mid after : Waiting} {link taken : Link} {seen : List ℕ} {n : ℕ}
+    → Hears link before (Ok (Line n)) taken mid → seen ≡ mid.octets
     → after ≡ record { octets = drop (n + 2) mid.octets; left = mid.left } → LineCame before after link taken (take n seen)
 line_came {mid = mid} {n = n} (gained, took, takes, has) same is = rw (is, same) (record {
   gained = gained;
@@ -178,7 +192,8 @@ came_none : (got : List ℕ) → Came got got [] [] 16777216
 came_none got = record { gained = []; got = sym (append-nil got); each = tt; heard = refl; all = refl }
 
 -- more came, of which this was dropped in front
-came_on : {before : List ℕ} {link taken : Link} {lines : List (List ℕ)} {waiting after : Waiting} {dropped gained : List ℕ} → Came before link.got lines waiting.octets waiting.left
+came_on : {before : List ℕ} {link taken : Link} {lines : List (List ℕ)} {waiting after : Waiting}
+    {dropped gained : List ℕ} → Came before link.got lines waiting.octets waiting.left
     → Drew link taken gained → Queues waiting dropped after gained → Came before taken.got lines (dropped ++ after.octets) after.left
 came_on {gained = gained} came took takes = record {
   gained = came.gained ++ gained;
@@ -189,18 +204,30 @@ came_on {gained = gained} came took takes = record {
 }
 
 -- a run of one line
-pub run_one : {D : Type 0} (sound : D → Type 0) (mail : D → Mail) (a b : Machine D) (line answer : List ℕ) → AnswersLine sound mail a line answer b → AnswersLines sound mail a (line ∷ []) answer b
+pub run_one : {D : Type 0} (sound : D → Type 0) (mail : D → DropMail) (a b : Machine D) (line answer : List ℕ)
+    → AnswersLine sound mail a line answer b → AnswersLines sound mail a (line ∷ []) answer b
 run_one sound mail a b line answer turn = (answer, [], b, sym (append-nil answer), turn, (refl, refl))
 
-module _ {D : Type 0} (sound : D → Type 0) (mail : D → Mail) (old : Machine D) (before : Link) where
+module _ {D : Type 0} (sound : D → Type 0) (mail : D → DropMail) (old : Machine D) (before : Link) where
   -- the greeting was sent
-  pub greeted : (server : Machine D) (link : Link) (waiting : Waiting) (hello : List ℕ) → server ≡ old → hello ≡ greeting
-      → link ≡ record before { sent = before.sent ++ hello } → waiting ≡ record { octets = []; left = 16777216 } → Progress sound mail old before server link waiting
-  greeted server link waiting hello same is sends starts = rw (same, sends, is, starts) (record { lines = []; answers = []; came = came_none before.got; sent = refl; run = (refl, refl) })
+  pub greeted : (server : Machine D) (link : Link) (waiting : Waiting) (hello : List ℕ) → server ≡ old → hello ≡ greeting_line
+      → link ≡ record before { sent = before.sent ++ hello } → waiting ≡ record { octets = []; left = 16777216 }
+      → Progress sound mail old before server link waiting
+  greeted server link waiting hello same is sends starts =
+      rw (same, sends, is, starts) (record {
+        lines = [];
+        answers = [];
+        came = came_none before.got;
+        sent =
+            refl;
+        run = (refl, refl);
+      })
 
-  served : {lines : List (List ℕ)} {rest : List ℕ} {left : ℕ} {result : Result (Unit {0}) ServerFault} {next : Machine D} {link : Link} (out : List ℕ) → Came before.got link.got lines rest left
+  served : {lines : List (List ℕ)} {rest : List ℕ} {left : ℕ} {result : Result (Unit {0}) ServerFault}
+      {next : Machine D} {link : Link} (out : List ℕ) → Came before.got link.got lines rest left
       → link.sent ≡ before.sent ++ out → WentOut sound mail old lines rest out result next
-      → (result ≡ Ok tt → (is_open next.state ≡ false) ⊎ ((link.ended ≡ true) ⊎ (left ≡ 0))) → Served sound mail old before result next link
+      → (result ≡ Ok tt → (is_open next.state ≡ false) ⊎ ((link.ended ≡ true) ⊎ (left ≡ 0)))
+      → ServedLines sound mail old before result next link
   served {lines} {rest} out came sent answered ends = record {
     gained = came.gained;
     got = came.got;
@@ -220,17 +247,23 @@ module _ {D : Type 0} (sound : D → Type 0) (mail : D → Mail) (old : Machine 
   }
 
   -- memory ran out for the greeting, or it was sent in part
-  pub served_unmade : (server : Machine D) → server ≡ old → Served sound mail old before (Err NoMemory) server before
+  pub served_unmade : (server : Machine D) → server ≡ old → ServedLines sound mail old before (Err NoMemory) server before
   served_unmade server same = served [] (came_none before.got) (sym (append-nil before.sent)) (inl (refl, refl, same)) (λ e. cc)
 
-  pub served_ungreeted : (server : Machine D) (link : Link) (hello front rest : List ℕ) → server ≡ old → hello ≡ greeting → hello ≡ front ++ rest
-      → link ≡ record before { sent = before.sent ++ front; failures = before.failures + 1 } → Served sound mail old before (Err WriteFailed) server link
-  served_ungreeted server link hello front rest same is part sends = rw sends (served front (came_none before.got) refl (inl (rest, sym is ∙ part, refl, same)) (λ e. cc))
+  pub served_ungreeted : (server : Machine D) (link : Link) (hello front rest : List ℕ) → server ≡ old
+      → hello ≡ greeting_line → hello ≡ front ++ rest
+      → link ≡ record before { sent = before.sent ++ front; failures = before.failures + 1 }
+      → ServedLines sound mail old before (Err WriteFailed) server link
+  served_ungreeted server link hello front rest same is part sends =
+      rw sends (served front (came_none before.got) refl (inl (rest, sym is ∙ part, refl, same)) (λ e. cc))
 
-module _ {D : Type 0} {sound : D → Type 0} {mail : D → Mail} {old server : Machine D} {before link : Link} {waiting : Waiting} (p : Progress sound mail old before server link waiting) where
+module _ {D : Type 0} {sound : D → Type 0} {mail : D
+    → DropMail} {old server : Machine D} {before link : Link} {waiting : Waiting}
+    (p : Progress sound mail old before server link waiting) where
   -- the session is over
-  pub served_closed : is_open server.state ≡ false → Served sound mail old before (Ok tt) server link
-  served_closed closed = served sound mail old before (greeting ++ p.answers) p.came p.sent ((p.answers, p.run, refl), inl closed) (λ _. inl closed)
+  pub served_closed : is_open server.state ≡ false → ServedLines sound mail old before (Ok tt) server link
+  served_closed closed = served sound mail old before (greeting_line ++ p.answers) p.came p.sent
+      ((p.answers, p.run, refl), inl closed) (λ _. inl closed)
 
   module _ {taken : Link} {after : Waiting} {line : List ℕ} (more : LineCame waiting after link taken line) where
     came : Came before.got taken.got (p.lines ++ line ∷ []) after.octets after.left
@@ -243,7 +276,8 @@ module _ {D : Type 0} {sound : D → Type 0} {mail : D → Mail} {old server : M
     }
 
     -- the line was answered
-    pub progress_line : (next : Machine D) (sent : Link) (answer : List ℕ) → AnswersLine sound mail server line answer next → sent ≡ record taken { sent = taken.sent ++ answer }
+    pub progress_line : (next : Machine D) (sent : Link) (answer : List ℕ)
+        → AnswersLine sound mail server line answer next → sent ≡ record taken { sent = taken.sent ++ answer }
         → Progress sound mail old before next sent after
     progress_line next sent answer turn sends = rw sends (record {
       lines = p.lines ++ line ∷ [];
@@ -254,16 +288,20 @@ module _ {D : Type 0} {sound : D → Type 0} {mail : D → Mail} {old server : M
     })
 
     -- this much of its answer was sent before a fault
-    served_last : {next : Machine D} {fault : ServerFault} (front : List ℕ) (count : ℕ) → WentOut sound mail old (p.lines ++ line ∷ []) after.octets ((greeting ++ p.answers) ++ front) (Err fault) next
-        → Served sound mail old before (Err fault) next (record taken { sent = taken.sent ++ front; failures = count })
-    served_last front count answered = served sound mail old before ((greeting ++ p.answers) ++ front) came (simp (more.took.sent, p.sent, append_assoc)) answered (λ e. cc)
+    served_last : {next : Machine D} {fault : ServerFault} (front : List ℕ) (count : ℕ)
+        → WentOut sound mail old (p.lines ++ line ∷ []) after.octets
+        ((greeting_line ++ p.answers) ++ front) (Err fault) next
+        → ServedLines sound mail old before (Err fault) next (record taken { sent = taken.sent ++ front; failures = count })
+    served_last front count answered = served sound mail old before ((greeting_line ++ p.answers) ++ front) came
+        (simp (more.took.sent, p.sent, append_assoc)) answered (λ e. cc)
 
-    last_sent : {next : Machine D} (front unsent : List ℕ) (text : Option TextBody) → MakesAnswer sound mail server line (front ++ unsent) text next
-        → LastSent sound mail old (p.lines ++ line ∷ []) ((greeting ++ p.answers) ++ front) unsent text next
+    last_sent : {next : Machine D} (front unsent : List ℕ) (text : Option TextBody)
+        → MakesAnswer sound mail server line (front ++ unsent) text next
+        → LastSent sound mail old (p.lines ++ line ∷ []) ((greeting_line ++ p.answers) ++ front) unsent text next
     last_sent front unsent text makes = record {
       before = p.lines;
       line = line;
-      whole = greeting ++ p.answers;
+      whole = greeting_line ++ p.answers;
       front = front;
       mid = server;
       each = refl;
@@ -273,20 +311,25 @@ module _ {D : Type 0} {sound : D → Type 0} {mail : D → Mail} {old server : M
     }
 
     -- its answer met a fault
-    pub served_stopped : (next : Machine D) (sent : Link) (fault : ServerFault) → SendsAnswer sound mail server line taken (Err fault) next sent → Served sound mail old before (Err fault) next sent
+    pub served_stopped : (next : Machine D) (sent : Link) (fault : ServerFault)
+        → SendsAnswer sound mail server line taken (Err fault) next sent
+        → ServedLines sound mail old before (Err fault) next sent
     served_stopped next sent ReadFailed went = absurd went
-    served_stopped next sent WriteFailed (front, unsent, text, makes, sends) = rw sends (served_last front (taken.failures + 1) (inr (unsent, text, last_sent front unsent text makes)))
+    served_stopped next sent WriteFailed (front, unsent, text, makes, sends) =
+        rw sends (served_last front (taken.failures + 1) (inr (unsent, text, last_sent front unsent text makes)))
     served_stopped next sent MaildropFailed (made, text, last, makes, refuses, sends) =
         rw sends (served_last made taken.failures (text, last, last_sent made [] (Some text) (rw append-nil makes), refuses))
     served_stopped next sent NoMemory (same, none) =
-        rw none (served sound mail old before (greeting ++ p.answers) (came_on p.came more.took more.takes) (more.took.sent ∙ p.sent) (inr (server, (p.answers, p.run, refl), same)) (λ e. cc))
+        rw none (served sound mail old before (greeting_line ++ p.answers) (came_on p.came more.took more.takes)
+        (more.took.sent ∙ p.sent) (inr (server, (p.answers, p.run, refl), same)) (λ e. cc))
 
 long_command : (line : List ℕ) → 510 < length line → command_of line ≡ Err BadCommand
 unfolding command_of
 long_command line long = cond-true _ _ _ (lt-ltb 510 (length line) long)
 
 -- a line that is too long is no command, and changes nothing
-pub long_turn : {D : Type 0} (sound : D → Type 0) (mail : D → Mail) (server : Machine D) (line : List ℕ) → is_open server.state ≡ true → 510 < length line
+pub long_turn : {D : Type 0} (sound : D → Type 0) (mail : D → DropMail) (server : Machine D) (line : List ℕ)
+    → is_open server.state ≡ true → 510 < length line
     → AnswersLine sound mail server line (said (codes "-ERR bad command")) server
 long_turn sound mail server line opened long = record {
   was_open = opened;

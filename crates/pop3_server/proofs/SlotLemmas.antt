@@ -1,5 +1,7 @@
 -- The messages at the places of a maildrop.
-use Rattle.std.proofs.Common.{◌≡◌, ℕ, zero, suc, ◌+◌, ◌<◌, ◌≤◌, List, [], ◌∷◌, ◌++◌, map, take, drop, length, get_or, Option, Some, None, slice_set, refl, sym, ◌∙◌, ap, subst, arith, inl, inr, is_some, Contains, filter, remove, ◌⊎◌, ◌≢◌, take-append-drop, drop-cons}
+use Rattle.std.proofs.Common.{◌≡◌, ℕ, zero, suc, ◌+◌, ◌<◌, ◌≤◌, List, [], ◌∷◌, ◌++◌, map, take, drop, length, get_or}
+use Rattle.std.proofs.Common.{Option, Some, None, slice_set, refl, sym, ◌∙◌, ap, subst, arith, inl, inr, is_some}
+use Rattle.std.proofs.Common.{Contains, filter, remove, ◌⊎◌, ◌≢◌, take-append-drop, drop-cons}
 use Rattle.std.proofs.lemmas.List.{take_more, map-append}
 use Rattle.std.proofs.lemmas.List.Elements.{Contains-append_right, Contains-get_or}
 use Rattle.mail_terms.specs.Distinct.{AreDistinct}
@@ -18,9 +20,11 @@ there-append [] ys = refl
 there-append (None ∷ xs) ys = there-append xs ys
 there-append (Some m ∷ xs) ys = ap (λ l. m ∷ l) (there-append xs ys)
 
-pub there_more : (slots : List (Option Message)) (i : ℕ) (slot : Option Message) → i < length slots → slot ≡ get_or slots i slot → there (take (i + 1) slots) ≡ there (take i slots) ++ there (slot ∷ [])
+pub there_more : (slots : List (Option Message)) (i : ℕ) (slot : Option Message) → i < length slots
+    → slot ≡ get_or slots i slot → there (take (i + 1) slots) ≡ there (take i slots) ++ there (slot ∷ [])
 there_more slots i slot fits is =
-    ap there (take_more slots i slot fits) ∙ there-append (take i slots) (get_or slots i slot ∷ []) ∙ ap (λ s. there (take i slots) ++ there (s ∷ [])) (sym is)
+    ap there (take_more slots i slot fits) ∙ there-append (take i slots) (get_or slots i slot ∷ [])
+    ∙ ap (λ s. there (take i slots) ++ there (s ∷ [])) (sym is)
 
 pub there_map : (ms : List Message) → there (map (λ m. Some m) ms) ≡ ms
 there_map [] = refl
@@ -35,7 +39,8 @@ filter_there (Some m ∷ slots) = ap (λ l. Some m ∷ l) (filter_there slots)
 
 -- a removal takes one id away, or none
 removed_ids : (slots : List (Option Message)) (i : ℕ) → (length (there (slice_set slots i None)) ≤ length (there slots))
-    × ((ids (slice_set slots i None) ≡ ids slots) ⊎ ((n : ℕ) × (n < length (ids slots)) × (ids (slice_set slots i None) ≡ remove (ids slots) n)))
+    × ((ids (slice_set slots i None) ≡ ids slots)
+    ⊎ ((n : ℕ) × (n < length (ids slots)) × (ids (slice_set slots i None) ≡ remove (ids slots) n)))
 removed_ids [] i = (omega arith, inl refl)
 removed_ids (None ∷ slots) zero = (omega arith, inl refl)
 removed_ids (Some m ∷ slots) zero = (omega arith, inr (0, omega arith, refl))
@@ -58,7 +63,11 @@ distinct_removed slots i distinct = elim (removed_ids slots i).1 [
 ]
 
 -- the message at a place is there
-pub Contains-slot : (slots : List (Option Message)) (i : ℕ) (slot : Option Message) (m : Message) → i < length slots → slot ≡ get_or slots i slot → slot ≡ Some m → Contains (ids slots) m.uid
+pub Contains-slot : (slots : List (Option Message)) (i : ℕ) (slot : Option Message) (m : Message) → i < length slots
+    → slot ≡ get_or slots i slot → slot ≡ Some m → Contains (ids slots) m.uid
 Contains-slot slots i slot m fits is some =
-    let split : slots ≡ take i slots ++ Some m ∷ drop (suc i) slots = sym (take-append-drop i slots) ∙ ap (λ l. take i slots ++ l) (drop-cons slots i slot fits ∙ rw (← is, some)) in
-    subst (λ s. Contains (ids s) m.uid) (sym split) (rw (there-append, map-append) (Contains-append_right (ids (take i slots)) (m.uid ∷ ids (drop (suc i) slots)) m.uid (0, omega arith, refl)))
+    let split : slots ≡ take i slots ++ Some m ∷ drop (suc i) slots = sym (take-append-drop i slots)
+    ∙ ap (λ l. take i slots ++ l) (drop-cons slots i slot fits ∙ rw (← is, some)) in
+    subst (λ s. Contains (ids s) m.uid) (sym split)
+    (rw (there-append, map-append) (Contains-append_right (ids (take i slots)) (m.uid ∷ ids (drop (suc i) slots))
+    m.uid (0, omega arith, refl)))

@@ -19,7 +19,8 @@ pub still_none : (body : TextBody) (rest : List ℕ) → belonging body.top rest
 still_none body rest none = ap (ended_body body.stuffer.in_line) none
 
 -- some of what follows came
-pub still_on : (before after : TextBody) (piece octets : List ℕ) → ((rest : List ℕ) → belonging before.top (piece ++ rest) ≡ octets ++ belonging after.top rest)
+pub still_on : (before after : TextBody) (piece octets : List ℕ)
+    → ((rest : List ℕ) → belonging before.top (piece ++ rest) ≡ octets ++ belonging after.top rest)
     → after.stuffer.in_line ≡ is_open_after before.stuffer.in_line octets
     → (rest : List ℕ) → still before (piece ++ rest) ≡ sent_piece before.stuffer.in_line octets ++ still after rest
 still_on before after piece octets belong opened rest = rw (belong rest, opened, sent_append, open_append, append_assoc)
@@ -28,5 +29,7 @@ still_on before after piece octets belong opened rest = rw (belong rest, opened,
 pub whole_of_all : (in_line : Bool) (text : List ℕ) → in_line ≡ false → ended_body in_line (belonging None text) ≡ text_body None text
 whole_of_all in_line text none = rw none (sent_whole text)
 
-pub whole_of_top : (in_line : Bool) (top : Top) (count : ℕ) (text : List ℕ) → in_line ≡ false → top ≡ top_begun count → ended_body in_line (belonging (Some top) text) ≡ text_body (Some count) text
-whole_of_top in_line top count text none begun = rw (none, begun) (sent_whole (top_octets true false count text) ∙ ap stuffed_lines (lines_of_top true false count text))
+pub whole_of_top : (in_line : Bool) (top : Top) (count : ℕ) (text : List ℕ) → in_line ≡ false → top ≡ top_begun count
+    → ended_body in_line (belonging (Some top) text) ≡ text_body (Some count) text
+whole_of_top in_line top count text none begun = rw (none, begun) (sent_whole (top_octets true false count text)
+    ∙ ap stuffed_lines (lines_of_top true false count text))

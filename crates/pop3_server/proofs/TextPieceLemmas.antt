@@ -1,5 +1,6 @@
 -- Pieces of a text, split at their first LF.
-use Rattle.std.proofs.Common.{◌≡◌, ◌==◌, ◌≤◌, ◌||◌, ℕ, Bool, true, false, not, List, [], ◌∷◌, ◌++◌, length, refl, append_assoc, arith, if◌then◌else◌}
+use Rattle.std.proofs.Common.{◌≡◌, ◌==◌, ◌≤◌, ◌||◌, ℕ, Bool, true, false, not, List, [], ◌∷◌, ◌++◌, length, refl}
+use Rattle.std.proofs.Common.{append_assoc, arith, if◌then◌else◌}
 use Rattle.std.specs.List.{flat_map, onto_first}
 use Rattle.std.proofs.lemmas.Bool.Decides.{eqb_tells, nat_tests}
 use Rattle.mail_terms.specs.Text.{lines_of_text, HasNoLf}
@@ -25,7 +26,8 @@ open_rest in_line (byte ∷ rest) none = grind (arith, nat_tests, on_rest (byte 
 -- ---- what pieces add to a body
 
 -- two pieces in a row
-pub sent_append : (in_line : Bool) (one two : List ℕ) → sent_piece in_line (one ++ two) ≡ sent_piece in_line one ++ sent_piece (is_open_after in_line one) two
+pub sent_append : (in_line : Bool) (one two : List ℕ)
+    → sent_piece in_line (one ++ two) ≡ sent_piece in_line one ++ sent_piece (is_open_after in_line one) two
 sent_append in_line [] two = refl
 sent_append in_line (byte ∷ one) two = rw (sent_append (not (byte == 10)) one two, append_assoc)
 
@@ -40,7 +42,8 @@ pub sent_line_more : (in_line : Bool) (line after : List ℕ) → HasNoLf line
 sent_line_more in_line line after none = rw (sent_append, sent_rest in_line line none, append_assoc (stuffing in_line line ++ line))
 
 -- stuffing adds at most one octet, and none to an empty line
-pub stuffing_length : (in_line : Bool) (line : List ℕ) → (length (stuffing in_line line) ≤ 1) × (length (stuffing in_line line) ≤ length line)
+pub stuffing_length : (in_line : Bool) (line : List ℕ) → (length (stuffing in_line line) ≤ 1)
+    × (length (stuffing in_line line) ≤ length line)
 stuffing_length in_line [] = (omega arith, omega arith)
 stuffing_length true (byte ∷ line) = (omega arith, omega arith)
 stuffing_length false (byte ∷ line) = grind arith
@@ -56,7 +59,8 @@ go_on_first : (byte : ℕ) (lines : List (List ℕ)) → go_on (onto_first byte 
 go_on_first byte [] = refl
 go_on_first byte (line ∷ lines) = refl
 
-sent_first : (byte : ℕ) (lines : List (List ℕ)) → flat_map sent_line (onto_first byte lines) ≡ stuffing false (byte ∷ []) ++ byte ∷ go_on lines
+sent_first : (byte : ℕ) (lines : List (List ℕ))
+    → flat_map sent_line (onto_first byte lines) ≡ stuffing false (byte ∷ []) ++ byte ∷ go_on lines
 sent_first byte [] = grind arith
 sent_first byte (line ∷ lines) = grind arith
 
@@ -65,11 +69,21 @@ abbrev lines_left : Bool → List (List ℕ) → List ℕ
 lines_left true lines = go_on lines
 lines_left false lines = flat_map sent_line lines
 
-closed : (in_line : Bool) (text : List ℕ) → sent_piece in_line text ++ (if is_open_after in_line text then crlf else []) ≡ lines_left in_line (lines_of_text text)
+closed : (in_line : Bool) (text : List ℕ)
+    → sent_piece in_line text ++ (if is_open_after in_line text then crlf else [])
+    ≡ lines_left in_line (lines_of_text text)
 closed true [] = refl
 closed false [] = refl
 closed true (byte ∷ text) = grind (arith, closed false text, closed true text, go_on_first byte (lines_of_text text))
-closed false (byte ∷ text) = rw append_assoc (grind (arith, closed false text, closed true text, sent_first byte (lines_of_text text), append_assoc {A = ℕ}))
+closed false (byte ∷ text) =
+    rw append_assoc (grind (
+      arith,
+      closed false text,
+      closed true text,
+      sent_first byte
+          (lines_of_text text),
+      append_assoc {A = ℕ},
+    ))
 
 -- all pieces of a text and the end of its body
 pub sent_whole : (text : List ℕ) → sent_piece false text ++ sent_end (is_open_after false text) ≡ stuffed_lines (lines_of_text text)

@@ -1,5 +1,6 @@
 -- The top of a text, by its octets.
-use Rattle.std.proofs.Common.{◌≡◌, ◌==◌, ◌<◌, ◌-◌, ◌||◌, ℕ, zero, suc, Bool, true, false, not, List, [], ◌∷◌, ◌++◌, length, IsTrue, ◌↔◌, refl, sym, ap, ◌∙◌, arith, true≢false}
+use Rattle.std.proofs.Common.{◌≡◌, ◌==◌, ◌<◌, ◌-◌, ◌||◌, ℕ, zero, suc, Bool, true, false, not, List, [], ◌∷◌, ◌++◌}
+use Rattle.std.proofs.Common.{length, IsTrue, ◌↔◌, refl, sym, ap, ◌∙◌, arith, true≢false}
 use Rattle.std.specs.List.{onto_first}
 use Rattle.std.proofs.lemmas.Bool.{or_right}
 use Rattle.std.proofs.lemmas.Bool.Decides.{eqb_tells, nat_tests}
@@ -39,19 +40,42 @@ first_at false in_line zero byte lines more = absurd (omega (arith, more refl))
 first_at false in_line (suc n) byte [] more = refl
 first_at false in_line (suc n) byte (line ∷ lines) more = refl
 
-pub lines_of_top : (in_head in_line : Bool) (n : ℕ) (text : List ℕ) → lines_of_text (top_octets in_head in_line n text) ≡ lines_at in_head in_line n (lines_of_text text)
+pub lines_of_top : (in_head in_line : Bool) (n : ℕ) (text : List ℕ)
+    → lines_of_text (top_octets in_head in_line n text) ≡ lines_at in_head in_line n (lines_of_text text)
 lines_of_top true true n [] = refl
 lines_of_top true false n [] = refl
 lines_of_top false in_line n [] = refl
-lines_of_top true true n (byte ∷ text) = grind (arith, lines_of_top true false n text, lines_of_top true true n text, first_at true true n byte (lines_of_text text))
-lines_of_top true false n (byte ∷ text) = grind (arith, lines_of_top false false n text, lines_of_top true true n text, first_at true false n byte (lines_of_text text))
+lines_of_top true true n (byte ∷ text) =
+    grind (
+      arith,
+      lines_of_top true false n text,
+      lines_of_top true true n text,
+      first_at true true n
+          byte (lines_of_text text),
+    )
+lines_of_top true false n (byte ∷ text) =
+    grind (
+      arith,
+      lines_of_top false false n text,
+      lines_of_top true true n text,
+      first_at true false n
+          byte (lines_of_text text),
+    )
 lines_of_top false in_line zero (byte ∷ text) = sym (top_from-none (lines_of_text (byte ∷ text)))
-lines_of_top false in_line (suc n) (byte ∷ text) = grind (arith, lines_of_top false false n text, lines_of_top false true (suc n) text, first_at false in_line (suc n) byte (lines_of_text text))
+lines_of_top false in_line (suc n) (byte ∷ text) =
+    grind (
+      arith,
+      lines_of_top false false n text,
+      lines_of_top false true (suc n) text,
+      first_at false in_line
+          (suc n) byte (lines_of_text text),
+    )
 
 -- ---- what it takes
 
 -- an octet that isn't LF, if more of the top is to come
-one_octet : (in_head in_line : Bool) (n byte : ℕ) (rest : List ℕ) → (byte == 10) ≡ false → (in_head ≡ false → 0 < n) → top_octets in_head in_line n (byte ∷ rest) ≡ byte ∷ top_octets in_head true n rest
+one_octet : (in_head in_line : Bool) (n byte : ℕ) (rest : List ℕ) → (byte == 10) ≡ false → (in_head ≡ false → 0 < n)
+    → top_octets in_head in_line n (byte ∷ rest) ≡ byte ∷ top_octets in_head true n rest
 one_octet true in_line n byte rest other more = rw other refl
 one_octet false in_line zero byte rest other more = absurd (omega (arith, more refl))
 one_octet false in_line (suc n) byte rest other more = rw other refl
@@ -66,11 +90,14 @@ takes_rest in_head in_line n (byte ∷ piece) rest none more =
     rw some_octets (one_octet in_head in_line n byte (piece ++ rest) other more ∙ ap (λ (l : List ℕ). byte ∷ l) later)
 
 -- a line ends; it was one of the head, or came after it
-pub ends_head : (in_head in_line opened : Bool) (n left : ℕ) (line rest : List ℕ) → HasNoLf line → in_head ≡ true → opened ≡ (not (length line == 0) || in_line) → left ≡ n
+pub ends_head : (in_head in_line opened : Bool) (n left : ℕ) (line rest : List ℕ) → HasNoLf line → in_head ≡ true
+    → opened ≡ (not (length line == 0) || in_line) → left ≡ n
     → top_octets in_head in_line n (line ++ 10 ∷ rest) ≡ line ++ 10 ∷ top_octets opened false left rest
-ends_head in_head in_line opened n left line rest none head is same = rw (head, same, is) (takes_rest true in_line n line (10 ∷ rest) none (λ later. absurd (true≢false later)))
+ends_head in_head in_line opened n left line rest none head is same =
+    rw (head, same, is) (takes_rest true in_line n line (10 ∷ rest) none (λ later. absurd (true≢false later)))
 
-pub ends_later : (in_head in_line opened : Bool) (n left : ℕ) (line rest : List ℕ) → HasNoLf line → in_head ≡ false → opened ≡ in_head → 0 < n → left ≡ n - 1
+pub ends_later : (in_head in_line opened : Bool) (n left : ℕ) (line rest : List ℕ) → HasNoLf line → in_head ≡ false
+    → opened ≡ in_head → 0 < n → left ≡ n - 1
     → top_octets in_head in_line n (line ++ 10 ∷ rest) ≡ line ++ 10 ∷ top_octets opened false left rest
 ends_later in_head in_line opened n left line rest none later is some less =
     let one : n ≡ suc left = omega arith in

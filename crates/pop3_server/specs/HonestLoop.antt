@@ -6,26 +6,26 @@ use Rattle.pop3_wire.specs.Line.{IsLine, ended}
 use Rattle.pop3_wire.specs.World.{IsMessage}
 use Rattle.pop3_wire.specs.Honest.{Honest}
 use Rattle.pop3_server.specs.declared.state.State.TheVariants.{Authorization}
-use Rattle.pop3_server.specs.Maildrop.{Mail, there}
-use Rattle.pop3_server.specs.ServerMachine.{greeting}
-use Rattle.pop3_server.specs.HonestServer.{IsAsked, Gone, IsClosedByQuit, lines_of}
+use Rattle.pop3_server.specs.Maildrop.{DropMail, there}
+use Rattle.pop3_server.specs.ServerMachine.{greeting_line}
+use Rattle.pop3_server.specs.HonestServer.{IsAsked, Gone, IsClosedByQuit, command_lines}
 use Rattle.pop3_server.specs.LoopLink.{Loop, Serves}
 
 -- a link to a new server, to which nothing was sent yet
-pub record IsNew {D : Type 0} (loop : Loop D) : Type 0 where
+pub record IsUnused {D : Type 0} (loop : Loop D) : Type 0 where
   pub state : loop.machine.state ≡ Authorization None
   pub sent : loop.link.sent ≡ []
   pub got : loop.link.got ≡ []
   pub answers : loop.answers ≡ []
-  pub left : loop.left ≡ greeting
+  pub left : loop.left ≡ greeting_line
   pub waiting : loop.waiting ≡ []
 
 -- if whole commands of a session and a part of one more were sent, what was got is honest, what is gone was
 -- marked, and only QUIT closes the server
-abbrev pub GivesHonest : {D : Type 0} → (D → Type 0) → (D → Mail) → Type 0
+abbrev pub GivesHonest : {D : Type 0} → (D → Type 0) → (D → DropMail) → Type 0
 GivesHonest {D} sound mail = (old new : Loop D) (commands : List Command) (part : List ℕ)
-    → IsNew old → Serves sound mail old new → AllByRecursion IsAsked commands → IsLine part
-    → new.link.sent ≡ flat_map ended (lines_of commands) ++ part
+    → IsUnused old → Serves sound mail old new → AllByRecursion IsAsked commands → IsLine part
+    → new.link.sent ≡ flat_map ended (command_lines commands) ++ part
     → sound new.machine.drop → AllByRecursion IsMessage (there (mail old.machine.drop).slots)
     → (marks : List Bool) × (honest : Honest (there (mail old.machine.drop).slots) new.link.sent new.link.got marks)
     × Gone (there (mail old.machine.drop).slots) marks new.machine.state (there (mail new.machine.drop).slots)

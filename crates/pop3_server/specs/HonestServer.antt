@@ -10,8 +10,8 @@ use Rattle.pop3_wire.specs.World.{Message, IsMessage}
 use Rattle.pop3_wire.specs.Honest.{Honest}
 use Rattle.pop3_server.specs.declared.state.State.{State}
 use Rattle.pop3_server.specs.declared.state.State.TheVariants.{Authorization}
-use Rattle.pop3_server.specs.Maildrop.{Mail, there}
-use Rattle.pop3_server.specs.ServerMachine.{Machine, greeting, is_open}
+use Rattle.pop3_server.specs.Maildrop.{DropMail, there}
+use Rattle.pop3_server.specs.ServerMachine.{Machine, greeting_line, is_open}
 use Rattle.pop3_server.specs.AnswersLines.{AnswersLines}
 
 -- what a session sends: the commands of its plan, and RSET
@@ -27,19 +27,19 @@ pub record IsAsked (command : Command) : Type 0 where
   pub numbers : HasNumbers command
   pub sendable : can_be_sent command ≡ true
 
-abbrev pub lines_of : List Command → List (List ℕ)
-lines_of commands = map line_of commands
+abbrev pub command_lines : List Command → List (List ℕ)
+command_lines commands = map line_of commands
 
 -- all of these messages that aren't marked are there, and perhaps some of the marked ones, in their order
-abbrev pub AreLeft : List Message → List Bool → List Message → Type 0
-AreLeft [] marks after = after ≡ []
-AreLeft (m ∷ ms) [] after = ⊥
-AreLeft (m ∷ ms) (mark ∷ marks) after = ((rest : List Message) × (after ≡ m ∷ rest) × AreLeft ms marks rest)
-    ⊎ ((mark ≡ true) × AreLeft ms marks after)
+abbrev pub AreLeftByQuit : List Message → List Bool → List Message → Type 0
+AreLeftByQuit [] marks after = after ≡ []
+AreLeftByQuit (m ∷ ms) [] after = ⊥
+AreLeftByQuit (m ∷ ms) (mark ∷ marks) after = ((rest : List Message) × (after ≡ m ∷ rest) × AreLeftByQuit ms marks rest)
+    ⊎ ((mark ≡ true) × AreLeftByQuit ms marks after)
 
 -- only marked messages are gone, and none while the server is open
 pub record Gone (before : List Message) (marks : List Bool) (state : State) (after : List Message) : Type 0 where
-  pub left : AreLeft before marks after
+  pub left : AreLeftByQuit before marks after
   pub before_quit : is_open state ≡ true → after ≡ before
 
 -- the server is open, or QUIT is one of these commands
@@ -49,11 +49,11 @@ IsClosedByQuit state commands = (is_open state ≡ true)
 
 -- a new server's greeting and its answers to these commands are an honest conversation over its maildrop's
 -- messages, and what is gone afterwards was marked
-abbrev pub IsHonest : {D : Type 0} → (D → Type 0) → (D → Mail) → Type 0
-IsHonest {D} sound mail = (old new : Machine D) (commands : List Command) (answers : List ℕ)
+abbrev pub ConversesHonestly : {D : Type 0} → (D → Type 0) → (D → DropMail) → Type 0
+ConversesHonestly {D} sound mail = (old new : Machine D) (commands : List Command) (answers : List ℕ)
     → old.state ≡ Authorization None → AllByRecursion IsAsked commands
-    → AnswersLines sound mail old (lines_of commands) answers new
+    → AnswersLines sound mail old (command_lines commands) answers new
     → sound new.drop → AllByRecursion IsMessage (there (mail old.drop).slots)
-    → (marks : List Bool) × Honest (there (mail old.drop).slots) (flat_map ended (lines_of commands))
-    (greeting ++ answers) marks
+    → (marks : List Bool) × Honest (there (mail old.drop).slots) (flat_map ended (command_lines commands))
+    (greeting_line ++ answers) marks
     × Gone (there (mail old.drop).slots) marks new.state (there (mail new.drop).slots)

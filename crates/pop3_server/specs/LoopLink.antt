@@ -3,8 +3,8 @@ use Rattle.std.specs.Prelude.{◌≡◌, Bool, true, false, ℕ, List, [], ◌++
 use Rattle.std.specs.List.{flat_map, AllByRecursion}
 use Rattle.pop3_wire.specs.Line.{IsLine, ended}
 use Rattle.pop3_wire.specs.Link.{Link}
-use Rattle.pop3_server.specs.Maildrop.{Mail}
-use Rattle.pop3_server.specs.ServerMachine.{Machine, greeting, is_open}
+use Rattle.pop3_server.specs.Maildrop.{DropMail}
+use Rattle.pop3_server.specs.ServerMachine.{Machine, greeting_line, is_open}
 use Rattle.pop3_server.specs.AnswersLines.{AnswersLines, SameServer}
 
 -- a server and a link to it: its answers so far, what is left to give of the greeting and these answers, what
@@ -18,16 +18,16 @@ pub record Loop (D : Type 0) : Type 0 where
   pub down : Bool
 
 -- what was got, followed by what is left to give, is the greeting and the answers
-abbrev pub IsTold : {D : Type 0} → Loop D → Type 0
-IsTold loop = loop.link.got ++ loop.left ≡ greeting ++ loop.answers
+abbrev pub TellsAnswers : {D : Type 0} → Loop D → Type 0
+TellsAnswers loop = loop.link.got ++ loop.left ≡ greeting_line ++ loop.answers
 
 -- every whole line that was sent while the server was open is answered
-abbrev pub IsAnswered : {D : Type 0} → Loop D → Type 0
-IsAnswered loop = is_open loop.machine.state ≡ true → IsLine loop.waiting
+abbrev pub AnswersWholeLines : {D : Type 0} → Loop D → Type 0
+AnswersWholeLines loop = is_open loop.machine.state ≡ true → IsLine loop.waiting
 
 -- between the two the server answered lines that were sent, in order; if the link went down, the last answers
 -- may be lost
-pub record Serves {D : Type 0} (sound : D → Type 0) (mail : D → Mail) (old new : Loop D) : Type 0 where
+pub record Serves {D : Type 0} (sound : D → Type 0) (mail : D → DropMail) (old new : Loop D) : Type 0 where
   pub lines : List (List ℕ)
   pub more : List ℕ
   pub lost : List ℕ
@@ -37,10 +37,10 @@ pub record Serves {D : Type 0} (sound : D → Type 0) (mail : D → Mail) (old n
   pub run : AnswersLines sound mail old.machine lines (more ++ lost) last
   pub same : SameServer sound mail last new.machine
   pub answers : new.answers ≡ old.answers ++ more
-  pub told : IsTold old → IsTold new
+  pub told : TellsAnswers old → TellsAnswers new
   pub sent : new.link.sent ≡ old.link.sent ++ gained
   pub heard : old.waiting ++ gained ≡ flat_map ended lines ++ new.waiting
   -- while the link is up nothing is lost, no whole line waits, and the server is the one that answered
-  pub whole : new.down ≡ false → (lost ≡ []) × (new.machine ≡ last) × (IsAnswered old → IsAnswered new)
+  pub whole : new.down ≡ false → (lost ≡ []) × (new.machine ≡ last) × (AnswersWholeLines old → AnswersWholeLines new)
   -- after it went down, nothing more is answered
   pub over : old.down ≡ true → (lines ≡ []) × (more ≡ []) × (lost ≡ []) × (new.down ≡ true)

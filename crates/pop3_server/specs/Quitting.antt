@@ -6,9 +6,9 @@ use Rattle.pop3_wire.specs.Line.{IsLine, ended}
 use Rattle.pop3_wire.specs.CommandLine.{command_of}
 use Rattle.pop3_wire.specs.Link.{Link}
 use Rattle.pop3_server.specs.declared.fault.ServerFault.{ServerFault}
-use Rattle.pop3_server.specs.Maildrop.{Mail}
+use Rattle.pop3_server.specs.Maildrop.{DropMail}
 use Rattle.pop3_server.specs.ServerMachine.{Machine, is_open}
-use Rattle.pop3_server.specs.Serving.{Served}
+use Rattle.pop3_server.specs.Serving.{ServedLines}
 
 -- of the lines that were read meanwhile, one is QUIT
 pub record ReadsQuit (old new : Link) : Type 0 where
@@ -20,7 +20,7 @@ pub record ReadsQuit (old new : Link) : Type 0 where
   pub got : new.got ≡ old.got ++ (flat_map ended (before ++ line ∷ []) ++ rest)
 
 -- a server that was open before a link was served, and isn't after it, read QUIT there
-abbrev pub OnlyQuitCloses : {D : Type 0} → (D → Type 0) → (D → Mail) → Type 0
+abbrev pub OnlyQuitCloses : {D : Type 0} → (D → Type 0) → (D → DropMail) → Type 0
 OnlyQuitCloses {D} sound mail = (old new : Machine D) (before after : Link) (result : Result (Unit {0}) ServerFault)
-    → Served sound mail old before result new after → is_open old.state ≡ true → is_open new.state ≡ false
+    → ServedLines sound mail old before result new after → is_open old.state ≡ true → is_open new.state ≡ false
     → ReadsQuit before after

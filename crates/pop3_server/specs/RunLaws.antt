@@ -2,11 +2,11 @@
 use Rattle.std.specs.List.{AllByRecursion}
 use Rattle.std.proofs.Common.{append_assoc, ℕ, List, [], ◌∷◌, ◌++◌}
 use Rattle.pop3_wire.specs.Line.{IsLine}
-use Rattle.pop3_server.specs.Maildrop.{Mail}
+use Rattle.pop3_server.specs.Maildrop.{DropMail}
 use Rattle.pop3_server.specs.ServerMachine.{Machine}
 use Rattle.pop3_server.specs.AnswersLines.{AnswersLines}
 
-pub runs_on : {D : Type 0} (sound : D → Type 0) (mail : D → Mail) (a b c : Machine D) (lines others : List (List ℕ))
+pub runs_on : {D : Type 0} (sound : D → Type 0) (mail : D → DropMail) (a b c : Machine D) (lines others : List (List ℕ))
     (x y : List ℕ)
     → AnswersLines sound mail a lines x b → AnswersLines sound mail b others y c
     → AnswersLines sound mail a (lines ++ others) (x ++ y) c

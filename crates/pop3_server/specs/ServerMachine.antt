@@ -16,17 +16,18 @@ use Rattle.pop3_wire.specs.World.{Message}
 use Rattle.pop3_server.specs.declared.rows.MessageRow.{MessageRow}
 use Rattle.pop3_server.specs.declared.state.State.{State}
 use Rattle.pop3_server.specs.declared.state.State.TheVariants.{Authorization, Transaction, Closed}
-use Rattle.pop3_server.specs.Maildrop.{Listed, Mail, there, entry_of, HasPlace, refusing, asked, removed, max_count}
+use Rattle.pop3_server.specs.Maildrop.{ListedMessage, DropMail, there, listed_message, HasPlace, refusing, asked}
+use Rattle.pop3_server.specs.Maildrop.{removed, max_count}
 use Rattle.pop3_server.specs.Maildrop.{max_size}
 
 -- ---- the rows: the messages that PASS found, and their marks
 
-abbrev pub is_left : MessageRow → Bool
-is_left row = not row.marked
+abbrev pub is_unmarked : MessageRow → Bool
+is_unmarked row = not row.marked
 
 -- how many messages aren't marked, and their octets
 abbrev pub left_count : List MessageRow → ℕ
-left_count rows = count_by is_left rows
+left_count rows = count_by is_unmarked rows
 
 abbrev pub left_size : MessageRow → ℕ
 left_size row = if row.marked then 0 else row.entry.size
@@ -39,11 +40,11 @@ unless_marked None = None
 unless_marked (Some row) = if row.marked then None else Some row
 
 -- the row of a message number, counted from 1, if there is one that isn't marked
-abbrev pub row_at : List MessageRow → ℕ → Option MessageRow
-row_at rows k = if k == 0 then None else unless_marked (slice_get rows (k - 1))
+abbrev pub row_numbered : List MessageRow → ℕ → Option MessageRow
+row_numbered rows k = if k == 0 then None else unless_marked (slice_get rows (k - 1))
 
-abbrev pub marked : MessageRow → MessageRow
-marked row = record row { marked = true }
+abbrev pub with_mark : MessageRow → MessageRow
+with_mark row = record row { marked = true }
 
 abbrev pub unmarked : MessageRow → MessageRow
 unmarked row = record row { marked = false }
@@ -51,14 +52,14 @@ unmarked row = record row { marked = false }
 -- the row at a place is marked
 abbrev pub mark_at : List MessageRow → ℕ → List MessageRow
 mark_at [] i = []
-mark_at (row ∷ rows) zero = marked row ∷ rows
+mark_at (row ∷ rows) zero = with_mark row ∷ rows
 mark_at (row ∷ rows) (suc i) = row ∷ mark_at rows i
 
-abbrev pub row_of_entry : Listed → MessageRow
+abbrev pub row_of_entry : ListedMessage → MessageRow
 row_of_entry entry = record { entry = entry; marked = false }
 
-abbrev pub row_of : Message → MessageRow
-row_of message = row_of_entry (entry_of message)
+abbrev pub message_row : Message → MessageRow
+message_row message = row_of_entry (listed_message message)
 
 abbrev pub IsSmall : MessageRow → Type 0
 IsSmall row = row.entry.size ≤ max_size
@@ -74,8 +75,8 @@ pub record KeepLimits (rows : List MessageRow) : Type 0 where
 abbrev pub said : List ℕ → List ℕ
 said text = text ++ crlf
 
-abbrev pub greeting : List ℕ
-greeting = said (codes "+OK popd ready")
+abbrev pub greeting_line : List ℕ
+greeting_line = said (codes "+OK popd ready")
 
 -- a message's line in a listing, with its number
 abbrev pub scan_line : ℕ → MessageRow → List ℕ
@@ -136,9 +137,9 @@ give rows k (Some row) line top = Give rows (k - 1) (said (line row)) top
 abbrev pub octets_line : MessageRow → List ℕ
 octets_line row = codes "+OK " ++ decimal row.entry.size ++ codes " octets"
 
-abbrev pub dele : List MessageRow → ℕ → Option MessageRow → Action
-dele rows k None = Say (said (codes "-ERR no such message")) (Transaction rows)
-dele rows k (Some row) = Say (said (codes "+OK marked")) (Transaction (mark_at rows (k - 1)))
+abbrev pub dele_action : List MessageRow → ℕ → Option MessageRow → Action
+dele_action rows k None = Say (said (codes "-ERR no such message")) (Transaction rows)
+dele_action rows k (Some row) = Say (said (codes "+OK marked")) (Transaction (mark_at rows (k - 1)))
 
 abbrev pub in_transaction : List MessageRow → Command → Action
 in_transaction rows Stat =
@@ -146,12 +147,12 @@ in_transaction rows Stat =
 in_transaction rows ListAll = Say (listed scan_line rows) (Transaction rows)
 in_transaction rows UidlAll = Say (listed uid_line rows) (Transaction rows)
 in_transaction rows (ListOne k) =
-    Say (of_row (λ row. said (codes "+OK " ++ scan_line k row)) (row_at rows k)) (Transaction rows)
+    Say (of_row (λ row. said (codes "+OK " ++ scan_line k row)) (row_numbered rows k)) (Transaction rows)
 in_transaction rows (UidlOne k) =
-    Say (of_row (λ row. said (codes "+OK " ++ uid_line k row)) (row_at rows k)) (Transaction rows)
-in_transaction rows (Retr k) = give rows k (row_at rows k) octets_line None
-in_transaction rows (Top k n) = give rows k (row_at rows k) (λ row. codes "+OK") (Some n)
-in_transaction rows (Dele k) = dele rows k (row_at rows k)
+    Say (of_row (λ row. said (codes "+OK " ++ uid_line k row)) (row_numbered rows k)) (Transaction rows)
+in_transaction rows (Retr k) = give rows k (row_numbered rows k) octets_line None
+in_transaction rows (Top k n) = give rows k (row_numbered rows k) (λ row. codes "+OK") (Some n)
+in_transaction rows (Dele k) = dele_action rows k (row_numbered rows k)
 in_transaction rows Rset = Say (said (codes "+OK")) (Transaction (map unmarked rows))
 in_transaction rows Noop = Say (said (codes "+OK")) (Transaction rows)
 in_transaction rows Quit = Leave rows
@@ -174,21 +175,21 @@ action_of user pass Closed (Ok command) = Say [] Closed
 -- ---- what is done
 
 -- what is known of a maildrop's messages if its premise holds
-abbrev pub Known : {D : Type 0} → (D → Type 0) → (D → Mail) → D → D → (Mail → Mail → Type 0) → Type 0
+abbrev pub Known : {D : Type 0} → (D → Type 0) → (D → DropMail) → D → D → (DropMail → DropMail → Type 0) → Type 0
 Known sound mail old new Follows = sound new → sound old × Follows (mail old) (mail new)
 
 -- the removal of the message at a place was tried, and succeeded or was refused
-abbrev pub Tries : Mail → ℕ → Bool → Mail → Type 0
+abbrev pub Tries : DropMail → ℕ → Bool → DropMail → Type 0
 Tries old i true new = new ≡ removed old i
 Tries old i false new = (new ≡ refusing (asked old)) ⊎ (new ≡ refusing (removed old i))
 
 -- the marked messages from place i on were removed in order, as far as each could be; the flag says whether
 -- all were
-pub data Empties : ℕ → List MessageRow → Mail → Bool → Mail → Type 0 where
-  none : (i : ℕ) (old : Mail) → Empties i [] old true old
-  stays : (i : ℕ) (row : MessageRow) (rows : List MessageRow) (old : Mail) (all : Bool) (new : Mail)
+pub data Empties : ℕ → List MessageRow → DropMail → Bool → DropMail → Type 0 where
+  none : (i : ℕ) (old : DropMail) → Empties i [] old true old
+  stays : (i : ℕ) (row : MessageRow) (rows : List MessageRow) (old : DropMail) (all : Bool) (new : DropMail)
       → row.marked ≡ false → Empties (i + 1) rows old all new → Empties i (row ∷ rows) old all new
-  goes : (i : ℕ) (row : MessageRow) (rows : List MessageRow) (old mid : Mail) (done all : Bool) (new : Mail)
+  goes : (i : ℕ) (row : MessageRow) (rows : List MessageRow) (old mid : DropMail) (done all : Bool) (new : DropMail)
       → row.marked ≡ true → Tries old i done mid → Empties (i + 1) rows mid all new
       → Empties i (row ∷ rows) old (done && all) new
 
@@ -198,24 +199,24 @@ with_marked [] count = count
 with_marked (row ∷ rows) count = with_marked rows (if row.marked then counted_up count else count)
 
 -- removals are asked for only at QUIT, one for each marked message; this holds of every maildrop
-abbrev pub AsksRemovals : Mail → Action → Mail → Type 0
+abbrev pub AsksRemovals : DropMail → Action → DropMail → Type 0
 AsksRemovals old (Leave rows) new = new.removals ≡ with_marked rows old.removals
 AsksRemovals old other new = new.removals ≡ old.removals
 
 -- the maildrop refused its listing; or there are as many rows as messages, none marked, and whatever the maildrop
 -- does, they keep to the limits
-abbrev pub Opens : {D : Type 0} → (D → Type 0) → (D → Mail) → D → List ℕ → State → D → Type 0
-Opens sound mail old answer next new =
+abbrev pub OpensMaildrop : {D : Type 0} → (D → Type 0) → (D → DropMail) → D → List ℕ → State → D → Type 0
+OpensMaildrop sound mail old answer next new =
     ((answer ≡ said (codes "-ERR maildrop unavailable")) × (next ≡ Authorization None)
     × Known sound mail old new (λ before after. after ≡ refusing before))
     ⊎ ((rows : List MessageRow) × KeepLimits rows
     × (answer ≡ said (codes "+OK " ++ decimal (length rows) ++ codes " messages"))
     × (next ≡ Transaction rows)
     × Known sound mail old new (λ before after. (after ≡ record before { slots = map Some (there before.slots) })
-    × (rows ≡ map row_of (there before.slots))))
+    × (rows ≡ map message_row (there before.slots))))
 
 -- the text was refused, or is in the answer
-abbrev pub GivesText : {D : Type 0} → (D → Type 0) → (D → Mail) → ℕ → List ℕ → Option ℕ → D → List ℕ → D → Type 0
+abbrev pub GivesText : {D : Type 0} → (D → Type 0) → (D → DropMail) → ℕ → List ℕ → Option ℕ → D → List ℕ → D → Type 0
 GivesText sound mail i line top old answer new =
     ((answer ≡ said (codes "-ERR message unavailable"))
     × Known sound mail old new (λ before after. after ≡ refusing before))
@@ -225,26 +226,26 @@ GivesText sound mail i line top old answer new =
     × (text_body top text ≡ text_body top message.text))))
 
 -- the marked messages were removed, all of them or not
-abbrev pub RemovesMarked : {D : Type 0} → (D → Type 0) → (D → Mail) → List MessageRow → D → List ℕ → D → Type 0
+abbrev pub RemovesMarked : {D : Type 0} → (D → Type 0) → (D → DropMail) → List MessageRow → D → List ℕ → D → Type 0
 RemovesMarked sound mail rows old answer new =
     (all : Bool) × (answer ≡ said (if all then codes "+OK bye" else codes "-ERR some messages not removed"))
     × Known sound mail old new (λ before after. Empties 0 rows before all after)
 
-abbrev pub Does : {D : Type 0} → (D → Type 0) → (D → Mail) → Action → D → List ℕ → State → D → Type 0
-Does sound mail (Say bytes state) old answer next new = (answer ≡ bytes) × (next ≡ state) × (new ≡ old)
-Does sound mail Open old answer next new = Opens sound mail old answer next new
-Does sound mail (Give rows i line top) old answer next new =
+abbrev pub DoesAction : {D : Type 0} → (D → Type 0) → (D → DropMail) → Action → D → List ℕ → State → D → Type 0
+DoesAction sound mail (Say bytes state) old answer next new = (answer ≡ bytes) × (next ≡ state) × (new ≡ old)
+DoesAction sound mail Open old answer next new = OpensMaildrop sound mail old answer next new
+DoesAction sound mail (Give rows i line top) old answer next new =
     (next ≡ Transaction rows) × GivesText sound mail i line top old answer new
-Does sound mail (Leave rows) old answer next new = (next ≡ Closed) × RemovesMarked sound mail rows old answer new
+DoesAction sound mail (Leave rows) old answer next new = (next ≡ Closed) × RemovesMarked sound mail rows old answer new
 
 -- an action was done: its answer, the next state, and the maildrop before and after
-pub record Answers {D : Type 0} (sound : D → Type 0) (mail : D → Mail) (asked_for : Action) (old : D)
+pub record Answers {D : Type 0} (sound : D → Type 0) (mail : D → DropMail) (asked_for : Action) (old : D)
     (answer : List ℕ) (next : State) (new : D) : Type 0 where
   pub removals : AsksRemovals (mail old) asked_for (mail new)
-  pub does : Does sound mail asked_for old answer next new
+  pub does : DoesAction sound mail asked_for old answer next new
 
 -- memory ran out for the answer: no message and no count changed, but the places may have changed
-pub record Unanswered {D : Type 0} (sound : D → Type 0) (mail : D → Mail) (old new : D) : Type 0 where
+pub record Unanswered {D : Type 0} (sound : D → Type 0) (mail : D → DropMail) (old new : D) : Type 0 where
   pub failures : (mail new).failures ≡ (mail old).failures
   pub removals : (mail new).removals ≡ (mail old).removals
   pub messages : Known sound mail old new (λ before after. there after.slots ≡ there before.slots)
@@ -256,7 +257,7 @@ is_open Closed = false
 is_open state = true
 
 -- each row has its message, while there are rows
-abbrev pub Tied : Type 0 → Mail → State → Type 0
+abbrev pub Tied : Type 0 → DropMail → State → Type 0
 Tied sound mail (Transaction rows) = sound → (i : ℕ) (row : MessageRow) → slice_get rows i ≡ Some row → HasPlace mail i
 Tied sound mail state = Unit {0}
 

@@ -10,8 +10,8 @@ use Rattle.pop3_server.specs.declared.fault.ServerFault.{ServerFault}
 use Rattle.pop3_server.specs.declared.fault.ServerFault.TheVariants.{ReadFailed, WriteFailed, MaildropFailed, NoMemory}
 use Rattle.pop3_server.specs.declared.intake.NextLine.{NextLine}
 use Rattle.pop3_server.specs.declared.intake.NextLine.TheVariants.{Line, LongLine, End}
-use Rattle.pop3_server.specs.Maildrop.{Mail}
-use Rattle.pop3_server.specs.ServerMachine.{Machine, greeting, is_open}
+use Rattle.pop3_server.specs.Maildrop.{DropMail}
+use Rattle.pop3_server.specs.ServerMachine.{Machine, greeting_line, is_open}
 use Rattle.pop3_server.specs.AnswersLines.{AnswersLines, AnswersLine, MakesAnswer, RefusesPart, SameServer}
 use Rattle.pop3_server.specs.Got.{Waiting}
 use Rattle.pop3_server.specs.declared.text_part.TextBody.{TextBody}
@@ -56,16 +56,17 @@ Found other waiting = Unit {0}
 -- ---- what is sent
 
 -- the greeting was sent, and the answers to these lines
-abbrev pub AllSent : {D : Type 0} → (D → Type 0) → (D → Mail) → Machine D → List (List ℕ) → List ℕ → Machine D → Type 0
+abbrev pub AllSent : {D : Type 0} → (D → Type 0) → (D → DropMail) → Machine D → List (List ℕ)
+    → List ℕ → Machine D → Type 0
 AllSent sound mail old lines sent last = (answers : List ℕ) × AnswersLines sound mail old lines answers last
-    × (sent ≡ greeting ++ answers)
+    × (sent ≡ greeting_line ++ answers)
 
 -- only a part of the greeting was sent
 abbrev pub PartGreeted : {D : Type 0} → Machine D → List (List ℕ) → List ℕ → Machine D → Type 0
-PartGreeted old lines sent last = (rest : List ℕ) × (greeting ≡ sent ++ rest) × (lines ≡ []) × (last ≡ old)
+PartGreeted old lines sent last = (rest : List ℕ) × (greeting_line ≡ sent ++ rest) × (lines ≡ []) × (last ≡ old)
 
 -- the greeting and all answers were sent, but the last only as far as it was made, without this end
-pub record LastSent {D : Type 0} (sound : D → Type 0) (mail : D → Mail) (old : Machine D) (lines : List (List ℕ))
+pub record LastSent {D : Type 0} (sound : D → Type 0) (mail : D → DropMail) (old : Machine D) (lines : List (List ℕ))
     (sent unsent : List ℕ) (rest : Option TextBody) (last : Machine D) : Type 0 where
   pub before : List (List ℕ)
   pub line : List ℕ
@@ -78,7 +79,7 @@ pub record LastSent {D : Type 0} (sound : D → Type 0) (mail : D → Mail) (old
   pub out : sent ≡ whole ++ front
 
 -- what was sent for these lines, and the server that is left, if this rest was got after them
-abbrev pub WentOut : {D : Type 0} → (D → Type 0) → (D → Mail) → Machine D → List (List ℕ) → List ℕ → List ℕ
+abbrev pub WentOut : {D : Type 0} → (D → Type 0) → (D → DropMail) → Machine D → List (List ℕ) → List ℕ → List ℕ
     → Result (Unit {0}) ServerFault → Machine D → Type 0
 -- all was answered while the server was open
 WentOut sound mail old lines rest sent (Ok done) new =
@@ -96,7 +97,7 @@ WentOut {D} sound mail old lines rest sent (Err NoMemory) new =
     ⊎ ((last : Machine D) × AllSent sound mail old lines sent last × SameServer sound mail last new)
 
 -- a line was answered, or a prefix of what was made of its answer was sent
-abbrev pub SendsAnswer : {D : Type 0} → (D → Type 0) → (D → Mail) → Machine D → List ℕ → Link
+abbrev pub SendsAnswer : {D : Type 0} → (D → Type 0) → (D → DropMail) → Machine D → List ℕ → Link
     → Result Bool ServerFault → Machine D → Link → Type 0
 SendsAnswer sound mail old line before (Ok closing) new after =
     (answer : List ℕ) × AnswersLine sound mail old line answer new
@@ -111,7 +112,7 @@ SendsAnswer {D} sound mail old line before (Err MaildropFailed) new after =
 SendsAnswer sound mail old line before (Err NoMemory) new after = SameServer sound mail old new × (after ≡ before)
 
 -- the lines that were got were answered in order
-pub record Served {D : Type 0} (sound : D → Type 0) (mail : D → Mail) (old : Machine D) (before : Link)
+pub record ServedLines {D : Type 0} (sound : D → Type 0) (mail : D → DropMail) (old : Machine D) (before : Link)
     (result : Result (Unit {0}) ServerFault) (new : Machine D) (after : Link) : Type 0 where
   pub gained : List ℕ
   pub got : after.got ≡ before.got ++ gained
@@ -127,8 +128,8 @@ pub record Served {D : Type 0} (sound : D → Type 0) (mail : D → Mail) (old :
   pub ends : result ≡ Ok tt → (is_open new.state ≡ false) ⊎ ((after.ended ≡ true) ⊎ (length gained ≡ max_octets))
 
 -- ReadFailed and WriteFailed are refused calls of the link; the others aren't
-abbrev pub is_refusal : ServerFault → Bool
-is_refusal ReadFailed = true
-is_refusal WriteFailed = true
-is_refusal MaildropFailed = false
-is_refusal NoMemory = false
+abbrev pub is_server_refusal : ServerFault → Bool
+is_server_refusal ReadFailed = true
+is_server_refusal WriteFailed = true
+is_server_refusal MaildropFailed = false
+is_server_refusal NoMemory = false

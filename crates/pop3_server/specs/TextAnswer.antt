@@ -7,28 +7,29 @@ use Rattle.pop3_server.specs.declared.rows.MessageRow.{MessageRow}
 use Rattle.pop3_server.specs.declared.state.State.{State}
 use Rattle.pop3_server.specs.declared.state.State.TheVariants.{Transaction}
 use Rattle.pop3_server.specs.declared.text_part.TextBody.{TextBody}
-use Rattle.pop3_server.specs.Maildrop.{Mail, refusing}
+use Rattle.pop3_server.specs.Maildrop.{DropMail, refusing}
 use Rattle.pop3_server.specs.ServerMachine.{Answers, Action, Give, Known, text_body}
 use Rattle.pop3_server.specs.TextBody.{still}
 
 -- a call was refused or not, and nothing else changed
-abbrev pub after_call : Bool → Mail → Mail
+abbrev pub after_call : Bool → DropMail → DropMail
 after_call true old = refusing old
 after_call false old = old
 
 -- calls that read, of which the last may be refused: no message and no place changed
-pub record OnlyReads {D : Type 0} (sound : D → Type 0) (mail : D → Mail) (refused : Bool) (old new : D) : Type 0 where
+pub record OnlyReads {D : Type 0} (sound : D → Type 0) (mail : D
+    → DropMail) (refused : Bool) (old new : D) : Type 0 where
   pub failures : Tallies refused (mail old).failures (mail new).failures
   pub removals : (mail new).removals ≡ (mail old).removals
   pub known : Known sound mail old new (λ before after. after ≡ after_call refused before)
 
 -- the text of the message at this place begins with these octets
-abbrev pub BeginsTextAt : Mail → ℕ → List ℕ → Type 0
+abbrev pub BeginsTextAt : DropMail → ℕ → List ℕ → Type 0
 BeginsTextAt mail i text = (message : Message) × (slice_get mail.slots i ≡ Some (Some message))
     × (text ≡ take (length text) message.text)
 
 -- this much was made of an answer with a text, and the rest of the text is to be read
-pub record BeginsAnswer {D : Type 0} (sound : D → Type 0) (mail : D → Mail) (asked : Action) (old : D)
+pub record BeginsAnswer {D : Type 0} (sound : D → Type 0) (mail : D → DropMail) (asked : Action) (old : D)
     (made : List ℕ) (text : TextBody) (next : State) (new : D) : Type 0 where
   pub rows : List MessageRow
   pub line : List ℕ
@@ -43,13 +44,14 @@ pub record BeginsAnswer {D : Type 0} (sound : D → Type 0) (mail : D → Mail) 
   pub known : sound new → BeginsTextAt (mail old) text.place read
 
 -- an answer was made, or its beginning if a text follows
-abbrev pub AnswersOrBegins : {D : Type 0} → (D → Type 0) → (D → Mail) → Action → D → List ℕ → Option TextBody → State
+abbrev pub AnswersOrBegins : {D : Type 0} → (D → Type 0) → (D → DropMail) → Action → D → List ℕ
+    → Option TextBody → State
     → D → Type 0
 AnswersOrBegins sound mail asked old made None next new = Answers sound mail asked old made next new
 AnswersOrBegins sound mail asked old made (Some text) next new = BeginsAnswer sound mail asked old made text next new
 
 -- whatever answer the earlier octets of a reply begin, all of them begin it too, or are the whole
-abbrev pub ContinuesAnswer : {D : Type 0} → (D → Type 0) → (D → Mail) → D → List ℕ → TextBody → D → List ℕ
+abbrev pub ContinuesAnswer : {D : Type 0} → (D → Type 0) → (D → DropMail) → D → List ℕ → TextBody → D → List ℕ
     → Option TextBody → Type 0
 ContinuesAnswer {D} sound mail before earlier text after octets rest = (asked : Action) (old : D) (sent : List ℕ)
     (next : State)

@@ -2,12 +2,12 @@
 use Rattle.std.specs.Prelude.{ℕ, Bool, List, ◌++◌, Option, Some, None}
 use Rattle.pop3_server.specs.declared.text_part.TextBody.{TextBody}
 use Rattle.pop3_server.specs.declared.text_top.Top.{Top}
-use Rattle.pop3_server.specs.TextPiece.{is_open_after, sent_end, sent_piece, taken}
+use Rattle.pop3_server.specs.TextPiece.{is_open_after, sent_end, sent_piece, taken_of_top}
 
 -- those of the next octets of a text that belong to its body, or to that of its top
 abbrev pub belonging : Option Top → List ℕ → List ℕ
 belonging None rest = rest
-belonging (Some top) rest = taken top rest
+belonging (Some top) rest = taken_of_top top rest
 
 -- what these octets of a text add to its body, and the body's end, given whether a line is open before them
 abbrev pub ended_body : Bool → List ℕ → List ℕ

@@ -39,5 +39,5 @@ abbrev pub top_begun : ℕ → Top
 top_begun n = record { in_head = true; in_line = false; left = n }
 
 -- those of the next octets that belong to a top
-abbrev pub taken : Top → List ℕ → List ℕ
-taken top rest = top_octets top.in_head top.in_line top.left rest
+abbrev pub taken_of_top : Top → List ℕ → List ℕ
+taken_of_top top rest = top_octets top.in_head top.in_line top.left rest

@@ -8,7 +8,7 @@ ghost use Rattle.mail_terms.specs.FailureCount.{counted_up};
 ghost use Rattle.pop3_server.specs.Maildrop.{HasPlace};
 ghost use Rattle.pop3_server.specs.ServerMachine.{Say, Open, SamePlaces, Unanswered, Tied};
 ghost use Rattle.pop3_server.specs.ServerMachine.{Tries, Empties, with_marked, in_authorization, in_transaction};
-ghost use Rattle.pop3_server.specs.ServerMachine.{give, is_about_rows, next_of, said, of_row, row_at};
+ghost use Rattle.pop3_server.specs.ServerMachine.{give, is_about_rows, next_of, said, of_row, row_numbered};
 ghost use Rattle.pop3_server.specs.ReplyLines.{row_line, text_line};
 ghost use Rattle.pop3_server.specs.TextAnswer.{AnswersOrBegins, Follows};
 
@@ -104,7 +104,7 @@ fn text<D: Maildrop>(
 ) -> Result<Outcome, ServerFault>
     requires { Tied (D.sound drop.old) (D.mail drop.old) (Transaction rows.now) }
     ensures ok { IfOk result (λ outcome. AnswersOrBegins D.sound D.mail
-        (give rows.now number (row_at rows.now number) (text_line count) count)
+        (give rows.now number (row_numbered rows.now number) (text_line count) count)
         drop.old outcome.bytes.items outcome.rest (Transaction rows.now) drop.new) }
     ensures stays { IfOk result (λ outcome. (outcome.next ≡ None) × IfSome outcome.rest (Follows limit)) }
     ensures tied { Tied (D.sound drop.new) (D.mail drop.new) (Transaction rows.now) }
@@ -215,7 +215,7 @@ pub fn authorize<D: Maildrop>(
 /// LIST or UIDL of one message.
 fn list_one(alloc: Global, column: Column, rows: &Rows, number: u32) -> Result<Vec<u8>, ServerFault>
     ensures ok { IfOk result (λ reply. reply.items
-        ≡ of_row (λ row. said (codes "+OK " ++ row_line column number row)) (row_at rows.now number)) }
+        ≡ of_row (λ row. said (codes "+OK " ++ row_line column number row)) (row_numbered rows.now number)) }
     ensures err { IfErr result (λ e. e ≡ ServerFault.NoMemory) }
 {
     match rows.place(number) {

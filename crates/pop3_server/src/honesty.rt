@@ -1,5 +1,5 @@
 //! The server is honest: laws about its definitions.
-ghost use Rattle.pop3_server.specs.HonestServer.{IsHonest};
+ghost use Rattle.pop3_server.specs.HonestServer.{ConversesHonestly};
 ghost use Rattle.pop3_server.specs.HonestLoop.{GivesHonest};
 
 use crate::maildrop::Maildrop;
@@ -9,7 +9,7 @@ use crate::maildrop::Maildrop;
 /// these are there, and after QUIT only marked ones may be gone, the others in their order.
 #[tactic(auto, using(crate::proofs::HonestLemmas::is_honest))]
 pub fn conversations_are_honest<D: Maildrop>()
-    ensures { IsHonest D.sound D.mail }
+    ensures { ConversesHonestly D.sound D.mail }
 {}
 
 /// The same for a link to a new server in the same process, for whole commands of a session and a

@@ -4,8 +4,9 @@ ghost use Rattle.mail_terms.specs.UniqueId.{is_legal_id};
 ghost use Rattle.mail_terms.specs.Distinct.{AreDistinct};
 ghost use Rattle.mail_terms.specs.FailureCount.{Tallies, counted_up, refuses};
 ghost use Rattle.pop3_server.specs.declared.maildrop.DropFault.TheVariants.{NoMemory};
-ghost use Rattle.pop3_server.specs.Maildrop.{Mail, Listed, HasPlace, ListsMessages, Gives, GivesPart, Removes};
-ghost use Rattle.pop3_server.specs.Maildrop.{is_refusal, max_size};
+ghost use Rattle.pop3_server.specs.Maildrop.{DropMail, ListedMessage, HasPlace, ListsMessages, Gives, GivesPart};
+ghost use Rattle.pop3_server.specs.Maildrop.{Removes};
+ghost use Rattle.pop3_server.specs.Maildrop.{is_drop_refusal, max_size};
 
 use pop3_wire::Bytes;
 use std::alloc::AllocError;
@@ -46,7 +47,7 @@ pub struct Entry {
 }
 
 impl Model for Entry {
-    ghost Value = { Listed };
+    ghost Value = { ListedMessage };
 
     ghost view = { λ e. record { uid = e.uid; size = e.size } };
 
@@ -84,7 +85,7 @@ impl Entry {
 /// Messages that a server lists, gives and removes.
 pub trait Maildrop {
     // What is known of the messages. The two counts are kept by every maildrop.
-    ghost mail: { Self → Mail };
+    ghost mail: { Self → DropMail };
 
     // The premise: so far the device did what this trait says, and its count of refusals hasn't
     // reached its greatest value. It is never true of a real folder.
@@ -94,15 +95,15 @@ pub trait Maildrop {
     /// is its place in this list. After a fault the places are as they were.
     fn entries(&mut self) -> Result<Vec<Entry>, DropFault>
         ensures within { IfOk result (λ entries. vec_len entries ≤ MAX_COUNT) }
-        ensures distinct { IfOk result (λ entries. AreDistinct (map (λ (e : Listed). e.uid) entries.items)) }
-        ensures tally { Tallies (refuses is_refusal result) (mail self.old).failures (mail self.new).failures }
+        ensures distinct { IfOk result (λ entries. AreDistinct (map (λ (e : ListedMessage). e.uid) entries.items)) }
+        ensures tally { Tallies (refuses is_drop_refusal result) (mail self.old).failures (mail self.new).failures }
         ensures removes_none { (mail self.new).removals ≡ (mail self.old).removals }
         ensures lists { sound self.new → sound self.old × ListsMessages (mail self.old) result (mail self.new) };
 
     /// The text of the message at a place, its lines ended by LF. After a fault no message has changed.
     fn text(&mut self, i: usize) -> Result<Vec<u8>, DropFault>
         requires { sound self.old → HasPlace (mail self.old) i }
-        ensures tally { Tallies (refuses is_refusal result) (mail self.old).failures (mail self.new).failures }
+        ensures tally { Tallies (refuses is_drop_refusal result) (mail self.old).failures (mail self.new).failures }
         ensures removes_none { (mail self.new).removals ≡ (mail self.old).removals }
         ensures gives { sound self.new → sound self.old × Gives (mail self.old) i result (mail self.new) };
 
@@ -115,7 +116,7 @@ pub trait Maildrop {
         ensures within { IfOk result (λ n. n ≤ length piece.new) }
         ensures countable { IfOk result (λ n. start + n < 2 ^ 64) }
         ensures later { 0 < start → IfErr result (λ e. e ≡ DropFault.Refused) }
-        ensures tally { Tallies (refuses is_refusal result) (mail self.old).failures (mail self.new).failures }
+        ensures tally { Tallies (refuses is_drop_refusal result) (mail self.old).failures (mail self.new).failures }
         ensures removes_none { (mail self.new).removals ≡ (mail self.old).removals }
         ensures gives { sound self.new
             → sound self.old × GivesPart (mail self.old) i start result piece.new (mail self.new) };
@@ -125,7 +126,7 @@ pub trait Maildrop {
     fn remove(&mut self, i: usize) -> Result<(), DropFault>
         requires { sound self.old → HasPlace (mail self.old) i }
         ensures err { IfErr result (λ e. e ≡ DropFault.Refused) }
-        ensures tally { Tallies (refuses is_refusal result) (mail self.old).failures (mail self.new).failures }
+        ensures tally { Tallies (refuses is_drop_refusal result) (mail self.old).failures (mail self.new).failures }
         ensures asks { (mail self.new).removals ≡ counted_up (mail self.old).removals }
         ensures removes { sound self.new → sound self.old × Removes (mail self.old) i result (mail self.new) };
 

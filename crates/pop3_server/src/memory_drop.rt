@@ -6,7 +6,7 @@ ghost use Rattle.mail_terms.specs.UniqueId.{is_legal_id};
 ghost use Rattle.pop3_wire.specs.World.{Message};
 ghost use Rattle.pop3_server.specs.Size.{size_of};
 ghost use Rattle.mail_terms.specs.Distinct.{AreDistinct};
-ghost use Rattle.pop3_server.specs.Maildrop.{Mail, there, ids, entry_of, HasPlace, max_count};
+ghost use Rattle.pop3_server.specs.Maildrop.{DropMail, there, ids, listed_message, HasPlace, max_count};
 
 use crate::maildrop::{DropFault, Entry, MAX_COUNT, MAX_SIZE, Maildrop};
 use crate::size::size_of;
@@ -48,7 +48,7 @@ impl StoredMessage {
 
     /// Its entry in a listing.
     fn listed(&self, alloc: Global) -> Result<Entry, AllocError>
-        ensures { IfOk result (λ entry. entry ≡ entry_of self.now) }
+        ensures { IfOk result (λ entry. entry ≡ listed_message self.now) }
     {
         let uid = Bytes::from_vec(Vec::from_slice(alloc, self.entry.uid())?);
         Ok(Entry::new(uid, self.entry.size()))
@@ -98,7 +98,7 @@ fn count(slots: &[Option<StoredMessage>]) -> usize
 
 /// The entries of the messages in these places.
 fn list(alloc: Global, slots: &[Option<StoredMessage>]) -> Result<Vec<Entry>, AllocError>
-    ensures { IfOk result (λ entries. entries.items ≡ map entry_of (there slots.now)) }
+    ensures { IfOk result (λ entries. entries.items ≡ map listed_message (there slots.now)) }
 {
     let mut entries = Vec::new(alloc);
     for slot in slots {
@@ -136,7 +136,7 @@ pub struct MemoryDrop {
 }
 
 impl Model for MemoryDrop {
-    ghost Value = { Mail };
+    ghost Value = { DropMail };
 
     ghost view = { λ d. record { slots = d.slots.items; failures = 0; removals = d.removals } };
 

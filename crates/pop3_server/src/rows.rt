@@ -2,7 +2,8 @@
 ghost use Rattle.std.specs.Prelude.{◌≡◌, ◌≤◌, ◌<◌, ◌+◌, ◌-◌, ℕ, List, map, length, slice_get, Some, None, MatchOption};
 ghost use Rattle.std.specs.Prelude.{IfOk, vec_len};
 ghost use Rattle.pop3_server.specs.declared.rows.MessageRow.{MessageRow};
-ghost use Rattle.pop3_server.specs.ServerMachine.{row_at, row_of_entry, mark_at, unmarked, left_count, left_total};
+ghost use Rattle.pop3_server.specs.ServerMachine.{row_numbered, row_of_entry, mark_at, unmarked, left_count};
+ghost use Rattle.pop3_server.specs.ServerMachine.{left_total};
 ghost use Rattle.pop3_server.specs.ServerMachine.{KeepLimits};
 
 use crate::maildrop::{Entry, MAX_COUNT, MAX_SIZE};
@@ -67,9 +68,9 @@ impl Rows {
     /// or it is marked.
     pub fn place(&self, number: u32) -> Option<usize>
         ensures { MatchOption result
-            (row_at self.now number ≡ None)
+            (row_numbered self.now number ≡ None)
             (λ i. (i ≡ number - 1) × (i < length self.now)
-            × ((row : MessageRow) × (slice_get self.now i ≡ Some row) × (row_at self.now number ≡ Some row))) }
+            × ((row : MessageRow) × (slice_get self.now i ≡ Some row) × (row_numbered self.now number ≡ Some row))) }
     {
         if number == 0 {
             return None;

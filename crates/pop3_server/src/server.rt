@@ -5,7 +5,7 @@ ghost use Rattle.pop3_server.specs.declared.state.State.TheVariants.{Authorizati
 ghost use Rattle.pop3_server.specs.AnswersLines.{AnswersLine, MakesAnswer, RefusesPart, SameServer};
 ghost use Rattle.pop3_server.specs.Events.{event_of};
 ghost use Rattle.pop3_server.specs.Maildrop.{HasPlace};
-ghost use Rattle.pop3_server.specs.ServerMachine.{Machine, greeting, is_open, next_of};
+ghost use Rattle.pop3_server.specs.ServerMachine.{Machine, greeting_line, is_open, next_of};
 ghost use Rattle.pop3_server.specs.TextAnswer.{Follows, IsFurther};
 
 use crate::commands::{Outcome, authorize, transact};
@@ -122,7 +122,7 @@ impl<D: Maildrop> Server<D> {
     /// memory runs out.
     pub fn greeting(&mut self) -> Result<Answer, ServerFault>
         ensures same { self.new ≡ self.old }
-        ensures ok { IfOk result (λ answer. (answer.bytes.items ≡ greeting)
+        ensures ok { IfOk result (λ answer. (answer.bytes.items ≡ greeting_line)
             × (answer.closing ≡ not (is_open self.old.state))) }
         ensures event { IfOk result (λ answer. answer.event ≡ None) }
         ensures err { IfErr result (λ e. e ≡ ServerFault.NoMemory) }

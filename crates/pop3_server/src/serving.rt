@@ -2,7 +2,7 @@
 ghost use Rattle.std.specs.Prelude.{◌≡◌, ◌≤◌, ◌+◌, not, true, IfOk, IfErr, IfSome, IsSome, vec_capacity};
 ghost use Rattle.pop3_wire.specs.Link.{CountsFailure, CountsRefusal, Sends, WhereSound};
 ghost use Rattle.pop3_server.specs.ServerMachine.{is_open};
-ghost use Rattle.pop3_server.specs.Serving.{SendsAnswer, Served, is_refusal};
+ghost use Rattle.pop3_server.specs.Serving.{SendsAnswer, ServedLines, is_server_refusal};
 
 use crate::fault::ServerFault;
 use crate::intake::{Intake, NextLine};
@@ -82,7 +82,7 @@ fn answer_line<D: Maildrop, W: Wire, J: Journal>(
     line: &[u8],
 ) -> Result<bool, ServerFault>
     requires { is_open server.old.state ≡ true }
-    ensures counted { CountsRefusal is_refusal (W.history wire.old) result (W.history wire.new) }
+    ensures counted { CountsRefusal is_server_refusal (W.history wire.old) result (W.history wire.new) }
     ensures closing { IfOk result (λ closing. closing ≡ not (is_open server.new.state)) }
     ensures removals { is_open server.new.state ≡ true
         → (D.mail server.new.drop).removals ≡ (D.mail server.old.drop).removals }
@@ -127,11 +127,11 @@ pub fn serve_and_note<D: Maildrop, W: Wire, J: Journal>(
     journal: &mut J,
 ) -> Result<(), ServerFault>
     requires { is_open server.old.state ≡ true }
-    ensures counted { CountsRefusal is_refusal (W.history wire.old) result (W.history wire.new) }
+    ensures counted { CountsRefusal is_server_refusal (W.history wire.old) result (W.history wire.new) }
     ensures removals { is_open server.new.state ≡ true
         → (D.mail server.new.drop).removals ≡ (D.mail server.old.drop).removals }
     ensures served { WhereSound W.sound W.leads_to wire.old wire.new
-        (Served D.sound D.mail server.old (W.history wire.old) result server.new (W.history wire.new)) }
+        (ServedLines D.sound D.mail server.old (W.history wire.old) result server.new (W.history wire.new)) }
 {
     let hello = server.greeting()?;
     send(wire, hello.bytes.as_slice(), true, true)?;

@@ -2,7 +2,7 @@
 ghost use Rattle.std.specs.Prelude.{◌≡◌, ◌≤◌, ◌<◌, ◌+◌, ◌*◌, ◌^◌, ◌-◌, ◌++◌, ℕ, List, [], length};
 ghost use Rattle.std.specs.Prelude.{IsTrue, IfOk, IfErr, IfSome, vec_len, vec_capacity};
 ghost use Rattle.mail_terms.specs.FailureCount.{refuses};
-ghost use Rattle.pop3_server.specs.Maildrop.{HasPlace, is_refusal};
+ghost use Rattle.pop3_server.specs.Maildrop.{HasPlace, is_drop_refusal};
 ghost use Rattle.pop3_server.specs.ServerMachine.{text_body};
 ghost use Rattle.pop3_server.specs.TextAnswer.{ContinuesAnswer, IsFurther, OnlyReads};
 ghost use Rattle.pop3_server.specs.TextBody.{belonging, still};
@@ -82,7 +82,7 @@ impl TextBody {
     ) -> Result<Option<TextBody>, DropFault>
         requires place { D.sound drop.old → HasPlace (D.mail drop.old) self.place }
         requires part { 0 < length part.old }
-        ensures reads { OnlyReads D.sound D.mail (refuses is_refusal result) drop.old drop.new }
+        ensures reads { OnlyReads D.sound D.mail (refuses is_drop_refusal result) drop.old drop.new }
         ensures goes_on { IfOk result
             (λ rest. ContinuesAnswer D.sound D.mail drop.old reply.old.items self drop.new reply.new.items rest) }
         ensures further { IfOk result (λ rest. IfSome rest (λ next. IsFurther self next)) }
@@ -119,7 +119,7 @@ impl TextBody {
         limit: usize,
     ) -> Result<Option<TextBody>, DropFault>
         requires { D.sound drop.old → HasPlace (D.mail drop.old) self.place }
-        ensures reads { OnlyReads D.sound D.mail (refuses is_refusal result) drop.old drop.new }
+        ensures reads { OnlyReads D.sound D.mail (refuses is_drop_refusal result) drop.old drop.new }
         ensures goes_on { IfOk result
             (λ rest. ContinuesAnswer D.sound D.mail drop.old reply.old.items self drop.new reply.new.items rest) }
         ensures further { IfOk result (λ rest. IfSome rest (λ next. IsFurther self next × (limit < 2 ^ 64 - 1))) }

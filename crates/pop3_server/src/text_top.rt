@@ -1,7 +1,7 @@
 //! The top of a text that comes piece by piece (RFC 1939, section 7).
 ghost use Rattle.std.specs.Prelude.{◌≡◌, ◌<◌, ◌≤◌, ◌↔◌, length, ◌++◌, ◌∷◌, ℕ, List, IsTrue, true, false};
 ghost use Rattle.mail_terms.specs.Text.{HasNoLf};
-ghost use Rattle.pop3_server.specs.TextPiece.{taken, top_begun};
+ghost use Rattle.pop3_server.specs.TextPiece.{taken_of_top, top_begun};
 
 use crate::text_line::cut_line;
 
@@ -41,7 +41,7 @@ impl Top {
     fn end_line(&mut self, octets: &[u8])
         requires { self.old.in_head ≡ false → 0 < self.old.left }
         ensures { HasNoLf octets.now → (rest : List ℕ)
-            → taken self.old (octets.now ++ 10 ∷ rest) ≡ octets.now ++ 10 ∷ taken self.new rest }
+            → taken_of_top self.old (octets.now ++ 10 ∷ rest) ≡ octets.now ++ 10 ∷ taken_of_top self.new rest }
     {
         if self.in_head {
             self.in_head = !octets.is_empty() | self.in_line;
@@ -53,7 +53,8 @@ impl Top {
 
     /// The octets of a piece of the text that belong to its top.
     pub fn take<'a>(&mut self, piece: &'a [u8]) -> &'a [u8]
-        ensures taken { (rest : List ℕ) → taken self.old (piece.now ++ rest) ≡ result.now ++ taken self.new rest }
+        ensures taken { (rest : List ℕ)
+            → taken_of_top self.old (piece.now ++ rest) ≡ result.now ++ taken_of_top self.new rest }
         ensures within { length result.now ≤ length piece.now }
     {
         let mut rest = piece;

@@ -1,5 +1,6 @@
 -- Taking a body from a link, piece by piece.
-use Rattle.std.proofs.Common.{◌≡◌, ◌≢◌, ◌<◌, ◌≤◌, ◌+◌, ◌-◌, ℕ, List, [], ◌++◌, length, take, drop, refl, sym, ap, ◌∙◌, arith, append_assoc, take-append-drop, length-append, length-take-le, append-nil, take_at}
+use Rattle.std.proofs.Common.{◌≡◌, ◌≢◌, ◌<◌, ◌≤◌, ◌+◌, ◌-◌, ℕ, List, [], ◌++◌, length, take, drop, refl, sym, ap, ◌∙◌}
+use Rattle.std.proofs.Common.{arith, append_assoc, take-append-drop, length-append, length-take-le, append-nil, take_at}
 use Rattle.pop3_wire.specs.Body.{HasNoBody}
 use Rattle.pop3_wire.specs.Link.{Link}
 use Rattle.pop3_wire.specs.Place.{Place, at, GoesOn}
@@ -26,7 +27,8 @@ under_way_none limit place = record {
 pub drew_on : {a b c : Link} {g h : List ℕ} → Drew a b g → Drew b c h → Drew a c (g ++ h)
 drew_on {a} {g} {h} first then = record { got = then.got ∙ rw first.got (append_assoc a.got g h); sent = then.sent ∙ first.sent }
 
-module _ {limit : ℕ} {old : Place} {link : Link} {waits : List ℕ} {body : Rest} {text : List ℕ} (now : UnderWay limit old (at link waits) body text) where
+module _ {limit : ℕ} {old : Place} {link : Link} {waits : List ℕ} {body : Rest} {text : List ℕ}
+    (now : UnderWay limit old (at link waits) body text) where
   -- one more piece was drawn, and some of what waited was used
   pub under_way_on : (link' : Link) (more waits1 waits2 : List ℕ) (n : ℕ) (spot' : Spot) (put : List ℕ)
       → waits1 ≡ waits ++ more → Drew link link' more → GoesOn link link'
@@ -38,17 +40,34 @@ module _ {limit : ℕ} {old : Place} {link : Link} {waits : List ℕ} {body : Re
     gained = now.gained ++ more;
     reached = reaches now.used text now.reached;
     sizes = omega (arith, length-append now.used (take n waits1), length-take-le n waits1 fits);
-    heard = rw (rest, append_assoc now.used (take n waits1) (drop n waits1), take-append-drop, drawn, ← append_assoc old.waiting now.gained more, now.heard) (append_assoc now.used waits more);
+    heard = rw (
+      rest,
+      append_assoc now.used (take n waits1) (drop n waits1),
+      take-append-drop,
+      drawn,
+      ← append_assoc
+          old.waiting now.gained more,
+      now.heard,
+    ) (append_assoc now.used waits more);
     drew = drew_on now.drew drew;
     goes_on = record { ended = onward.ended ∙ now.goes_on.ended; failures = onward.failures ∙ now.goes_on.failures };
   }
 
   -- nothing came
-  pub under_way_ends : body.spot ≢ Done → 0 < body.left → (fault : BodyFault) (link' : Link) (waits' : List ℕ) → waits ≡ [] → waits' ≡ [] → DrawsNothing fault link link'
-      → LeavesRest limit old (at link' waits') × ((gained : List ℕ) × Drew old.link link' gained × BodyCause limit fault old.link link' (old.waiting ++ gained))
+  pub under_way_ends : body.spot ≢ Done → 0 < body.left → (fault : BodyFault) (link' : Link) (waits' : List ℕ)
+      → waits ≡ [] → waits' ≡ [] → DrawsNothing fault link link'
+      → LeavesRest limit old (at link' waits') × ((gained : List ℕ) × Drew old.link link' gained
+      × BodyCause limit fault old.link link' (old.waiting ++ gained))
   under_way_ends other some fault link' waits' none none' nothing =
       let drew = cause fault nothing in (
-        record { gained = now.gained; used = now.used; got = drew.0.got; within = omega arith; heard = now.heard ∙ ap (λ (l : List ℕ). now.used ++ l) (none ∙ sym none') },
+        record {
+          gained = now.gained;
+          used = now.used;
+          got = drew.0.got;
+          within = omega arith;
+          heard = now.heard
+              ∙ ap (λ (l : List ℕ). now.used ++ l) (none ∙ sym none');
+        },
         (now.gained, drew.0, drew.1),
       )
     where
@@ -64,16 +83,28 @@ module _ {limit : ℕ} {old : Place} {link : Link} {waits : List ℕ} {body : Re
       drawn : Drew link link' [] → Drew old.link link' now.gained
       drawn then = rw append-nil at (drew_on now.drew then)
 
-      cause : (f : BodyFault) → DrawsNothing f link link' → Drew old.link link' now.gained × BodyCause limit f old.link link' (old.waiting ++ now.gained)
+      cause : (f : BodyFault) → DrawsNothing f link link' → Drew old.link link' now.gained
+          × BodyCause limit f old.link link' (old.waiting ++ now.gained)
       cause Ended n = (drawn n.0, (no_body, short, n.1, n.2 ∙ now.goes_on.failures))
       cause Failed n = (drawn n.0, (no_body, short, n.1 ∙ now.goes_on.ended, n.2 ∙ ap (λ (k : ℕ). k + 1) now.goes_on.failures))
       cause TooLong n = absurd n
 
   -- no more octets may be taken
   pub under_way_too_long : body.spot ≢ Done → body.left ≡ 0
-      → LeavesRest limit old (at link waits) × ((gained : List ℕ) × Drew old.link link gained × BodyCause limit TooLong old.link link (old.waiting ++ gained))
+      → LeavesRest limit old (at link waits) × ((gained : List ℕ) × Drew old.link link gained
+      × BodyCause limit TooLong old.link link (old.waiting ++ gained))
   under_way_too_long other none =
-      let front : take limit (old.waiting ++ now.gained) ≡ now.used = ap (take limit) now.heard ∙ take_at now.used waits limit (omega arith) in (
+      let front : take limit (old.waiting ++ now.gained) ≡ now.used = ap (take limit) now.heard
+      ∙ take_at now.used waits limit (omega arith) in (
         record { gained = now.gained; used = now.used; got = now.drew.got; within = omega arith; heard = now.heard },
-        (now.gained, now.drew, (rw front (reached_no_body body.spot now.used text now.reached other), omega (arith, ap length now.heard, length-append now.used waits), now.goes_on)),
+        (
+          now.gained,
+          now.drew,
+          (
+            rw front (reached_no_body body.spot now.used text now.reached other),
+            omega
+                (arith, ap length now.heard, length-append now.used waits),
+            now.goes_on,
+          ),
+        ),
       )

@@ -1,5 +1,8 @@
 -- Lines and bodies: where a line ends, that a body ends at one place only, and what an octet does to a body that is read octet by octet.
-use Rattle.std.proofs.Common.{◌≡◌, ◌==◌, ◌⊎◌, inl, inr, ℕ, zero, suc, Bool, ◌+◌, ◌-◌, ◌<◌, ◌≤◌, slice_index, List, [], ◌∷◌, ◌++◌, length, take, drop, refl, sym, ap, subst, ◌∙◌, arith, append_assoc, take-append-drop, length-append, length-take-le, eqb-true, ◌≢◌, append-nil, get_or, ne_eqb, take-add, flat_map, map, true, false, Option, None, Some}
+use Rattle.std.proofs.Common.{◌≡◌, ◌==◌, ◌⊎◌, inl, inr, ℕ, zero, suc, Bool, ◌+◌, ◌-◌, ◌<◌, ◌≤◌, slice_index, List, []}
+use Rattle.std.proofs.Common.{◌∷◌, ◌++◌, length, take, drop, refl, sym, ap, subst, ◌∙◌, arith, append_assoc}
+use Rattle.std.proofs.Common.{take-append-drop, length-append, length-take-le, eqb-true, ◌≢◌, append-nil, get_or}
+use Rattle.std.proofs.Common.{ne_eqb, take-add, flat_map, map, true, false, Option, None, Some}
 use Rattle.std.proofs.Math.Seq.{drop-append_seam, take-suc}
 use Rattle.std.proofs.Math.Logic.{⊎_elim}
 use Rattle.memchr.specs.Find.{OccursAt, Nowhere, NoneBefore, Passes, is_byte}
@@ -24,7 +27,8 @@ use Rattle.pop3_wire.specs.Reading.{WholeReply, body_bytes, reply_bytes, gives_b
 -- a list is empty, or has a last element
 pub last_split : (xs : List ℕ) → (xs ≡ []) ⊎ ((ys : List ℕ) × (y : ℕ) × (xs ≡ ys ++ y ∷ []))
 last_split [] = inl refl
-last_split (x ∷ xs) = inr (⊎_elim (λ none. ([], x, ap (λ l. x ∷ l) none)) (λ some. (x ∷ some.0, some.1, ap (λ l. x ∷ l) some.2)) (last_split xs))
+last_split (x ∷ xs) = inr (⊎_elim (λ none. ([], x, ap (λ l. x ∷ l) none))
+    (λ some. (x ∷ some.0, some.1, ap (λ l. x ∷ l) some.2)) (last_split xs))
 
 -- the pair occurs at the place at which the bytes are split
 occurs_at_split : (front rest : List ℕ) → OccursAt (front ++ (crlf ++ rest)) crlf (length front)
@@ -58,8 +62,17 @@ line_found bytes k first occurs = (whole, split)
     whole front rest e =
         let again : bytes ≡ front ++ (crlf ++ (rest ++ drop k bytes)) =
         sym (take-append-drop k bytes) ∙ ap (λ l. l ++ drop k bytes) e ∙ append_assoc front (crlf ++ rest) (drop k bytes) in
-        let earlier : OccursAt bytes crlf (length front) = subst (λ (b : List ℕ). OccursAt b crlf (length front)) (sym again) (occurs_at_split front (rest ++ drop k bytes)) in
-        first.before (length front) (omega arith) (omega (arith, occurs.fits, length-take-le k bytes (omega (arith, occurs.fits)), ap length e, length-append front (crlf ++ rest))) earlier
+        let earlier : OccursAt bytes crlf (length front) = subst (λ (b : List ℕ). OccursAt b crlf (length front))
+        (sym again) (occurs_at_split front (rest ++ drop k bytes)) in
+        first.before (length front) (omega arith)
+        (omega (
+          arith,
+          occurs.fits,
+          length-take-le k bytes (omega (arith, occurs.fits)),
+          ap length e,
+          length-append
+              front (crlf ++ rest),
+        )) earlier
 
 -- ---- by the place of the first LF
 
@@ -72,7 +85,9 @@ lf_follows bytes k occurs = ap is_lf (occurs.reads 1 (omega arith))
 
 -- without LF there is no pair
 pub IsLine-without_lf : (bytes : List ℕ) → Nowhere (Passes is_lf bytes) 0 (length bytes) → IsLine bytes
-IsLine-without_lf bytes none = IsLine-nowhere bytes (λ k low high occurs. none (k + 1) (omega arith) (omega (arith, occurs.fits)) (lf_follows bytes k occurs))
+IsLine-without_lf bytes none =
+    IsLine-nowhere bytes (λ k low high occurs. none (k + 1) (omega arith) (omega (arith, occurs.fits))
+    (lf_follows bytes k occurs))
 
 -- the first LF ends a line if CR stands before it
 pub line_by_lf : (bytes : List ℕ) (k : ℕ) → NoneBefore (Passes is_lf bytes) 0 (length bytes) k → Passes is_lf bytes k → 0 < k
@@ -133,25 +148,32 @@ pub ended_first : (line : List ℕ) (more rest : List ℕ) → (ended line ++ mo
 ended_first line more rest = simp append_assoc
 
 -- the lines that were read are the first lines of every body that begins with them
-pub first_lines : (lines : List (List ℕ)) (rest : List ℕ) (others : List (List ℕ)) (more : List ℕ) → AllByRecursion IsContent lines → AllByRecursion IsContent others
+pub first_lines : (lines : List (List ℕ)) (rest : List ℕ) (others : List (List ℕ)) (more : List ℕ)
+    → AllByRecursion IsContent lines → AllByRecursion IsContent others
     → flat_map ended lines ++ rest ≡ flat_map ended others ++ (ended dot ++ more)
-    → (later : List (List ℕ)) × AllByRecursion IsContent later × (others ≡ lines ++ later) × (rest ≡ flat_map ended later ++ (ended dot ++ more))
+    → (later : List (List ℕ)) × AllByRecursion IsContent later × (others ≡ lines ++ later)
+    × (rest ≡ flat_map ended later ++ (ended dot ++ more))
 first_lines [] rest others more content content' e = (others, content', refl, e)
-first_lines (line ∷ lines) rest [] more content content' e = absurd (content.0.1 (first_line_same line dot content.0.0 IsLine-dot (sym (ended_first line (flat_map ended lines) rest) ∙ e)).0)
+first_lines (line ∷ lines) rest [] more content content' e =
+    absurd (content.0.1 (first_line_same line dot content.0.0 IsLine-dot
+    (sym (ended_first line (flat_map ended lines) rest) ∙ e)).0)
 first_lines (line ∷ lines) rest (other ∷ others) more content content' e =
-    let same = first_line_same line other content.0.0 content'.0.0 (sym (ended_first line (flat_map ended lines) rest) ∙ e ∙ ended_first other (flat_map ended others) (ended dot ++ more)) in
+    let same = first_line_same line other content.0.0 content'.0.0 (sym (ended_first line (flat_map ended lines) rest)
+    ∙ e ∙ ended_first other (flat_map ended others) (ended dot ++ more)) in
     let (later, are, is, rest_is) = first_lines lines rest others more content.1 content'.1 same.1 in
     (later, are, cc, rest_is)
 
 -- lines of a body, followed by a line that never ends, hold no body
 pub no_body : (bytes rest text : List ℕ) → Reads bytes rest text → IsLine rest → HasNoBody bytes
 no_body bytes rest text reads line body other more is e =
-    let first = first_lines reads.lines rest is.lines more reads.content is.content (sym reads.whole ∙ e ∙ rw is.whole (append_assoc (flat_map ended is.lines) (ended dot) more)) in
+    let first = first_lines reads.lines rest is.lines more reads.content is.content (sym reads.whole ∙ e
+    ∙ rw is.whole (append_assoc (flat_map ended is.lines) (ended dot) more)) in
     never first.0 first.3
   where
     never : (later : List (List ℕ)) → rest ≡ flat_map ended later ++ (ended dot ++ more) → ⊥
     never [] e = line dot more e
-    never (l ∷ later) e = line l (flat_map ended later ++ (ended dot ++ more)) (e ∙ ended_first l (flat_map ended later) (ended dot ++ more))
+    never (l ∷ later) e = line l (flat_map ended later ++ (ended dot ++ more)) (e
+        ∙ ended_first l (flat_map ended later) (ended dot ++ more))
 
 -- bytes begin with at most one body
 pub same_lines : (lines others : List (List ℕ)) (x y : List ℕ) → AllByRecursion IsContent lines → AllByRecursion IsContent others
@@ -161,9 +183,12 @@ same_lines lines others x y content content' e =
     (sym (append_assoc (flat_map ended lines) (ended dot) x) ∙ e ∙ append_assoc (flat_map ended others) (ended dot) y) in
     none later are is rest
   where
-    none : (later : List (List ℕ)) → AllByRecursion IsContent later → others ≡ lines ++ later → ended dot ++ x ≡ flat_map ended later ++ (ended dot ++ y) → (lines ≡ others) × (x ≡ y)
+    none : (later : List (List ℕ)) → AllByRecursion IsContent later → others ≡ lines ++ later
+        → ended dot ++ x ≡ flat_map ended later ++ (ended dot ++ y) → (lines ≡ others) × (x ≡ y)
     none [] are is rest = (sym (is ∙ append-nil lines), cc)
-    none (l ∷ later) are is rest = absurd (are.0.1 (sym (first_line_same dot l IsLine-dot are.0.0 (rest ∙ ended_first l (flat_map ended later) (ended dot ++ y))).0))
+    none (l ∷ later) are is rest =
+        absurd (are.0.1 (sym (first_line_same dot l IsLine-dot are.0.0 (rest
+        ∙ ended_first l (flat_map ended later) (ended dot ++ y))).0))
 
 pub one_body : OneBody
 one_body a b s t x y left right e =
@@ -171,7 +196,8 @@ one_body a b s t x y left right e =
     (left.whole ∙ ap body_of same.0 ∙ sym right.whole, left.read ∙ ap text_of same.0 ∙ sym right.read, same.1)
 
 -- one more line was read
-pub reads_more : (bytes rest line after text : List ℕ) → Reads bytes rest text → IsLine line → rest ≡ line ++ (crlf ++ after) → (line ≢ dot) → Reads bytes after (text ++ kept line)
+pub reads_more : (bytes rest line after text : List ℕ) → Reads bytes rest text → IsLine line
+    → rest ≡ line ++ (crlf ++ after) → (line ≢ dot) → Reads bytes after (text ++ kept line)
 reads_more bytes rest line after text reads is cut other = record {
   lines = reads.lines ++ line ∷ [];
   content = all_push reads.lines reads.content;
@@ -187,9 +213,20 @@ reads_more bytes rest line after text reads is cut other = record {
 pub reads_end : (bytes rest line after text : List ℕ) → Reads bytes rest text → rest ≡ line ++ (crlf ++ after) → line ≡ dot
     → (length bytes - length after ≤ length bytes) × Body (take (length bytes - length after) bytes) text
 reads_end bytes rest line after text reads cut is =
-    let whole : bytes ≡ body_of reads.lines ++ after = reads.whole ∙ rw (cut, is) (sym (append_assoc (flat_map ended reads.lines) (ended dot) after)) in
-    let sizes : length (body_of reads.lines) ≡ length bytes - length after = omega (arith, ap length whole, length-append (body_of reads.lines) after) in
-    (omega arith, record { lines = reads.lines; content = reads.content; whole = ap (take (length bytes - length after)) whole ∙ take_at (body_of reads.lines) after _ sizes; read = reads.read })
+    let whole : bytes ≡ body_of reads.lines ++ after = reads.whole
+    ∙ rw (cut, is) (sym (append_assoc (flat_map ended reads.lines) (ended dot) after)) in
+    let sizes : length (body_of reads.lines) ≡ length bytes - length after =
+    omega (arith, ap length whole, length-append (body_of reads.lines) after) in (
+      omega arith,
+      record {
+        lines = reads.lines;
+        content = reads.content;
+        whole =
+            ap (take (length bytes - length after)) whole
+            ∙ take_at (body_of reads.lines) after _ sizes;
+        read = reads.read;
+      },
+    )
 
 -- ---- what an octet does to a body that is read octet by octet
 
@@ -199,7 +236,8 @@ IsLine-push part byte line apart front rest e = elim (last_split rest) [
   | inl none ↦
       let same = same_from_push part (front ++ 13 ∷ []) byte 10 (e ∙ rw none (sym (append_assoc front (13 ∷ []) (10 ∷ [])))) in
       elim apart [ inl other ↦ other same.1 | inr none ↦ none front same.0 ]
-  | inr (more, last, is) ↦ line front more (same_from_push part (front ++ (crlf ++ more)) byte last (e ∙ rw is (sym (append_assoc front (crlf ++ more) (last ∷ []))))).0
+  | inr (more, last, is) ↦ line front more (same_from_push part (front ++ (crlf ++ more)) byte last (e
+      ∙ rw is (sym (append_assoc front (crlf ++ more) (last ∷ []))))).0
 ]
 
 push-some : (part : List ℕ) (byte : ℕ) → (part ++ byte ∷ []) ≢ []
@@ -217,7 +255,8 @@ one_more {part} {shown} byte given shown' partly line more = record {
   content = partly.content;
   line = line;
   whole = ap (λ (l : List ℕ). l ++ byte ∷ []) partly.whole ∙ append_assoc (flat_map ended partly.lines) part (byte ∷ []);
-  read = ap (λ (l : List ℕ). l ++ given) partly.read ∙ append_assoc (text_of partly.lines) shown given ∙ ap (λ (l : List ℕ). text_of partly.lines ++ l) (sym more);
+  read = ap (λ (l : List ℕ). l ++ given) partly.read ∙ append_assoc (text_of partly.lines) shown given
+      ∙ ap (λ (l : List ℕ). text_of partly.lines ++ l) (sym more);
 }
 
 pub NoCr-dot : NoCr dot
@@ -227,10 +266,16 @@ NoCr-dot front e = absurd (omega (arith, (same_from_push [] front 46 13 e).1))
 pub at_cr : {bytes text part shown : List ℕ} (given : List ℕ) → Partly bytes text part shown → part ≢ dot → unstuffed part ≡ shown ++ given
     → AtCr (bytes ++ 13 ∷ []) (text ++ given)
 at_cr {part} given h other more =
-    record { part = part; other = other; partly = one_more 13 given (unstuffed part) h (IsLine-push part 13 h.line (inl (λ e. absurd (omega (arith, e))))) more }
+    record {
+      part = part;
+      other = other;
+      partly =
+          one_more 13 given (unstuffed part) h (IsLine-push part 13 h.line (inl (λ e. absurd (omega (arith, e))))) more;
+    }
 
 -- an octet of a line that is no CR
-pub in_line : {bytes text part shown : List ℕ} (given : List ℕ) (byte : ℕ) → Partly bytes text part shown → byte ≢ 13 → (byte ≢ 10) ⊎ NoCr part
+pub in_line : {bytes text part shown : List ℕ} (given : List ℕ) (byte : ℕ) → Partly bytes text part shown → byte ≢ 13
+    → (byte ≢ 10) ⊎ NoCr part
     → (part ++ byte ∷ []) ≢ dot → unstuffed (part ++ byte ∷ []) ≡ shown ++ given → InLine (bytes ++ byte ∷ []) (text ++ given)
 in_line {part} given byte h no_cr apart other more = record {
   part = part ++ byte ∷ [];
@@ -240,8 +285,10 @@ in_line {part} given byte h no_cr apart other more = record {
   partly = one_more byte given (unstuffed (part ++ byte ∷ [])) h (IsLine-push part byte h.line apart) more;
 }
 
-pub start_other : {bytes text : List ℕ} (byte : ℕ) → byte ≢ 46 → byte ≢ 13 → Partly bytes text [] [] → InLine (bytes ++ byte ∷ []) (text ++ byte ∷ [])
-start_other byte no_dot no_cr h = in_line (byte ∷ []) byte h no_cr (inr (λ front e. push-some front 13 (sym e))) (λ e. no_dot (same_from_push [] [] byte 46 e).1) (unstuffed-push [] byte (inr no_dot))
+pub start_other : {bytes text : List ℕ} (byte : ℕ) → byte ≢ 46 → byte ≢ 13 → Partly bytes text [] []
+    → InLine (bytes ++ byte ∷ []) (text ++ byte ∷ [])
+start_other byte no_dot no_cr h = in_line (byte ∷ []) byte h no_cr (inr (λ front e. push-some front 13 (sym e)))
+    (λ e. no_dot (same_from_push [] [] byte 46 e).1) (unstuffed-push [] byte (inr no_dot))
 
 pub dot_cr : {bytes text : List ℕ} → Partly bytes text dot [] → Partly (bytes ++ 13 ∷ []) (text ++ []) (46 ∷ 13 ∷ []) []
 dot_cr h = one_more 13 [] [] h (IsLine-push dot 13 IsLine-dot (inl (λ e. absurd (omega (arith, e))))) refl
@@ -251,19 +298,29 @@ middle_cr h = at_cr [] h.partly h.other (sym (append-nil (unstuffed h.part)))
 
 pub middle_other : {bytes text : List ℕ} (byte : ℕ) → byte ≢ 13 → InLine bytes text → InLine (bytes ++ byte ∷ []) (text ++ byte ∷ [])
 middle_other byte no_cr h =
-    in_line (byte ∷ []) byte h.partly no_cr (inr h.no_cr) (λ e. h.some (same_from_push h.part [] byte 46 e).0) (unstuffed-push h.part byte (inl h.some))
+    in_line (byte ∷ []) byte h.partly no_cr (inr h.no_cr) (λ e. h.some (same_from_push h.part [] byte 46 e).0)
+    (unstuffed-push h.part byte (inl h.some))
 
 pub cr_lf : {bytes text : List ℕ} → AtCr bytes text → Partly (bytes ++ 10 ∷ []) (text ++ 10 ∷ []) [] []
 cr_lf {bytes} h =
     let so_far : Reads (bytes ++ 10 ∷ []) (h.part ++ (crlf ++ [])) (text_of h.partly.lines) =
-    record { lines = h.partly.lines; content = h.partly.content; whole = ap (λ (b : List ℕ). b ++ 10 ∷ []) h.partly.whole ∙ simp append_assoc; read = refl } in
-    let more = reads_more (bytes ++ 10 ∷ []) (h.part ++ (crlf ++ [])) h.part [] (text_of h.partly.lines) so_far (IsLine-front h.part (13 ∷ []) h.partly.line) refl h.other in
+    record {
+      lines = h.partly.lines;
+      content = h.partly.content;
+      whole =
+          ap (λ (b : List ℕ). b ++ 10 ∷ []) h.partly.whole ∙ simp append_assoc;
+      read = refl;
+    } in
+    let more = reads_more (bytes ++ 10 ∷ []) (h.part ++ (crlf ++ [])) h.part [] (text_of h.partly.lines) so_far
+    (IsLine-front h.part (13 ∷ []) h.partly.line) refl h.other in
     record {
       lines = more.lines;
       content = more.content;
       line = IsLine-nil;
       whole = more.whole;
-      read = ap (λ (t : List ℕ). t ++ 10 ∷ []) h.partly.read ∙ append_assoc (text_of h.partly.lines) (unstuffed h.part) (10 ∷ []) ∙ more.read ∙ sym (append-nil (text_of more.lines));
+      read = ap (λ (t : List ℕ). t ++ 10 ∷ []) h.partly.read
+          ∙ append_assoc (text_of h.partly.lines) (unstuffed h.part) (10 ∷ []) ∙ more.read
+          ∙ sym (append-nil (text_of more.lines));
     }
 
 cr_shown : (part : List ℕ) → unstuffed (part ++ 13 ∷ []) ≡ unstuffed part ++ 13 ∷ []
@@ -272,22 +329,28 @@ cr_shown part = unstuffed-push part 13 (inr (λ e. absurd (omega (arith, e))))
 pub cr_cr : {bytes text : List ℕ} → AtCr bytes text → AtCr (bytes ++ 13 ∷ []) (text ++ 13 ∷ [])
 cr_cr h = at_cr (13 ∷ []) h.partly (λ e. absurd (omega (arith, (same_from_push h.part [] 13 46 e).1))) (cr_shown h.part)
 
-pub cr_other : {bytes text : List ℕ} (byte : ℕ) → byte ≢ 10 → byte ≢ 13 → AtCr bytes text → InLine (bytes ++ byte ∷ []) (text ++ 13 ∷ byte ∷ [])
+pub cr_other : {bytes text : List ℕ} (byte : ℕ) → byte ≢ 10 → byte ≢ 13 → AtCr bytes text
+    → InLine (bytes ++ byte ∷ []) (text ++ 13 ∷ byte ∷ [])
 cr_other byte no_lf no_cr h =
     in_line (13 ∷ byte ∷ []) byte h.partly no_cr (inl no_lf) (λ e. push-some h.part 13 (same_from_push (h.part ++ 13 ∷ []) [] byte 46 e).0)
-    (unstuffed-push (h.part ++ 13 ∷ []) byte (inl (push-some h.part 13)) ∙ rw (cr_shown h.part) (append_assoc (unstuffed h.part) (13 ∷ []) (byte ∷ [])))
+    (unstuffed-push (h.part ++ 13 ∷ []) byte (inl (push-some h.part 13))
+    ∙ rw (cr_shown h.part) (append_assoc (unstuffed h.part) (13 ∷ []) (byte ∷ [])))
 
 -- a piece that begins with the end of a line
-pub middle_two : {bytes text : List ℕ} (piece : List ℕ) → 2 ≤ length piece → get_or piece 0 0 ≡ 13 → get_or piece 1 0 ≡ 10 → InLine bytes text
+pub middle_two : {bytes text : List ℕ} (piece : List ℕ) → 2 ≤ length piece → get_or piece 0 0 ≡ 13
+    → get_or piece 1 0 ≡ 10 → InLine bytes text
     → Partly (bytes ++ take 2 piece) (text ++ 10 ∷ []) [] []
-middle_two {bytes} {text} (a ∷ b ∷ rest) long first second h = rw (first, second) (rw (append_assoc bytes (13 ∷ []) (10 ∷ []), append-nil text) at (cr_lf (middle_cr h)))
+middle_two {bytes} {text} (a ∷ b ∷ rest) long first second h =
+    rw (first, second) (rw (append_assoc bytes (13 ∷ []) (10 ∷ []), append-nil text) at (cr_lf (middle_cr h)))
 middle_two piece long first second h = absurd (omega arith)
 
 pub partly_none : Partly [] [] [] []
 partly_none = record { lines = []; content = tt; line = IsLine-nil; whole = refl; read = refl }
 
 partly_no_body : {bytes text part shown : List ℕ} → Partly bytes text part shown → HasNoBody bytes
-partly_no_body {bytes} {part} h = no_body bytes part (text_of h.lines) (record { lines = h.lines; content = h.content; whole = h.whole; read = refl }) h.line
+partly_no_body {bytes} {part} h =
+    no_body bytes part (text_of h.lines) (record { lines = h.lines; content = h.content; whole = h.whole; read = refl })
+    h.line
 
 -- before the end no prefix of the octets read is a body
 pub reached_no_body : (spot : Spot) (bytes text : List ℕ) → Reaches spot bytes text → spot ≢ Done → HasNoBody bytes
@@ -305,16 +368,24 @@ pub middle_run : (piece : List ℕ) (n : ℕ) → n ≤ length piece → ((k : �
     → (bytes text : List ℕ) → InLine bytes text → InLine (bytes ++ take n piece) (text ++ take n piece)
 middle_run piece zero fits none bytes text h = rw (append-nil bytes, append-nil text) h
 middle_run piece (suc n) fits none bytes text h =
-    rw (take-suc piece n 0 (omega arith), ← append_assoc bytes (take n piece) (get_or piece n 0 ∷ []), ← append_assoc text (take n piece) (get_or piece n 0 ∷ []))
-    (middle_other (get_or piece n 0) (none n (omega arith)) (middle_run piece n (omega arith) (λ k small. none k (omega arith)) bytes text h))
+    rw (
+      take-suc piece n 0 (omega arith),
+      ← append_assoc bytes (take n piece) (get_or piece n 0 ∷ []),
+      ← append_assoc
+          text (take n piece) (get_or piece n 0 ∷ []),
+    )
+    (middle_other (get_or piece n 0) (none n (omega arith))
+    (middle_run piece n (omega arith) (λ k small. none k (omega arith)) bytes text h))
 
 -- more octets of a piece were read
 pub turn_on : (spot next : Spot) (bytes text piece : List ℕ) (used more : ℕ) (out out' : List ℕ)
     → Reaches spot (bytes ++ take used piece) (text ++ out)
-    → ((b t : List ℕ) → Reaches spot b (t ++ out) → Reaches next (b ++ take more (take (length piece - used) (drop used piece))) (t ++ out'))
+    → ((b t : List ℕ) → Reaches spot b (t ++ out)
+    → Reaches next (b ++ take more (take (length piece - used) (drop used piece))) (t ++ out'))
     → Reaches next (bytes ++ take (used + more) piece) (text ++ out')
 turn_on spot next bytes text piece used more out out' so_far reaches =
-    rw (take-add used more piece, ← append_assoc bytes (take used piece) (take more (drop used piece))) (rw take_rest at (reaches (bytes ++ take used piece) text so_far))
+    rw (take-add used more piece, ← append_assoc bytes (take used piece) (take more (drop used piece)))
+    (rw take_rest at (reaches (bytes ++ take used piece) text so_far))
 
 -- ---- the text shown so far begins the text of every body that begins with the octets read
 
@@ -323,12 +394,14 @@ abbrev Apart : List ℕ → List ℕ → Type 0
 Apart part rest = (front after : List ℕ) → part ≡ front ++ 13 ∷ [] → rest ≡ 10 ∷ after → ⊥
 
 -- a part that holds no CR LF begins the next line
-line_begins : (part rest line more : List ℕ) → IsLine part → Apart part rest → part ++ rest ≡ line ++ (crlf ++ more) → (behind : List ℕ) × (line ≡ part ++ behind)
+line_begins : (part rest line more : List ℕ) → IsLine part → Apart part rest → part ++ rest ≡ line ++ (crlf ++ more)
+    → (behind : List ℕ) × (line ≡ part ++ behind)
 line_begins [] rest line more is apart e = (line, refl)
 line_begins (b ∷ []) rest [] more is apart e = absurd (apart [] more (cc) (cc))
 line_begins (b ∷ c ∷ part) rest [] more is apart e = absurd (is [] part (cc))
 line_begins (b ∷ part) rest (c ∷ line) more is apart e =
-    let behind = line_begins part rest line more (IsLine-back (b ∷ []) part is) (λ front after f. apart (b ∷ front) after (ap (λ (l : List ℕ). b ∷ l) f)) (cc) in
+    let behind = line_begins part rest line more (IsLine-back (b ∷ []) part is)
+    (λ front after f. apart (b ∷ front) after (ap (λ (l : List ℕ). b ∷ l) f)) (cc) in
     (behind.0, cc)
 
 -- what is shown of a part begins the text of the lines that begin with this part
@@ -341,7 +414,8 @@ part_begins (b ∷ part) rest [] other is apart e = absurd (other (alone part (l
     alone [] (behind, e') = cc
     alone (c ∷ p) (behind, e') = cc
 part_begins (b ∷ part) rest (line ∷ lines) other is apart e =
-    let (behind, is_line) = line_begins (b ∷ part) rest line (body_of lines) is apart (e ∙ ended_first line (flat_map ended lines) (ended dot)) in
+    let (behind, is_line) = line_begins (b ∷ part) rest line (body_of lines) is apart (e
+    ∙ ended_first line (flat_map ended lines) (ended dot)) in
     let undotted : unstuffed ((b ∷ part) ++ behind) ≡ unstuffed (b ∷ part) ++ behind = grind arith in
     (behind ++ (10 ∷ text_of lines), ap (λ (l : List ℕ). kept l ++ text_of lines) is_line ∙ rw undotted (simp append_assoc))
 
@@ -350,16 +424,19 @@ text_begins : {bytes text part shown : List ℕ} (rest whole : List ℕ) → Par
     → ((later : List (List ℕ)) → part ++ rest ≡ body_of later → (more : List ℕ) × (text_of later ≡ shown ++ more))
     → (more : List ℕ) × (whole ≡ text ++ more)
 text_begins {part} {shown} rest whole h is begins =
-    let (later, _, lines, rest_is) = first_lines h.lines (part ++ rest) is.lines [] h.content is.content (sym (append_assoc (flat_map ended h.lines) part rest) ∙ rw (← h.whole) is.whole) in
+    let (later, _, lines, rest_is) = first_lines h.lines (part ++ rest) is.lines [] h.content is.content
+    (sym (append_assoc (flat_map ended h.lines) part rest) ∙ rw (← h.whole) is.whole) in
     let (more, shows) = begins later rest_is in (
       more,
       is.read ∙ ap text_of lines ∙ flat_map-append kept h.lines later ∙ ap (λ (l : List ℕ). text_of h.lines ++ l) shows
           ∙ sym (append_assoc (text_of h.lines) shown more) ∙ ap (λ (l : List ℕ). l ++ more) (sym h.read),
     )
 
-pub reached_begins : (spot : Spot) (bytes text rest whole : List ℕ) → Reaches spot bytes text → Body (bytes ++ rest) whole → (more : List ℕ) × (whole ≡ text ++ more)
+pub reached_begins : (spot : Spot) (bytes text rest whole : List ℕ) → Reaches spot bytes text
+    → Body (bytes ++ rest) whole → (more : List ℕ) × (whole ≡ text ++ more)
 reached_begins Middle bytes text rest whole h is =
-    text_begins rest whole h.partly is (λ later e. part_begins h.part rest later h.other h.partly.line (λ front after p q. h.no_cr front p) e)
+    text_begins rest whole h.partly is (λ later e. part_begins h.part rest later h.other h.partly.line
+    (λ front after p q. h.no_cr front p) e)
 reached_begins Cr bytes text rest whole h is =
     text_begins rest whole h.partly is
     (λ later e. part_begins h.part (13 ∷ rest) later h.other (IsLine-front h.part (13 ∷ []) h.partly.line)
@@ -423,7 +500,8 @@ joined (byte ∷ next ∷ rest) = elim (eqb_tells byte 10) [
     some_line : lines_of_text (next ∷ rest) ≢ []
     some_line = elim (eqb_tells next 10) [ inl p ↦ rw p.0 (λ e. cc) | inr p ↦ rw p.0 (some_onto_first (lines_of_text rest)) ]
 
-    onto_first_joined : (lines : List (List ℕ)) → lines ≢ [] → flat_map (λ line. line ++ 10 ∷ []) (onto_first byte lines) ≡ byte ∷ flat_map (λ line. line ++ 10 ∷ []) lines
+    onto_first_joined : (lines : List (List ℕ)) → lines ≢ []
+        → flat_map (λ line. line ++ 10 ∷ []) (onto_first byte lines) ≡ byte ∷ flat_map (λ line. line ++ 10 ∷ []) lines
     onto_first_joined [] some = absurd (some refl)
     onto_first_joined (line ∷ lines) some = refl
 
@@ -457,8 +535,10 @@ one_reply : (asked : Option Command) (reply other : WholeReply) (x y : List ℕ)
 one_reply asked reply other x y is is' e =
     let firsts = first_line_same reply.first other.first is.line is'.line (simp append_assoc at e) in
     let bodies : (reply.body ≡ other.body) × (x ≡ y) = ⊎_elim
-    (λ bad. ⊎_elim (λ bad'. one_body_if false reply.body other.body x y bad.1 bad'.1 firsts.1) (λ good'. absurd (two_statuses (sym firsts.0) good'.0.1 bad.0.1)) is'.status)
-    (λ good. ⊎_elim (λ bad'. absurd (two_statuses firsts.0 good.0.1 bad'.0.1)) (λ good'. one_body_if (gives_body asked) reply.body other.body x y good.1 good'.1 firsts.1) is'.status)
+    (λ bad. ⊎_elim (λ bad'. one_body_if false reply.body other.body x y bad.1 bad'.1 firsts.1)
+    (λ good'. absurd (two_statuses (sym firsts.0) good'.0.1 bad.0.1)) is'.status)
+    (λ good. ⊎_elim (λ bad'. absurd (two_statuses firsts.0 good.0.1 bad'.0.1))
+    (λ good'. one_body_if (gives_body asked) reply.body other.body x y good.1 good'.1 firsts.1) is'.status)
     is.status in
     ((λ i. record { first = firsts.0 i; body = bodies.0 i }), bodies.1)
 
@@ -468,7 +548,8 @@ pub one_reading : (asked : List (Option Command)) (replies others : List WholeRe
 one_reading [] [] [] rest more is is' e = (refl, e)
 one_reading (turn ∷ asked) (reply ∷ replies) (other ∷ others) rest more is is' e =
     let heads = one_reply turn reply other (flat_map reply_bytes replies ++ rest) (flat_map reply_bytes others ++ more) is.0 is'.0
-    (sym (append_assoc (reply_bytes reply) (flat_map reply_bytes replies) rest) ∙ e ∙ append_assoc (reply_bytes other) (flat_map reply_bytes others) more) in
+    (sym (append_assoc (reply_bytes reply) (flat_map reply_bytes replies) rest) ∙ e
+    ∙ append_assoc (reply_bytes other) (flat_map reply_bytes others) more) in
     let tails = one_reading asked replies others rest more is.1 is'.1 heads.1 in
     (cc, tails.1)
 one_reading asked replies others rest more is is' e = absurd (grind (arith, is, is'))

@@ -1,5 +1,7 @@
 -- The octets that wait: where the search for a line's end goes on, and what it finds.
-use Rattle.std.proofs.Common.{◌≡◌, inl, inr, ◌≤◌, ◌<◌, ◌+◌, ◌-◌, ℕ, List, ◌++◌, length, take, drop, min, max, refl, sym, ap, ◌∙◌, arith, append_assoc, take-append-drop, length-append, length-take-le, length-take}
+use Rattle.std.proofs.Common.{◌≡◌, inl, inr, ◌≤◌, ◌<◌, ◌+◌, ◌-◌, ℕ, List, ◌++◌, length, take, drop, min, max, refl, sym}
+use Rattle.std.proofs.Common.{ap, ◌∙◌, arith, append_assoc, take-append-drop, length-append, length-take-le}
+use Rattle.std.proofs.Common.{length-take}
 use Rattle.std.proofs.Math.Logic.{⊎_elim}
 use Rattle.std.proofs.lemmas.Bool.{cases_lt}
 use Rattle.std.proofs.lemmas.List.{take-take, take_all, take_min, drop-append-le, drop-take, drop-drop, take_at, drop_at}
@@ -14,12 +16,20 @@ pub no_line_zero : (w : List ℕ) → HasNoLine 0 w
 no_line_zero w = record { none = IsLine-nil }
 
 no_line_less : (m n : ℕ) (w : List ℕ) → m ≤ n → HasNoLine n w → HasNoLine m w
-no_line_less m n w small known = record { none = IsLine-front (take m w) (drop m (take n w)) (rw (← take-take m n w small, take-append-drop) known.none) }
+no_line_less m n w small known =
+    record {
+      none = IsLine-front (take m w) (drop m (take n w))
+          (rw (← take-take m n w small, take-append-drop) known.none);
+    }
 
 pub no_line_skip : (n s : ℕ) (w : List ℕ) → HasNoLine s w → HasNoLine (s - n) (drop n w)
-no_line_skip n s w known = ⊎_elim (λ (past : s < n). let zero : s - n ≡ 0 = omega arith in rw zero (no_line_zero (drop n w))) (λ (small : n ≤ s).
+no_line_skip n s w known = ⊎_elim (λ (past : s < n). let zero : s - n ≡ 0 = omega arith
+    in rw zero (no_line_zero (drop n w))) (λ (small : n ≤ s).
     let sum : n + (s - n) ≡ s = omega arith in
-    record { none = rw (← drop-take n (s - n) w, sum) (IsLine-back (take n (take s w)) (drop n (take s w)) (rw take-append-drop known.none)) }) (cases_lt s n)
+    record {
+      none = rw (← drop-take n (s - n) w, sum) (IsLine-back (take n (take s w)) (drop n (take s w))
+          (rw take-append-drop known.none));
+    }) (cases_lt s n)
 
 -- if neither the first s octets nor those from the last of them on hold a line end, there is none
 seam : (u : List ℕ) (s : ℕ) → HasNoLine s u → IsLine (drop (s - 1) u) → IsLine u
@@ -27,14 +37,23 @@ seam u s known later front rest e = elim (cases_lt s (length (front ++ crlf))) [
   | inr early ↦
       let sum : length (front ++ crlf) + (s - length (front ++ crlf)) ≡ s = omega arith in
       known.none front (take (s - length (front ++ crlf)) rest) (ap (take s) (e ∙ sym (append_assoc front crlf rest))
-      ∙ rw sum at (take-append-add (front ++ crlf) rest (s - length (front ++ crlf))) ∙ append_assoc front crlf (take (s - length (front ++ crlf)) rest))
-  | inl late ↦ later (drop (s - 1) front) rest (ap (drop (s - 1)) e ∙ drop-append-le (s - 1) front (crlf ++ rest) (omega (arith, length-append front crlf)))
+      ∙ rw sum at (take-append-add (front ++ crlf) rest (s - length (front ++ crlf)))
+      ∙ append_assoc front crlf (take (s - length (front ++ crlf)) rest))
+  | inl late ↦ later (drop (s - 1) front) rest (ap (drop (s - 1)) e
+      ∙ drop-append-le (s - 1) front (crlf ++ rest) (omega (arith, length-append front crlf)))
 ]
 
 -- if the first n octets hold no line end, a prefix of the octets holds none in its first s, with s at most n
 front_known : (s m n : ℕ) (w : List ℕ) → s ≤ n → HasNoLine n w → HasNoLine s (take m w)
-front_known s m n w small known = ⊎_elim (λ (less : s < m). record { none = rw (take-take s m w (omega arith)) (no_line_less s n w small known).none })
-    (λ (more : m ≤ s). record { none = rw (take_all s (take m w) (omega (arith, length-take m w))) (no_line_less m n w (omega arith) known).none }) (cases_lt s m)
+front_known s m n w small known =
+    ⊎_elim (λ (less : s < m). record {
+      none =
+          rw (take-take s m w (omega arith)) (no_line_less s n w small known).none;
+    })
+    (λ (more : m ≤ s). record {
+      none = rw (take_all s (take m w) (omega (arith, length-take m w)))
+          (no_line_less m n w (omega arith) known).none;
+    }) (cases_lt s m)
 
 -- the search found a line's end
 pub line_end_found : (w : List ℕ) (limit searched until from : ℕ) (line after : List ℕ)
@@ -42,7 +61,8 @@ pub line_end_found : (w : List ℕ) (limit searched until from : ℕ) (line afte
     → IsLine line → take (until - from) (drop from w) ≡ line ++ (crlf ++ after)
     → HasLine limit w (from + length line)
 line_end_found w limit searched until from line after is_until is_from known is_line window = record {
-  line = seam (take (from + length line) w) (min searched until) (front_known (min searched until) (from + length line) searched w (omega arith) known)
+  line = seam (take (from + length line) w) (min searched until)
+      (front_known (min searched until) (from + length line) searched w (omega arith) known)
       (rw (← is_from, drop-take from (length line) w, behind, take_at line (crlf ++ (after ++ more)) (length line) refl) is_line);
   within = omega (arith, ap length window, length-append line (crlf ++ after), length-take (until - from) (drop from w));
   whole = sym (take-append-drop (from + length line) w) ∙ ap (λ (l : List ℕ). take (from + length line) w ++ l)
@@ -53,10 +73,12 @@ line_end_found w limit searched until from line after is_until is_from known is_
     more = drop (until - from) (drop from w)
 
     behind : drop from w ≡ line ++ (crlf ++ (after ++ more))
-    behind = sym (take-append-drop (until - from) (drop from w)) ∙ ap (λ (l : List ℕ). l ++ more) window ∙ append_assoc line (crlf ++ after) more
+    behind = sym (take-append-drop (until - from) (drop from w)) ∙ ap (λ (l : List ℕ). l ++ more) window
+        ∙ append_assoc line (crlf ++ after) more
 
     tail_is : drop (from + length line) w ≡ crlf ++ (after ++ more)
-    tail_is = sym (drop-drop (length line) from w) ∙ ap (drop (length line)) behind ∙ drop_at line (crlf ++ (after ++ more)) (length line) refl
+    tail_is = sym (drop-drop (length line) from w) ∙ ap (drop (length line)) behind
+        ∙ drop_at line (crlf ++ (after ++ more)) (length line) refl
 
 -- if the search found none, the octets that it went over hold none
 pub line_end_none : (w : List ℕ) (limit searched until from : ℕ)
@@ -89,6 +111,7 @@ window_skip bytes start end n fits =
 pub window_fill : (a k n : ℕ) (bytes buf : List ℕ) → a ≤ length bytes → n ≤ length buf
     → take (a + n - 0) (put_mid a k bytes buf) ≡ take a bytes ++ take n buf
 window_fill a k n bytes buf low high =
-    ap (λ (m : ℕ). take m (put_mid a k bytes buf)) (omega arith) ∙ sym (take-take (a + n) (a + length buf) (put_mid a k bytes buf) (omega arith))
+    ap (λ (m : ℕ). take m (put_mid a k bytes buf)) (omega arith)
+    ∙ sym (take-take (a + n) (a + length buf) (put_mid a k bytes buf) (omega arith))
     ∙ ap (take (a + n)) (take-put_mid a k bytes buf (a + length buf) refl low)
     ∙ ap (λ (m : ℕ). take m (take a bytes ++ buf)) (omega (arith, length-take-le a bytes low)) ∙ take-append-add (take a bytes) buf n

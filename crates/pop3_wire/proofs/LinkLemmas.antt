@@ -9,7 +9,8 @@ module _ {W : Type 0} (link : Ghosts W) where
 
   -- a call and then another
   pub and_then : {a b c : W} {P Q R : Type 0} → ((u v w : W) → link.leads_to u v → link.leads_to v w → link.leads_to u w)
-      → WhereSound link.sound link.leads_to a b P → WhereSound link.sound link.leads_to b c Q → (P → Q → R) → WhereSound link.sound link.leads_to a c R
+      → WhereSound link.sound link.leads_to a b P → WhereSound link.sound link.leads_to b c Q → (P → Q → R)
+      → WhereSound link.sound link.leads_to a c R
   and_then on first second both sound =
       let later = second sound in
       let all = first later.0 in
@@ -17,6 +18,8 @@ module _ {W : Type 0} (link : Ghosts W) where
 
   -- three calls
   pub and_then_two : {a b c d : W} {P Q R S : Type 0} → ((u v w : W) → link.leads_to u v → link.leads_to v w → link.leads_to u w)
-      → WhereSound link.sound link.leads_to a b P → WhereSound link.sound link.leads_to b c Q → WhereSound link.sound link.leads_to c d R → (P → Q → R → S)
+      → WhereSound link.sound link.leads_to a b P → WhereSound link.sound link.leads_to b c Q
+      → WhereSound link.sound link.leads_to c d R → (P → Q → R → S)
       → WhereSound link.sound link.leads_to a d S
-  and_then_two {Q = Q} {R = R} on first second third all = and_then on first (and_then {R = Q × R} on second third (λ q r. (q, r))) (λ p both. all p both.0 both.1)
+  and_then_two {Q = Q} {R = R} on first second third all =
+      and_then on first (and_then {R = Q × R} on second third (λ q r. (q, r))) (λ p both. all p both.0 both.1)

@@ -1,5 +1,9 @@
 -- Rows of listings and lines of commands: what is read has the form, and what is written is read and holds no line break.
-use Rattle.std.proofs.Common.{ℕ, ◌+◌, ◌≤◌, ◌<◌, ◌≡◌, ◌≢◌, true, false, List, [], ◌∷◌, ◌++◌, length, take, drop, refl, sym, ap, ap₂, subst, ◌∙◌, arith, inl, inr, Result, Ok, Err, take-append-drop, nat_lt, nat_le, ◌&&◌, ◌==◌, Bool, IsTrue, cond, take_while, append-nil, take_at, drop_at, get_or, length-drop, ◌-◌, ◌*◌, ◌^◌, rules, length-append, append_assoc, not, codes, decimal, ne_eqb, ◌⊎◌}
+use Rattle.std.proofs.Common.{ℕ, ◌+◌, ◌≤◌, ◌<◌, ◌≡◌, ◌≢◌, true, false, List, [], ◌∷◌, ◌++◌, length, take, drop, refl}
+use Rattle.std.proofs.Common.{sym, ap, ap₂, subst, ◌∙◌, arith, inl, inr, Result, Ok, Err, take-append-drop, nat_lt}
+use Rattle.std.proofs.Common.{nat_le, ◌&&◌, ◌==◌, Bool, IsTrue, cond, take_while, append-nil, take_at, drop_at, get_or}
+use Rattle.std.proofs.Common.{length-drop, ◌-◌, ◌*◌, ◌^◌, rules, length-append, append_assoc, not, codes, decimal}
+use Rattle.std.proofs.Common.{ne_eqb, ◌⊎◌}
 use Rattle.std.specs.List.{filter, prefix_len, list_all, before_first, suffix_len, All, AllByRecursion, slice_split, count_by}
 use Rattle.std.specs.Char.{is_ascii_digit}
 use Rattle.std.specs.Str.Parse.{digits_value}
@@ -7,23 +11,28 @@ use Rattle.std.proofs.lemmas.Bool.{and_parts, and_from, cond-true, cond-false, l
 use Rattle.std.proofs.lemmas.Bool.Decides.{nat_tests}
 use Rattle.std.proofs.lemmas.List.Sums.{AllPass-from_list_all, list_all-from_AllPass, take_while-cons, prefix_len_stops, suffix_len_is}
 use Rattle.std.proofs.lemmas.List.{get_or-drop, get_or-append_right, take_all, nil_from_length}
-use Rattle.pop3_wire.specs.Fields.{◌>>=◌, is_space, is_in_field, past, number, next_field, message_number, number_and_size, legal_id, nothing_more, number_and_id}
+use Rattle.pop3_wire.specs.Fields.{◌>>=◌, is_space, is_in_field, past, number, next_field, message_number}
+use Rattle.pop3_wire.specs.Fields.{number_and_size, legal_id, nothing_more, number_and_id}
 use Rattle.mail_terms.specs.Numeral.{is_numeral, greatest_number, greatest_size}
 use Rattle.mail_terms.specs.UniqueId.{is_id_byte, is_legal_id, IsLegalId}
 use Rattle.pop3_wire.specs.declared.fault.WireFault.{WireFault}
 use Rattle.std.proofs.Math.Logic.{⊎_elim, ⊎_map}
-use Rattle.pop3_wire.specs.Rows.{AreSpaces, StandsFor, HasNumber, HasScanForm, HasUidForm, NumbersAreRead, IsSentAsIs, ScanRowsAreRead, UidRowsAreRead}
+use Rattle.pop3_wire.specs.Rows.{AreSpaces, StandsForNumber, HasNumber, HasScanForm, HasUidForm, NumbersAreRead}
+use Rattle.pop3_wire.specs.Rows.{IsSentAsIs, ScanRowsAreRead, UidRowsAreRead}
 use Rattle.std.proofs.lemmas.Fmt.{digits_decimal, decimal_is_IsNumeral, length-decimal-le, decimal_nonempty}
 use Rattle.std.proofs.lemmas.Str.Parse.{IsNumeralModel, numerals_by_fold}
 use Rattle.std.proofs.lemmas.List.Splits.{slice_split_none, slice_split_at, slice_split-cons_yes, length-slice_split}
 use Rattle.pop3_wire.specs.declared.command.Command.TheVariants.{User, Pass, UidlOne, ListOne, Retr, Dele, Top}
 use Rattle.mail_terms.specs.Credential.{is_credential, is_plain}
 use Rattle.pop3_wire.specs.Commands.{line_of, can_be_sent, octets_of}
-use Rattle.pop3_wire.specs.CommandLine.{keyword_of, trimmed, arguments, rest_of, text_argument, argument_number, no_argument, one_number, number_or_none, two_numbers, command_by, command_of, ReadAsWritten, HasNumbers, CommandsAreLines}
+use Rattle.pop3_wire.specs.CommandLine.{keyword_of, trimmed, arguments, after_keyword, text_argument, argument_number}
+use Rattle.pop3_wire.specs.CommandLine.{no_argument, one_number, number_or_none, two_numbers, command_by, command_of}
+use Rattle.pop3_wire.specs.CommandLine.{ReadAsWritten, HasNumbers, CommandsAreLines}
 use Rattle.std.proofs.lemmas.List.Folds.{list_all-append}
 use Rattle.pop3_wire.specs.Line.{IsLine, is_no_lf, ended}
 use Rattle.pop3_wire.specs.declared.reply.Status.TheVariants.{Positive, Negative}
-use Rattle.pop3_wire.specs.Honest.{FirstLinesAreRead, fields, HasFields, UidRowsHaveFields, ScanRowsHaveFields, Asked, OneListOfCommands, FrontsAreAsked}
+use Rattle.pop3_wire.specs.Honest.{FirstLinesAreRead, fields, HasFields, UidRowsHaveFields, ScanRowsHaveFields, HasSent}
+use Rattle.pop3_wire.specs.Honest.{OneListOfCommands, FrontsAreAsked}
 use Rattle.mail_terms.specs.Text.{HasNoLf}
 use Rattle.pop3_wire.proofs.BodyLemmas.{no_pair, first_line_same}
 use Rattle.pop3_wire.specs.declared.command.Command.{Command}
@@ -39,7 +48,8 @@ front_passes test (byte ∷ bytes) = grind (arith, take_while-cons test byte byt
 
 behind_fails : (test : ℕ → Bool) (bytes : List ℕ) (next : ℕ) (rest : List ℕ) → past test bytes ≡ next ∷ rest → test next ≡ false
 behind_fails test bytes next rest e =
-    let first : get_or bytes (prefix_len test bytes) 0 ≡ next = ap (λ (n : ℕ). get_or bytes n 0) {y = prefix_len test bytes + 0} (omega arith)
+    let first : get_or bytes (prefix_len test bytes) 0 ≡ next =
+    ap (λ (n : ℕ). get_or bytes n 0) {y = prefix_len test bytes + 0} (omega arith)
     ∙ sym (get_or-drop (prefix_len test bytes) bytes 0 0) ∙ ap (λ (l : List ℕ). get_or l 0 0) e in
     let more : length (past test bytes) ≡ length (next ∷ rest) = ap length e in
     subst (λ (b : ℕ). test b ≡ false) first (prefix_len_stops test bytes 0 (omega (arith, more, length-drop (prefix_len test bytes) bytes)))
@@ -62,7 +72,7 @@ next_ok : (bytes rest : List ℕ) → next_field bytes ≡ Ok rest → (past is_
 unfolding next_field
 next_ok bytes rest e = (grind (arith, e), λ empty. grind (arith, nat_tests, e, empty))
 
-number_ok : (limit : ℕ) (field : List ℕ) (n : ℕ) → number limit field ≡ Ok n → StandsFor limit field n
+number_ok : (limit : ℕ) (field : List ℕ) (n : ℕ) → number limit field ≡ Ok n → StandsForNumber limit field n
 unfolding number
 number_ok limit field n e =
     let (good, same) = cond_ok (is_numeral field && nat_le (digits_value 10 field) limit) _ _ _ e in
@@ -70,7 +80,8 @@ number_ok limit field n e =
     record { numeral = parts.0; value = sym same; within = rw (← same) (leb-true (digits_value 10 field) limit parts.1) }
 
 -- a message number was read, and another field follows it
-has_number : (line : List ℕ) (n : ℕ) (rest next : List ℕ) → message_number line ≡ Ok (n, rest) → next_field rest ≡ Ok next → HasNumber line n next
+has_number : (line : List ℕ) (n : ℕ) (rest next : List ℕ) → message_number line ≡ Ok (n, rest)
+    → next_field rest ≡ Ok next → HasNumber line n next
 has_number line n rest next e there =
     let (field, read, first) = bind_ok (next_field line) _ (n, rest) e in
     let (m, counted, last) = bind_ok (number greatest_number (take_while is_in_field field)) _ (n, rest) first in
@@ -81,7 +92,8 @@ has_number line n rest next e there =
       digits = take_while is_in_field field;
       gap = take_while is_space rest;
       whole = split_at is_space line ∙ ap (λ (l : List ℕ). take_while is_space line ++ l)
-          ((next_ok line field read).0 ∙ split_at is_in_field field ∙ ap (λ (l : List ℕ). take_while is_in_field field ++ l) (ends ∙ behind rest next goes_on.0));
+          ((next_ok line field read).0 ∙ split_at is_in_field field
+          ∙ ap (λ (l : List ℕ). take_while is_in_field field ++ l) (ends ∙ behind rest next goes_on.0));
       before = front_passes is_space line;
       counted = rw same at (number_ok greatest_number (take_while is_in_field field) m counted);
       apart = front_passes is_space rest;
@@ -95,7 +107,13 @@ has_number line n rest next e there =
     no_gap : (field rest next : List ℕ) → past is_in_field field ≡ rest → past is_space rest ≡ next → next ≢ [] → rest ≡ next → ⊥
     no_gap field rest [] ends begins some same = some refl
     no_gap field rest (byte ∷ more) ends begins some same =
-        absurd (grind (arith, nat_tests, behind_fails is_in_field field byte more (ends ∙ same), behind_fails is_space rest byte more begins))
+        absurd (grind (
+          arith,
+          nat_tests,
+          behind_fails is_in_field field byte more (ends
+              ∙ same),
+          behind_fails is_space rest byte more begins,
+        ))
 
 same_number : {line : List ℕ} {m n : ℕ} {rest next : List ℕ} → m ≡ n → rest ≡ next → HasNumber line m rest → HasNumber line n next
 same_number same is form = rw (same, is) at form
@@ -121,14 +139,17 @@ id_ok field id e = let (legal, same) = cond_ok (is_legal_id field) _ _ _ e in (s
 
 more_ok : (id bytes whole : List ℕ) → nothing_more id bytes ≡ Ok whole → (id ≡ whole) × AreSpaces bytes
 unfolding nothing_more
-more_ok id bytes whole e = let (none, same) = cond_ok (length (past is_space bytes) == 0) _ _ _ e in (same, all_spaces (past is_space bytes) refl none)
+more_ok id bytes whole e = let (none, same) = cond_ok (length (past is_space bytes) == 0) _ _ _ e
+    in (same, all_spaces (past is_space bytes) refl none)
   where
     all_spaces : (rest : List ℕ) → past is_space bytes ≡ rest → (length rest == 0) ≡ true → AreSpaces bytes
-    all_spaces [] is none = subst AreSpaces (sym (split_at is_space bytes ∙ ap (λ (l : List ℕ). take_while is_space bytes ++ l) is ∙ append-nil _)) (front_passes is_space bytes)
+    all_spaces [] is none = subst AreSpaces (sym (split_at is_space bytes
+        ∙ ap (λ (l : List ℕ). take_while is_space bytes ++ l) is ∙ append-nil _)) (front_passes is_space bytes)
     all_spaces (byte ∷ rest) is none = absurd (grind (arith, nat_tests))
 
 -- what the steps of `read_uid` have read
-pub small_and_legal : (line rest field bytes id whole : List ℕ) (n : ℕ) → message_number line ≡ Ok (n, rest) → legal_id field ≡ Ok id → nothing_more id bytes ≡ Ok whole
+pub small_and_legal : (line rest field bytes id whole : List ℕ) (n : ℕ) → message_number line ≡ Ok (n, rest)
+    → legal_id field ≡ Ok id → nothing_more id bytes ≡ Ok whole
     → (n ≤ greatest_number) × IsLegalId whole
 small_and_legal line rest field bytes id whole n first second third =
     let (next, read, e) = bind_ok (next_field line) _ (n, rest) first in
@@ -148,7 +169,8 @@ uid_form line n uid e =
     let over = more_ok id _ whole ends in
     record {
       behind = past is_in_field field;
-      front = same_number same (split_at is_in_field field ∙ ap (λ (l : List ℕ). l ++ past is_in_field field) (legal.0 ∙ over.0 ∙ same')) (has_number line first.0 first.1 field numbered next);
+      front = same_number same (split_at is_in_field field ∙ ap (λ (l : List ℕ). l ++ past is_in_field field) (legal.0
+          ∙ over.0 ∙ same')) (has_number line first.0 first.1 field numbered next);
       legal = rw (over.0 ∙ same') at legal.1;
       over = over.1;
     }
@@ -171,39 +193,68 @@ no_fields rest all = ap fields (sym (append-nil rest)) ∙ spaces_first rest [] 
 no_spaces : (word : List ℕ) → list_all is_in_field word ≡ true → All (λ byte. is_space byte ≡ false) word
 no_spaces word all = λ k other inside. not-true _ (AllPass-from_list_all is_in_field word all k other inside)
 
-some_kept : (byte : ℕ) (word : List ℕ) (parts : List (List ℕ)) → filter (λ field. nat_lt 0 (length field)) ((byte ∷ word) ∷ parts) ≡ (byte ∷ word) ∷ filter (λ field. nat_lt 0 (length field)) parts
+some_kept : (byte : ℕ) (word : List ℕ) (parts : List (List ℕ))
+    → filter (λ field. nat_lt 0 (length field)) ((byte ∷ word) ∷ parts) ≡ (byte ∷ word) ∷ filter
+    (λ field. nat_lt 0 (length field)) parts
 some_kept byte word parts = let some : nat_lt 0 (length (byte ∷ word)) ≡ true = grind (arith, nat_tests) in cond-true _ _ _ some
 
-word_first : (word rest : List ℕ) → word ≢ [] → list_all is_in_field word ≡ true → Stops is_in_field rest → fields (word ++ rest) ≡ word ∷ fields rest
+word_first : (word rest : List ℕ) → word ≢ [] → list_all is_in_field word ≡ true → Stops is_in_field rest
+    → fields (word ++ rest) ≡ word ∷ fields rest
 word_first [] rest some all stops = absurd (some refl)
 word_first (byte ∷ word) [] some all stops =
-    ap fields (append-nil (byte ∷ word)) ∙ ap (filter _) (slice_split_none is_space (byte ∷ word) (no_spaces (byte ∷ word) all)) ∙ some_kept byte word []
+    ap fields (append-nil (byte ∷ word))
+    ∙ ap (filter _) (slice_split_none is_space (byte ∷ word) (no_spaces (byte ∷ word) all)) ∙ some_kept byte word []
 word_first (byte ∷ word) (next ∷ rest) some all stops =
     let space : is_space next ≡ true = grind (arith, nat_tests, stops next rest refl) in
-    ap (filter _) (slice_split_at is_space (byte ∷ word) next rest (no_spaces (byte ∷ word) all) space) ∙ some_kept byte word (slice_split is_space rest)
+    ap (filter _) (slice_split_at is_space (byte ∷ word) next rest (no_spaces (byte ∷ word) all) space)
+    ∙ some_kept byte word (slice_split is_space rest)
     ∙ ap (λ (l : List (List ℕ)). (byte ∷ word) ∷ l) (sym (spaces_first (next ∷ []) rest (and_from _ _ space refl)))
 
-next_fields : (line field : List ℕ) → next_field line ≡ Ok field → fields line ≡ take_while is_in_field field ∷ fields (past is_in_field field)
+next_fields : (line field : List ℕ) → next_field line ≡ Ok field
+    → fields line ≡ take_while is_in_field field ∷ fields (past is_in_field field)
 next_fields line [] e = absurd ((next_ok line [] e).1 refl)
 next_fields line (byte ∷ more) e =
     let field = byte ∷ more in
     let is = (next_ok line field e).0 in
-    let some : take_while is_in_field field ≢ [] = (λ none. grind (arith, nat_tests, take_while-cons is_in_field byte more, behind_fails is_space line byte more is, none)) in
-    ap fields (split_at is_space line) ∙ spaces_first (take_while is_space line) (past is_space line) (front_passes is_space line) ∙ ap fields (is ∙ split_at is_in_field field)
-    ∙ word_first (take_while is_in_field field) (past is_in_field field) some (front_passes is_in_field field) (behind_fails is_in_field field)
+    let some : take_while is_in_field field ≢ [] =
+    (λ none. grind (
+      arith,
+      nat_tests,
+      take_while-cons is_in_field byte more,
+      behind_fails is_space line
+          byte more is,
+      none,
+    )) in
+    ap fields (split_at is_space line)
+    ∙ spaces_first (take_while is_space line) (past is_space line) (front_passes is_space line)
+    ∙ ap fields (is ∙ split_at is_in_field field)
+    ∙ word_first (take_while is_in_field field) (past is_in_field field) some (front_passes is_in_field field)
+    (behind_fails is_in_field field)
 
 number_fields : (line rest : List ℕ) (n : ℕ) → message_number line ≡ Ok (n, rest) → HasFields n (fields rest) line
 number_fields line rest n e =
     let (field, read, first) = bind_ok (next_field line) _ (n, rest) e in
     let (m, counted, last) = bind_ok (number greatest_number (take_while is_in_field field)) _ (n, rest) first in
-    let (same, ends) = pair_ok m n (past is_in_field field) rest last in
-    (take_while is_in_field field, next_fields line field read ∙ ap (λ (l : List ℕ). take_while is_in_field field ∷ fields l) ends, sym (number_ok greatest_number _ m counted).value ∙ same)
+    let (same, ends) = pair_ok m n (past is_in_field field) rest last in (
+      take_while is_in_field field,
+      next_fields line field read
+          ∙ ap (λ (l : List ℕ). take_while is_in_field field ∷ fields l) ends,
+      sym
+          (number_ok greatest_number _ m counted).value ∙ same,
+    )
 
 -- the digits that a field begins with are those that the rest of the line begins with
 digits_first : (rest : List ℕ) → take_while is_ascii_digit (take_while is_in_field rest) ≡ take_while is_ascii_digit rest
 digits_first [] = refl
 digits_first (byte ∷ rest) =
-    grind (arith, nat_tests, take_while-cons is_in_field byte rest, take_while-cons is_ascii_digit byte rest, take_while-cons is_ascii_digit byte (take_while is_in_field rest), digits_first rest)
+    grind (
+      arith,
+      nat_tests,
+      take_while-cons is_in_field byte rest,
+      take_while-cons is_ascii_digit byte rest,
+      take_while-cons is_ascii_digit byte (take_while is_in_field rest),
+      digits_first rest,
+    )
 
 pub scan_fields : ScanRowsHaveFields
 unfolding number_and_size
@@ -230,21 +281,30 @@ uid_fields row n message e =
     let over = more_ok id _ whole ends in
     let none = no_fields (past is_in_field field) over.1 in
     let uid : take_while is_in_field field ≡ message.uid = (id_ok _ id named).0 ∙ over.0 ∙ same' in
-    let (word, are, value) = number_fields row first.1 first.0 numbered in
-    (word, are ∙ ap (λ (l : List (List ℕ)). word ∷ l) (next_fields first.1 field next) ∙ ap₂ (λ (x : List ℕ) (l : List (List ℕ)). word ∷ x ∷ l) uid none, value ∙ same)
+    let (word, are, value) = number_fields row first.1 first.0 numbered in (
+      word,
+      are ∙ ap (λ (l : List (List ℕ)). word ∷ l) (next_fields first.1 field next)
+          ∙ ap₂ (λ (x : List ℕ) (l : List (List ℕ)). word ∷ x ∷ l) uid none,
+      value ∙ same,
+    )
 
 -- ---- the other direction: a line of the form is read
 
-front_length : (test : ℕ → Bool) (front rest : List ℕ) → list_all test front ≡ true → Stops test rest → prefix_len test (front ++ rest) ≡ length front
+front_length : (test : ℕ → Bool) (front rest : List ℕ) → list_all test front ≡ true → Stops test rest
+    → prefix_len test (front ++ rest) ≡ length front
 front_length test [] [] all stops = refl
 front_length test [] (byte ∷ rest) all stops = cond-false _ _ _ (stops byte rest refl)
-front_length test (byte ∷ front) rest all stops = grind (arith, all, λ (h : list_all test front ≡ true). front_length test front rest h stops)
+front_length test (byte ∷ front) rest all stops =
+    grind (arith, all, λ (h : list_all test front ≡ true). front_length test front rest h stops)
 
-front_taken : (test : ℕ → Bool) (front rest : List ℕ) → list_all test front ≡ true → Stops test rest → take_while test (front ++ rest) ≡ front
-front_taken test front rest all stops = ap (λ (n : ℕ). take n (front ++ rest)) (front_length test front rest all stops) ∙ take_at front rest (length front) refl
+front_taken : (test : ℕ → Bool) (front rest : List ℕ) → list_all test front ≡ true → Stops test rest
+    → take_while test (front ++ rest) ≡ front
+front_taken test front rest all stops = ap (λ (n : ℕ). take n (front ++ rest)) (front_length test front rest all stops)
+    ∙ take_at front rest (length front) refl
 
 front_passed : (test : ℕ → Bool) (front rest : List ℕ) → list_all test front ≡ true → Stops test rest → past test (front ++ rest) ≡ rest
-front_passed test front rest all stops = ap (λ (n : ℕ). drop n (front ++ rest)) (front_length test front rest all stops) ∙ drop_at front rest (length front) refl
+front_passed test front rest all stops = ap (λ (n : ℕ). drop n (front ++ rest)) (front_length test front rest all stops)
+    ∙ drop_at front rest (length front) refl
 
 -- the field begins with a byte that isn't a space
 Begins : List ℕ → Type 0
@@ -258,7 +318,7 @@ next_read spaces field blank (byte, more, is, other) =
     some : (length field == 0) ≡ false
     some = let size : length field ≡ length (byte ∷ more) = ap length is in grind (arith, nat_tests)
 
-number_read : (limit : ℕ) (digits : List ℕ) (n : ℕ) → StandsFor limit digits n → number limit digits ≡ Ok n
+number_read : (limit : ℕ) (digits : List ℕ) (n : ℕ) → StandsForNumber limit digits n → number limit digits ≡ Ok n
 unfolding number
 number_read limit digits n stands = grind (arith, nat_tests, stands.numeral, stands.value, stands.within)
 
@@ -273,7 +333,13 @@ digits_in_field = all_pass is_ascii_digit is_in_field (λ byte e. grind (arith, 
 begins : (front rest : List ℕ) → nat_lt 0 (length front) ≡ true → list_all is_in_field front ≡ true → Begins (front ++ rest)
 unfolding Begins
 begins [] rest some all = absurd (let none : 0 < 0 = ltb-true 0 0 some in omega arith)
-begins (byte ∷ front) rest some all = (byte, front ++ rest, refl, grind (arith, nat_tests, (and_parts (is_in_field byte) (list_all is_in_field front) all).0))
+begins (byte ∷ front) rest some all = (
+  byte,
+  front ++ rest,
+  refl,
+  grind
+      (arith, nat_tests, (and_parts (is_in_field byte) (list_all is_in_field front) all).0),
+)
 
 spaces_end_field : (spaces rest : List ℕ) → AreSpaces spaces → spaces ≢ [] → Stops is_in_field (spaces ++ rest)
 spaces_end_field [] rest blank some byte more e = absurd (some refl)
@@ -293,11 +359,20 @@ message_read line n rest form =
     let field : list_all is_in_field form.digits ≡ true = digits_in_field form.digits digits.1 in
     let ends : Stops is_in_field (form.gap ++ rest) = spaces_end_field form.gap rest form.apart form.some in
     ap message_number form.whole
-    ∙ rw (next_read form.indent (form.digits ++ (form.gap ++ rest)) form.before (begins form.digits (form.gap ++ rest) digits.0 field)) (rw (front_taken is_in_field form.digits (form.gap ++ rest) field ends, number_read greatest_number form.digits n form.counted, front_passed is_in_field form.digits (form.gap ++ rest) field ends))
+    ∙ rw (next_read form.indent (form.digits ++ (form.gap ++ rest)) form.before
+    (begins form.digits (form.gap ++ rest) digits.0 field))
+    (rw (
+      front_taken is_in_field form.digits (form.gap ++ rest) field ends,
+      number_read greatest_number form.digits
+          n form.counted,
+      front_passed is_in_field form.digits (form.gap ++ rest) field ends,
+    ))
 
 -- a line's number and the next field, however the line goes on
-field_read : {B : Type 0} (line : List ℕ) (n : ℕ) (front behind : List ℕ) → HasNumber line n (front ++ behind) → nat_lt 0 (length front) ≡ true → list_all is_in_field front ≡ true
-    → (f : ℕ × List ℕ → List ℕ → Result B WireFault) → (rest : List ℕ) × ((message_number line >>= (λ first. next_field first.1 >>= f first)) ≡ f (n, rest) (front ++ behind))
+field_read : {B : Type 0} (line : List ℕ) (n : ℕ) (front behind : List ℕ) → HasNumber line n (front ++ behind)
+    → nat_lt 0 (length front) ≡ true → list_all is_in_field front ≡ true
+    → (f : ℕ × List ℕ → List ℕ → Result B WireFault) → (rest : List ℕ)
+    × ((message_number line >>= (λ first. next_field first.1 >>= f first)) ≡ f (n, rest) (front ++ behind))
 field_read line n front behind form some field f = (
   form.gap ++ (front ++ behind),
   rw (message_read line n (front ++ behind) form, next_read form.gap (front ++ behind) form.apart (begins front behind some field)),
@@ -315,9 +390,17 @@ unfolding number_and_id legal_id nothing_more
 uid_form_read line n uid form =
     let bytes = bytes_of uid form.legal in
     let field : list_all is_in_field uid ≡ true = all_pass is_id_byte is_in_field (λ byte e. grind (arith, nat_tests)) uid bytes.1 in
-    let ends : Stops is_in_field form.behind = λ byte more e. spaces_end_field form.behind [] form.over (λ none. cc) byte more (append-nil form.behind ∙ e) in
+    let ends : Stops is_in_field form.behind = λ byte more e. spaces_end_field form.behind [] form.over
+    (λ none. cc) byte more (append-nil form.behind ∙ e) in
     (field_read line n uid form.behind form.front bytes.0 field _).1
-    ∙ rw (front_taken is_in_field uid form.behind field ends, form.legal, front_passed is_in_field uid form.behind field ends, ap (past is_space) (sym (append-nil form.behind)) ∙ front_passed is_space form.behind [] form.over (λ byte more e. absurd (cc)))
+    ∙ rw (
+      front_taken is_in_field uid form.behind field ends,
+      form.legal,
+      front_passed is_in_field uid form.behind field
+          ends,
+      ap (past is_space) (sym (append-nil form.behind))
+          ∙ front_passed is_space form.behind [] form.over (λ byte more e. absurd (cc)),
+    )
 
 -- ---- the line that asks for a command is read as that command
 
@@ -341,7 +424,8 @@ word_by : (ds : List ℕ) → list_all (λ x. not (is_space x)) ds ≡ true → 
 word_by ds e = λ k d inside. not-true _ (AllPass-from_list_all (λ x. not (is_space x)) ds e k d inside)
 
 number_word : (n : ℕ) → n < 2 ^ 32 → Word (decimal n)
-number_word n few = word_by (decimal n) (all_pass is_ascii_digit (λ x. not (is_space x)) (λ d e. grind (arith, nat_tests)) (decimal n) (digits_of_decimal n (omega arith)))
+number_word n few = word_by (decimal n) (all_pass is_ascii_digit (λ x. not (is_space x))
+    (λ d e. grind (arith, nat_tests)) (decimal n) (digits_of_decimal n (omega arith)))
 
 few_digits : (n : ℕ) → n < 2 ^ 32 → length (decimal n) ≤ 10
 few_digits n few = length-decimal-le 10 n (omega arith) (omega arith) (omega arith)
@@ -361,9 +445,11 @@ kept_end : (front ds : List ℕ) → Word ds → 0 < length ds → trimmed (fron
 kept_end front ds none some =
     let size : length (front ++ ds) ≡ length front + length ds = length-append front ds in
     let last : get_or (front ++ ds) (length (front ++ ds) - 1) 0 ≡ get_or ds (length ds - 1) 0 =
-    get_or-append_right front ds (length front) (length (front ++ ds) - 1) 0 refl (omega arith) ∙ ap (λ (k : ℕ). get_or ds k 0) (omega arith) in
+    get_or-append_right front ds (length front) (length (front ++ ds) - 1) 0 refl (omega arith)
+    ∙ ap (λ (k : ℕ). get_or ds k 0) (omega arith) in
     let no : suffix_len is_space (front ++ ds) ≡ length (front ++ ds) - length (front ++ ds) =
-    suffix_len_is is_space (front ++ ds) (length (front ++ ds)) 0 (omega arith) (λ k low high. absurd (omega arith)) (λ h. rw last (none (length ds - 1) 0 (omega arith))) in
+    suffix_len_is is_space (front ++ ds) (length (front ++ ds)) 0 (omega arith) (λ k low high. absurd (omega arith))
+    (λ h. rw last (none (length ds - 1) 0 (omega arith))) in
     take_all (length (front ++ ds) - suffix_len is_space (front ++ ds)) (front ++ ds) (omega arith)
 
 -- a keyword and a word
@@ -374,19 +460,24 @@ arguments_one front ds word none some =
     rw (end, slice_split_at is_space front 32 ds word refl) (slice_split_none is_space ds none)
 
 -- a keyword and two words
-arguments_two : (front ds es : List ℕ) → Word front → Word ds → Word es → 0 < length es → arguments (front ++ 32 ∷ (ds ++ 32 ∷ es)) ≡ ds ∷ es ∷ []
+arguments_two : (front ds es : List ℕ) → Word front → Word ds → Word es → 0 < length es
+    → arguments (front ++ 32 ∷ (ds ++ 32 ∷ es)) ≡ ds ∷ es ∷ []
 unfolding arguments
 arguments_two front ds es word first second some =
-    let end : trimmed (front ++ 32 ∷ (ds ++ 32 ∷ es)) ≡ front ++ 32 ∷ (ds ++ 32 ∷ es) = simp append_assoc at (kept_end (front ++ 32 ∷ (ds ++ 32 ∷ [])) es second some) in
-    rw (end, slice_split_at is_space front 32 (ds ++ 32 ∷ es) word refl) (slice_split_at is_space ds 32 es first refl ∙ ap (λ (parts : List (List ℕ)). ds ∷ parts) (slice_split_none is_space es second))
+    let end : trimmed (front ++ 32 ∷ (ds ++ 32 ∷ es)) ≡ front ++ 32 ∷ (ds ++ 32 ∷ es) =
+    simp append_assoc at (kept_end (front ++ 32 ∷ (ds ++ 32 ∷ [])) es second some) in
+    rw (end, slice_split_at is_space front 32 (ds ++ 32 ∷ es) word refl) (slice_split_at is_space ds 32 es first refl
+    ∙ ap (λ (parts : List (List ℕ)). ds ∷ parts) (slice_split_none is_space es second))
 
-short_line : (line : List ℕ) → length line ≤ 510 → command_of line ≡ command_by (keyword_of (before_first is_space line)) (rest_of line) (arguments line)
+short_line : (line : List ℕ) → length line ≤ 510
+    → command_of line ≡ command_by (keyword_of (before_first is_space line)) (after_keyword line) (arguments line)
 unfolding command_of
 short_line line short = cond-false _ _ _ (le-ltb 510 (length line) short)
 
 -- a keyword and a number
 keyword_numbered : (front : List ℕ) (n : ℕ) → list_all (λ x. not (is_space x)) front ≡ true → length front ≤ 4 → n < 2 ^ 32
-    → command_of (front ++ 32 ∷ decimal n) ≡ command_by (keyword_of (before_first is_space (front ++ 32 ∷ decimal n))) (rest_of (front ++ 32 ∷ decimal n)) (decimal n ∷ [])
+    → command_of (front ++ 32 ∷ decimal n) ≡ command_by (keyword_of (before_first is_space (front ++ 32 ∷ decimal n)))
+    (after_keyword (front ++ 32 ∷ decimal n)) (decimal n ∷ [])
 keyword_numbered front n word short few =
     short_line (front ++ 32 ∷ decimal n) (omega (arith, length-append front (32 ∷ decimal n), few_digits n few))
     ∙ rw (arguments_one front (decimal n) (word_by front word) (number_word n few) (decimal_nonempty n (omega arith)))
@@ -394,11 +485,20 @@ keyword_numbered front n word short few =
 -- a keyword and two numbers
 numbered_twice : (front : List ℕ) (n k : ℕ) → list_all (λ x. not (is_space x)) front ≡ true → length front ≤ 4 → n < 2 ^ 32 → k < 2 ^ 32
     → (line : List ℕ) → line ≡ front ++ 32 ∷ (decimal n ++ 32 ∷ decimal k)
-    → command_of line ≡ command_by (keyword_of (before_first is_space line)) (rest_of line) (decimal n ∷ decimal k ∷ [])
+    → command_of line ≡ command_by (keyword_of (before_first is_space line)) (after_keyword line) (decimal n ∷ decimal k ∷ [])
 numbered_twice front n k word short few less line is =
-    short_line line (omega (arith, ap length is, length-append front (32 ∷ (decimal n ++ 32 ∷ decimal k)), length-append (decimal n) (32 ∷ decimal k), few_digits n few, few_digits k less))
-    ∙ ap (command_by (keyword_of (before_first is_space line)) (rest_of line))
-    (ap arguments is ∙ arguments_two front (decimal n) (decimal k) (word_by front word) (number_word n few) (number_word k less) (decimal_nonempty k (omega arith)))
+    short_line line (omega (
+      arith,
+      ap length is,
+      length-append front (32 ∷ (decimal n ++ 32 ∷ decimal k)),
+      length-append
+          (decimal n) (32 ∷ decimal k),
+      few_digits n few,
+      few_digits k less,
+    ))
+    ∙ ap (command_by (keyword_of (before_first is_space line)) (after_keyword line))
+    (ap arguments is ∙ arguments_two front (decimal n) (decimal k) (word_by front word) (number_word n few)
+    (number_word k less) (decimal_nonempty k (omega arith)))
 
 text_short : (text : List ℕ) → is_credential text ≡ true → length text ≤ 500
 text_short text good = grind (arith, nat_tests, good)
@@ -413,20 +513,29 @@ round_trip (UidlOne n) few good = keyword_numbered (codes "UIDL") n refl (omega 
 round_trip (ListOne n) few good = keyword_numbered (codes "LIST") n refl (omega arith) few ∙ rw (read_number n few)
 round_trip (Retr n) few good = keyword_numbered (codes "RETR") n refl (omega arith) few ∙ rw (read_number n few)
 round_trip (Dele n) few good = keyword_numbered (codes "DELE") n refl (omega arith) few ∙ rw (read_number n few)
-round_trip (Top n k) few good = numbered_twice (codes "TOP") n k refl (omega arith) few.0 few.1 (line_of (Top n k)) (simp append_assoc) ∙ rw (read_number n few.0, read_number k few.1)
+round_trip (Top n k) few good = numbered_twice (codes "TOP") n k refl (omega arith) few.0 few.1 (line_of (Top n k))
+    (simp append_assoc) ∙ rw (read_number n few.0, read_number k few.1)
 round_trip other few good = refl
 
 -- ---- rows of listings are read as a server means them
 
 -- if all bytes pass and there are any, the first one passes
-starts : (test : ℕ → Bool) (ds : List ℕ) → 0 < length ds → list_all test ds ≡ true → (d : ℕ) × (rest : List ℕ) × (ds ≡ d ∷ rest) × (test d ≡ true)
+starts : (test : ℕ → Bool) (ds : List ℕ) → 0 < length ds → list_all test ds ≡ true → (d : ℕ) × (rest : List ℕ)
+    × (ds ≡ d ∷ rest) × (test d ≡ true)
 starts test [] some e = absurd (omega arith)
 starts test (d ∷ ds) some e = (d, ds, refl, (and_parts (test d) (list_all test ds) e).0)
 
 pub numbers_are_read : NumbersAreRead
 numbers_are_read limit n within fits =
     record {
-      numeral = grind (arith, nat_tests, decimal_nonempty n (omega arith), length-decimal-le 20 n (omega arith) (omega arith) (omega arith), digits_of_decimal n (omega arith));
+      numeral = grind (
+        arith,
+        nat_tests,
+        decimal_nonempty n (omega arith),
+        length-decimal-le 20 n (omega arith)
+            (omega arith) (omega arith),
+        digits_of_decimal n (omega arith),
+      );
       value = sym (decimal_is_IsNumeral n (omega arith)).1;
       within = within;
     }
@@ -464,7 +573,8 @@ no_lf_decimal n fits = all_pass is_ascii_digit is_no_lf (λ d e. grind (arith, n
 digit_content : (k : ℕ) (rest : List ℕ) → k < 2 ^ 64 → list_all is_no_lf rest ≡ true → IsSentAsIs (decimal k ++ rest)
 digit_content k rest fits none =
     let (d, ds, begin, digit) = starts is_ascii_digit (decimal k) (decimal_nonempty k fits) (digits_of_decimal k fits) in
-    let line : IsLine (decimal k ++ rest) = line_without_lf (decimal k ++ rest) (no_lf_append (decimal k) rest (no_lf_decimal k fits) none) in
+    let line : IsLine (decimal k ++ rest) =
+    line_without_lf (decimal k ++ rest) (no_lf_append (decimal k) rest (no_lf_decimal k fits) none) in
     let other : d ≢ 46 = (λ e. grind (arith, nat_tests, digit, e)) in
     rw begin ((rw begin at line, λ e. other (cc)), cond-false _ _ _ (ne_eqb d 46 other))
 
@@ -484,8 +594,17 @@ scan_rows_are_read number size few fits = rw (append_assoc (decimal number) (32 
 
 pub uid_rows_are_read : UidRowsAreRead
 uid_rows_are_read number uid few legal = rw (append_assoc (decimal number) (32 ∷ []) uid) (
-  digit_content number (32 ∷ uid) (omega arith) (no_lf_append (32 ∷ []) uid refl (all_pass is_id_byte is_no_lf (λ d e. grind (arith, nat_tests)) uid (bytes_of uid legal).1)),
-  uid_form_read _ number uid (record { behind = []; front = numbered number uid (uid ++ []) few (sym (append-nil uid)); legal = legal; over = refl }),
+  digit_content number (32 ∷ uid) (omega arith)
+      (no_lf_append (32 ∷ []) uid refl (all_pass is_id_byte is_no_lf (λ d e. grind (arith, nat_tests)) uid
+      (bytes_of uid legal).1)),
+  uid_form_read _ number uid
+      (record {
+        behind = [];
+        front = numbered number uid (uid ++ []) few (sym (append-nil uid));
+        legal = legal;
+        over =
+            refl;
+      }),
 )
 
 pub first_lines_are_read : FirstLinesAreRead
@@ -505,7 +624,8 @@ unfolding line_of
 line_no_lf (User name) h s = no_lf_append (codes "USER ") name refl (argument_no_lf name s)
 line_no_lf (Pass password) h s = no_lf_append (codes "PASS ") password refl (argument_no_lf password s)
 line_no_lf (Top n k) h s =
-    number_no_lf ((codes "TOP " ++ decimal n) ++ codes " ") k (no_lf_append (codes "TOP " ++ decimal n) (codes " ") (number_no_lf (codes "TOP ") n refl h.0) refl) h.1
+    number_no_lf ((codes "TOP " ++ decimal n) ++ codes " ") k (no_lf_append (codes "TOP " ++ decimal n) (codes " ")
+    (number_no_lf (codes "TOP ") n refl h.0) refl) h.1
 line_no_lf other h s = search (rules, number_no_lf)
 
 pub is_line : CommandsAreLines
@@ -525,7 +645,8 @@ same_commands (c ∷ cs) (d ∷ ds) part other hc hd sc sd lp lo e =
 
 pub one_list_of_commands : OneListOfCommands
 one_list_of_commands commands others sent asked again =
-    same_commands commands others asked.part again.part asked.numbers again.numbers asked.sendable again.sendable asked.no_line again.no_line (sym asked.whole ∙ again.whole)
+    same_commands commands others asked.part again.part asked.numbers again.numbers asked.sendable again.sendable
+    asked.no_line again.no_line (sym asked.whole ∙ again.whole)
 
 -- ---- prefixes of the octets of some commands
 
@@ -542,28 +663,38 @@ without_last (y ∷ a) m x z [] e = let none : a ++ x ∷ m ≡ [] = cc in absur
 without_last (y ∷ a) m x z (w ∷ b) e = let later = without_last a m x z b (cc) in (later.0, cc)
 
 -- a command's line that isn't sent whole holds no LF
-part_no_lf : (c : Command) (part m : List ℕ) (x : ℕ) → HasNumbers c → can_be_sent c ≡ true → ended (line_of c) ≡ part ++ x ∷ m → list_all is_no_lf part ≡ true
+part_no_lf : (c : Command) (part m : List ℕ) (x : ℕ) → HasNumbers c → can_be_sent c ≡ true
+    → ended (line_of c) ≡ part ++ x ∷ m → list_all is_no_lf part ≡ true
 part_no_lf c part m x h s e =
     let k = without_last part m x 10 (line_of c ++ 13 ∷ []) (sym e ∙ sym (append_assoc (line_of c) (13 ∷ []) (10 ∷ []))) in
-    (and_parts (list_all is_no_lf part) (list_all is_no_lf k.0) (rw (← list_all-append is_no_lf part k.0, ← k.1) (no_lf_append (line_of c) (13 ∷ []) (line_no_lf c h s) refl))).0
+    (and_parts (list_all is_no_lf part) (list_all is_no_lf k.0) (rw (← list_all-append is_no_lf part k.0, ← k.1)
+    (no_lf_append (line_of c) (13 ∷ []) (line_no_lf c h s) refl))).0
 
-abbrev nothing_asked : (part : List ℕ) → list_all is_no_lf part ≡ true → Asked [] part
+abbrev nothing_asked : (part : List ℕ) → list_all is_no_lf part ≡ true → HasSent [] part
 nothing_asked part none = record { sendable = tt; numbers = tt; part = part; no_line = line_without_lf part none; whole = refl }
 
 pub fronts_are_asked : FrontsAreAsked
 fronts_are_asked [] front rest sendable numbers e =
-    let none = nil_from_length front (omega (arith, ap length e, length-append front rest)) in ([], [], refl, nothing_asked front (ap (list_all is_no_lf) none), none)
+    let none = nil_from_length front (omega (arith, ap length e, length-append front rest))
+    in ([], [], refl, nothing_asked front (ap (list_all is_no_lf) none), none)
 fronts_are_asked (c ∷ cs) front rest sendable numbers e = ⊎_elim (λ (m, is, behind).
     let (whole, later, are, asked, next) = fronts_are_asked cs m rest sendable.1 numbers.1 behind in
-    let first : Asked (c ∷ whole) front = record {
+    let first : HasSent (c ∷ whole) front = record {
       sendable = (sendable.0, asked.sendable);
       numbers = (numbers.0, asked.numbers);
       part = asked.part;
       no_line = asked.no_line;
-      whole = is ∙ ap (λ (l : List ℕ). ended (line_of c) ++ l) asked.whole ∙ sym (append_assoc (ended (line_of c)) (octets_of whole) asked.part);
+      whole = is ∙ ap (λ (l : List ℕ). ended (line_of c) ++ l) asked.whole
+          ∙ sym (append_assoc (ended (line_of c)) (octets_of whole) asked.part);
     } in
     (c ∷ whole, later, cc, first, next))
-    (λ (x, m, is). ([], c ∷ cs, refl, nothing_asked front (part_no_lf c front m x numbers.0 sendable.0 is), (x ∷ m, is))) (meets (ended (line_of c)) (octets_of cs) front rest e)
+    (λ (x, m, is). (
+      [],
+      c ∷ cs,
+      refl,
+      nothing_asked front (part_no_lf c front m x numbers.0 sendable.0 is),
+      (x ∷ m, is),
+    )) (meets (ended (line_of c)) (octets_of cs) front rest e)
 
 -- ---- lines split at spaces
 

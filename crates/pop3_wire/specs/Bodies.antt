@@ -70,7 +70,7 @@ items_of (Ok v) = Ok v.items
 items_of (Err e) = Err e
 
 -- whether a fault is a refused call
-abbrev pub is_refusal : BodyFault → Bool
-is_refusal Ended = false
-is_refusal Failed = true
-is_refusal TooLong = false
+abbrev pub is_body_refusal : BodyFault → Bool
+is_body_refusal Ended = false
+is_body_refusal Failed = true
+is_body_refusal TooLong = false

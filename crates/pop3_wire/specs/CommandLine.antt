@@ -46,8 +46,8 @@ unfoldable pub arguments : List ℕ → List (List ℕ)
 arguments line = drop 1 (slice_split is_space (trimmed line))
 
 -- all that follows the space after the keyword, spaces included
-abbrev pub rest_of : List ℕ → List ℕ
-rest_of line = after_first is_space line
+abbrev pub after_keyword : List ℕ → List ℕ
+after_keyword line = after_first is_space line
 
 -- the argument of USER or PASS
 unfoldable pub text_argument : List ℕ → Result (List ℕ) WireFault
@@ -81,20 +81,20 @@ two_numbers (word ∷ other ∷ []) = do
 two_numbers (word ∷ other ∷ third ∷ more) = Err BadArgument
 
 -- what follows a keyword, and the command that it asks for
-pub data Form : Type 0 where
+pub data ArgumentForm : Type 0 where
   -- all that follows the space, spaces included
-  Text : (List ℕ → Command) → Form
+  Text : (List ℕ → Command) → ArgumentForm
   -- no argument
-  Alone : Command → Form
+  Alone : Command → ArgumentForm
   -- one number
-  Number : (ℕ → Command) → Form
+  Number : (ℕ → Command) → ArgumentForm
   -- one number, or none for all messages
-  NumberOrNone : (ℕ → Command) → Command → Form
+  NumberOrNone : (ℕ → Command) → Command → ArgumentForm
   -- two numbers
-  TwoNumbers : (ℕ → ℕ → Command) → Form
+  TwoNumbers : (ℕ → ℕ → Command) → ArgumentForm
 
 -- the forms of the keywords' arguments
-abbrev pub form_of : Keyword → Form
+abbrev pub form_of : Keyword → ArgumentForm
 form_of keyword.User = Text User
 form_of keyword.Pass = Text Pass
 form_of keyword.Stat = Alone Stat
@@ -108,7 +108,7 @@ form_of keyword.Top = TwoNumbers Top
 form_of keyword.Quit = Alone Quit
 
 -- the command of a form, given all that follows the space after the keyword, and the arguments
-abbrev pub command_in : Form → List ℕ → List (List ℕ) → Result Command WireFault
+abbrev pub command_in : ArgumentForm → List ℕ → List (List ℕ) → Result Command WireFault
 command_in (Text command) rest words = do
   text ← text_argument rest
   Ok (command text)
@@ -138,7 +138,7 @@ command_limit = 510
 -- first space
 unfoldable pub command_of : List ℕ → Result Command WireFault
 command_of line = if nat_lt command_limit (length line) then Err BadCommand
-    else command_by (keyword_of (before_first is_space line)) (rest_of line) (arguments line)
+    else command_by (keyword_of (before_first is_space line)) (after_keyword line) (arguments line)
 
 -- a command that carries bytes: USER or PASS
 abbrev pub CarriesBytes : Command → Type 0

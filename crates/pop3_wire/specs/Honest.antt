@@ -99,7 +99,7 @@ Replies messages marks (command ∷ commands) bytes last =
     × Reply messages marks command first next × Replies messages next commands more last
 
 -- these commands were sent whole, each on one line and with numbers below 2 ^ 32, and perhaps a part of one more
-pub record Asked (commands : List Command) (sent : List ℕ) : Type 0 where
+pub record HasSent (commands : List Command) (sent : List ℕ) : Type 0 where
   pub sendable : AllByRecursion (λ command. can_be_sent command ≡ true) commands
   pub numbers : AllByRecursion HasNumbers commands
   pub part : List ℕ
@@ -108,7 +108,7 @@ pub record Asked (commands : List Command) (sent : List ℕ) : Type 0 where
 
 -- the octets sent determine which commands were sent whole
 abbrev pub OneListOfCommands : Type 0
-OneListOfCommands = (commands others : List Command) (sent : List ℕ) → Asked commands sent → Asked others sent
+OneListOfCommands = (commands others : List Command) (sent : List ℕ) → HasSent commands sent → HasSent others sent
     → commands ≡ others
 
 -- the octets begin the line of the first of these commands; without a command there are none
@@ -121,7 +121,7 @@ abbrev pub FrontsAreAsked : Type 0
 FrontsAreAsked = (commands : List Command) (front rest : List ℕ)
     → AllByRecursion (λ command. can_be_sent command ≡ true) commands
     → AllByRecursion HasNumbers commands → octets_of commands ≡ front ++ rest
-    → (whole later : List Command) × (commands ≡ whole ++ later) × (asked : Asked whole front)
+    → (whole later : List Command) × (commands ≡ whole ++ later) × (asked : HasSent whole front)
     × BeginsNext later asked.part
 
 -- what was got begins a greeting and one reply to each command that was sent whole; after these replies the
@@ -131,7 +131,7 @@ pub record Honest (messages : List Message) (sent got : List ℕ) (marks : List 
   pub hello : List ℕ
   pub greets : SaysAnything status hello
   pub commands : List Command
-  pub asked : Asked commands sent
+  pub asked : HasSent commands sent
   pub replies : List ℕ
   pub replied : Replies messages (no_marks messages) commands replies marks
   pub later : List ℕ

@@ -48,10 +48,10 @@ pub record HasNoLine (limit : ℕ) (bytes : List ℕ) : Type 0 where
   pub none : IsLine (take limit bytes)
 
 -- whether a fault is a refused call
-abbrev pub is_refusal : LineFault → Bool
-is_refusal Ended = false
-is_refusal Failed = true
-is_refusal TooLong = false
+abbrev pub is_line_refusal : LineFault → Bool
+is_line_refusal Ended = false
+is_line_refusal Failed = true
+is_line_refusal TooLong = false
 
 -- a line waits; or none does, because the link has ended, a call was refused, or the limit is reached
 abbrev pub ReadsLine : ℕ → Place → Result ℕ LineFault → Place → Type 0

@@ -13,7 +13,7 @@ abbrev pub AreSpaces : List ℕ → Type 0
 AreSpaces bytes = IsTrue (list_all is_space bytes)
 
 -- a numeral that stands for a number up to a limit
-pub record StandsFor (limit : ℕ) (digits : List ℕ) (number : ℕ) : Type 0 where
+pub record StandsForNumber (limit : ℕ) (digits : List ℕ) (number : ℕ) : Type 0 where
   pub numeral : IsTrue (is_numeral digits)
   pub value : number ≡ digits_value 10 digits
   pub within : number ≤ limit
@@ -25,7 +25,7 @@ pub record HasNumber (line : List ℕ) (number : ℕ) (rest : List ℕ) : Type 0
   pub gap : List ℕ
   pub whole : line ≡ indent ++ (digits ++ (gap ++ rest))
   pub before : AreSpaces indent
-  pub counted : StandsFor greatest_number digits number
+  pub counted : StandsForNumber greatest_number digits number
   pub apart : AreSpaces gap
   pub some : gap ≢ []
 
@@ -34,7 +34,7 @@ pub record HasScanForm (line : List ℕ) (number size : ℕ) : Type 0 where
   pub digits : List ℕ
   pub behind : List ℕ
   pub front : HasNumber line number (digits ++ behind)
-  pub sized : StandsFor greatest_size digits size
+  pub sized : StandsForNumber greatest_size digits size
   pub over : (byte : ℕ) (rest : List ℕ) → behind ≡ byte ∷ rest → is_ascii_digit byte ≡ false
 
 -- after the message number a legal unique-id, and any spaces
@@ -55,7 +55,8 @@ UidRowsHaveForm = (line : List ℕ) (number : ℕ) (uid : List ℕ) → (number_
 
 -- a number is written as a numeral that stands for it
 abbrev pub NumbersAreRead : Type 0
-NumbersAreRead = (limit number : ℕ) → number ≤ limit → number ≤ greatest_size → StandsFor limit (decimal number) number
+NumbersAreRead = (limit number : ℕ) → number ≤ limit → number ≤ greatest_size
+    → StandsForNumber limit (decimal number) number
 
 -- the row of LIST, which is also STAT's rest, as it is written, and the row of UIDL
 abbrev pub scan_row : ℕ → ℕ → List ℕ

@@ -1,7 +1,7 @@
 //! Taking one body from a link, into its text (RFC 1939, section 3).
 ghost use Rattle.std.specs.Prelude.{◌≡◌, ◌≢◌, ◌≤◌, ◌<◌, ◌+◌, ◌-◌, ◌++◌, ◌↔◌, ℕ, List, []};
 ghost use Rattle.std.specs.Prelude.{length, take, drop, min, IsTrue, IfOk, IfErr, OnOk, OnErr};
-ghost use Rattle.pop3_wire.specs.Bodies.{Drew, DrawsNothing, Rest, UnderWay, TakesPiece, rest_of, is_refusal};
+ghost use Rattle.pop3_wire.specs.Bodies.{Drew, DrawsNothing, Rest, UnderWay, TakesPiece, rest_of, is_body_refusal};
 ghost use Rattle.pop3_wire.specs.Link.{CountsRefusal, WhereSound};
 ghost use Rattle.pop3_wire.specs.Place.{Place, at, GoesOn};
 ghost use Rattle.pop3_wire.specs.Unstuffing.{Reaches};
@@ -33,7 +33,7 @@ pub enum BodyFault {
 
 /// Takes octets from the link if none wait; after Ok some do.
 fn draw<W: Wire>(wire: &mut W, reader: &mut LineReader) -> Result<(), BodyFault>
-    ensures counted { CountsRefusal is_refusal (W.history wire.old) result (W.history wire.new) }
+    ensures counted { CountsRefusal is_body_refusal (W.history wire.old) result (W.history wire.new) }
     ensures ok { OnOk result ((gained : List ℕ) × (reader.new ≡ reader.old ++ gained) × (0 < length reader.new)
         × WhereSound W.sound W.leads_to wire.old wire.new
         (Drew (W.history wire.old) (W.history wire.new) gained × GoesOn (W.history wire.old) (W.history wire.new))) }
@@ -126,7 +126,7 @@ impl BodyReader {
         out: &mut [u8; PIECE_ROOM],
     ) -> Result<Piece, BodyFault>
         requires { self.old.spot ≢ Done }
-        ensures counted { CountsRefusal is_refusal (W.history wire.old) result (W.history wire.new) }
+        ensures counted { CountsRefusal is_body_refusal (W.history wire.old) result (W.history wire.new) }
         ensures fits { IfOk result (λ piece. piece.put ≤ length out.new) }
         ensures ended { IfOk result (λ piece. IsTrue piece.ended ↔ (self.new.spot ≡ Done)) }
         ensures less { IfOk result (λ piece. (self.old.left ≡ self.new.left + piece.octets)

@@ -3,7 +3,7 @@
 ghost use Rattle.std.specs.Prelude.{◌≡◌, ◌⊎◌, [], ◌∷◌, Ok, Err, IfOk, IfErr, IsOk, MatchOption};
 ghost use Rattle.std.specs.List.{before_first, after_first, slice_split};
 ghost use Rattle.pop3_wire.specs.Fields.{is_space};
-ghost use Rattle.pop3_wire.specs.CommandLine.{trimmed, arguments, rest_of, text_argument, argument_number};
+ghost use Rattle.pop3_wire.specs.CommandLine.{trimmed, arguments, after_keyword, text_argument, argument_number};
 ghost use Rattle.pop3_wire.specs.CommandLine.{no_argument, one_number, number_or_none, two_numbers, command_by};
 ghost use Rattle.pop3_wire.specs.CommandLine.{command_of, CarriesBytes, ReadAsWritten, CommandsAreLines};
 ghost use Rattle.pop3_wire.specs.Honest.{OneListOfCommands, FrontsAreAsked};
@@ -57,9 +57,9 @@ fn behind_keyword(line: &[u8]) -> Option<&[u8]>
 /// The argument of USER or PASS: all that follows the space after the keyword, spaces included.
 #[tactic(auto, unfolding(crate::specs::CommandLine::text_argument))]
 fn text_argument(alloc: Global, line: &[u8]) -> Result<Bytes, WireFault>
-    ensures ok { IfOk result (λ text. text_argument (rest_of line.now) ≡ Ok text) }
-    ensures err { IfErr result (λ e. (text_argument (rest_of line.now) ≡ Err e)
-        ⊎ ((e ≡ WireFault.NoMemory) × IsOk (text_argument (rest_of line.now)))) }
+    ensures ok { IfOk result (λ text. text_argument (after_keyword line.now) ≡ Ok text) }
+    ensures err { IfErr result (λ e. (text_argument (after_keyword line.now) ≡ Err e)
+        ⊎ ((e ≡ WireFault.NoMemory) × IsOk (text_argument (after_keyword line.now)))) }
 {
     let text = cut_word(line).1.unwrap_or(b"");
     if !is_credential(text) {
@@ -139,11 +139,11 @@ fn two_numbers(line: &[u8]) -> Result<(u32, u32), WireFault>
 /// The command of a keyword and a line.
 #[tactic(auto, unfolding(crate::specs::CommandLine::command_by))]
 fn read_by(alloc: Global, keyword: Option<Keyword>, line: &[u8]) -> Result<Command, WireFault>
-    ensures ok { IfOk result (λ c. command_by keyword (rest_of line.now) (arguments line.now) ≡ Ok c) }
-    ensures err { IfErr result (λ e. (command_by keyword (rest_of line.now) (arguments line.now) ≡ Err e)
-        ⊎ ((e ≡ WireFault.NoMemory) × IsOk (command_by keyword (rest_of line.now) (arguments line.now)))) }
+    ensures ok { IfOk result (λ c. command_by keyword (after_keyword line.now) (arguments line.now) ≡ Ok c) }
+    ensures err { IfErr result (λ e. (command_by keyword (after_keyword line.now) (arguments line.now) ≡ Err e)
+        ⊎ ((e ≡ WireFault.NoMemory) × IsOk (command_by keyword (after_keyword line.now) (arguments line.now)))) }
     ensures memory { IfErr result (λ e. e ≡ WireFault.NoMemory
-        → IfOk (command_by keyword (rest_of line.now) (arguments line.now)) CarriesBytes) }
+        → IfOk (command_by keyword (after_keyword line.now) (arguments line.now)) CarriesBytes) }
 {
     let Some(keyword) = keyword else {
         return Err(WireFault::BadCommand);

@@ -3,7 +3,7 @@ ghost use Rattle.std.specs.Prelude.{◌≡◌, ◌≤◌, ◌<◌, ◌+◌, ◌-
 ghost use Rattle.std.specs.Prelude.{IfSome, IfNone};
 ghost use Rattle.pop3_wire.specs.Link.{CountsFailure, CountsRefusal, WhereSound};
 ghost use Rattle.pop3_wire.specs.Place.{most_waiting, at, GotPiece, WasRefused, Gains, HasLine, HasNoLine, ReadsLine};
-ghost use Rattle.pop3_wire.specs.Place.{is_refusal};
+ghost use Rattle.pop3_wire.specs.Place.{is_line_refusal};
 
 use crate::line::cut_line;
 use crate::wire::{Wire, WireDown};
@@ -134,7 +134,7 @@ impl LineReader {
     /// and returns its length without CR LF. The line isn't used yet.
     pub fn line<W: Wire>(&mut self, wire: &mut W, limit: usize) -> Result<usize, LineFault>
         requires { limit ≤ most_waiting }
-        ensures counted { CountsRefusal is_refusal (W.history wire.old) result (W.history wire.new) }
+        ensures counted { CountsRefusal is_line_refusal (W.history wire.old) result (W.history wire.new) }
         ensures short { length self.new ≤ most_waiting }
         ensures found { IfOk result (HasLine limit self.new) }
         ensures gained { (gained : List ℕ) × (self.new ≡ self.old ++ gained) }

@@ -46,7 +46,7 @@ abbrev pub words_after : List Row → List (List ℕ)
 words_after rows = unwrap_or (all_of (codes "more") rows) []
 
 -- the matches ask for this
-pub record AsksFor (rows : List Row) (words : Words) : Type 0 where
+pub record AsksToServe (rows : List Row) (words : Words) : Type 0 where
   pub listen : option_map string_bytes words.listen ≡ first_of (codes "listen") rows
   pub connections : Numbers (one_of (codes "connections") rows) words.connections
   pub rehearse : words.rehearse ≡ is_given (codes "rehearse") rows
@@ -64,6 +64,6 @@ is_bare words =
     (not (is_some words.passfile) && (not (is_some words.maildir) && (length words.more.items == 0)))
 
 -- there are USER PASSFILE MAILDIR and no more words
-abbrev pub is_whole : Words → Bool
-is_whole words = is_some words.user
+abbrev pub has_all_words : Words → Bool
+has_all_words words = is_some words.user
     && (is_some words.passfile && (is_some words.maildir && (length words.more.items == 0)))

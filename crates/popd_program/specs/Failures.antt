@@ -3,22 +3,22 @@ use Rattle.std.specs.Prelude.{◌≡◌, ◌≢◌, ◌||◌, ℕ, Bool, true, f
 use Rattle.std.specs.Prelude.{option_map, if◌then◌else◌}
 use Rattle.std.specs.String.{string_bytes}
 use Rattle.pop3_server.specs.declared.fault.ServerFault.TheVariants.{NoMemory}
-use Rattle.popd_program.specs.CommandLine.{is_bare, is_whole}
+use Rattle.popd_program.specs.CommandLine.{is_bare, has_all_words}
 use Rattle.popd_program.specs.declared.failure.Failure.{Failure}
 use Rattle.popd_program.specs.declared.failure.Failure.TheVariants.{WrongCount, CannotRead, CannotListen, Fault}
 use Rattle.popd_program.specs.declared.words.Words.{Words}
 
 -- 0: served; 1: a file, an address, the link or memory failed; 2: usage
-abbrev pub status_of : Result (Unit {0}) Failure → ℕ
-status_of (Ok done) = 0
-status_of (Err WrongCount) = 2
-status_of (Err (CannotRead name)) = 1
-status_of (Err (CannotListen address)) = 1
-status_of (Err (Fault fault)) = 1
+abbrev pub status_of_serving : Result (Unit {0}) Failure → ℕ
+status_of_serving (Ok done) = 0
+status_of_serving (Err WrongCount) = 2
+status_of_serving (Err (CannotRead name)) = 1
+status_of_serving (Err (CannotListen address)) = 1
+status_of_serving (Err (Fault fault)) = 1
 
 -- as many words as are wanted: none for a rehearsal, else USER PASSFILE MAILDIR
 abbrev pub has_right_count : Words → Bool
-has_right_count words = if words.rehearse then is_bare words else is_whole words
+has_right_count words = if words.rehearse then is_bare words else has_all_words words
 
 -- standard input and output are served, and no address
 abbrev pub serves_streams : Words → Bool

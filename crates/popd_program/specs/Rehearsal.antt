@@ -1,7 +1,7 @@
 -- The maildrop of a rehearsal.
 use Rattle.std.specs.Prelude.{ℕ, List, [], ◌∷◌, ◌++◌, Some, codes}
 use Rattle.pop3_wire.specs.World.{Message}
-use Rattle.pop3_server.specs.Maildrop.{Mail}
+use Rattle.pop3_server.specs.Maildrop.{DropMail}
 
 -- the LF that ends a line of a text
 abbrev pub line : List ℕ → List ℕ
@@ -18,5 +18,5 @@ second = record {
 }
 
 -- two small messages, nothing refused or removed yet
-abbrev pub rehearsal : Mail
+abbrev pub rehearsal : DropMail
 rehearsal = record { slots = Some first ∷ Some second ∷ []; failures = 0; removals = 0 }

@@ -3,7 +3,7 @@ ghost use Rattle.std.specs.Prelude.{◌≡◌, ◌≢◌, ◌⊎◌, ◌≤◌};
 ghost use Rattle.std.specs.IoError.{error_kind};
 ghost use Rattle.pop3_server.specs.declared.fault.ServerFault.TheVariants.{NoMemory};
 ghost use Rattle.popd_program.specs.declared.failure.Failure.TheVariants.{Fault};
-ghost use Rattle.popd_program.specs.Failures.{status_of};
+ghost use Rattle.popd_program.specs.Failures.{status_of_serving};
 
 use pop3_server::ServerFault;
 use std::alloc::AllocError;
@@ -90,7 +90,7 @@ pub fn tell_reason<R: Eprint + AllocGlobal>(
 /// Writes the failure's line, if there was a failure, and returns the exit status: 0 if there was
 /// none, 2 for a wrong number of words, 1 for any other failure.
 pub fn end<R: Eprint>(rt: &R, outcome: Result<(), Failure<'_>>) -> u8
-    ensures status { result ≡ status_of outcome.entry }
+    ensures status { result ≡ status_of_serving outcome.entry }
     ensures within { result ≤ 2 }
 {
     match outcome {

@@ -1,7 +1,7 @@
 //! Doing what the command line asks for, from its words to the exit status.
 ghost use Rattle.std.specs.Prelude.{◌≡◌, ◌≢◌, ◌≤◌, ◌⊎◌, true, false, IfErr, MatchResult};
 ghost use Rattle.clap.specs.Values.{kind_of};
-ghost use Rattle.command_line.specs.Rules.{is_asked_for};
+ghost use Rattle.command_line.specs.Rules.{is_asked_text};
 ghost use Rattle.popd_program.specs.Failures.{IsCause, has_right_count};
 
 use crate::account::read_account;
@@ -71,9 +71,9 @@ where
 /// 1 for one that wasn't or if memory ran out, 2 for a mistake.
 fn explain<R: Print + Eprint>(rt: &R, error: &Error) -> u8
     ensures memory { kind_of error.now ≡ ErrorKind.OutOfMemory → result ≡ 1 }
-    ensures text { is_asked_for (kind_of error.now) ≡ true → result ≤ 1 }
+    ensures text { is_asked_text (kind_of error.now) ≡ true → result ≤ 1 }
     ensures mistake { kind_of error.now ≢ ErrorKind.OutOfMemory
-        → is_asked_for (kind_of error.now) ≡ false → result ≡ 2 }
+        → is_asked_text (kind_of error.now) ≡ false → result ≡ 2 }
     ensures within { result ≤ 2 }
 {
     match show(rt, "popd", error) {

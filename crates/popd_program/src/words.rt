@@ -2,7 +2,7 @@
 ghost use Rattle.std.specs.Prelude.{◌≡◌, IfOk, false, map};
 ghost use Rattle.std.specs.String.{string_bytes};
 ghost use Rattle.clap.specs.Words.{FailsBy, app_of, fault_of, found_of, matches_of, rows_of, rule_of};
-ghost use Rattle.popd_program.specs.CommandLine.{AsksFor, connections_rule, is_bare, more_rule, popd, words_after};
+ghost use Rattle.popd_program.specs.CommandLine.{AsksToServe, connections_rule, is_bare, more_rule, popd, words_after};
 
 use clap::{Arg, ArgAction, ArgMatches, Command, Error, value_parser};
 use command_line::{add, is_given, long_flag, long_value_option, program, text, word};
@@ -128,7 +128,7 @@ fn words_after(alloc: Global, matches: &ArgMatches<'_>) -> Result<Vec<String>, A
 
 /// What clap's matches ask for.
 fn words_of(alloc: Global, matches: &ArgMatches<'_>) -> Result<Words, AllocError>
-    ensures { IfOk result (AsksFor (rows_of (found_of matches.now))) }
+    ensures { IfOk result (AsksToServe (rows_of (found_of matches.now))) }
 {
     Ok(Words {
         listen: text(alloc, matches, "listen")?,
@@ -147,7 +147,7 @@ fn words_of(alloc: Global, matches: &ArgMatches<'_>) -> Result<Words, AllocError
 /// or of the mistake, or its kind is OutOfMemory.
 pub fn read_words(alloc: Global, words: &[String]) -> Result<Words, Error>
     ensures faults { FailsBy (fault_of popd (map string_bytes words.now)) result }
-    ensures asks { IfOk result (AsksFor (matches_of popd (map string_bytes words.now))) }
+    ensures asks { IfOk result (AsksToServe (matches_of popd (map string_bytes words.now))) }
 {
     match command(alloc)?.try_get_matches_from(words) {
         Ok(matches) => Ok(words_of(alloc, &matches)?),

@@ -1,10 +1,12 @@
 -- Where a line may be split: next to a blank or a sign, which are ASCII.
-use Rattle.std.proofs.Common.{IsUtf8, IsCharBoundary, ◌≡◌, ℕ, ◌+◌, ◌-◌, ◌<◌, ◌≤◌, List, length, true, false, get_or, arith, reverse, subst, ap, ◌∙◌, refl, inl, inr, sym, Some, position}
+use Rattle.std.proofs.Common.{IsUtf8, IsCharBoundary, ◌≡◌, ℕ, ◌+◌, ◌-◌, ◌<◌, ◌≤◌, List, length, true, false, get_or}
+use Rattle.std.proofs.Common.{arith, reverse, subst, ap, ◌∙◌, refl, inl, inr, sym, Some, position}
 use Rattle.std.proofs.lemmas.Bool.{cases_lt, both_ways}
 use Rattle.std.proofs.lemmas.List.{get_or_past, get_or-reverse, get_or-take}
 use Rattle.std.proofs.lemmas.List.Quantifiers.{position-Some}
 use Rattle.std.proofs.lemmas.List.Sums.{prefix_len-le-length, suffix_len-le-length, prefix_len_passes}
-use Rattle.std.proofs.lemmas.Str.{IsCharBoundary-before_ascii, IsCharBoundary-after_ascii, IsCharBoundary-end, IsUtf8-from_is_utf8, is_utf8-from_IsUtf8}
+use Rattle.std.proofs.lemmas.Str.{IsCharBoundary-before_ascii, IsCharBoundary-after_ascii, IsCharBoundary-end}
+use Rattle.std.proofs.lemmas.Str.{IsUtf8-from_is_utf8, is_utf8-from_IsUtf8}
 use Rattle.std.specs.List.{prefix_len, suffix_len}
 use Rattle.rc_file.specs.LineRules.{is_blank, is_sign, before_blanks}
 
@@ -25,14 +27,16 @@ front_boundary bs utf8 some =
 end_blank : (bs : List ℕ) (place : ℕ) → length bs - suffix_len is_blank bs ≤ place → place < length bs → is_blank (get_or bs place 0) ≡ true
 end_blank bs place past inside =
     let back : length bs - 1 - (length bs - 1 - place) ≡ place = omega arith in
-    rw back at (rw (get_or-reverse bs (length bs - 1 - place) 0 (omega arith)) at (prefix_len_passes is_blank (reverse bs) (length bs - 1 - place) 0 (omega arith)))
+    rw back at (rw (get_or-reverse bs (length bs - 1 - place) 0 (omega arith)) at
+    (prefix_len_passes is_blank (reverse bs) (length bs - 1 - place) 0 (omega arith)))
 
 -- and before the blanks at the end
 pub end_boundary : (bs : List ℕ) → IsCharBoundary bs (length bs - suffix_len is_blank bs)
 end_boundary bs = elim (cases_lt 0 (suffix_len is_blank bs)) [
   | inl some ↦
       let place : length bs - suffix_len is_blank bs < length bs = omega (arith, suffix_len-le-length is_blank bs) in
-      IsCharBoundary-before_ascii bs (length bs - suffix_len is_blank bs) place (blank_ascii _ (end_blank bs (length bs - suffix_len is_blank bs) (omega arith) place))
+      IsCharBoundary-before_ascii bs (length bs - suffix_len is_blank bs) place
+      (blank_ascii _ (end_blank bs (length bs - suffix_len is_blank bs) (omega arith) place))
   | inr none ↦ subst (λ (n : ℕ). IsCharBoundary bs n) (omega (arith, none)) (IsCharBoundary-end bs)
 ]
 
@@ -52,9 +56,11 @@ begins_after_blanks line cut same first =
 
 -- a text may be split before a sign and after it
 pub before_sign : (bs : List ℕ) (place : ℕ) → Some place ≡ position is_sign bs → IsCharBoundary bs place
-before_sign bs place found = let at = position-Some is_sign bs place 0 (sym found) in IsCharBoundary-before_ascii bs place at.0 (sign_ascii _ at.1)
+before_sign bs place found = let at = position-Some is_sign bs place 0 (sym found)
+    in IsCharBoundary-before_ascii bs place at.0 (sign_ascii _ at.1)
 
 pub after_sign : (bs : List ℕ) (place : ℕ) → IsUtf8 bs → Some place ≡ position is_sign bs → IsCharBoundary bs (place + 1)
-after_sign bs place utf8 found = let at = position-Some is_sign bs place 0 (sym found) in IsCharBoundary-after_ascii bs place utf8 at.0 (sign_ascii _ at.1)
+after_sign bs place utf8 found = let at = position-Some is_sign bs place 0 (sym found)
+    in IsCharBoundary-after_ascii bs place utf8 at.0 (sign_ascii _ at.1)
 
 pub ruleset texts = (IsUtf8-from_is_utf8, is_utf8-from_IsUtf8, begins_after_blanks)

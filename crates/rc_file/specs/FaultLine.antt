@@ -38,12 +38,12 @@ line_at fault (bad_row line) = None
 unfoldable pub last_line : RcFault → List RcRow → Option ℕ
 last_line fault rows = last_or None (filter_map (line_at fault) rows)
 
-abbrev pub line_of : List RcRow → Option RcFault → Option ℕ
-line_of rows None = None
-line_of rows (Some TooLong) = None
-line_of rows (Some (BadLine line)) = Some line
-line_of rows (Some fault) = last_line fault rows
+abbrev pub line_of_fault : List RcRow → Option RcFault → Option ℕ
+line_of_fault rows None = None
+line_of_fault rows (Some TooLong) = None
+line_of_fault rows (Some (BadLine line)) = Some line
+line_of_fault rows (Some fault) = last_line fault rows
 
 -- the line of the fault of a file of these bytes, if it has a fault and that has a line
 unfoldable pub fault_line : List ℕ → Option ℕ
-fault_line bytes = line_of (rows_of bytes) (fault_in (rc_meaning bytes))
+fault_line bytes = line_of_fault (rows_of bytes) (fault_in (rc_meaning bytes))

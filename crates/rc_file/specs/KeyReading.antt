@@ -15,9 +15,9 @@ ReadsAs fault wanted (Ok value) = (fault ≡ None) × (value ≡ wanted)
 ReadsAs fault wanted (Err found) = fault ≡ Some found
 
 -- the same for a text
-abbrev pub ReadsText : Option RcFault → List ℕ → Result (Bor (List ℕ)) RcFault → Type 0
-ReadsText fault wanted (Ok text) = (fault ≡ None) × (text.now ≡ wanted)
-ReadsText fault wanted (Err found) = fault ≡ Some found
+abbrev pub ReadsValue : Option RcFault → List ℕ → Result (Bor (List ℕ)) RcFault → Type 0
+ReadsValue fault wanted (Ok text) = (fault ≡ None) × (text.now ≡ wanted)
+ReadsValue fault wanted (Err found) = fault ≡ Some found
 
 -- the first key that is faulty
 unfoldable pub key_fault : List RcRow → Option RcFault

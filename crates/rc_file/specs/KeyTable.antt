@@ -17,27 +17,27 @@ use Rattle.rc_file.specs.declared.fault.RcFault.TheVariants.{UnknownType, BadVal
 
 -- the form of a key's values: one of these words; a boolean; a boolean that may not be true; a number from
 -- low to high; the name of a server; a username or a password; a path
-pub data Form : Type 0 where
-  kind : List (List ℕ) → Form
-  boolean : Form
-  never : Form
-  number : ℕ → ℕ → Form
-  server : Form
-  credential : Form
-  path : Form
+pub data ValueForm : Type 0 where
+  kind : List (List ℕ) → ValueForm
+  boolean : ValueForm
+  never : ValueForm
+  number : ℕ → ℕ → ValueForm
+  server : ValueForm
+  credential : ValueForm
+  path : ValueForm
 
 -- a key's section, its name there, the form of its values, and its default, if it has one; a key without a
 -- default is required
 pub record Rule : Type 0 where
   pub section : List ℕ
   pub name : List ℕ
-  pub form : Form
+  pub form : ValueForm
   pub default : Option (List ℕ)
 
-abbrev pub without_default : List ℕ → List ℕ → Form → Rule
+abbrev pub without_default : List ℕ → List ℕ → ValueForm → Rule
 without_default within word values = record { section = within; name = word; form = values; default = None }
 
-abbrev pub with_default : List ℕ → List ℕ → Form → List ℕ → Rule
+abbrev pub with_default : List ℕ → List ℕ → ValueForm → List ℕ → Rule
 with_default within word values text = record { section = within; name = word; form = values; default = Some text }
 
 -- the sections that have keys
@@ -80,20 +80,20 @@ all_keys = RetrieverKind ∷ UseApop ∷ Server ∷ Port ∷ Username ∷ Passwo
     ∷ ReadAll ∷ Delete ∷ DeleteAfter ∷ MaxSize ∷ MaxCount ∷ Verbose ∷ []
 
 -- the words for yes and for no, in upper or lower case
-abbrev pub is_word : List ℕ → List ℕ → Bool
-is_word text word = bytes_eq (map to_ascii_lowercase text) word
+abbrev pub is_boolean_word : List ℕ → List ℕ → Bool
+is_boolean_word text word = bytes_eq (map to_ascii_lowercase text) word
 
 abbrev pub is_yes : List ℕ → Bool
-is_yes text = list_any (is_word text) (codes "1" ∷ codes "yes" ∷ codes "true" ∷ codes "on" ∷ [])
+is_yes text = list_any (is_boolean_word text) (codes "1" ∷ codes "yes" ∷ codes "true" ∷ codes "on" ∷ [])
 
 abbrev pub is_no : List ℕ → Bool
-is_no text = list_any (is_word text) (codes "0" ∷ codes "no" ∷ codes "false" ∷ codes "off" ∷ [])
+is_no text = list_any (is_boolean_word text) (codes "0" ∷ codes "no" ∷ codes "false" ∷ codes "off" ∷ [])
 
 abbrev pub is_number : ℕ → ℕ → List ℕ → Bool
 is_number low high text = is_numeral text && nat_le low (digits_value 10 text) && nat_le (digits_value 10 text) high
 
 -- what is wrong with a key's value; `folder` says that the destination is a Maildir
-abbrev pub value_fault : Form → Key → Bool → List ℕ → Option RcFault
+abbrev pub value_fault : ValueForm → Key → Bool → List ℕ → Option RcFault
 value_fault (kind words) key folder text = if list_any (bytes_eq text) words then None else Some (UnknownType key)
 value_fault boolean key folder text = if is_yes text || is_no text then None else Some (BadValue key)
 value_fault never key folder text = if is_yes text then Some (Unsupported key) else if is_no text then None

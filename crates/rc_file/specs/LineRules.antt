@@ -22,8 +22,8 @@ abbrev pub before_blanks : List ℕ → List ℕ
 before_blanks bytes = take (length bytes - suffix_len is_blank bytes) bytes
 
 -- the bytes without the blanks at both ends
-abbrev pub trimmed : List ℕ → List ℕ
-trimmed bytes = before_blanks (past_blanks bytes)
+abbrev pub without_blanks : List ℕ → List ℕ
+without_blanks bytes = before_blanks (past_blanks bytes)
 
 -- '=' or ':', which ends the key of a key line
 abbrev pub is_sign : ℕ → Bool
@@ -54,14 +54,15 @@ section_line line =
 -- the key comes before the first sign and the value after it
 abbrev pub key_line : List ℕ → RcLine
 key_line line =
-    if nat_lt (position_or_len is_sign line) (length line) && nat_lt 0 (length (trimmed (before_first is_sign line)))
-    then key (trimmed (before_first is_sign line)) (trimmed (after_first is_sign line)) else bad
+    if nat_lt (position_or_len is_sign line) (length line) && nat_lt 0
+    (length (without_blanks (before_first is_sign line)))
+    then key (without_blanks (before_first is_sign line)) (without_blanks (after_first is_sign line)) else bad
 
 -- a line is judged by the first of five rules that fits it
 unfoldable pub judge : List ℕ → RcLine
 judge line =
     if not (is_utf8 line) then bad else
     if is_skipped line then skipped else
-    if is_blank (slice_index line 0) then more (trimmed line) else
+    if is_blank (slice_index line 0) then more (without_blanks line) else
     if slice_index line 0 == 91 then section_line (before_blanks line) else
     key_line line

@@ -47,25 +47,25 @@ value_at key (bad_row line) = None
 unfoldable pub value_of : List RcRow → Key → Option (List ℕ)
 value_of rows key = last_or (rule key).default (filter_map (value_at key) rows)
 
-abbrev pub text_of : List RcRow → Key → List ℕ
-text_of rows key = unwrap_or (value_of rows key) []
+abbrev pub value_text : List RcRow → Key → List ℕ
+value_text rows key = unwrap_or (value_of rows key) []
 
-abbrev pub number_of : List RcRow → Key → ℕ
-number_of rows key = digits_value 10 (text_of rows key)
+abbrev pub number_in : List RcRow → Key → ℕ
+number_in rows key = digits_value 10 (value_text rows key)
 
 abbrev pub is_true : List RcRow → Key → Bool
-is_true rows key = is_yes (text_of rows key)
+is_true rows key = is_yes (value_text rows key)
 
 abbrev pub is_folder : List RcRow → Bool
-is_folder rows = bytes_eq (text_of rows DestinationKind) (codes "Maildir")
+is_folder rows = bytes_eq (value_text rows DestinationKind) (codes "Maildir")
 
 -- what is wrong with a key
-abbrev pub judged : Key → Bool → Option (List ℕ) → Option RcFault
-judged key folder None = Some (MissingKey key)
-judged key folder (Some text) = value_fault (rule key).form key folder text
+abbrev pub fault_of_key : Key → Bool → Option (List ℕ) → Option RcFault
+fault_of_key key folder None = Some (MissingKey key)
+fault_of_key key folder (Some text) = value_fault (rule key).form key folder text
 
 unfoldable pub fault_at : List RcRow → Key → Option RcFault
-fault_at rows key = judged key (is_folder rows) (value_of rows key)
+fault_at rows key = fault_of_key key (is_folder rows) (value_of rows key)
 
 -- the first fault, if there is one
 abbrev pub first_fault : List (Option RcFault) → Option RcFault
@@ -82,21 +82,21 @@ faults_of bytes rows =
 
 -- the settings, if nothing is wrong
 abbrev pub destination_in : List RcRow → Destination
-destination_in rows = destination_at (is_folder rows) (text_of rows Path)
+destination_in rows = destination_at (is_folder rows) (value_text rows Path)
 
 abbrev pub settings_in : List RcRow → Content
 settings_in rows = record {
-  server = text_of rows Server;
-  port = number_of rows Port;
-  username = text_of rows Username;
-  password = text_of rows Password;
+  server = value_text rows Server;
+  port = number_in rows Port;
+  username = value_text rows Username;
+  password = value_text rows Password;
   dest = destination_in rows;
   read_all = is_true rows ReadAll;
   delete = is_true rows Delete;
-  delete_after = number_of rows DeleteAfter;
-  max_size = number_of rows MaxSize;
-  max_count = number_of rows MaxCount;
-  verbose = min (number_of rows Verbose) 2;
+  delete_after = number_in rows DeleteAfter;
+  max_size = number_in rows MaxSize;
+  max_count = number_in rows MaxCount;
+  verbose = min (number_in rows Verbose) 2;
 }
 
 -- a warning as a value: its line, its section and, if it is about a key, the key

@@ -11,12 +11,12 @@ use Rattle.rc_file.specs.declared.fault.RcFault.TheVariants.{BadLine, NoMemory}
 use Rattle.rc_file.specs.declared.row.ReadRow.{ReadRow}
 use Rattle.rc_file.specs.declared.row.Entry.{Entry}
 
-abbrev pub row_at : ℕ → List ℕ → Option Entry → RcRow
-row_at line name None = section_row line name
-row_at line name (Some entry) = key_row line name (string_bytes entry.key) (string_bytes entry.value)
+abbrev pub entry_row : ℕ → List ℕ → Option Entry → RcRow
+entry_row line name None = section_row line name
+entry_row line name (Some entry) = key_row line name (string_bytes entry.key) (string_bytes entry.value)
 
 abbrev pub row_of : ReadRow → RcRow
-row_of row = row_at row.line row.section.now row.entry
+row_of row = entry_row row.line row.section.now row.entry
 
 abbrev pub rows_in : List ReadRow → List RcRow
 rows_in rows = map row_of rows

@@ -31,7 +31,7 @@ pub record IsFinding (all rest found : List Warned) (told : HashSet Name (BuildH
       ≡ list_any (λ earlier. bytes_eq earlier.section name.0.now && bytes_eq earlier.key name.1.now) met
 
 -- a row was met, and is no longer one of the rest
-abbrev pub Tells : Warned → List Warned → HashSet Name (BuildHasherDefault FoldHasher)
+abbrev pub TellsWarning : Warned → List Warned → HashSet Name (BuildHasherDefault FoldHasher)
     → List Warned → HashSet Name (BuildHasherDefault FoldHasher) → Type 0
-Tells row found old found' new = (all rest : List Warned) → IsFinding all (row ∷ rest) found old
+TellsWarning row found old found' new = (all rest : List Warned) → IsFinding all (row ∷ rest) found old
     → IsFinding all rest found' new

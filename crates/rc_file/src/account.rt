@@ -1,7 +1,7 @@
 //! The settings that an rc file's rows give.
 ghost use Rattle.std.specs.Prelude.{◌≡◌, IfOk, IsTrue};
-ghost use Rattle.rc_file.specs.KeyReading.{ReadsAs, ReadsSettings, ReadsText};
-ghost use Rattle.rc_file.specs.RcMeaning.{fault_at, is_folder, text_of};
+ghost use Rattle.rc_file.specs.KeyReading.{ReadsAs, ReadsSettings, ReadsValue};
+ghost use Rattle.rc_file.specs.RcMeaning.{fault_at, is_folder, value_text};
 ghost use Rattle.rc_file.specs.RowReading.{rows_in};
 ghost use Rattle.rc_file.specs.Settings.{destination_at, destination_of, is_destination};
 
@@ -78,7 +78,7 @@ fn read_is_folder(rows: &[ReadRow<'_>]) -> Result<bool, RcFault>
 #[tactic(auto, unfolding(crate::specs::RcMeaning::fault_at))]
 fn read_path<'r>(rows: &'r [ReadRow<'_>], folder: bool) -> Result<&'r str, RcFault>
     requires { folder ≡ is_folder (rows_in rows.now) }
-    ensures reads { ReadsText (fault_at (rows_in rows.now) Key.Path) (text_of (rows_in rows.now) Key.Path) result }
+    ensures reads { ReadsValue (fault_at (rows_in rows.now) Key.Path) (value_text (rows_in rows.now) Key.Path) result }
     ensures valid { IfOk result (λ path. IsTrue (is_destination (destination_at folder path.now))) }
 {
     let path = required(rows, Key::Path)?;

@@ -11,12 +11,12 @@ ghost use Rattle.rc_file.specs.KeyTable.{
   number,
   server,
   credential,
-  is_word,
+  is_boolean_word,
   is_yes,
   is_no,
 };
-ghost use Rattle.rc_file.specs.RcMeaning.{fault_at, is_true, number_of, text_of};
-ghost use Rattle.rc_file.specs.KeyReading.{ReadsAs, ReadsText};
+ghost use Rattle.rc_file.specs.RcMeaning.{fault_at, is_true, number_in, value_text};
+ghost use Rattle.rc_file.specs.KeyReading.{ReadsAs, ReadsValue};
 ghost use Rattle.rc_file.specs.RowReading.{rows_in};
 ghost use Rattle.rc_file.specs.Settings.{is_server};
 
@@ -71,7 +71,7 @@ fn is_no(text: &str) -> bool
 
 fn is_word(text: &str, word: &str) -> bool
     requires { map to_ascii_lowercase word.now ≡ word.now }
-    ensures { result ≡ is_word text.now word.now }
+    ensures { result ≡ is_boolean_word text.now word.now }
 {
     text.eq_ignore_ascii_case(word)
 }
@@ -84,7 +84,7 @@ pub(crate) fn read_number(
     high: u64,
 ) -> Result<u64, RcFault>
     requires { (rule key).form ≡ number low high }
-    ensures value { ReadsAs (fault_at (rows_in rows.now) key) (number_of (rows_in rows.now) key) result }
+    ensures value { ReadsAs (fault_at (rows_in rows.now) key) (number_in (rows_in rows.now) key) result }
     ensures within { IfOk result (λ n. (low ≤ n) × (n ≤ high)) }
 {
     match read_numeral(required(rows, key)?.as_bytes()) {
@@ -96,7 +96,7 @@ pub(crate) fn read_number(
 /// The name of the server.
 pub(crate) fn read_server<'r>(rows: &'r [ReadRow<'_>], key: Key) -> Result<&'r str, RcFault>
     requires { (rule key).form ≡ server }
-    ensures reads { ReadsText (fault_at (rows_in rows.now) key) (text_of (rows_in rows.now) key) result }
+    ensures reads { ReadsValue (fault_at (rows_in rows.now) key) (value_text (rows_in rows.now) key) result }
     ensures valid { IfOk result (λ text. IsTrue (is_server text.now)) }
 {
     let text = required(rows, key)?;
@@ -110,7 +110,7 @@ pub(crate) fn read_server<'r>(rows: &'r [ReadRow<'_>], key: Key) -> Result<&'r s
 /// The username or the password.
 pub(crate) fn read_credential<'r>(rows: &'r [ReadRow<'_>], key: Key) -> Result<&'r str, RcFault>
     requires { (rule key).form ≡ credential }
-    ensures reads { ReadsText (fault_at (rows_in rows.now) key) (text_of (rows_in rows.now) key) result }
+    ensures reads { ReadsValue (fault_at (rows_in rows.now) key) (value_text (rows_in rows.now) key) result }
     ensures valid { IfOk result (λ text. IsTrue (is_credential text.now)) }
 {
     let text = required(rows, key)?;

@@ -5,13 +5,13 @@ ghost use Rattle.rc_file.specs.LineRules.{
   is_blank,
   is_sign,
   is_skipped,
-  trimmed,
+  without_blanks,
   before_blanks,
   section_line,
   key_line,
   judge,
 };
-ghost use Rattle.rc_file.specs.JudgedLine.{line_of};
+ghost use Rattle.rc_file.specs.JudgedLine.{judged_line};
 
 use std::str;
 
@@ -34,7 +34,7 @@ pub(crate) enum JudgedLine<'a> {
 /// begins with `[` is a section line; any other is a key line.
 #[tactic(auto, using(crate::proofs::LineLemmas::texts), unfolding(crate::specs::LineRules::judge))]
 pub(crate) fn judge(bytes: &[u8]) -> JudgedLine<'_>
-    ensures { line_of result ≡ judge bytes.now }
+    ensures { judged_line result ≡ judge bytes.now }
 {
     let Ok(line) = str::from_utf8(bytes) else {
         return JudgedLine::Bad;
@@ -110,7 +110,7 @@ fn without_end_blanks(text: &str) -> &str
 /// The text without the blanks at its ends.
 #[tactic(auto, using(crate::proofs::LineLemmas::front_boundary))]
 fn trimmed(text: &str) -> &str
-    ensures { result.now ≡ trimmed text.now }
+    ensures { result.now ≡ without_blanks text.now }
 {
     without_end_blanks(&text[front_blanks(text)..])
 }
@@ -118,7 +118,7 @@ fn trimmed(text: &str) -> &str
 /// The section named by a line that begins with `[` and doesn't end with a blank.
 fn section_line(line: &str) -> JudgedLine<'_>
     requires { slice_index line.now 0 ≡ 91 }
-    ensures { line_of result ≡ section_line line.now }
+    ensures { judged_line result ≡ section_line line.now }
 {
     match line.as_bytes() {
         [_, _, .., b']'] => JudgedLine::Section(&line[1..line.len() - 1]),
@@ -129,7 +129,7 @@ fn section_line(line: &str) -> JudgedLine<'_>
 /// The key before the first `=` or `:`, and the value after it.
 #[tactic(auto, using(crate::proofs::LineLemmas::before_sign, crate::proofs::LineLemmas::after_sign))]
 fn key_line(line: &str) -> JudgedLine<'_>
-    ensures { line_of result ≡ key_line line.now }
+    ensures { judged_line result ≡ key_line line.now }
 {
     let Some(end) = sign_place(line) else {
         return JudgedLine::Bad;

@@ -3,7 +3,7 @@
 
 ghost use Rattle.std.specs.Prelude.{◌≡◌, ◌≤◌, ◌∷◌, ◌++◌, length, IfErr, OnOk};
 ghost use Rattle.std.specs.String.{string_bytes};
-ghost use Rattle.rc_file.specs.JudgedLine.{line_of};
+ghost use Rattle.rc_file.specs.JudgedLine.{judged_line};
 ghost use Rattle.rc_file.specs.LineRules.{more, section, key};
 ghost use Rattle.rc_file.specs.RowReading.{row_of, AddsText, ReadsRows, TakesLine};
 ghost use Rattle.rc_file.specs.FileRows.{rows_of};
@@ -65,7 +65,7 @@ fn add_line<'a>(
     number: u32,
     line: JudgedLine<'a>,
 ) -> Result<(), RcFault>
-    ensures { TakesLine rows.old.items number (line_of line.entry) result rows.new.items }
+    ensures { TakesLine rows.old.items number (judged_line line.entry) result rows.new.items }
 {
     match line {
         JudgedLine::Skipped => Ok(()),

@@ -8,7 +8,7 @@ ghost use Rattle.rc_file.specs.RcMeaning.{
   warnings_in,
 };
 ghost use Rattle.rc_file.specs.RowReading.{row_of, rows_in};
-ghost use Rattle.rc_file.specs.WarningSearch.{Tells, warning_of};
+ghost use Rattle.rc_file.specs.WarningSearch.{TellsWarning, warning_of};
 
 use crate::key::Key;
 use crate::row::ReadRow;
@@ -47,7 +47,7 @@ fn tell<'r>(
     told: &mut HashSet<(&'r str, &'r str)>,
     warnings: &mut Vec<Warning>,
 ) -> Result<(), AllocError>
-    ensures { OnOk result (Tells (warned (row_of row.now))
+    ensures { OnOk result (TellsWarning (warned (row_of row.now))
         (map warning_of warnings.old.items) told.old (map warning_of warnings.new.items) told.new) }
 {
     if !told.insert(row.name())? {

@@ -1,5 +1,8 @@
 -- What is written is read back as the same.
-use Rattle.std.proofs.Common.{All, Bool, Err, None, Ok, OnErr, OnOk, Result, List, Option, Some, [], ap, append-nil, append_assoc, arith, bytes_eq, decimal, drop, false, flat_map, inl, inr, length, length-append, nat_le, nat_lt, refl, remove, subst, suc, sym, take, true, ℕ, ◌++◌, ◌+◌, ◌<◌, ◌==◌, ◌^◌, ◌∙◌, ◌∷◌, ◌≡◌, ◌≢◌, ◌≤◌, option_map, if◌then◌else◌}
+use Rattle.std.proofs.Common.{All, Bool, Err, None, Ok, OnErr, OnOk, Result, List, Option, Some, [], ap, append-nil}
+use Rattle.std.proofs.Common.{append_assoc, arith, bytes_eq, decimal, drop, false, flat_map, inl, inr, length}
+use Rattle.std.proofs.Common.{length-append, nat_le, nat_lt, refl, remove, subst, suc, sym, take, true, ℕ, ◌++◌, ◌+◌}
+use Rattle.std.proofs.Common.{◌<◌, ◌==◌, ◌^◌, ◌∙◌, ◌∷◌, ◌≡◌, ◌≢◌, ◌≤◌, option_map, if◌then◌else◌}
 use Rattle.mail_terms.specs.Numeral.{greatest_size, is_numeral, numeral_value}
 use Rattle.mail_terms.specs.Text.{lines_of_text}
 use Rattle.std.proofs.Math.Seq.{take-append_seam}
@@ -17,9 +20,11 @@ use Rattle.std.specs.List.{AllByRecursion, after_first, before_first, list_all, 
 use Rattle.std.specs.Option.{option_map_or}
 use Rattle.std.specs.Str.{all_ascii_digits}
 use Rattle.std.specs.Str.Parse.{AllDigits, digits_value}
-use Rattle.run_memory.specs.Fields.{IsKey, is_digit, key_in, numbers_in}
-use Rattle.run_memory.specs.Lines.{AreNumbers, IsKnown, counts_of, fault_in, fault_line, left_line, line_in, notice_line, numbers_text}
-use Rattle.run_memory.specs.Memory.{IsKept, IsReadBack, Told, end, ended, header, nothing, room, text_of, told_after, told_in, with_line}
+use Rattle.run_memory.specs.Fields.{IsFaultKey, is_digit, key_in, numbers_in}
+use Rattle.run_memory.specs.Lines.{AreNumbers, IsReadableFault, counts_of, known_fault_in, known_fault_line, left_line}
+use Rattle.run_memory.specs.Lines.{line_in, notice_line, numbers_text}
+use Rattle.run_memory.specs.Memory.{IsKept, IsReadBack, Told, end, with_lf, told_header, nothing, room, memory_text}
+use Rattle.run_memory.specs.Memory.{told_after, told_in, with_line}
 use Rattle.run_memory.specs.declared.line.KnownFault.{KnownFault}
 use Rattle.run_memory.specs.declared.line.Line.{Line}
 use Rattle.run_memory.specs.declared.line.Line.TheVariants.{Left, Fault, Notice}
@@ -27,14 +32,17 @@ use Rattle.run_memory.specs.declared.times.Counts.{Counts}
 
 -- ---- a line that is read
 
-pub line_taken : (told : Told) (text line rest : List ℕ) (said : Line) → lines_of_text text ≡ line ∷ lines_of_text rest → bytes_eq line end ≡ false → line_in line ≡ Some said
+pub line_taken : (told : Told) (text line rest : List ℕ) (said : Line) → lines_of_text text ≡ line ∷ lines_of_text rest
+    → bytes_eq line end ≡ false → line_in line ≡ Some said
     → told_after told (lines_of_text text) ≡ told_after (with_line told said) (lines_of_text rest)
 line_taken told text line rest said cut other is = rw (cut, other, is) refl
 
-pub line_ends : (told : Told) (text line rest : List ℕ) → lines_of_text text ≡ line ∷ lines_of_text rest → bytes_eq line end ≡ true → told_after told (lines_of_text text) ≡ told
+pub line_ends : (told : Told) (text line rest : List ℕ) → lines_of_text text ≡ line ∷ lines_of_text rest
+    → bytes_eq line end ≡ true → told_after told (lines_of_text text) ≡ told
 line_ends told text line rest cut is = rw (cut, is) refl
 
-pub line_odd : (told : Told) (text line rest : List ℕ) → lines_of_text text ≡ line ∷ lines_of_text rest → bytes_eq line end ≡ false → line_in line ≡ None
+pub line_odd : (told : Told) (text line rest : List ℕ) → lines_of_text text ≡ line ∷ lines_of_text rest
+    → bytes_eq line end ≡ false → line_in line ≡ None
     → told_after told (lines_of_text text) ≡ nothing
 line_odd told text line rest cut other is = rw (cut, other, is) refl
 
@@ -53,17 +61,19 @@ HasNo-append s (x ∷ a) b p q = (p.0, HasNo-append s a b p.1 q)
 
 HasNo-decimal : (s : ℕ) → s < 48 → (n : ℕ) → n < 2 ^ 64 → HasNo s (decimal n)
 HasNo-decimal s below n fits = recursion_from_All (λ other. other ≢ s) (decimal n) (All-from_get_or (λ other. other ≢ s) (decimal n) 0
-    (not_in_digits (numerals_by_value (AllDigits 10) tells_digits) (decimal n) s (decimal_is_IsNumeral n fits).0.1 (λ range. omega (arith, range.0, below))))
+    (not_in_digits (numerals_by_value (AllDigits 10) tells_digits) (decimal n) s (decimal_is_IsNumeral n fits).0.1
+    (λ range. omega (arith, range.0, below))))
 
 digit_above : (octet s : ℕ) → is_digit octet ≡ true → s < 48 → octet ≢ s
 digit_above octet s digit below same = grind (arith, nat_tests, digit, below, same)
 
-HasNo-key : (s : ℕ) → s < 48 → (key : List ℕ) → IsKey key → HasNo s key
+HasNo-key : (s : ℕ) → s < 48 → (key : List ℕ) → IsFaultKey key → HasNo s key
 HasNo-key s below key is = recursion_from_All (λ other. other ≢ s) key (λ k d inside. digit_above _ s (is.1 k d inside) below)
 
 -- ---- what is cut at an octet that doesn't occur before
 
-position_at : (mark : ℕ) (front rest : List ℕ) → HasNo mark front → position_or_len (λ octet. octet == mark) (front ++ mark ∷ rest) ≡ length front
+position_at : (mark : ℕ) (front rest : List ℕ) → HasNo mark front
+    → position_or_len (λ octet. octet == mark) (front ++ mark ∷ rest) ≡ length front
 position_at mark [] rest none = elim (eqb_tells mark mark) [
   | inl p ↦ rw p.0 refl
   | inr p ↦ absurd (p.1 refl)
@@ -80,10 +90,12 @@ drop_past (octet ∷ front) mark rest =
     rw step (drop_past front mark rest)
 
 cut_front : (mark : ℕ) (front rest : List ℕ) → HasNo mark front → before_first (λ octet. octet == mark) (front ++ mark ∷ rest) ≡ front
-cut_front mark front rest none = ap (λ (n : ℕ). take n (front ++ mark ∷ rest)) (position_at mark front rest none) ∙ take-append_seam front (mark ∷ rest)
+cut_front mark front rest none = ap (λ (n : ℕ). take n (front ++ mark ∷ rest)) (position_at mark front rest none)
+    ∙ take-append_seam front (mark ∷ rest)
 
 cut_rest : (mark : ℕ) (front rest : List ℕ) → HasNo mark front → after_first (λ octet. octet == mark) (front ++ mark ∷ rest) ≡ rest
-cut_rest mark front rest none = ap (λ (n : ℕ). drop (n + 1) (front ++ mark ∷ rest)) (position_at mark front rest none) ∙ drop_past front mark rest
+cut_rest mark front rest none = ap (λ (n : ℕ). drop (n + 1) (front ++ mark ∷ rest)) (position_at mark front rest none)
+    ∙ drop_past front mark rest
 
 first_line : (line rest : List ℕ) → HasNo 10 line → lines_of_text (line ++ 10 ∷ rest) ≡ line ∷ lines_of_text rest
 first_line [] rest none = refl
@@ -110,7 +122,8 @@ numeral_value-decimal number fits =
     let test : is_numeral (decimal number) ≡ true = and_from _ _
     (and_from _ _ (lt-ltb 0 (length (decimal number)) numeral.0.0) (le-leb (length (decimal number)) 20 (length-number number fits)))
     (digits_same (decimal number) ∙ digits_decimal by_test number fits) in
-    rw (test, ap (λ (n : ℕ). nat_le n greatest_size) numeral.1 ∙ le-leb number greatest_size (omega (arith, fits))) (ap (λ (n : ℕ). Some n) numeral.1)
+    rw (test, ap (λ (n : ℕ). nat_le n greatest_size) numeral.1 ∙ le-leb number greatest_size (omega (arith, fits)))
+    (ap (λ (n : ℕ). Some n) numeral.1)
 
 numbers_read : (a b c : ℕ) → AreNumbers a b c → numbers_in (numbers_text a b c) ≡ Some (a, b, c)
 numbers_read a b c are =
@@ -130,7 +143,8 @@ HasNo-numbers : (a b c : ℕ) → AreNumbers a b c → HasNo 10 (numbers_text a 
 HasNo-numbers a b c are =
     HasNo-append 10 (decimal a) _ (HasNo-decimal 10 (omega arith) a are.one_fits) (
       (λ same. omega (arith, same)),
-      HasNo-append 10 (decimal b) _ (HasNo-decimal 10 (omega arith) b are.two_fits) ((λ same. omega (arith, same)), HasNo-decimal 10 (omega arith) c are.three_fits),
+      HasNo-append 10 (decimal b) _ (HasNo-decimal 10 (omega arith) b are.two_fits)
+          ((λ same. omega (arith, same)), HasNo-decimal 10 (omega arith) c are.three_fits),
     )
 
 length-numbers : (a b c : ℕ) → AreNumbers a b c → length (numbers_text a b c) ≤ 62
@@ -144,115 +158,171 @@ length-numbers a b c are =
       length-number c are.three_fits,
     )
 
-key_read : (key : List ℕ) → IsKey key → key_in key ≡ Some key
+key_read : (key : List ℕ) → IsFaultKey key → key_in key ≡ Some key
 key_read key is = rw (is.0, list_all-from_AllPass is_digit key is.1) refl
 
 -- ---- lines
 
-fault_fields : (f : KnownFault) → IsKnown f → fault_in (f.key ++ 32 ∷ numbers_text f.times.since f.times.told f.times.runs) ≡ Some f
+fault_fields : (f : KnownFault) → IsReadableFault f
+    → known_fault_in (f.key ++ 32 ∷ numbers_text f.times.since f.times.told f.times.runs) ≡ Some f
 fault_fields f is =
     let none = HasNo-key 32 (omega arith) f.key is.key in
     let numbers = numbers_text f.times.since f.times.told f.times.runs in
-    rw (cut_rest 32 f.key numbers none, cut_front 32 f.key numbers none, key_read f.key is.key, numbers_read f.times.since f.times.told f.times.runs is.times) refl
+    rw (
+      cut_rest 32 f.key numbers none,
+      cut_front 32 f.key numbers none,
+      key_read f.key is.key,
+      numbers_read
+          f.times.since f.times.told f.times.runs is.times,
+    ) refl
 
-fault_read : (f : KnownFault) → IsKnown f → line_in (fault_line f) ≡ Some (Fault f)
+fault_read : (f : KnownFault) → IsReadableFault f → line_in (known_fault_line f) ≡ Some (Fault f)
 fault_read f is = ap (λ (o : Option KnownFault). option_map Fault o) (fault_fields f is)
 
 left_read : (left : Counts) → AreNumbers left.too_large left.past_limit left.repeated → line_in (left_line left) ≡ Some (Left left)
-left_read left are = ap (λ (o : Option (ℕ × ℕ × ℕ)). option_map (λ numbers. Left (counts_of numbers)) o) (numbers_read left.too_large left.past_limit left.repeated are)
+left_read left are = ap (λ (o : Option (ℕ × ℕ × ℕ)). option_map (λ numbers. Left (counts_of numbers)) o)
+    (numbers_read left.too_large left.past_limit left.repeated are)
 
-notice_read : (key : List ℕ) → IsKey key → line_in (notice_line key) ≡ Some (Notice key)
+notice_read : (key : List ℕ) → IsFaultKey key → line_in (notice_line key) ≡ Some (Notice key)
 notice_read key is = ap (λ (o : Option (List ℕ)). option_map Notice o) (key_read key is)
 
-HasNo-fault : (f : KnownFault) → IsKnown f → HasNo 10 (fault_line f)
+HasNo-fault : (f : KnownFault) → IsReadableFault f → HasNo 10 (known_fault_line f)
 HasNo-fault f is =
-    let rest = HasNo-append 10 f.key _ (HasNo-key 10 (omega arith) f.key is.key) ((λ same. omega (arith, same)), HasNo-numbers f.times.since f.times.told f.times.runs is.times) in
-    ((λ same. omega (arith, same)), ((λ same. omega (arith, same)), ((λ same. omega (arith, same)), ((λ same. omega (arith, same)), ((λ same. omega (arith, same)), ((λ same. omega (arith, same)), rest))))))
+    let rest = HasNo-append 10 f.key _ (HasNo-key 10 (omega arith) f.key is.key)
+    ((λ same. omega (arith, same)), HasNo-numbers f.times.since f.times.told f.times.runs is.times) in (
+      (λ same. omega (arith, same)),
+      (
+        (λ same. omega (arith, same)),
+        (
+          (λ same. omega (arith, same)),
+          ((λ same. omega (arith, same)), ((λ same. omega (arith, same)), ((λ same. omega (arith, same)), rest))),
+        ),
+      ),
+    )
 
 HasNo-left : (left : Counts) → AreNumbers left.too_large left.past_limit left.repeated → HasNo 10 (left_line left)
-HasNo-left left are = ((λ same. omega (arith, same)), ((λ same. omega (arith, same)), ((λ same. omega (arith, same)), ((λ same. omega (arith, same)), ((λ same. omega (arith, same)), HasNo-numbers left.too_large left.past_limit left.repeated are)))))
+HasNo-left left are = (
+  (λ same. omega (arith, same)),
+  (
+    (λ same. omega (arith, same)),
+    (
+      (λ same. omega (arith, same)),
+      (
+        (λ same. omega (arith, same)),
+        (
+          (λ same. omega (arith, same)),
+          HasNo-numbers left.too_large
+              left.past_limit left.repeated are,
+        ),
+      ),
+    ),
+  ),
+)
 
-HasNo-notice : (key : List ℕ) → IsKey key → HasNo 10 (notice_line key)
-HasNo-notice key is = ((λ same. omega (arith, same)), ((λ same. omega (arith, same)), ((λ same. omega (arith, same)), ((λ same. omega (arith, same)), ((λ same. omega (arith, same)), HasNo-key 10 (omega arith) key is)))))
+HasNo-notice : (key : List ℕ) → IsFaultKey key → HasNo 10 (notice_line key)
+HasNo-notice key is = (
+  (λ same. omega (arith, same)),
+  (
+    (λ same. omega (arith, same)),
+    (
+      (λ same. omega (arith, same)),
+      ((λ same. omega (arith, same)), ((λ same. omega (arith, same)), HasNo-key 10 (omega arith) key is)),
+    ),
+  ),
+)
 
 -- ---- a whole text
 
 room_left : {X : Type 0} (most : ℕ) (items : List X) → length items < most → room most items ≡ items
 room_left most items few = rw (lt-ltb (length items) most few) refl
 
-shape : {X : Type 0} (g : X → List ℕ) (x : X) (xs : List X) (rest : List ℕ) → flat_map (λ y. ended (g y)) (x ∷ xs) ++ rest ≡ g x ++ 10 ∷ (flat_map (λ y. ended (g y)) xs ++ rest)
+shape : {X : Type 0} (g : X → List ℕ) (x : X) (xs : List X) (rest : List ℕ)
+    → flat_map (λ y. with_lf (g y)) (x ∷ xs) ++ rest ≡ g x ++ 10 ∷ (flat_map (λ y. with_lf (g y)) xs ++ rest)
 shape g x xs rest =
-    ap (λ (text : List ℕ). text ++ rest) (flat_map-cons (λ y. ended (g y)) x xs)
-    ∙ append_assoc (ended (g x)) (flat_map (λ y. ended (g y)) xs) rest
-    ∙ append_assoc (g x) (10 ∷ []) (flat_map (λ y. ended (g y)) xs ++ rest)
+    ap (λ (text : List ℕ). text ++ rest) (flat_map-cons (λ y. with_lf (g y)) x xs)
+    ∙ append_assoc (with_lf (g x)) (flat_map (λ y. with_lf (g y)) xs) rest
+    ∙ append_assoc (g x) (10 ∷ []) (flat_map (λ y. with_lf (g y)) xs ++ rest)
 
-faults_read : (told : Told) (faults : List KnownFault) (rest : List ℕ) → AllByRecursion IsKnown faults → length told.faults + length faults ≤ 16
-    → told_after told (lines_of_text (flat_map (λ fault. ended (fault_line fault)) faults ++ rest)) ≡ told_after (record told { faults = told.faults ++ faults }) (lines_of_text rest)
+faults_read : (told : Told) (faults : List KnownFault) (rest : List ℕ) → AllByRecursion IsReadableFault faults
+    → length told.faults + length faults ≤ 16
+    → told_after told (lines_of_text (flat_map (λ fault. with_lf (known_fault_line fault)) faults ++ rest))
+    ≡ told_after (record told { faults = told.faults ++ faults }) (lines_of_text rest)
 faults_read told [] rest known few = rw (append-nil told.faults) refl
 faults_read told (f ∷ faults) rest known few =
-    let more = flat_map (λ fault. ended (fault_line fault)) faults ++ rest in
+    let more = flat_map (λ fault. with_lf (known_fault_line fault)) faults ++ rest in
     let whole : room 16 told.faults ≡ told.faults = room_left 16 told.faults (omega (arith, few)) in
-    ap (λ (text : List ℕ). told_after told (lines_of_text text)) (shape fault_line f faults rest)
-    ∙ ap (λ (lines : List (List ℕ)). told_after told lines) (first_line (fault_line f) more (HasNo-fault f known.0))
-    ∙ ap (λ (o : Option Line). option_map_or (λ said. told_after (with_line told said) (lines_of_text more)) o nothing) (fault_read f known.0)
+    ap (λ (text : List ℕ). told_after told (lines_of_text text)) (shape known_fault_line f faults rest)
+    ∙ ap (λ (lines : List (List ℕ)). told_after told lines) (first_line (known_fault_line f) more (HasNo-fault f known.0))
+    ∙ ap (λ (o : Option Line). option_map_or (λ said. told_after (with_line told said) (lines_of_text more)) o nothing)
+    (fault_read f known.0)
     ∙ ap (λ (items : List KnownFault). told_after (record told { faults = items ++ f ∷ [] }) (lines_of_text more)) whole
-    ∙ faults_read (record told { faults = told.faults ++ f ∷ [] }) faults rest known.1 (omega (arith, few, length-append told.faults (f ∷ [])))
-    ∙ ap (λ (items : List KnownFault). told_after (record told { faults = items }) (lines_of_text rest)) (append_assoc told.faults (f ∷ []) faults)
+    ∙ faults_read (record told { faults = told.faults ++ f ∷ [] }) faults rest known.1
+    (omega (arith, few, length-append told.faults (f ∷ [])))
+    ∙ ap (λ (items : List KnownFault). told_after (record told { faults = items }) (lines_of_text rest))
+    (append_assoc told.faults (f ∷ []) faults)
 
-notices_read : (told : Told) (keys : List (List ℕ)) (rest : List ℕ) → AllByRecursion IsKey keys → length told.notices + length keys ≤ 1000
-    → told_after told (lines_of_text (flat_map (λ key. ended (notice_line key)) keys ++ rest)) ≡ told_after (record told { notices = told.notices ++ keys }) (lines_of_text rest)
+notices_read : (told : Told) (keys : List (List ℕ)) (rest : List ℕ) → AllByRecursion IsFaultKey keys
+    → length told.notices + length keys ≤ 1000
+    → told_after told (lines_of_text (flat_map (λ key. with_lf (notice_line key)) keys ++ rest))
+    ≡ told_after (record told { notices = told.notices ++ keys }) (lines_of_text rest)
 notices_read told [] rest are few = rw (append-nil told.notices) refl
 notices_read told (key ∷ keys) rest are few =
-    let more = flat_map (λ key. ended (notice_line key)) keys ++ rest in
+    let more = flat_map (λ key. with_lf (notice_line key)) keys ++ rest in
     let whole : room 1000 told.notices ≡ told.notices = room_left 1000 told.notices (omega (arith, few)) in
     ap (λ (text : List ℕ). told_after told (lines_of_text text)) (shape notice_line key keys rest)
     ∙ ap (λ (lines : List (List ℕ)). told_after told lines) (first_line (notice_line key) more (HasNo-notice key are.0))
-    ∙ ap (λ (o : Option Line). option_map_or (λ said. told_after (with_line told said) (lines_of_text more)) o nothing) (notice_read key are.0)
+    ∙ ap (λ (o : Option Line). option_map_or (λ said. told_after (with_line told said) (lines_of_text more)) o nothing)
+    (notice_read key are.0)
     ∙ ap (λ (items : List (List ℕ)). told_after (record told { notices = items ++ key ∷ [] }) (lines_of_text more)) whole
-    ∙ notices_read (record told { notices = told.notices ++ key ∷ [] }) keys rest are.1 (omega (arith, few, length-append told.notices (key ∷ [])))
-    ∙ ap (λ (items : List (List ℕ)). told_after (record told { notices = items }) (lines_of_text rest)) (append_assoc told.notices (key ∷ []) keys)
+    ∙ notices_read (record told { notices = told.notices ++ key ∷ [] }) keys rest are.1
+    (omega (arith, few, length-append told.notices (key ∷ [])))
+    ∙ ap (λ (items : List (List ℕ)). told_after (record told { notices = items }) (lines_of_text rest))
+    (append_assoc told.notices (key ∷ []) keys)
 
-told_again : (told : Told) → IsKept told → told_in (text_of told) ≡ told
+told_again : (told : Told) → IsKept told → told_in (memory_text told) ≡ told
 told_again told kept =
-    let notices = flat_map (λ key. ended (notice_line key)) told.notices ++ end in
-    let more = flat_map (λ fault. ended (fault_line fault)) told.faults ++ notices in
+    let notices = flat_map (λ key. with_lf (notice_line key)) told.notices ++ end in
+    let more = flat_map (λ fault. with_lf (known_fault_line fault)) told.faults ++ notices in
     let few_faults : 0 + length told.faults ≤ 16 = omega (arith, kept.few_faults) in
     let few_notices : 0 + length told.notices ≤ 1000 = omega (arith, kept.few_notices) in
-    let shape : ended (left_line told.left) ++ more ≡ left_line told.left ++ 10 ∷ more = append_assoc (left_line told.left) (10 ∷ []) more in
+    let shape : with_lf (left_line told.left) ++ more ≡ left_line told.left ++ 10 ∷ more =
+    append_assoc (left_line told.left) (10 ∷ []) more in
     ap (λ (text : List ℕ). told_after nothing (lines_of_text text)) shape
     ∙ ap (λ (lines : List (List ℕ)). told_after nothing lines) (first_line (left_line told.left) more (HasNo-left told.left kept.left))
-    ∙ ap (λ (o : Option Line). option_map_or (λ said. told_after (with_line nothing said) (lines_of_text more)) o nothing) (left_read told.left kept.left)
-    ∙ faults_read (record nothing { left = told.left }) told.faults notices (recursion_from_All IsKnown told.faults kept.faults) few_faults
-    ∙ notices_read (record told { notices = [] }) told.notices end (recursion_from_All IsKey told.notices kept.notices) few_notices
+    ∙ ap (λ (o : Option Line). option_map_or (λ said. told_after (with_line nothing said) (lines_of_text more)) o
+    nothing) (left_read told.left kept.left)
+    ∙ faults_read (record nothing { left = told.left }) told.faults notices
+    (recursion_from_All IsReadableFault told.faults kept.faults) few_faults
+    ∙ notices_read (record told { notices = [] }) told.notices end (recursion_from_All IsFaultKey told.notices kept.notices) few_notices
 
-fault_fits : (f : KnownFault) → IsKnown f → length (ended (fault_line f)) ≤ 134
+fault_fits : (f : KnownFault) → IsReadableFault f → length (with_lf (known_fault_line f)) ≤ 134
 fault_fits f is =
     omega (
       arith,
-      length-append (fault_line f) (10 ∷ []),
+      length-append (known_fault_line f) (10 ∷ []),
       length-append f.key (32 ∷ numbers_text f.times.since f.times.told f.times.runs),
       is.key.0,
       length-numbers f.times.since f.times.told f.times.runs is.times,
     )
 
-notice_fits : (key : List ℕ) → IsKey key → length (ended (notice_line key)) ≤ 70
+notice_fits : (key : List ℕ) → IsFaultKey key → length (with_lf (notice_line key)) ≤ 70
 notice_fits key is = omega (arith, length-append (notice_line key) (10 ∷ []), is.0)
 
-text_fits : (told : Told) → IsKept told → length (text_of told) ≤ 131072
+text_fits : (told : Told) → IsKept told → length (memory_text told) ≤ 131072
 text_fits told kept =
-    let notices = flat_map (λ key. ended (notice_line key)) told.notices in
-    let faults = flat_map (λ fault. ended (fault_line fault)) told.faults in
+    let notices = flat_map (λ key. with_lf (notice_line key)) told.notices in
+    let faults = flat_map (λ fault. with_lf (known_fault_line fault)) told.faults in
     omega (
       arith,
-      length-append (ended (left_line told.left)) (faults ++ (notices ++ end)),
+      length-append (with_lf (left_line told.left)) (faults ++ (notices ++ end)),
       length-append (left_line told.left) (10 ∷ []),
       length-numbers told.left.too_large told.left.past_limit told.left.repeated kept.left,
       length-append faults (notices ++ end),
       length-append notices end,
-      length-flat_map (λ fault. ended (fault_line fault)) told.faults,
-      length-flat_map (λ key. ended (notice_line key)) told.notices,
-      sum_by-le (λ fault. length (ended (fault_line fault))) 134 told.faults (λ k d inside. fault_fits _ (kept.faults k d inside)),
-      sum_by-le (λ key. length (ended (notice_line key))) 70 told.notices (λ k d inside. notice_fits _ (kept.notices k d inside)),
+      length-flat_map (λ fault. with_lf (known_fault_line fault)) told.faults,
+      length-flat_map (λ key. with_lf (notice_line key)) told.notices,
+      sum_by-le (λ fault. length (with_lf (known_fault_line fault))) 134 told.faults (λ k d inside. fault_fits _ (kept.faults k d inside)),
+      sum_by-le (λ key. length (with_lf (notice_line key))) 70 told.notices (λ k d inside. notice_fits _ (kept.notices k d inside)),
       kept.few_faults,
       kept.few_notices,
     )
@@ -275,46 +345,53 @@ length-room most items some few = elim (cases_lt (length items) most) [
   | inr full ↦ rw (le-ltb (length items) most full) (omega (arith, few, full, some, length-drop 1 items))
 ]
 
-pub fault_kept : {T E : Type 0} (faults items : List KnownFault) (left : Counts) (notices : List (List ℕ)) (fault : KnownFault) (result : Result T E)
-    → OnOk result (items ≡ room 16 faults ++ fault ∷ []) → OnErr result (items ≡ room 16 faults) → IsKnown fault
-    → IsKept (record { faults = faults; left = left; notices = notices }) → IsKept (record { faults = items; left = left; notices = notices })
+pub fault_kept : {T E : Type 0} (faults items : List KnownFault) (left : Counts) (notices : List (List ℕ))
+    (fault : KnownFault) (result : Result T E)
+    → OnOk result (items ≡ room 16 faults ++ fault ∷ []) → OnErr result (items ≡ room 16 faults) → IsReadableFault fault
+    → IsKept (record { faults = faults; left = left; notices = notices })
+    → IsKept (record { faults = items; left = left; notices = notices })
 fault_kept faults items left notices fault (Ok value) ok err is kept = rw ok (record {
-  faults = All-push IsKnown (room 16 faults) fault (All-room IsKnown 16 faults kept.faults) is;
+  faults = All-push IsReadableFault (room 16 faults) fault (All-room IsReadableFault 16 faults kept.faults) is;
   left = kept.left;
   notices = kept.notices;
   few_faults = omega (arith, length-append (room 16 faults) (fault ∷ []), length-room 16 faults (omega arith) kept.few_faults);
   few_notices = kept.few_notices;
 })
 fault_kept faults items left notices fault (Err e) ok err is kept = rw err (record {
-  faults = All-room IsKnown 16 faults kept.faults;
+  faults = All-room IsReadableFault 16 faults kept.faults;
   left = kept.left;
   notices = kept.notices;
   few_faults = omega (arith, length-room 16 faults (omega arith) kept.few_faults);
   few_notices = kept.few_notices;
 })
 
-pub notice_kept : {T E : Type 0} (faults : List KnownFault) (left : Counts) (notices items : List (List ℕ)) (key : List ℕ) (result : Result T E)
-    → OnOk result (items ≡ room 1000 notices ++ key ∷ []) → OnErr result (items ≡ room 1000 notices) → IsKey key
-    → IsKept (record { faults = faults; left = left; notices = notices }) → IsKept (record { faults = faults; left = left; notices = items })
+pub notice_kept : {T E : Type 0} (faults : List KnownFault) (left : Counts) (notices items : List (List ℕ))
+    (key : List ℕ) (result : Result T E)
+    → OnOk result (items ≡ room 1000 notices ++ key ∷ []) → OnErr result (items ≡ room 1000 notices) → IsFaultKey key
+    → IsKept (record { faults = faults; left = left; notices = notices })
+    → IsKept (record { faults = faults; left = left; notices = items })
 notice_kept faults left notices items key (Ok value) ok err is kept = rw ok (record {
   faults = kept.faults;
   left = kept.left;
-  notices = All-push IsKey (room 1000 notices) key (All-room IsKey 1000 notices kept.notices) is;
+  notices = All-push IsFaultKey (room 1000 notices) key (All-room IsFaultKey 1000 notices kept.notices) is;
   few_faults = kept.few_faults;
   few_notices = omega (arith, length-append (room 1000 notices) (key ∷ []), length-room 1000 notices (omega arith) kept.few_notices);
 })
 notice_kept faults left notices items key (Err e) ok err is kept = rw err (record {
   faults = kept.faults;
   left = kept.left;
-  notices = All-room IsKey 1000 notices kept.notices;
+  notices = All-room IsFaultKey 1000 notices kept.notices;
   few_faults = kept.few_faults;
   few_notices = omega (arith, length-room 1000 notices (omega arith) kept.few_notices);
 })
 
-pub removed_kept : (faults items : List KnownFault) (left : Counts) (notices : List (List ℕ)) (place : ℕ) → place < length faults → items ≡ remove faults place
-    → IsKept (record { faults = faults; left = left; notices = notices }) → IsKept (record { faults = items; left = left; notices = notices })
+pub removed_kept : (faults items : List KnownFault) (left : Counts) (notices : List (List ℕ)) (place : ℕ)
+    → place < length faults → items ≡ remove faults place
+    → IsKept (record { faults = faults; left = left; notices = notices })
+    → IsKept (record { faults = items; left = left; notices = notices })
 removed_kept faults items left notices place inside is kept = rw is (record {
-  faults = All-append IsKnown (take place faults) (drop (suc place) faults) (All-take IsKnown place faults kept.faults) (All-drop IsKnown (suc place) faults kept.faults);
+  faults = All-append IsReadableFault (take place faults) (drop (suc place) faults)
+      (All-take IsReadableFault place faults kept.faults) (All-drop IsReadableFault (suc place) faults kept.faults);
   left = kept.left;
   notices = kept.notices;
   few_faults = omega (arith, kept.few_faults, length-remove faults place inside);

@@ -2,7 +2,7 @@
 use Rattle.std.specs.Prelude.{◌≡◌, ◌<◌, ◌^◌, ℕ, List, [], ◌∷◌, ◌++◌, Option, Some, None, codes, decimal, bytes_eq}
 use Rattle.std.specs.Prelude.{option_map, if◌then◌else◌}
 use Rattle.std.specs.List.{before_first, after_first}
-use Rattle.run_memory.specs.Fields.{◌>>=◌, IsKey, is_space, key_in, numbers_in}
+use Rattle.run_memory.specs.Fields.{◌>>=◌, IsFaultKey, is_separator, key_in, numbers_in}
 use Rattle.run_memory.specs.declared.line.KnownFault.{KnownFault}
 use Rattle.run_memory.specs.declared.line.Line.{Line}
 use Rattle.run_memory.specs.declared.line.Line.TheVariants.{Left, Fault, Notice}
@@ -18,8 +18,8 @@ abbrev pub left_line : Counts → List ℕ
 left_line left = codes "left " ++ numbers_text left.too_large left.past_limit left.repeated
 
 -- the line of a fault: its key, when it was first seen, when it was told last, and in how many runs it was seen
-abbrev pub fault_line : KnownFault → List ℕ
-fault_line fault =
+abbrev pub known_fault_line : KnownFault → List ℕ
+known_fault_line fault =
     codes "fault " ++ (fault.key ++ 32 ∷ numbers_text fault.times.since fault.times.told fault.times.runs)
 
 -- the line of a notice
@@ -35,21 +35,21 @@ times_of numbers = record { since = numbers.0; told = numbers.1; runs = numbers.
 abbrev pub left_in : List ℕ → Option Line
 left_in octets = option_map (λ numbers. Left (counts_of numbers)) (numbers_in octets)
 
-abbrev pub fault_in : List ℕ → Option KnownFault
-fault_in octets = do
-  key ← key_in (before_first is_space octets)
-  numbers ← numbers_in (after_first is_space octets)
+abbrev pub known_fault_in : List ℕ → Option KnownFault
+known_fault_in octets = do
+  key ← key_in (before_first is_separator octets)
+  numbers ← numbers_in (after_first is_separator octets)
   Some (record { key = key; times = times_of numbers })
 
 -- what a line says; none of them if it is another line
 abbrev pub line_in : List ℕ → Option Line
 line_in line =
-    if bytes_eq (before_first is_space line) (codes "left") then
-    left_in (after_first is_space line)
-    else if bytes_eq (before_first is_space line) (codes "fault") then
-    option_map Fault (fault_in (after_first is_space line))
-    else if bytes_eq (before_first is_space line) (codes "said") then
-    option_map Notice (key_in (after_first is_space line))
+    if bytes_eq (before_first is_separator line) (codes "left") then
+    left_in (after_first is_separator line)
+    else if bytes_eq (before_first is_separator line) (codes "fault") then
+    option_map Fault (known_fault_in (after_first is_separator line))
+    else if bytes_eq (before_first is_separator line) (codes "said") then
+    option_map Notice (key_in (after_first is_separator line))
     else None
 
 -- numbers of 64 bits
@@ -59,6 +59,6 @@ pub record AreNumbers (one two three : ℕ) : Type 0 where
   pub three_fits : three < 2 ^ 64
 
 -- a fault that can be read back
-pub record IsKnown (fault : KnownFault) : Type 0 where
-  pub key : IsKey fault.key
+pub record IsReadableFault (fault : KnownFault) : Type 0 where
+  pub key : IsFaultKey fault.key
   pub times : AreNumbers fault.times.since fault.times.told fault.times.runs

@@ -1,10 +1,11 @@
 -- What earlier runs told, and the file that keeps it.
-use Rattle.std.specs.Prelude.{◌≡◌, ◌≤◌, ◌<◌, ℕ, List, [], ◌∷◌, ◌++◌, length, take, drop, flat_map, nat_lt, position, remove, codes, All}
+use Rattle.std.specs.Prelude.{◌≡◌, ◌≤◌, ◌<◌, ℕ, List, [], ◌∷◌, ◌++◌, length, take, drop, flat_map, nat_lt, position}
+use Rattle.std.specs.Prelude.{remove, codes, All}
 use Rattle.std.specs.Prelude.{bytes_eq, if◌then◌else◌}
 use Rattle.std.specs.Option.{option_map_or}
 use Rattle.mail_terms.specs.Text.{lines_of_text}
-use Rattle.run_memory.specs.Fields.{IsKey}
-use Rattle.run_memory.specs.Lines.{AreNumbers, IsKnown, fault_line, left_line, line_in, notice_line}
+use Rattle.run_memory.specs.Fields.{IsFaultKey}
+use Rattle.run_memory.specs.Lines.{AreNumbers, IsReadableFault, known_fault_line, left_line, line_in, notice_line}
 use Rattle.run_memory.specs.declared.line.KnownFault.{KnownFault}
 use Rattle.run_memory.specs.declared.line.Line.{Line}
 use Rattle.run_memory.specs.declared.line.Line.TheVariants.{Left, Fault, Notice}
@@ -34,35 +35,35 @@ abbrev pub with_notice : Told → List ℕ → Told
 with_notice told key = record told { notices = room 1000 told.notices ++ key ∷ [] }
 
 -- what was told but the first fault of this key
-abbrev pub without : Told → List ℕ → Told
-without told key = record told {
+abbrev pub told_without : Told → List ℕ → Told
+told_without told key = record told {
   faults = option_map_or (remove told.faults) (position (λ fault. bytes_eq fault.key key) told.faults) told.faults;
 }
 
 -- each can be read, and there are no more than are kept
 pub record IsKept (told : Told) : Type 0 where
-  pub faults : All IsKnown told.faults
+  pub faults : All IsReadableFault told.faults
   pub left : AreNumbers told.left.too_large told.left.past_limit told.left.repeated
-  pub notices : All IsKey told.notices
+  pub notices : All IsFaultKey told.notices
   pub few_faults : length told.faults ≤ 16
   pub few_notices : length told.notices ≤ 1000
 
 -- ---- the file
 
 -- its first line, with its LF
-abbrev pub header : List ℕ
-header = codes "getmail-told 1\n"
+abbrev pub told_header : List ℕ
+told_header = codes "getmail-told 1\n"
 
 abbrev pub end : List ℕ
 end = codes "end"
 
-abbrev pub ended : List ℕ → List ℕ
-ended line = line ++ 10 ∷ []
+abbrev pub with_lf : List ℕ → List ℕ
+with_lf line = line ++ 10 ∷ []
 
-abbrev pub text_of : Told → List ℕ
-text_of told =
-    header ++ (ended (left_line told.left) ++ (flat_map (λ fault. ended (fault_line fault)) told.faults
-    ++ (flat_map (λ key. ended (notice_line key)) told.notices ++ end)))
+abbrev pub memory_text : Told → List ℕ
+memory_text told =
+    told_header ++ (with_lf (left_line told.left) ++ (flat_map (λ fault. with_lf (known_fault_line fault)) told.faults
+    ++ (flat_map (λ key. with_lf (notice_line key)) told.notices ++ end)))
 
 -- what is known after a line
 abbrev pub with_line : Told → Line → Told
@@ -75,14 +76,15 @@ with_line told (Notice key) = with_notice told key
 abbrev pub told_after : Told → List (List ℕ) → Told
 told_after told [] = nothing
 told_after told (line ∷ lines) =
-    if bytes_eq line end then told else option_map_or (λ said. told_after (with_line told said) lines) (line_in line) nothing
+    if bytes_eq line end then told else option_map_or
+    (λ said. told_after (with_line told said) lines) (line_in line) nothing
 
 -- what the octets of a file say; nothing, if they aren't those of such a file
 abbrev pub told_in : List ℕ → Told
 told_in octets =
-    if bytes_eq (take 15 octets) header then told_after nothing (lines_of_text (drop 15 octets)) else nothing
+    if bytes_eq (take 15 octets) told_header then told_after nothing (lines_of_text (drop 15 octets)) else nothing
 
 -- what is written is read back as the same, since no more than this is read
 pub record IsReadBack (told : Told) : Type 0 where
-  pub again : told_in (text_of told) ≡ told
-  pub fits : length (text_of told) ≤ 131072
+  pub again : told_in (memory_text told) ≡ told
+  pub fits : length (memory_text told) ≤ 131072

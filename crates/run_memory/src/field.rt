@@ -1,13 +1,13 @@
 //! The fields of a line.
 ghost use Rattle.std.specs.Prelude.{◌≡◌, ◌≤◌, length};
 ghost use Rattle.std.specs.List.{after_first, before_first, position_or_len};
-ghost use Rattle.run_memory.specs.Fields.{is_space, numbers_in};
+ghost use Rattle.run_memory.specs.Fields.{is_separator, numbers_in};
 
 use mail_terms::read_numeral;
 
 /// How many octets come before the first space, or how many there are if there is none.
 fn field_end(octets: &[u8]) -> usize
-    ensures value { result ≡ position_or_len is_space octets.now }
+    ensures value { result ≡ position_or_len is_separator octets.now }
     ensures fits { result ≤ length octets.now }
 {
     octets.iter().take_while(|octet| **octet != b' ').count()
@@ -15,8 +15,8 @@ fn field_end(octets: &[u8]) -> usize
 
 /// The field before the first space, and what follows that space.
 pub fn cut_field(octets: &[u8]) -> (&[u8], &[u8])
-    ensures field { result.0.now ≡ before_first is_space octets.now }
-    ensures rest { result.1.now ≡ after_first is_space octets.now }
+    ensures field { result.0.now ≡ before_first is_separator octets.now }
+    ensures rest { result.1.now ≡ after_first is_separator octets.now }
 {
     let end = field_end(octets);
     if end == octets.len() {

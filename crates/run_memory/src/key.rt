@@ -1,7 +1,7 @@
 //! What faults and notices are known by.
 ghost use Rattle.std.specs.Prelude.{◌≡◌};
 ghost use Rattle.std.specs.List.{list_all};
-ghost use Rattle.run_memory.specs.Fields.{IsKey, is_digit, key_in};
+ghost use Rattle.run_memory.specs.Fields.{IsFaultKey, is_digit, key_in};
 
 use std::marker::Model;
 
@@ -16,13 +16,13 @@ pub struct Key {
 
 impl Model for Key {
     ghost use Rattle.std.specs.Prelude.{ℕ, List};
-    ghost use Rattle.run_memory.specs.Fields.{IsKey};
+    ghost use Rattle.run_memory.specs.Fields.{IsFaultKey};
 
     ghost Value = { List ℕ };
 
     ghost view = { λ key. key.digits };
 
-    ghost invariant = { λ key. IsKey key.digits };
+    ghost invariant = { λ key. IsFaultKey key.digits };
 
     ghost inverse = { λ digits. record { digits = digits } };
 }
@@ -38,7 +38,7 @@ fn are_digits(octets: &[u8]) -> bool
 impl Key {
     /// The key of these digits.
     pub fn new(digits: &str) -> Key
-        requires { IsKey digits.now }
+        requires { IsFaultKey digits.now }
         ensures { result ≡ digits.now }
     {
         let mut key = [0u8; 64];
@@ -61,7 +61,7 @@ impl Key {
     /// The digits.
     pub fn as_slice(&self) -> &[u8]
         ensures value { result.now ≡ self.now }
-        ensures digits { IsKey self.now }
+        ensures digits { IsFaultKey self.now }
     {
         &self.digits
     }

@@ -1,8 +1,8 @@
-//! The lines of the file that keeps what was told. After its first line come one with the counts of messages that were left
-//! out, one for each fault, and one for each notice; the last is `end`. LF ends each line, and single spaces
+//! The lines of the file that keeps what was told. After its first line come one with the counts of messages that were
+//! left out, one for each fault, and one for each notice; the last is `end`. LF ends each line, and single spaces
 //! separate the fields.
 ghost use Rattle.std.specs.Prelude.{◌≡◌, ◌++◌, ◌∷◌, [], OnOk};
-ghost use Rattle.run_memory.specs.Lines.{fault_in, fault_line, left_line, left_in, line_in, notice_line};
+ghost use Rattle.run_memory.specs.Lines.{known_fault_in, known_fault_line, left_line, left_in, line_in, notice_line};
 
 use crate::field::{cut_field, read_numbers};
 use crate::key::Key;
@@ -38,7 +38,7 @@ fn read_left(octets: &[u8]) -> Option<Line>
 
 /// The fault in the fields of a line.
 fn read_fault(octets: &[u8]) -> Option<KnownFault>
-    ensures { result ≡ fault_in octets.now }
+    ensures { result ≡ known_fault_in octets.now }
 {
     let (key, rest) = cut_field(octets);
     let key = Key::read(key)?;
@@ -80,7 +80,7 @@ pub fn put_left(alloc: Global, text: &mut Vec<u8>, left: Counts) -> Result<(), A
 
 /// Adds the line of a fault.
 pub fn put_fault(alloc: Global, text: &mut Vec<u8>, fault: &KnownFault) -> Result<(), AllocError>
-    ensures { OnOk result (text.new.items ≡ text.old.items ++ (fault_line fault.now ++ 10 ∷ [])) }
+    ensures { OnOk result (text.new.items ≡ text.old.items ++ (known_fault_line fault.now ++ 10 ∷ [])) }
 {
     let Times { since, told, runs } = fault.times;
     let numbers = format!(in alloc; " {since} {told} {runs}\n")?;

@@ -1,9 +1,10 @@
 //! What earlier unattended runs told, and the octets of the file that keeps it.
 ghost use Rattle.std.specs.Prelude.{◌≡◌, ◌<◌, ◌≤◌, ◌++◌, ◌∷◌, [], bytes_eq, flat_map, length, position, IfOk, IfSome};
 ghost use Rattle.std.specs.Prelude.{OnErr, OnOk};
-ghost use Rattle.run_memory.specs.Lines.{AreNumbers, fault_line, notice_line};
-ghost use Rattle.run_memory.specs.Memory.{IsReadBack, ended, nothing, room, text_of, told_in, with_fault, with_line};
-ghost use Rattle.run_memory.specs.Memory.{with_notice, without};
+ghost use Rattle.run_memory.specs.Lines.{AreNumbers, known_fault_line, notice_line};
+ghost use Rattle.run_memory.specs.Memory.{IsReadBack, with_lf, nothing, room, memory_text, told_in, with_fault};
+ghost use Rattle.run_memory.specs.Memory.{with_line};
+ghost use Rattle.run_memory.specs.Memory.{with_notice, told_without};
 
 use crate::key::Key;
 use crate::line::{KnownFault, Line, put_fault, put_left, put_notice, read_line};
@@ -66,7 +67,7 @@ fn fit(one: u64, two: u64, three: u64)
 /// Adds the lines of faults.
 fn put_faults(alloc: Global, text: &mut Vec<u8>, faults: &[KnownFault]) -> Result<(), AllocError>
     ensures { OnOk result (text.new.items
-        ≡ text.old.items ++ flat_map (λ fault. ended (fault_line fault)) faults.now) }
+        ≡ text.old.items ++ flat_map (λ fault. with_lf (known_fault_line fault)) faults.now) }
 {
     for fault in faults {
         put_fault(alloc, text, fault)?;
@@ -77,7 +78,7 @@ fn put_faults(alloc: Global, text: &mut Vec<u8>, faults: &[KnownFault]) -> Resul
 /// Adds the lines of notices.
 fn put_notices(text: &mut Vec<u8>, notices: &[Key]) -> Result<(), AllocError>
     ensures { OnOk result (text.new.items
-        ≡ text.old.items ++ flat_map (λ key. ended (notice_line key)) notices.now) }
+        ≡ text.old.items ++ flat_map (λ key. with_lf (notice_line key)) notices.now) }
 {
     for key in notices {
         put_notice(text, key)?;
@@ -145,7 +146,7 @@ impl Memory {
     /// Forgets the first fault of a key.
     #[tactic(auto, using(crate::proofs::MemoryLemmas::removed_kept))]
     fn forget(&mut self, key: Key)
-        ensures { self.new ≡ without self.old key }
+        ensures { self.new ≡ told_without self.old key }
     {
         if let Some(place) = self.place_of(key) {
             self.faults.remove(place);
@@ -154,7 +155,7 @@ impl Memory {
 
     /// A fault was seen at these times, and comes last.
     pub fn keep_fault(&mut self, fault: KnownFault) -> Result<(), AllocError>
-        ensures { OnOk result (self.new ≡ with_fault (without self.old fault.key) fault) }
+        ensures { OnOk result (self.new ≡ with_fault (told_without self.old fault.key) fault) }
     {
         self.forget(fault.key);
         self.add_fault(fault)
@@ -230,7 +231,7 @@ impl Memory {
 
     /// The octets of the file. Reading them gives the same again.
     pub fn text(&self, alloc: Global) -> Result<Vec<u8>, AllocError>
-        ensures written { IfOk result (λ text. text.items ≡ text_of self.now) }
+        ensures written { IfOk result (λ text. text.items ≡ memory_text self.now) }
         ensures back { IsReadBack self.now }
     {
         self.is_read_back();

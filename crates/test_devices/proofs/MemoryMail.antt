@@ -1,5 +1,8 @@
 -- The folders of a Maildir in memory.
-use Rattle.std.proofs.Common.{◌≡◌, ◌↔◌, ◌&&◌, ◌||◌, IsTrue, bytes_eq, inl, inr, ℕ, zero, suc, ◌<◌, Bool, true, false, not, List, [], ◌∷◌, ◌++◌, length, map, get_or, set, Contains, Option, Some, None, if◌then◌else◌, refl, sym, ap, ◌∙◌, arith, String, Global, string_bytes, append-nil, true≢false, filter}
+use Rattle.std.proofs.Common.{◌≡◌, ◌↔◌, ◌&&◌, ◌||◌, IsTrue, bytes_eq, inl, inr, ℕ, zero, suc, ◌<◌, Bool, true, false}
+use Rattle.std.proofs.Common.{not, List, [], ◌∷◌, ◌++◌, length, map, get_or, set, Contains, Option, Some, None}
+use Rattle.std.proofs.Common.{if◌then◌else◌, refl, sym, ap, ◌∙◌, arith, String, Global, string_bytes, append-nil}
+use Rattle.std.proofs.Common.{true≢false, filter}
 use Rattle.std.proofs.lemmas.Bool.{not-false}
 use Rattle.std.specs.List.{list_any}
 use Rattle.std.proofs.lemmas.List.Folds.{list_any_at}
@@ -10,9 +13,10 @@ use Rattle.mail_store.specs.declared.maildir.disk.Folder.{Folder}
 use Rattle.mail_store.specs.declared.maildir.disk.Folder.TheVariants.{New, Cur}
 use Rattle.mail_store.specs.Maildir.{File, all_there}
 use Rattle.test_devices.specs.declared.memory_folders.StoredMail.{StoredMail}
-use Rattle.folder_store.specs.MailFolders.{Draft, MailFile, Directories, MovesFile, RestsFile, Moved, OneMoves, is_in, is_left, name_at, rests_in}
+use Rattle.folder_store.specs.MailFolders.{MadeFile, MailFile, Directories, MovesFile, RestsFile, Moved, OneMoves}
+use Rattle.folder_store.specs.MailFolders.{is_in, is_left, name_at, rests_in}
 use Rattle.folder_store.specs.MailPower.{EntriesLeftAs}
-use Rattle.test_devices.specs.MemoryFolders.{MayBeLeftAs, list_of, mail_file}
+use Rattle.test_devices.specs.MemoryFolders.{MayBeLeftAs, list_of, stored_file}
 
 any_of_bytes : (names : List (String Global)) (name : List ℕ) → list_any (bytes_eq name) (map string_bytes names) ≡ is_among names name
 any_of_bytes [] name = refl
@@ -27,13 +31,15 @@ among_has names name = (
 
 -- one more file came after others
 pub told_on : (f : MailFile → Bool) (ss : List MailFile) (s : MailFile)
-    → map name_at (filter f (filter is_left (ss ++ s ∷ []))) ≡ map name_at (filter f (filter is_left ss)) ++ (if is_left s && f s then s.name ∷ [] else [])
+    → map name_at (filter f (filter is_left (ss ++ s ∷ []))) ≡ map name_at (filter f (filter is_left ss))
+    ++ (if is_left s && f s then s.name ∷ [] else [])
 told_on f [] s = grind arith
 told_on f (x ∷ ss) s = let rest = told_on f ss s in grind (arith, rest)
 
 -- ---- a loss of power
 
-pub left_on : (ss left : List MailFile) (s : MailFile) (o : Option MailFile) → EntriesLeftAs ss left → MayBeLeftAs s o → EntriesLeftAs (ss ++ s ∷ []) (left ++ list_of o)
+pub left_on : (ss left : List MailFile) (s : MailFile) (o : Option MailFile) → EntriesLeftAs ss left → MayBeLeftAs s o
+    → EntriesLeftAs (ss ++ s ∷ []) (left ++ list_of o)
 left_on [] left s None l gone = inl (gone, append-nil left ∙ l)
 left_on [] left s (Some t) l is = inr (t, [], ap (λ (ts : List MailFile). ts ++ t ∷ []) l, is, refl)
 left_on (x ∷ ss) left s o (inl (gone, l)) may = inl (gone, left_on ss left s o l may)
@@ -44,17 +50,19 @@ left_on (x ∷ ss) left s o (inr (t, rest, e, is, l)) may =
 
 -- the files before and behind a place
 around : (files : List StoredMail) (i : ℕ) (x y : StoredMail) → i < length files → x ≡ get_or files i x
-    → (front back : List MailFile) × (map mail_file files ≡ front ++ mail_file x ∷ back) × (map mail_file (set files i y) ≡ front ++ mail_file y ∷ back)
+    → (front back : List MailFile) × (map stored_file files ≡ front ++ stored_file x ∷ back)
+    × (map stored_file (set files i y) ≡ front ++ stored_file y ∷ back)
 around [] i x y below is = absurd (omega (arith, below))
-around (f ∷ files) zero x y below is = ([], map mail_file files, ap (λ (k : StoredMail). mail_file k ∷ map mail_file files) (sym is), refl)
+around (f ∷ files) zero x y below is =
+    ([], map stored_file files, ap (λ (k : StoredMail). stored_file k ∷ map stored_file files) (sym is), refl)
 around (f ∷ files) (suc i) x y below is =
     let (front, back, was, now) = around files i x y (omega (arith, below)) is in
-    (mail_file f ∷ front, back, ap (λ (ss : List MailFile). mail_file f ∷ ss) was, ap (λ (ss : List MailFile). mail_file f ∷ ss) now)
+    (stored_file f ∷ front, back, ap (λ (ss : List MailFile). stored_file f ∷ ss) was, ap (λ (ss : List MailFile). stored_file f ∷ ss) now)
 
-abbrev pub memory_dirs : List StoredMail → Bool → Bool → Option Draft → List File → Directories
+abbrev pub memory_dirs : List StoredMail → Bool → Bool → Option MadeFile → List File → Directories
 memory_dirs files new_rests cur_rests made taken = record {
   there = all_there;
-  entries = map mail_file files;
+  entries = map stored_file files;
   new_rests = new_rests;
   cur_rests = cur_rests;
   made = made;
@@ -76,24 +84,35 @@ not_in folder s t was is = record {
   gone = λ here. absurd (true≢false (sym here ∙ was));
 }
 
-pub file_moves : ((old : Directories) (front back : List MailFile) (s t : MailFile) (new : Directories) → OneMoves old front back s t new → Moved old new)
-    → (files : List StoredMail) (i : ℕ) (x y : StoredMail) (new new' cur cur' : Bool) (made : Option Draft) (taken : List File) → i < length files → x ≡ get_or files i x
-    → MovesFile (mail_file x) (mail_file y) → Rested new' new x.is_new y.is_new → Rested cur' cur (not x.is_new) (not y.is_new)
+pub file_moves : ((old : Directories) (front back : List MailFile) (s t : MailFile) (new : Directories)
+    → OneMoves old front back s t new → Moved old new)
+    → (files : List StoredMail) (i : ℕ) (x y : StoredMail) (new new' cur cur' : Bool) (made : Option MadeFile)
+    (taken : List File) → i < length files → x ≡ get_or files i x
+    → MovesFile (stored_file x) (stored_file y) → Rested new' new x.is_new y.is_new → Rested cur' cur (not x.is_new) (not y.is_new)
     → Moved (memory_dirs files new cur made taken) (memory_dirs (set files i y) new' cur' made taken)
 file_moves one files i x y new new' cur cur' made taken below is moves in_new in_cur =
     let (front, back, before, after) = around files i x y below is in
-    one _ front back (mail_file x) (mail_file y) _ (record { there = refl; made = refl; taken = refl; before = before; after = after; moves = moves; rests = rests_of })
+    one _ front back (stored_file x) (stored_file y) _ (record {
+      there = refl;
+      made = refl;
+      taken = refl;
+      before =
+          before;
+      after = after;
+      moves = moves;
+      rests = rests_of;
+    })
   where
     rests_of : (folder : Folder) → rests_in folder (memory_dirs (set files i y) new' cur' made taken) ≡ true
-        → (rests_in folder (memory_dirs files new cur made taken) ≡ true) × RestsFile folder (mail_file x) (mail_file y)
-    rests_of New quiet = let r = in_new quiet in (r.0, not_in New (mail_file x) (mail_file y) r.1 r.2)
-    rests_of Cur quiet = let r = in_cur quiet in (r.0, not_in Cur (mail_file x) (mail_file y) r.1 r.2)
+        → (rests_in folder (memory_dirs files new cur made taken) ≡ true) × RestsFile folder (stored_file x) (stored_file y)
+    rests_of New quiet = let r = in_new quiet in (r.0, not_in New (stored_file x) (stored_file y) r.1 r.2)
+    rests_of Cur quiet = let r = in_cur quiet in (r.0, not_in Cur (stored_file x) (stored_file y) r.1 r.2)
 
 -- ---- files that the reader took away
 
 abbrev pub not_gone : StoredMail → Bool
 not_gone k = not k.is_gone
 
-pub left_files : (files : List StoredMail) → map mail_file (filter not_gone files) ≡ filter is_left (map mail_file files)
+pub left_files : (files : List StoredMail) → map stored_file (filter not_gone files) ≡ filter is_left (map stored_file files)
 left_files [] = refl
 left_files (k ∷ files) = let rest = left_files files in grind (arith, rest)

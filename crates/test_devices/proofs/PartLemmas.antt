@@ -14,27 +14,39 @@ module _ (n m : ℕ) (below : n < greatest_count) where
   counted_one up = grind (arith, below, up)
 
   taken_behind : (old left : Maildir) → WereTaken old left → WereTaken (record old { failures = n }) (record left { failures = n })
-  taken_behind old left taken = record { gone = taken.gone; files = taken.files; is = ap (λ (m : Maildir). record m { failures = n }) taken.is }
+  taken_behind old left taken = record {
+    gone = taken.gone;
+    files = taken.files;
+    is =
+        ap (λ (m : Maildir). record m { failures = n }) taken.is;
+  }
 
   module _ {A B : Type 0} (old new : Maildir) where
-    lists : (left : Maildir) (folder : Folder) (r : Result (Vec (String A) B) StoreFault) → Tallies (refuses is_refusal r) n m → Lists left folder r new
+    lists : (left : Maildir) (folder : Folder) (r : Result (Vec (String A) B) StoreFault)
+        → Tallies (refuses is_refusal r) n m → Lists left folder r new
         → Lists (record left { failures = n }) folder r (record new { failures = m })
     lists left folder (Ok names) count (there, theirs, same) = (there, theirs, rw (same, count) refl)
     lists left folder (Err Missing) count (there, same) = (there, rw (same, count) refl)
     lists left folder (Err Refused) count same = rw (same, counted_one count) refl
     lists left folder (Err _) count never = absurd never
 
-    lists_both : (Told : List (List ℕ) → List (List ℕ) → Type 0) (left : Maildir) (r : Result (Vec (String A) B) StoreFault) → Tallies (refuses is_refusal r) n m
+    lists_both : (Told : List (List ℕ) → List (List ℕ)
+        → Type 0) (left : Maildir) (r : Result (Vec (String A) B) StoreFault) → Tallies (refuses is_refusal r) n m
         → ListsBoth Told left r new → ListsBoth Told (record left { failures = n }) r (record new { failures = m })
     lists_both Told left (Ok names) count (in_new, in_cur, told, named, same) = (in_new, in_cur, told, named, rw (same, count) refl)
     lists_both Told left (Err Missing) count (lacks, same) = (lacks, rw (same, count) refl)
     lists_both Told left (Err Refused) count same = rw (same, counted_one count) refl
     lists_both Told left (Err _) count never = absurd never
 
-    pub fused_lists : (folder : Folder) (r : Result (Vec (String A) B) StoreFault) → Tallies (refuses is_refusal r) n m → AfterTaking old (λ left. Lists left folder r new)
+    pub fused_lists : (folder : Folder) (r : Result (Vec (String A) B) StoreFault) → Tallies (refuses is_refusal r) n m
+        → AfterTaking old (λ left. Lists left folder r new)
         → AfterTaking (record old { failures = n }) (λ left. Lists left folder r (record new { failures = m }))
-    fused_lists folder r count (left, taken, does) = (record left { failures = n }, taken_behind old left taken, lists left folder r count does)
+    fused_lists folder r count (left, taken, does) =
+        (record left { failures = n }, taken_behind old left taken, lists left folder r count does)
 
-    pub fused_lists_both : (Told : List (List ℕ) → List (List ℕ) → Type 0) (r : Result (Vec (String A) B) StoreFault) → Tallies (refuses is_refusal r) n m
-        → AfterTaking old (λ left. ListsBoth Told left r new) → AfterTaking (record old { failures = n }) (λ left. ListsBoth Told left r (record new { failures = m }))
-    fused_lists_both Told r count (left, taken, does) = (record left { failures = n }, taken_behind old left taken, lists_both Told left r count does)
+    pub fused_lists_both : (Told : List (List ℕ) → List (List ℕ) → Type 0) (r : Result (Vec (String A) B) StoreFault)
+        → Tallies (refuses is_refusal r) n m
+        → AfterTaking old (λ left. ListsBoth Told left r new)
+        → AfterTaking (record old { failures = n }) (λ left. ListsBoth Told left r (record new { failures = m }))
+    fused_lists_both Told r count (left, taken, does) =
+        (record left { failures = n }, taken_behind old left taken, lists_both Told left r count does)

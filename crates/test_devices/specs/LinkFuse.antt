@@ -21,7 +21,7 @@ fused_leads_to leads_to old new = leads_to old.wire new.wire
 
 -- one call below the greatest count: it uses up a pass; if none is left, it is refused, and the link isn't
 -- asked; if one is left, it is refused only if the link refused it
-pub record Burns {W T E : Type 0} (history : W → Link) (old : Fuse W) (result : Result T E)
+pub record BurnsForLink {W T E : Type 0} (history : W → Link) (old : Fuse W) (result : Result T E)
     (new : Fuse W) : Type 0 where
   pub used : new.left ≡ old.left - 1
   pub blown : old.left ≡ 0 → (is_refused result ≡ true) × (new.wire ≡ old.wire)

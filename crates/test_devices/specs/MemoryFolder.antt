@@ -11,11 +11,11 @@ abbrev pub blob_of : MemoryBlob → Blob
 blob_of k = record { content = k.content.items; flushed = k.flushed.items; uncut = k.uncut; is_doubted = false }
 
 -- a name and its file
-abbrev pub entry_of : {A : Type 0} → String A × MemoryBlob → Entry
-entry_of pair = record { name = string_bytes pair.0; blob = blob_of pair.1 }
+abbrev pub folder_entry : {A : Type 0} → String A × MemoryBlob → Entry
+folder_entry pair = record { name = string_bytes pair.0; blob = blob_of pair.1 }
 
-abbrev pub entries_of : {A : Type 0} → List (String A × MemoryBlob) → List Entry
-entries_of files = map entry_of files
+abbrev pub folder_entries : {A : Type 0} → List (String A × MemoryBlob) → List Entry
+folder_entries files = map folder_entry files
 
 -- a name and what it led to
 abbrev pub older_of : {A : Type 0} → String A × Option MemoryBlob → Older

@@ -1,12 +1,12 @@
 -- The folders of a Maildir in memory.
 use Rattle.std.specs.Prelude.{◌≡◌, ℕ, Bool, true, false, List, [], ◌∷◌, Option, Some, None, Vec, string_bytes}
 use Rattle.test_devices.specs.declared.memory_folders.StoredMail.{StoredMail}
-use Rattle.folder_store.specs.MailFolders.{Draft, MailFile}
-use Rattle.folder_store.specs.MailPower.{IsLeftAs}
+use Rattle.folder_store.specs.MailFolders.{MadeFile, MailFile}
+use Rattle.folder_store.specs.MailPower.{IsMailLeftAs}
 
 -- a file
-abbrev pub mail_file : StoredMail → MailFile
-mail_file k = record {
+abbrev pub stored_file : StoredMail → MailFile
+stored_file k = record {
   is_new = k.is_new;
   name = string_bytes k.name;
   content = k.content.items;
@@ -18,7 +18,7 @@ mail_file k = record {
 }
 
 -- the file that was made
-abbrev pub made_draft : {A : Type 0} → Vec ℕ A × Bool → Draft
+abbrev pub made_draft : {A : Type 0} → Vec ℕ A × Bool → MadeFile
 made_draft pair = record { content = pair.0.items; is_flushed = pair.1 }
 
 -- one thing, or none
@@ -40,4 +40,4 @@ left_with is_new content s = record s {
 -- what a loss of power may leave of a file
 abbrev pub MayBeLeftAs : MailFile → Option MailFile → Type 0
 MayBeLeftAs s None = s.is_named ≡ false
-MayBeLeftAs s (Some t) = IsLeftAs s t
+MayBeLeftAs s (Some t) = IsMailLeftAs s t

@@ -9,14 +9,14 @@ pub record Script : Type 0 where
   pub cut : ℕ
   pub link : Link
 
-abbrev pub is_sound : Script → Type 0
-is_sound script = script.link.failures < greatest_count
+abbrev pub is_script_sound : Script → Type 0
+is_script_sound script = script.link.failures < greatest_count
 
 -- what was got begins the replies, and if a `recv` has answered 0, all of them were got
-pub record IsTold (script : Script) : Type 0 where
+pub record TellsReplies (script : Script) : Type 0 where
   pub begins : (rest : List ℕ) × (script.replies ≡ script.link.got ++ rest)
   pub whole : script.link.ended ≡ true → script.link.got ≡ script.replies
 
 -- the script stays, and what was got still begins it
 abbrev pub gives_on : Script → Script → Type 0
-gives_on old new = (new.replies ≡ old.replies) × (new.cut ≡ old.cut) × (IsTold old → IsTold new)
+gives_on old new = (new.replies ≡ old.replies) × (new.cut ≡ old.cut) × (TellsReplies old → TellsReplies new)

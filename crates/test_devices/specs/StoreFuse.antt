@@ -39,7 +39,7 @@ FusedIsSound sound f = sound f.device × (f.failures < greatest_count)
 
 -- one call below the greatest count: it uses up a pass; if none is left it is refused, and no later
 -- refusal takes effect; if one is left it is refused only if the device refused it
-pub record Burns {D T : Type 0} (count : D → ℕ) (old : Fused D) (result : Result T StoreFault)
+pub record BurnsForStore {D T : Type 0} (count : D → ℕ) (old : Fused D) (result : Result T StoreFault)
     (new : Fused D) : Type 0 where
   pub used : new.passes_left ≡ old.passes_left - 1
   pub blown : old.passes_left ≡ 0 → result ≡ Err Refused
@@ -49,7 +49,8 @@ pub record Burns {D T : Type 0} (count : D → ℕ) (old : Fused D) (result : Re
 -- the same, and a call for which no pass is left changes nothing behind the fuse
 abbrev pub Fuses : {D T : Type 0} → (D → ℕ) → Fused D → Result T StoreFault → Fused D → Type 0
 Fuses count old result new =
-    (old.failures < greatest_count → Burns count old result new) × (old.passes_left ≡ 0 → new.device ≡ old.device)
+    (old.failures < greatest_count → BurnsForStore count old result new)
+    × (old.passes_left ≡ 0 → new.device ≡ old.device)
 
 -- a `settle` that the fuse refuses: the device settled the file, or gave it up
 abbrev pub SettlesBehind : Bool → Maildir → List ℕ → Maildir → Type 0

@@ -103,11 +103,12 @@ impl<D: MaildirDisk> MaildirDisk for Fused<D> {
     ghost use Rattle.mail_store.specs.Fault.{IsDeviceFault};
     ghost use Rattle.mail_store.specs.Held.{ListsAmong};
     ghost use Rattle.mail_store.specs.Loss.{Flushes};
-    ghost use Rattle.mail_store.specs.Maildir.{AfterTaking, IsThere, Lists, ListsAll, Checks, Begins, Adds, Settles};
+    ghost use Rattle.mail_store.specs.Maildir.{AfterTaking, IsThere, Lists, ListsAllNames, Checks, Begins, Adds};
+    ghost use Rattle.mail_store.specs.Maildir.{Settles};
     ghost use Rattle.mail_store.specs.Maildir.{dropped, name_begun};
     ghost use Rattle.mail_store.specs.Devices.{DiskDoes, DiskRefuses};
     ghost use Rattle.test_devices.specs.StoreFuse.{device_of, passes_left, effect_is_due, refusals, fused_maildir};
-    ghost use Rattle.test_devices.specs.StoreFuse.{FusedIsSound, Burns, Fuses, SettlesBehind};
+    ghost use Rattle.test_devices.specs.StoreFuse.{FusedIsSound, BurnsForStore, Fuses, SettlesBehind};
 
     ghost maildir = { λ f. fused_maildir D.maildir f };
 
@@ -127,7 +128,7 @@ impl<D: MaildirDisk> MaildirDisk for Fused<D> {
 
     fn all_names(&mut self) -> Result<Vec<String>, StoreFault>
         ensures lists { DiskDoes ⟦<Fused<D> as MaildirDisk>⟧ (λ old new.
-            AfterTaking old (λ left. ListsAll left result new)) self.old self.new }
+            AfterTaking old (λ left. ListsAllNames left result new)) self.old self.new }
         ensures fault { IfErr result IsDeviceFault }
         ensures count { Tallies (refuses is_refusal result) (refusals self.old) (refusals self.new) }
         ensures fuse { Fuses (λ d. (D.maildir d).failures) self.old result self.new }
@@ -209,7 +210,7 @@ impl<D: MaildirDisk> MaildirDisk for Fused<D> {
         ensures none_begun { (D.maildir (device_of self.new)).begun ≡ None }
         ensures refuses { DiskRefuses ⟦<Fused<D> as MaildirDisk>⟧ self.old result self.new }
         ensures fuse { (refusals self.old < greatest_count
-            → Burns (λ d. (D.maildir d).failures) self.old result self.new)
+            → BurnsForStore (λ d. (D.maildir d).failures) self.old result self.new)
             × (passes_left self.old ≡ 0 → FusedIsSound D.sound self.new
             → SettlesBehind (effect_is_due self.old) (D.maildir (device_of self.old)) name.now
             (D.maildir (device_of self.new))) }
@@ -247,7 +248,7 @@ impl<D: FlatFile> FlatFile for Fused<D> {
     ghost use Rattle.mail_store.specs.FlatFile.{Loads, Measures, ReadsAt, Appends, Cuts, Replaces, HasBytes};
     ghost use Rattle.mail_store.specs.Devices.{FileDoes, FileLasts, FilePeeks, FileReads, FileRefuses};
     ghost use Rattle.test_devices.specs.StoreFuse.{device_of, passes_left, effect_is_due, refusals, fused_file};
-    ghost use Rattle.test_devices.specs.StoreFuse.{FusedIsSound, Burns, Fuses, AppendsBehind, ReplacesBehind};
+    ghost use Rattle.test_devices.specs.StoreFuse.{FusedIsSound, BurnsForStore, Fuses, AppendsBehind, ReplacesBehind};
 
     ghost stored = { λ f. fused_file D.stored f };
 
@@ -315,7 +316,7 @@ impl<D: FlatFile> FlatFile for Fused<D> {
             (λ old new. AppendsDisk old bytes.now result new) self.old self.new }
         ensures refuses { FileRefuses ⟦<Fused<D> as FlatFile>⟧ self.old result self.new }
         ensures fuse { (refusals self.old < greatest_count
-            → Burns (λ d. (D.stored d).failures) self.old result self.new)
+            → BurnsForStore (λ d. (D.stored d).failures) self.old result self.new)
             × (passes_left self.old ≡ 0 → FusedIsSound D.sound self.new
             → AppendsBehind (effect_is_due self.old) (D.stored (device_of self.old)) bytes.now
             (D.stored (device_of self.new))) }
@@ -349,7 +350,7 @@ impl<D: FlatFile> FlatFile for Fused<D> {
             (λ old new. ReplacesDisk old bytes.now result new) self.old self.new }
         ensures refuses { FileRefuses ⟦<Fused<D> as FlatFile>⟧ self.old result self.new }
         ensures fuse { (refusals self.old < greatest_count
-            → Burns (λ d. (D.stored d).failures) self.old result self.new)
+            → BurnsForStore (λ d. (D.stored d).failures) self.old result self.new)
             × (passes_left self.old ≡ 0 → FusedIsSound D.sound self.new
             → ReplacesBehind (effect_is_due self.old) (D.stored (device_of self.old)) bytes.now
             (D.stored (device_of self.new))) }

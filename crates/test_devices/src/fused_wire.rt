@@ -2,7 +2,7 @@
 ghost use Rattle.std.specs.Prelude.{◌≡◌, ◌≤◌, ◌<◌, length, IfOk};
 ghost use Rattle.mail_terms.specs.FailureCount.{greatest_count};
 ghost use Rattle.pop3_wire.specs.Link.{Sends, Receives, CountsFailure, WhereSound};
-ghost use Rattle.test_devices.specs.LinkFuse.{Fuse, fused_link, fused_is_sound, fused_leads_to, Burns};
+ghost use Rattle.test_devices.specs.LinkFuse.{Fuse, fused_link, fused_is_sound, fused_leads_to, BurnsForLink};
 
 use mail_terms::FailureCount;
 use pop3_wire::{Note, Wire, WireDown};
@@ -55,7 +55,7 @@ impl<W: Wire> Wire for FusedWire<W> {
         ensures counted { CountsFailure (fused_link W.history self.old) result (fused_link W.history self.new) }
         ensures sent { WhereSound (fused_is_sound W.sound) (fused_leads_to W.leads_to) self.old self.new
             (Sends (fused_link W.history self.old) bytes.now result (fused_link W.history self.new)) }
-        ensures burns { self.old.failures < greatest_count → Burns W.history self.old result self.new }
+        ensures burns { self.old.failures < greatest_count → BurnsForLink W.history self.old result self.new }
     {
         if self.failures.is_full() {
             return Err(WireDown);
@@ -78,7 +78,7 @@ impl<W: Wire> Wire for FusedWire<W> {
         ensures counted { CountsFailure (fused_link W.history self.old) result (fused_link W.history self.new) }
         ensures got { WhereSound (fused_is_sound W.sound) (fused_leads_to W.leads_to) self.old self.new
             (Receives (fused_link W.history self.old) result buf.new (fused_link W.history self.new)) }
-        ensures burns { self.old.failures < greatest_count → Burns W.history self.old result self.new }
+        ensures burns { self.old.failures < greatest_count → BurnsForLink W.history self.old result self.new }
     {
         if self.failures.is_full() {
             return Err(WireDown);

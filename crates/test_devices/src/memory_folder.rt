@@ -4,12 +4,12 @@ ghost use Rattle.std.specs.Prelude.{◌≡◌, ◌≢◌, ◌<◌, ◌≤◌, �
 ghost use Rattle.std.specs.Prelude.{take, true};
 ghost use Rattle.std.specs.Prelude.{HoldsAt, IfErr, IfNone, IfOk, IfSome, OnErr, OnOk, option_map};
 ghost use Rattle.mail_store.specs.Fault.{IsDeviceFault};
-ghost use Rattle.folder_store.specs.FileFolder.{changed, find, placed, put_in};
-ghost use Rattle.folder_store.specs.FileFolder.{FlushesNames, Makes, MeasuresFile, ReadsPiece, TellsSize};
+ghost use Rattle.folder_store.specs.FileFolder.{with_blob, find, placed, put_in};
+ghost use Rattle.folder_store.specs.FileFolder.{FlushesNames, Makes, MeasuresFile, ReadsPiece, TellsFileSize};
 ghost use Rattle.folder_store.specs.PowerLoss.{Loses, left_under};
 ghost use Rattle.mail_store.specs.DiskCalls.{appended, cut, flushed};
 ghost use Rattle.mail_store.specs.Durable.{IsLeft, secured};
-ghost use Rattle.test_devices.specs.MemoryFolder.{MayBeOf, Survive, blob_of, entries_of, entry_of, older_of};
+ghost use Rattle.test_devices.specs.MemoryFolder.{MayBeOf, Survive, blob_of, folder_entries, folder_entry, older_of};
 
 use folder_store::FileFolder;
 use mail_store::{Edges, StoreFault, edges_of, read_piece};
@@ -59,16 +59,16 @@ impl Model for MemoryFolder {
 
     ghost Value = { Directory };
 
-    ghost use Rattle.test_devices.specs.MemoryFolder.{blob_of, entries_of, older_of};
+    ghost use Rattle.test_devices.specs.MemoryFolder.{blob_of, folder_entries, older_of};
 
     ghost view = { λ m. record {
       can_make = true;
-      entries = entries_of m.files.items;
+      entries = folder_entries m.files.items;
       older = map older_of m.older.items;
       made = option_map blob_of m.made;
     } };
 
-    ghost invariant = { λ m. AreDistinct (names_in (entries_of m.files.items)) };
+    ghost invariant = { λ m. AreDistinct (names_in (folder_entries m.files.items)) };
 }
 
 /// The place at which this name is first, if it is among the names.
@@ -90,7 +90,7 @@ fn place_of<T>(named: &[(String, T)], name: &str) -> Option<usize>
 
 /// The file of this name, if there is one.
 fn stored_at<'a>(files: &'a [(String, MemoryBlob)], name: &str) -> Option<&'a MemoryBlob>
-    ensures { option_map (λ k. blob_of k.now) result ≡ find name.now (entries_of files.now) }
+    ensures { option_map (λ k. blob_of k.now) result ≡ find name.now (folder_entries files.now) }
 {
     match place_of(files, name) {
         Some(i) => Some(&files[i].1),
@@ -105,8 +105,9 @@ fn place(
     file: MemoryBlob,
 ) -> Result<Option<MemoryBlob>, AllocError>
     ensures placed { OnOk result
-        (entries_of files.new.items ≡ placed (string_bytes name) (blob_of file) (entries_of files.old.items)) }
-    ensures was { IfOk result (λ was. option_map blob_of was ≡ find (string_bytes name) (entries_of files.old.items)) }
+        (folder_entries files.new.items ≡ placed (string_bytes name) (blob_of file) (folder_entries files.old.items)) }
+    ensures was { IfOk result
+        (λ was. option_map blob_of was ≡ find (string_bytes name) (folder_entries files.old.items)) }
     ensures err { OnErr result (files.new.items ≡ files.old.items) }
 {
     match place_of(files, name.as_str()) {
@@ -124,7 +125,7 @@ fn bytes_left(
     older: &[(String, Option<MemoryBlob>)],
     left: Left,
 ) -> Result<Option<Vec<u8>>, AllocError>
-    ensures { IfOk result (λ text. MayBeOf (map older_of older.now) (entry_of file.now)
+    ensures { IfOk result (λ text. MayBeOf (map older_of older.now) (folder_entry file.now)
         (option_map (λ bytes. bytes.items) text)) }
 {
     if let Left::Older = left {
@@ -144,8 +145,9 @@ fn add_left(
     file: &(String, MemoryBlob),
     bytes: Option<Vec<u8>>,
 ) -> Result<(), AllocError>
-    ensures { OnOk result (entries_of left.new.items
-        ≡ entries_of left.old.items ++ left_under (string_bytes file.now.0) (option_map (λ bytes. bytes.items) bytes)) }
+    ensures { OnOk result (folder_entries left.new.items
+        ≡ folder_entries left.old.items ++ left_under (string_bytes file.now.0)
+        (option_map (λ bytes. bytes.items) bytes)) }
 {
     match bytes {
         Some(bytes) => {
@@ -163,7 +165,8 @@ fn survivors(
     older: &[(String, Option<MemoryBlob>)],
     choices: &[Left],
 ) -> Result<Vec<(String, MemoryBlob)>, AllocError>
-    ensures { IfOk result (λ left. Survive (map older_of older.now) (entries_of files.now) (entries_of left.items)) }
+    ensures { IfOk result (λ left. Survive (map older_of older.now) (folder_entries files.now)
+        (folder_entries left.items)) }
 {
     let mut left = Vec::new(alloc);
     for (i, file) in files.iter().enumerate() {
@@ -288,7 +291,7 @@ impl MemoryFolder {
 
     /// Gives the file of a name other bytes.
     fn change(&mut self, name: &str, file: MemoryBlob) -> Result<(), StoreFault>
-        ensures ok { OnOk result (self.new ≡ changed self.old name.now (blob_of file)) }
+        ensures ok { OnOk result (self.new ≡ with_blob self.old name.now (blob_of file)) }
         ensures err { OnErr result (self.new ≡ self.old) }
     {
         let Ok(title) = String::from_str(self.alloc, name) else {
@@ -404,7 +407,7 @@ impl FileFolder for MemoryFolder {
     }
 
     fn size(&mut self, name: &str) -> Result<u64, StoreFault>
-        ensures tells { Unit {0} → Unit {0} × TellsSize self.old name.now result self.new }
+        ensures tells { Unit {0} → Unit {0} × TellsFileSize self.old name.now result self.new }
         ensures answers { result ≢ Err StoreFault.Refused }
     {
         match stored_at(&self.files, name) {

@@ -11,7 +11,7 @@ ghost use Rattle.folder_store.specs.MailCalls.{entry_flushed_by, named_by, names
 ghost use Rattle.folder_store.specs.MailFolders.{Moved, MovesFile, entries_in, is_in, is_taken, is_told, name_at};
 ghost use Rattle.folder_store.specs.MailFolders.{touches};
 ghost use Rattle.folder_store.specs.MailPower.{EntriesLeftAs, LosesMail};
-ghost use Rattle.test_devices.specs.MemoryFolders.{list_of, mail_file};
+ghost use Rattle.test_devices.specs.MemoryFolders.{list_of, stored_file};
 
 use folder_store::{MailFolders, Sought, readers_move};
 use mail_store::{Folder, StoreFault, sought_names, stem};
@@ -76,24 +76,24 @@ impl Model for MemoryFolders {
     ghost use Rattle.std.specs.Prelude.{map, option_map};
     ghost use Rattle.mail_store.specs.Maildir.{all_there};
     ghost use Rattle.folder_store.specs.MailFolders.{Directories, files_at};
-    ghost use Rattle.test_devices.specs.MemoryFolders.{made_draft, mail_file};
+    ghost use Rattle.test_devices.specs.MemoryFolders.{made_draft, stored_file};
 
     ghost Value = { Directories };
 
     ghost view = { λ m. record {
       there = all_there;
-      entries = map mail_file m.files.items;
+      entries = map stored_file m.files.items;
       new_rests = m.new_rests;
       cur_rests = m.cur_rests;
       made = option_map made_draft m.made;
-      taken = files_at (map mail_file m.taken.items);
+      taken = files_at (map stored_file m.taken.items);
     } };
 }
 
 /// Appends the name of a file, if it is in the folder and wasn't taken away.
 fn add_name(names: &mut Vec<String>, file: &StoredMail, folder: Folder) -> Result<(), AllocError>
     ensures { OnOk result (map string_bytes names.new.items ≡ map string_bytes names.old.items
-        ++ (if is_told folder (mail_file file.now) then string_bytes file.now.name ∷ [] else [])) }
+        ++ (if is_told folder (stored_file file.now) then string_bytes file.now.name ∷ [] else [])) }
 {
     if file.is_told(folder) {
         names.push(file.name.clone()?)?;
@@ -119,7 +119,7 @@ fn those_sought(
 /// The names of the files of a folder.
 fn names_in(alloc: Global, files: &[StoredMail], folder: Folder) -> Result<Vec<String>, AllocError>
     ensures { IfOk result (λ names. map string_bytes names.items
-        ≡ map name_at (entries_in folder (map mail_file files.now))) }
+        ≡ map name_at (entries_in folder (map stored_file files.now))) }
 {
     let mut names = Vec::new(alloc);
     for file in files {
@@ -134,7 +134,7 @@ fn named_files(
     files: &[StoredMail],
     folder: Folder,
 ) -> Result<Vec<StoredMail>, AllocError>
-    ensures { IfOk result (λ named. map mail_file named.items ≡ map (named_by folder) (map mail_file files.now)) }
+    ensures { IfOk result (λ named. map stored_file named.items ≡ map (named_by folder) (map stored_file files.now)) }
 {
     let mut named = Vec::new(alloc);
     for file in files {
@@ -157,8 +157,8 @@ fn flushed_files(
     files: &[StoredMail],
     stems: &[String],
 ) -> Result<Vec<StoredMail>, AllocError>
-    ensures { IfOk result (λ flushed. map mail_file flushed.items
-        ≡ map (entry_flushed_by stems.now) (map mail_file files.now)) }
+    ensures { IfOk result (λ flushed. map stored_file flushed.items
+        ≡ map (entry_flushed_by stems.now) (map stored_file files.now)) }
 {
     let mut flushed = Vec::new(alloc);
     for file in files {
@@ -173,7 +173,7 @@ fn files_left(
     files: &[StoredMail],
     choices: &[MailLeft],
 ) -> Result<Vec<StoredMail>, AllocError>
-    ensures { IfOk result (λ left. EntriesLeftAs (map mail_file files.now) (map mail_file left.items)) }
+    ensures { IfOk result (λ left. EntriesLeftAs (map stored_file files.now) (map stored_file left.items)) }
 {
     let mut left = Vec::new(alloc);
     for (i, file) in files.iter().enumerate() {
@@ -186,8 +186,8 @@ fn files_left(
 
 /// Appends what is left of a file, if anything is.
 fn add_left(left: &mut Vec<StoredMail>, file: Option<StoredMail>) -> Result<(), AllocError>
-    ensures { OnOk result (map mail_file left.new.items
-        ≡ map mail_file left.old.items ++ list_of (option_map mail_file file)) }
+    ensures { OnOk result (map stored_file left.new.items
+        ≡ map stored_file left.old.items ++ list_of (option_map stored_file file)) }
 {
     match file {
         Some(file) => {
@@ -200,8 +200,8 @@ fn add_left(left: &mut Vec<StoredMail>, file: Option<StoredMail>) -> Result<(), 
 
 /// Appends a file, if a reader took it away.
 fn add_taken(taken: &mut Vec<StoredMail>, file: &StoredMail) -> Result<(), AllocError>
-    ensures { OnOk result (map mail_file taken.new.items ≡ map mail_file taken.old.items
-        ++ filter is_taken (mail_file file.now ∷ [])) }
+    ensures { OnOk result (map stored_file taken.new.items ≡ map stored_file taken.old.items
+        ++ filter is_taken (stored_file file.now ∷ [])) }
 {
     if file.is_gone {
         taken.push(file.copy()?)?;
@@ -211,7 +211,7 @@ fn add_taken(taken: &mut Vec<StoredMail>, file: &StoredMail) -> Result<(), Alloc
 
 /// The files that a reader took away.
 fn taken_files(alloc: Global, files: &[StoredMail]) -> Result<Vec<StoredMail>, AllocError>
-    ensures { IfOk result (λ taken. map mail_file taken.items ≡ filter is_taken (map mail_file files.now)) }
+    ensures { IfOk result (λ taken. map stored_file taken.items ≡ filter is_taken (map stored_file files.now)) }
 {
     let mut taken = Vec::new(alloc);
     for file in files {
@@ -240,10 +240,10 @@ fn name_for(alloc: Global, name: &str, is_new: bool) -> Result<String, AllocErro
 }
 
 impl StoredMail {
-    ghost use Rattle.test_devices.specs.MemoryFolders.{MayBeLeftAs, left_with, mail_file};
+    ghost use Rattle.test_devices.specs.MemoryFolders.{MayBeLeftAs, left_with, stored_file};
 
     fn is_in(&self, folder: Folder) -> bool
-        ensures { result ≡ is_in folder (mail_file self.now) }
+        ensures { result ≡ is_in folder (stored_file self.now) }
     {
         match folder {
             Folder::New => self.is_new,
@@ -253,14 +253,14 @@ impl StoredMail {
 
     // Whether it is in the folder and wasn't taken away.
     fn is_told(&self, folder: Folder) -> bool
-        ensures { result ≡ is_told folder (mail_file self.now) }
+        ensures { result ≡ is_told folder (stored_file self.now) }
     {
         !self.is_gone && self.is_in(folder)
     }
 
     // Whether it is in the folder, or left it since the names there were last flushed.
     fn touches(&self, folder: Folder) -> bool
-        ensures { result ≡ touches folder (mail_file self.now) }
+        ensures { result ≡ touches folder (stored_file self.now) }
     {
         match folder {
             Folder::New => self.is_new || self.left_new,
@@ -270,13 +270,13 @@ impl StoredMail {
 
     // Whether some name of it is durable once the names of the folder were flushed.
     fn is_named_by(&self, folder: Folder) -> bool
-        ensures { result ≡ (self.now.is_named || touches folder (mail_file self.now)) }
+        ensures { result ≡ (self.now.is_named || touches folder (stored_file self.now)) }
     {
         self.is_named || self.touches(folder)
     }
 
     fn copy(&self) -> Result<StoredMail, AllocError>
-        ensures { IfOk result (λ stored. mail_file stored ≡ mail_file self.now) }
+        ensures { IfOk result (λ stored. stored_file stored ≡ stored_file self.now) }
     {
         Ok(StoredMail {
             is_new: self.is_new,
@@ -292,7 +292,7 @@ impl StoredMail {
 
     // The file once the names of a folder were flushed.
     fn named_by(&self, folder: Folder) -> Result<StoredMail, AllocError>
-        ensures { IfOk result (λ stored. mail_file stored ≡ named_by folder (mail_file self.now)) }
+        ensures { IfOk result (λ stored. stored_file stored ≡ named_by folder (stored_file self.now)) }
     {
         let mut copy = self.copy()?;
         copy.is_named = self.is_named_by(folder);
@@ -305,14 +305,14 @@ impl StoredMail {
 
     // Whether its bytes are durable once files with these stems were flushed.
     fn is_flushed_by(&self, stems: &[String]) -> bool
-        ensures { result ≡ (entry_flushed_by stems.now (mail_file self.now)).is_flushed }
+        ensures { result ≡ (entry_flushed_by stems.now (stored_file self.now)).is_flushed }
     {
         self.is_flushed || is_one_of(stems, stem(self.name.as_str()))
     }
 
     // The file once those with these stems were flushed.
     fn flushed_by(&self, stems: &[String]) -> Result<StoredMail, AllocError>
-        ensures { IfOk result (λ stored. mail_file stored ≡ entry_flushed_by stems.now (mail_file self.now)) }
+        ensures { IfOk result (λ stored. stored_file stored ≡ entry_flushed_by stems.now (stored_file self.now)) }
     {
         let mut copy = self.copy()?;
         copy.is_flushed = self.is_flushed_by(stems);
@@ -321,7 +321,7 @@ impl StoredMail {
 
     // The file once a reader moved it to `new`, or to `cur` with a mark.
     fn moved(&self, alloc: Global, is_new: bool) -> Result<StoredMail, AllocError>
-        ensures moves { IfOk result (λ stored. MovesFile (mail_file self.now) (mail_file stored)) }
+        ensures moves { IfOk result (λ stored. MovesFile (stored_file self.now) (stored_file stored)) }
         ensures place { IfOk result (λ stored. stored.is_new ≡ is_new) }
     {
         let name = name_for(alloc, self.name.as_str(), is_new)?;
@@ -340,7 +340,7 @@ impl StoredMail {
 
     // The file after a loss of power, all of it durable.
     fn left_with(&self, is_new: bool, content: Vec<u8>) -> Result<StoredMail, AllocError>
-        ensures { IfOk result (λ stored. mail_file stored ≡ left_with is_new content.items (mail_file self.now)) }
+        ensures { IfOk result (λ stored. stored_file stored ≡ left_with is_new content.items (stored_file self.now)) }
     {
         Ok(StoredMail {
             is_new,
@@ -367,7 +367,7 @@ impl StoredMail {
 
     // What is left of the file, as the choice says.
     fn left(&self, choice: MailLeft) -> Result<Option<StoredMail>, AllocError>
-        ensures { IfOk result (λ left. MayBeLeftAs (mail_file self.now) (option_map mail_file left)) }
+        ensures { IfOk result (λ left. MayBeLeftAs (stored_file self.now) (option_map stored_file left)) }
     {
         match choice {
             MailLeft::Gone if !self.is_named => Ok(None),

@@ -2,7 +2,7 @@
 ghost use Rattle.std.specs.Prelude.{◌≡◌, ◌≤◌, ◌<◌, ◌-◌, ◌^◌, ◌++◌, ℕ, List, [], false, length, take, min, IsOk, IfOk};
 ghost use Rattle.mail_terms.specs.FailureCount.{greatest_count};
 ghost use Rattle.pop3_wire.specs.Link.{Receives, CountsFailure, WhereSound};
-ghost use Rattle.test_devices.specs.Script.{Script, is_sound, gives_on, IsTold};
+ghost use Rattle.test_devices.specs.Script.{Script, is_script_sound, gives_on, TellsReplies};
 ghost use Rattle.std.proofs.Common.{refl, ◌∙◌};
 
 use mail_terms::FailureCount;
@@ -48,7 +48,7 @@ impl ScriptWire {
           cut = cut;
           link = record { sent = []; got = []; ended = false; failures = 0 };
         } }
-        ensures told { IsTold result }
+        ensures told { TellsReplies result }
     {
         ScriptWire {
             replies,
@@ -71,7 +71,7 @@ impl ScriptWire {
 impl Wire for ScriptWire {
     ghost history = { λ w. w.link };
 
-    ghost sound = { is_sound };
+    ghost sound = { is_script_sound };
 
     ghost leads_to = { gives_on };
 
@@ -90,7 +90,7 @@ impl Wire for ScriptWire {
         requires { 0 < length buf.old }
         ensures within { IfOk result (λ n. n ≤ length buf.new) }
         ensures counted { CountsFailure self.old.link result self.new.link }
-        ensures got { WhereSound is_sound gives_on self.old self.new
+        ensures got { WhereSound is_script_sound gives_on self.old self.new
             (Receives self.old.link result buf.new self.new.link) }
         // Below the greatest count it never fails, and it answers 0 only after all was given; a piece
         // is never longer than the cut.

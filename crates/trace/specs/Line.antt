@@ -12,13 +12,13 @@ abbrev pub IsShowable : List ℕ → Type 0
 IsShowable octets = (list_any (λ octet. octet == 0xC2) octets ≡ false) × IsUtf8 octets
 
 -- printable ASCII except the backslash
-abbrev pub is_plain : ℕ → Bool
-is_plain octet = nat_le 32 octet && (nat_lt octet 127 && not (octet == 92))
+abbrev pub is_shown_plain : ℕ → Bool
+is_shown_plain octet = nat_le 32 octet && (nat_lt octet 127 && not (octet == 92))
 
 -- an octet as a line shows it: as it is, or as `\x` and two digits
 unfoldable pub shown_octet : Bool → ℕ → List ℕ
 shown_octet wide octet =
-    if is_plain octet || (wide && nat_le 128 octet) then octet ∷ []
+    if is_shown_plain octet || (wide && nat_le 128 octet) then octet ∷ []
     else codes "\\x" ++ encode_lower (octet ∷ [])
 
 -- a line shows a mark and octets, those above ASCII as they are only if all together may be shown so
@@ -31,8 +31,8 @@ abbrev pub most_shown : ℕ
 most_shown = 512
 
 -- such a line was written after what the writer held
-abbrev pub IsWritten : {E : Type 0} → (E → Option (List ℕ)) → E → E → List ℕ → List ℕ → Type 0
-IsWritten contents old new mark octets = (line : List ℕ) × IsTraceLine mark octets line
+abbrev pub HasTraceLine : {E : Type 0} → (E → Option (List ℕ)) → E → E → List ℕ → List ℕ → Type 0
+HasTraceLine contents old new mark octets = (line : List ℕ) × IsTraceLine mark octets line
     × Appends (contents old) (contents new) line
 
 -- what is shown of a body
@@ -42,5 +42,5 @@ count_text lines octets = codes "(" ++ (decimal lines ++ (codes " lines, " ++ (d
 -- the line of a refused call was written: its name, what it was asked for, and a reason
 abbrev pub TellsRefusal : {E : Type 0} → (E → Option (List ℕ)) → E → E → List ℕ → List ℕ → Type 0
 TellsRefusal contents old new call path =
-    (reason : List ℕ) × IsWritten contents old new (codes "trace: ")
+    (reason : List ℕ) × HasTraceLine contents old new (codes "trace: ")
     (call ++ (codes " " ++ (path ++ (codes ": " ++ reason))))

@@ -49,14 +49,14 @@ OccursInBase64 answer octets =
 abbrev pub row_length : List ℕ → ℕ
 row_length password = min 4 (length password)
 
-abbrev pub row_at : List ℕ → ℕ → List ℕ
-row_at password start = take (row_length password) (drop start password)
+abbrev pub password_row : List ℕ → ℕ → List ℕ
+password_row password start = take (row_length password) (drop start password)
 
 -- the row from this place on occurs in upper or lower case, or in base64
 abbrev pub TellsRow : List ℕ → List ℕ → ℕ → Type 0
 TellsRow answer password start =
-    Occurs (map to_ascii_lowercase answer) (row_at (map to_ascii_lowercase password) start)
-    ⊎ OccursInBase64 answer (row_at password start)
+    Occurs (map to_ascii_lowercase answer) (password_row (map to_ascii_lowercase password) start)
+    ⊎ OccursInBase64 answer (password_row password start)
 
 abbrev pub TellsARow : List ℕ → List ℕ → Type 0
 TellsARow answer password = (start : ℕ) × (start + row_length password ≤ length password)

@@ -4,16 +4,16 @@ use Rattle.std.specs.Prelude.{codes, count_by, min, option_map, take}
 use Rattle.pop3_wire.specs.declared.note.Note.{Note}
 use Rattle.pop3_wire.specs.declared.note.Note.TheVariants.{Command, Reply, Body}
 use Rattle.trace.specs.Command.{shown_command}
-use Rattle.trace.specs.Line.{IsWritten, count_text, most_shown}
+use Rattle.trace.specs.Line.{HasTraceLine, count_text, most_shown}
 use Rattle.trace.specs.Masking.{IsShown, is_login}
 use Rattle.trace.specs.declared.wire.Trace.{Trace}
 use Rattle.trace.specs.declared.wire.TracedWire.{TracedWire}
 
 -- a line was written, if there is a writer
-abbrev pub Adds : {E : Type 0} → (E → Option (List ℕ)) → Option E → Option E → List ℕ → List ℕ → Type 0
-Adds contents None None mark octets = Unit {0}
-Adds contents (Some old) (Some new) mark octets = IsWritten contents old new mark octets
-Adds contents old new mark octets = ⊥
+abbrev pub AddsTraceLine : {E : Type 0} → (E → Option (List ℕ)) → Option E → Option E → List ℕ → List ℕ → Type 0
+AddsTraceLine contents None None mark octets = Unit {0}
+AddsTraceLine contents (Some old) (Some new) mark octets = HasTraceLine contents old new mark octets
+AddsTraceLine contents old new mark octets = ⊥
 
 -- the password that a trace hides
 abbrev pub hidden_in : {E : Type 0} → Trace E → Option (List ℕ)
@@ -32,17 +32,17 @@ Counts old text octets new = (new.lines ≡ min (old.lines + count_by (λ octet.
 abbrev pub ShowsAnswer : {E : Type 0} → (E → Option (List ℕ)) → Trace E → List ℕ → Trace E → Type 0
 ShowsAnswer contents old answer new =
     (shown : List ℕ) × IsShown (hidden_in old) old.to_login answer shown
-    × Adds contents old.err new.err (codes "S: ") (take most_shown shown)
+    × AddsTraceLine contents old.err new.err (codes "S: ") (take most_shown shown)
     × (new.lines ≡ 0) × (new.octets ≡ 0)
 
 -- a part of a conversation was shown: of a body, how many lines and octets came, at its end
 abbrev pub ShowsPart : {E : Type 0} → (E → Option (List ℕ)) → Trace E → Note → Trace E → Type 0
 ShowsPart contents old (Command command) new =
     (new.to_login ≡ is_login command.now)
-    × Adds contents old.err new.err (codes "C: ") (take most_shown (shown_command command.now))
+    × AddsTraceLine contents old.err new.err (codes "C: ") (take most_shown (shown_command command.now))
 ShowsPart contents old (Reply answer) new = ShowsAnswer contents old answer.now new
 ShowsPart contents old (Body text octets false) new = (new.err ≡ old.err)
     × (IsSome old.err → Counts old text.now octets new)
-ShowsPart contents old (Body text octets true) new = Adds contents old.err new.err (codes "S: ")
+ShowsPart contents old (Body text octets true) new = AddsTraceLine contents old.err new.err (codes "S: ")
     (count_text new.lines (new.octets - 3))
     × (IsSome old.err → Counts old text.now octets new)

@@ -1,7 +1,7 @@
 //! The lines of a trace.
 ghost use Rattle.std.specs.Prelude.{◌≡◌, ◌++◌, ◌↔◌, IfOk, OnOk, IsTrue, take};
 ghost use Rattle.std.specs.String.{string_bytes};
-ghost use Rattle.trace.specs.Line.{IsTraceLine, IsShowable, IsWritten, count_text};
+ghost use Rattle.trace.specs.Line.{IsTraceLine, IsShowable, HasTraceLine, count_text};
 ghost use Rattle.trace.specs.Line.{most_shown, shown_octet};
 
 use std::alloc::{AllocError, Global};
@@ -62,7 +62,7 @@ pub fn shown(alloc: Global, octets: &[u8]) -> Result<Vec<u8>, AllocError> {
 
 /// Writes a line at once. If memory for it is refused, it is left out.
 pub fn write_line<E: Write>(alloc: Global, err: &mut E, mark: &str, octets: &[u8]) -> io::Result<()>
-    ensures { OnOk result (IsWritten E.contents err.old err.new mark.now octets.now) }
+    ensures { OnOk result (HasTraceLine E.contents err.old err.new mark.now octets.now) }
 {
     let line = line_text(alloc, mark, octets)?;
     err.write_all(line.as_slice())

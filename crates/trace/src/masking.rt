@@ -2,7 +2,8 @@
 ghost use Rattle.std.specs.Prelude.{◌≡◌, ◌≤◌, ◌<◌, ◌⊎◌, ◌+◌, ◌++◌, ◌↔◌, IfOk, OnOk, IsTrue, length, option_map, take};
 ghost use Rattle.trace.specs.Line.{most_shown};
 ghost use Rattle.trace.specs.Masking.{IsShown, Occurs, OccursInBase64, Tells, TellsARow};
-ghost use Rattle.trace.specs.Masking.{hidden_answer, is_login, octet_at, row_at, row_length, sextet, symbol, symbol_at};
+ghost use Rattle.trace.specs.Masking.{hidden_answer, is_login, octet_at, password_row, row_length, sextet, symbol};
+ghost use Rattle.trace.specs.Masking.{symbol_at};
 ghost use Rattle.trace.specs.Masking.{symbols};
 
 use crate::command::is_word;
@@ -140,7 +141,7 @@ fn has_row(
 
 fn row_at(password: &[u8], start: usize) -> &[u8]
     requires { start + row_length password.now ≤ length password.now }
-    ensures { result.now ≡ row_at password.now start }
+    ensures { result.now ≡ password_row password.now start }
 {
     &password[start..start + password.len().min(ROW)]
 }

@@ -3,7 +3,7 @@ ghost use Rattle.std.specs.Prelude.{◌≡◌, ◌-◌, ℕ, List, Some, IsSome,
 ghost use Rattle.trace.specs.Command.{shown_command};
 ghost use Rattle.trace.specs.Line.{count_text, most_shown};
 ghost use Rattle.trace.specs.Masking.{is_login};
-ghost use Rattle.trace.specs.Wire.{Adds, Counts, Hides, ShowsAnswer, ShowsPart};
+ghost use Rattle.trace.specs.Wire.{AddsTraceLine, Counts, Hides, ShowsAnswer, ShowsPart};
 
 use crate::command::shown_command;
 use crate::line::{count_text, cut, write_line};
@@ -34,7 +34,7 @@ struct Trace<'a, E> {
 
 impl<'a, E: Write> Trace<'a, E> {
     fn show(&mut self, mark: &str, octets: &[u8]) -> io::Result<()>
-        ensures shown { OnOk result (Adds E.contents self.old.err self.new.err mark.now octets.now) }
+        ensures shown { OnOk result (AddsTraceLine E.contents self.old.err self.new.err mark.now octets.now) }
         ensures same { self.new ≡ record self.old { err = self.new.err } }
     {
         match &mut self.err {
@@ -58,7 +58,7 @@ impl<'a, E: Write> Trace<'a, E> {
 
     fn show_count(&mut self) -> io::Result<()>
         ensures shown { OnOk result
-            (Adds E.contents self.old.err self.new.err (codes "S: ")
+            (AddsTraceLine E.contents self.old.err self.new.err (codes "S: ")
             (count_text self.old.lines (self.old.octets - 3))) }
         ensures same { self.new ≡ record self.old { err = self.new.err } }
     {
@@ -91,7 +91,8 @@ impl<'a, E: Write> Trace<'a, E> {
     /// Shows a command.
     fn show_command(&mut self, command: &[u8]) -> io::Result<()>
         ensures shown { OnOk result ((self.new.to_login ≡ is_login command.now)
-            × Adds E.contents self.old.err self.new.err (codes "C: ") (take most_shown (shown_command command.now))) }
+            × AddsTraceLine E.contents self.old.err self.new.err (codes "C: ")
+            (take most_shown (shown_command command.now))) }
         ensures same { self.new.password ≡ self.old.password }
     {
         self.to_login = is_login(command);

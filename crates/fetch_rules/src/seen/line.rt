@@ -9,8 +9,8 @@ ghost use Rattle.std.specs.Prelude.{◌≡◌, ◌≢◌, ℕ, ◌≤◌, ◌++�
 ghost use Rattle.std.specs.Prelude.{IfNone};
 ghost use Rattle.mail_terms.specs.Listing.{message_limit};
 ghost use Rattle.fetch_rules.specs.Record.{Row, Intent as TheIntent, IsRow, IsIntent};
-ghost use Rattle.fetch_rules.specs.RecordFile.{header, state_of, line_of, group_line, intent_line};
-ghost use Rattle.fetch_rules.specs.RecordFile.{written, text_of, IsLine, Line as FileLine};
+ghost use Rattle.fetch_rules.specs.RecordFile.{header, delivered_octets, record_row_line, group_line, intent_line};
+ghost use Rattle.fetch_rules.specs.RecordFile.{written, record_line, IsRecordLine, Line as FileLine};
 ghost use Rattle.fetch_rules.specs.RecordMeaning.{BeginsWithNoLine};
 ghost use Rattle.fetch_rules.specs.Rows.{row_from};
 ghost use Rattle.fetch_rules.specs.Lines.{line_seen, intent_seen};
@@ -62,8 +62,9 @@ pub(crate) enum Line<'a> {
 
 /// The state that ends a line, and what follows that line.
 fn read_state(bytes: &[u8]) -> Option<(bool, &[u8])>
-    ensures found { IfSome result (λ parts. bytes.now ≡ state_of parts.0 ++ parts.1.now) }
-    ensures none { IfNone result ((delivered : Bool) (behind : List ℕ) → bytes.now ≢ state_of delivered ++ behind) }
+    ensures found { IfSome result (λ parts. bytes.now ≡ delivered_octets parts.0 ++ parts.1.now) }
+    ensures none { IfNone result ((delivered : Bool) (behind : List ℕ)
+        → bytes.now ≢ delivered_octets delivered ++ behind) }
 {
     match bytes {
         [b'0', b'\n', rest @ ..] => Some((false, rest)),
@@ -76,8 +77,9 @@ fn read_state(bytes: &[u8]) -> Option<(bool, &[u8])>
 fn read_row(bytes: &[u8]) -> Option<(ReadRow<'_>, &[u8])>
     ensures is_row { IfSome result (λ parts. IsRow (row_from parts.0.uid.now parts.0.state)) }
     ensures found { IfSome result
-        (λ parts. bytes.now ≡ line_of (row_from parts.0.uid.now parts.0.state) ++ parts.1.now) }
-    ensures none { IfNone result ((row : Row) (behind : List ℕ) → IsRow row → bytes.now ≢ line_of row ++ behind) }
+        (λ parts. bytes.now ≡ record_row_line (row_from parts.0.uid.now parts.0.state) ++ parts.1.now) }
+    ensures none { IfNone result ((row : Row) (behind : List ℕ) → IsRow row
+        → bytes.now ≢ record_row_line row ++ behind) }
 {
     let (uid, rest) = id_before(bytes)?;
     let (first_seen, rest) = number_before(rest, b' ')?;
@@ -125,8 +127,8 @@ fn read_intent_line(bytes: &[u8]) -> Option<(Intent<'_>, &[u8])>
 
 /// The line that the bytes begin with, if they do, and what follows it.
 pub(crate) fn read_line(bytes: &[u8]) -> Option<(Line<'_>, &[u8])>
-    ensures is_line { IfSome result (λ parts. IsLine (line_seen parts.0)) }
-    ensures found { IfSome result (λ parts. bytes.now ≡ text_of (line_seen parts.0) ++ parts.1.now) }
+    ensures is_line { IfSome result (λ parts. IsRecordLine (line_seen parts.0)) }
+    ensures found { IfSome result (λ parts. bytes.now ≡ record_line (line_seen parts.0) ++ parts.1.now) }
     ensures none { IfNone result (BeginsWithNoLine bytes.now) }
 {
     if let Some((count, rest)) = read_group_line(bytes) {
@@ -146,7 +148,7 @@ pub(crate) fn write_line(
     uid: &[u8],
     state: State,
 ) -> Result<(), AllocError>
-    ensures { OnOk result (bytes.new.items ≡ bytes.old.items ++ line_of (row_from uid.now state)) }
+    ensures { OnOk result (bytes.new.items ≡ bytes.old.items ++ record_row_line (row_from uid.now state)) }
 {
     let number = format!(in alloc; " {} ", state.first_seen)?;
     let end = if state.delivered { b"1\n" } else { b"0\n" };
@@ -177,7 +179,7 @@ pub(crate) fn row_group(alloc: Global, uid: &[u8], state: State) -> Result<Vec<u
 
 /// The group of `count` lines; empty if there are none.
 pub(crate) fn group(alloc: Global, count: usize, lines: &[u8]) -> Result<Vec<u8>, AllocError>
-    ensures { (rows : List Row) → length rows ≡ count → flat_map line_of rows ≡ lines.now
+    ensures { (rows : List Row) → length rows ≡ count → flat_map record_row_line rows ≡ lines.now
         → IfOk result (λ bytes. bytes.items ≡ written rows) }
 {
     if count == 0 {

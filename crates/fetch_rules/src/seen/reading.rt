@@ -8,7 +8,7 @@ ghost use Rattle.fetch_rules.specs.RecordMeaning.{Means, Rows, Fault, has_bytes}
 ghost use Rattle.fetch_rules.specs.Outgrown.{RowsThen, IsOutgrown};
 ghost use Rattle.fetch_rules.specs.Rows.{row_from};
 ghost use Rattle.fetch_rules.specs.Lines.{version_of, intent_seen, open_seen, open_behind};
-ghost use Rattle.fetch_rules.specs.Lines.{behind_base, IsPlaced, is_within, after_row, TakesRow};
+ghost use Rattle.fetch_rules.specs.Lines.{behind_base, IsPlaced, is_in_group, after_row, TakesRow};
 ghost use Rattle.fetch_rules.specs.Lines.{RefusesRow, TakesIntent, RefusesIntent, EndsAt};
 
 use crate::seen::SeenFault;
@@ -42,7 +42,7 @@ pub(crate) enum End {
 
 impl Part {
     fn is_within(self) -> bool
-        ensures { result ≡ is_within self }
+        ensures { result ≡ is_in_group self }
     {
         matches!(self, Part::Within(_))
     }
@@ -62,8 +62,8 @@ impl Part {
     /// a group.
     fn after_group_line(self, count: u64, number: u32) -> Result<Part, SeenFault>
         requires { 1 ≤ count }
-        ensures ok { IfOk result (λ next. (is_within self ≡ false) × (next ≡ Part.Within (count - 1))) }
-        ensures err { IfErr result (λ fault. (is_within self ≡ true) × (fault ≡ SeenFault.BadRow number)) }
+        ensures ok { IfOk result (λ next. (is_in_group self ≡ false) × (next ≡ Part.Within (count - 1))) }
+        ensures err { IfErr result (λ fault. (is_in_group self ≡ true) × (fault ≡ SeenFault.BadRow number)) }
     {
         match self {
             Part::Within(_) => Err(SeenFault::BadRow(number)),
@@ -94,8 +94,8 @@ impl Part {
 
     /// The end of the file, if the rest has no LF and `front` bytes come before the last group.
     fn end(self, front: usize, rest: &[u8]) -> End
-        ensures within { is_within self ≡ true → result ≡ End.Open front }
-        ensures between { is_within self ≡ false → result ≡ End.NoneOpen (has_bytes rest.now) }
+        ensures within { is_in_group self ≡ true → result ≡ End.Open front }
+        ensures between { is_in_group self ≡ false → result ≡ End.NoneOpen (has_bytes rest.now) }
     {
         match self {
             Part::Within(_) => End::Open { front },

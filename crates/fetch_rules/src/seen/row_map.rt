@@ -6,8 +6,8 @@ ghost use Rattle.std.specs.Prelude.{IfSome, IfNone};
 ghost use Rattle.std.specs.Prelude.{flat_map, List};
 ghost use Rattle.mail_terms.specs.UniqueId.{IsLegalId};
 ghost use Rattle.fetch_rules.specs.Record.{Row, IsRecord, has_row, is_delivered, marked};
-ghost use Rattle.fetch_rules.specs.RecordFile.{Two, header, line_of};
-ghost use Rattle.fetch_rules.specs.Rows.{row_from, rows_of, state_in};
+ghost use Rattle.fetch_rules.specs.RecordFile.{Two, header, record_row_line};
+ghost use Rattle.fetch_rules.specs.Rows.{row_from, rows_of_states, state_in};
 
 use crate::id_set::text_of;
 use crate::seen::line::{HEADER, write_line};
@@ -38,9 +38,9 @@ pub(crate) struct RowMap<H: BuildHasher> {
 impl<H: BuildHasher> Model for RowMap<H> {
     ghost Value = { List Row };
 
-    ghost view = { λ rows. rows_of rows.states.entries };
+    ghost view = { λ rows. rows_of_states rows.states.entries };
 
-    ghost invariant = { λ rows. IsRecord (rows_of rows.states.entries) };
+    ghost invariant = { λ rows. IsRecord (rows_of_states rows.states.entries) };
 }
 
 impl<H: BuildHasher> RowMap<H> {
@@ -192,7 +192,7 @@ impl<H: BuildHasher> RowMap<H> {
 
     /// The rows as a file of version 2.
     pub(crate) fn bytes(&self) -> Result<Vec<u8>, AllocError>
-        ensures file { IfOk result (λ bytes. bytes.items ≡ header Two ++ flat_map line_of self.now) }
+        ensures file { IfOk result (λ bytes. bytes.items ≡ header Two ++ flat_map record_row_line self.now) }
         ensures is_record { IsRecord self.now }
     {
         let mut bytes = Vec::from_slice(self.alloc, HEADER)?;

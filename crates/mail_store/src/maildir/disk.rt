@@ -26,7 +26,7 @@ pub trait MaildirDisk {
     ghost use Rattle.mail_store.specs.Fault.{is_refusal, IsDeviceFault};
     ghost use Rattle.mail_store.specs.Held.{ListsAmong};
     ghost use Rattle.mail_store.specs.Loss.{Flushes};
-    ghost use Rattle.mail_store.specs.Maildir.{Maildir, AfterTaking, IsThere, Lists, ListsAll, Checks};
+    ghost use Rattle.mail_store.specs.Maildir.{Maildir, AfterTaking, IsThere, Lists, ListsAllNames, Checks};
     ghost use Rattle.mail_store.specs.Maildir.{Begins, Adds, Settles, dropped, name_begun};
 
     // What is known of the Maildir, and of what a loss of power leaves of it (see `LosesPower`). Whether
@@ -50,7 +50,7 @@ pub trait MaildirDisk {
     /// moves it meanwhile. Missing if `new` or `cur` isn't there, else Refused.
     fn all_names(&mut self) -> Result<Vec<String>, StoreFault>
         ensures lists { sound self.new → sound self.old
-            × AfterTaking (maildir self.old) (λ left. ListsAll left result (maildir self.new)) }
+            × AfterTaking (maildir self.old) (λ left. ListsAllNames left result (maildir self.new)) }
         ensures fault { IfErr result IsDeviceFault }
         ensures count { Tallies (refuses is_refusal result) (maildir self.old).failures (maildir self.new).failures };
 

@@ -3,7 +3,7 @@
 ghost use Rattle.std.specs.Prelude.{◌≡◌, ◌++◌, List, ℕ, Contains, Result};
 ghost use Rattle.mail_store.specs.declared.fault.StoreFault.{StoreFault};
 ghost use Rattle.mail_store.specs.Loss.{AreLeftAs, LosesPower};
-ghost use Rattle.mail_store.specs.Maildir.{AllDurable, AllFlushed, AreReached, Delivers, File, IsDurable, IsNamed};
+ghost use Rattle.mail_store.specs.Maildir.{AllDurable, AllFlushed, AreReached, Delivers, File, IsDurableFile, IsNamed};
 ghost use Rattle.mail_store.specs.Maildir.{IsPart, Maildir, mail, names_of};
 
 /// A loss of power leaves each durable name and each durable file; if the bytes of all files are durable, only
@@ -12,7 +12,7 @@ ghost use Rattle.mail_store.specs.Maildir.{IsPart, Maildir, mail, names_of};
 pub fn losses_leave_what_is_durable()
     ensures named { (old new : Maildir) (f : File) → LosesPower old new → Contains old.files f → IsNamed f
         → Contains (names_of new.files) f.name }
-    ensures whole { (old new : Maildir) (f : File) → LosesPower old new → Contains old.files f → IsDurable f
+    ensures whole { (old new : Maildir) (f : File) → LosesPower old new → Contains old.files f → IsDurableFile f
         → Contains new.files f }
     ensures part { (old new : Maildir) → LosesPower old new → AllFlushed old.files → IsPart old.files new.files }
     ensures same { (old new : Maildir) → LosesPower old new → AllDurable old.files → new.files ≡ old.files }

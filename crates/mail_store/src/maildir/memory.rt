@@ -4,7 +4,7 @@ ghost use Rattle.std.specs.Prelude.{◌≡◌, map, IfOk};
 ghost use Rattle.std.specs.List.{filter};
 ghost use Rattle.std.specs.String.{string_bytes};
 ghost use Rattle.mail_store.specs.Held.{is_sought};
-ghost use Rattle.mail_store.specs.Maildir.{names_of, file_of};
+ghost use Rattle.mail_store.specs.Maildir.{names_of, memory_file};
 
 use crate::fault::StoreFault;
 use crate::maildir::disk::{Folder, MaildirDisk};
@@ -26,7 +26,7 @@ pub struct MemoryMaildir {
 
 impl Model for MemoryMaildir {
     ghost use Rattle.std.specs.Prelude.{[], map, option_map};
-    ghost use Rattle.mail_store.specs.Maildir.{all_there, draft_of, file_of};
+    ghost use Rattle.mail_store.specs.Maildir.{all_there, draft_of, memory_file};
     ghost use Rattle.mail_store.specs.MemoryMaildir.{MemoryMail, shown};
 
     ghost Value = { MemoryMail };
@@ -34,18 +34,18 @@ impl Model for MemoryMaildir {
     ghost view = { λ d. record {
       maildir = record {
         there = all_there;
-        files = map shown (map file_of d.files.items);
+        files = map shown (map memory_file d.files.items);
         begun = option_map draft_of d.begun;
         failures = d.failures;
         taken = [];
       };
-      files = map file_of d.files.items;
+      files = map memory_file d.files.items;
     } };
 }
 
 impl MemoryMaildir {
     ghost use Rattle.std.specs.Prelude.{◌≡◌, ◌↔◌, ◌++◌, ◌∷◌, [], None, map, IsTrue, IsSome, OnErr, OnOk};
-    ghost use Rattle.mail_store.specs.Maildir.{all_there, file, file_of, mail};
+    ghost use Rattle.mail_store.specs.Maildir.{all_there, file, memory_file, mail};
     ghost use Rattle.mail_store.specs.MemoryMaildir.{files_of_folder};
 
     /// A Maildir without files.
@@ -66,7 +66,7 @@ impl MemoryMaildir {
 
     /// The files of a folder, each with its name and its bytes, in the order in which they came.
     pub fn files(&self, folder: Folder) -> &[(String, Vec<u8>)]
-        ensures { map file_of result.now ≡ files_of_folder self.now folder }
+        ensures { map memory_file result.now ≡ files_of_folder self.now folder }
     {
         match folder {
             Folder::New => self.files.as_slice(),
@@ -97,7 +97,7 @@ impl MemoryMaildir {
 
 /// The names of some files.
 fn names_of(alloc: Global, files: &[(String, Vec<u8>)]) -> Result<Vec<String>, AllocError>
-    ensures { IfOk result (λ names. map string_bytes names.items ≡ names_of (map file_of files.now)) }
+    ensures { IfOk result (λ names. map string_bytes names.items ≡ names_of (map memory_file files.now)) }
 {
     let mut names = Vec::new(alloc);
     for (name, _) in files {
@@ -113,7 +113,7 @@ fn names_among(
     stems: &[String],
 ) -> Result<Vec<String>, AllocError>
     ensures { IfOk result (λ names. map string_bytes names.items
-        ≡ filter (is_sought stems.now) (names_of (map file_of files.now))) }
+        ≡ filter (is_sought stems.now) (names_of (map memory_file files.now))) }
 {
     let names = names_of(alloc, files)?;
     sought_names(alloc, &names, stems)
@@ -125,7 +125,8 @@ impl MaildirDisk for MemoryMaildir {
     ghost use Rattle.mail_terms.specs.FailureCount.{greatest_count};
     ghost use Rattle.mail_store.specs.Devices.{DiskDoes, DiskRefuses};
     ghost use Rattle.mail_store.specs.Loss.{Flushes};
-    ghost use Rattle.mail_store.specs.Maildir.{Adds, AfterTaking, Begins, Checks, IsThere, Lists, ListsAll, Settles};
+    ghost use Rattle.mail_store.specs.Maildir.{Adds, AfterTaking, Begins, Checks, IsThere, Lists, ListsAllNames};
+    ghost use Rattle.mail_store.specs.Maildir.{Settles};
     ghost use Rattle.mail_store.specs.Maildir.{dropped, name_begun};
     ghost use Rattle.mail_store.specs.MemoryMaildir.{AddsAlone, BeginsAlone, ChangesOnlyCount, SettlesAlone};
     ghost use Rattle.mail_store.specs.MemoryMaildir.{files_of_folder, with_begun};
@@ -153,7 +154,7 @@ impl MaildirDisk for MemoryMaildir {
         ensures tells { IfOk result (λ names. map string_bytes names.items ≡ names_of self.old.files) }
         ensures keeps { ChangesOnlyCount self.old self.new }
         ensures lists { DiskDoes ⟦<MemoryMaildir as MaildirDisk>⟧
-            (λ old new. AfterTaking old (λ left. ListsAll left result new)) self.old self.new }
+            (λ old new. AfterTaking old (λ left. ListsAllNames left result new)) self.old self.new }
         ensures refuses { DiskRefuses ⟦<MemoryMaildir as MaildirDisk>⟧ self.old result self.new }
     {
         admit(&self.failures)?;

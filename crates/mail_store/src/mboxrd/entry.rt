@@ -8,9 +8,9 @@ ghost use Rattle.mail_store.specs.Durable.{IsDurable, IsSure, MayLeave};
 ghost use Rattle.mail_store.specs.Fault.{is_refusal};
 ghost use Rattle.mail_store.specs.FlatFile.{HasBytes, edges_of};
 ghost use Rattle.mail_terms.specs.Text.{IsWhole};
-ghost use Rattle.mail_store.specs.Mboxrd.{MayGoOn, entry_of, separator, EntryAddsText, OneReading, TextsMayGoOn};
+ghost use Rattle.mail_store.specs.Mboxrd.{MayGoOn, entry_of, separator, EntryAddsText, OneListOfTexts, TextsMayGoOn};
 ghost use Rattle.mail_store.specs.Power.{KeepsWhole};
-ghost use Rattle.mail_store.specs.MboxCalls.{Looks, Checks, ChecksFront, AppendsEntry, TalliesEntry};
+ghost use Rattle.mail_store.specs.MboxCalls.{Looks, ChecksMbox, ChecksFront, AppendsEntry, TalliesEntry};
 
 use crate::fault::{EntryFault, StoreFault};
 use crate::file::flat_file::{Edges, FlatFile};
@@ -46,7 +46,7 @@ fn look_at<F: FlatFile>(file: &mut F) -> Result<Edges, StoreFault>
 /// file stays as it was.
 pub fn check_mbox<F: FlatFile>(file: &mut F) -> Result<(), StoreFault>
     ensures checks { F.sound file.new → F.sound file.old
-        × Checks (F.stored file.old) result (F.stored file.new) }
+        × ChecksMbox (F.stored file.old) result (F.stored file.new) }
     ensures fault { IfErr result (λ e. e ≢ StoreFault.NoMemory) }
     ensures durable { F.sound file.new → FlushesDisk (F.disk file.old) result (F.disk file.new) }
     ensures count { Tallies (refuses is_refusal result) (F.stored file.old).failures (F.stored file.new).failures }
@@ -74,7 +74,7 @@ pub fn peek_ends<F: FlatFile>(file: &mut F) -> Result<Edges, StoreFault>
 /// Checks what `check_mbox` checks, but flushes nothing.
 pub fn peek_mbox<F: FlatFile>(file: &mut F) -> Result<(), StoreFault>
     ensures checks { F.sound file.new → F.sound file.old
-        × Checks (F.stored file.old) result (F.stored file.new) }
+        × ChecksMbox (F.stored file.old) result (F.stored file.new) }
     ensures fault { IfErr result (λ e. e ≢ StoreFault.NoMemory) }
     ensures durable { F.sound file.new → F.disk file.new ≡ F.disk file.old }
     ensures count { Tallies (refuses is_refusal result) (F.stored file.old).failures (F.stored file.new).failures }
@@ -203,7 +203,7 @@ pub fn entries_add_texts()
 
 /// A file stands for one list of texts only.
 pub fn files_have_one_reading()
-    ensures { OneReading }
+    ensures { OneListOfTexts }
 {}
 
 /// An entry may follow each file that stands for texts.

@@ -4,7 +4,7 @@
 ghost use Rattle.std.specs.Prelude.{◌≡◌, ◌↔◌, ◌<◌, ◌≤◌, ◌*◌, ◌+◌, ◌++◌, length};
 ghost use Rattle.std.specs.Prelude.{take, drop, slice_range, IfOk, IsTrue, OnOk, false};
 ghost use Rattle.mail_terms.specs.Text.{IsWhole};
-ghost use Rattle.mail_store.specs.Mboxrd.{IsLine, begins_entry, is_marked, quoted, quoted_text, unquoted};
+ghost use Rattle.mail_store.specs.Mboxrd.{IsMboxLine, begins_entry, is_marked, quoted, quoted_text, unquoted};
 ghost use Rattle.mail_store.specs.Mboxrd.{unquoted_text, wire_size, UnquotesQuoted, CutsLine};
 
 use memchr::{memchr, memrchr};
@@ -117,7 +117,7 @@ fn last_line(text: &[u8]) -> usize
     requires whole { IsWhole text.now }
     ensures fits { result < length text.now }
     ensures front { IsWhole (take result text.now) }
-    ensures line { IsLine (drop result text.now) }
+    ensures line { IsMboxLine (drop result text.now) }
 {
     match memrchr(b'\n', &text[..text.len() - 1]) {
         Some(place) => place + 1,

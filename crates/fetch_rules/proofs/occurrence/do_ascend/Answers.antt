@@ -8,7 +8,8 @@ loop-i-init c = λ k within. absurd (omega (arith, within))
 
 pub loop-i-preserved : goal.loop-i-preserved
 loop-i-preserved c =
-    Ascends-more c.args.listing.now c.loop-i.i c.uid.result.now c.uid-in-loop-i.result.now c.loop-i.invariant (c.uid.ensures.value nobody) (c.uid-in-loop-i.ensures.value nobody)
+    Ascends-more c.args.listing.now c.loop-i.i c.uid.result.now c.uid-in-loop-i.result.now c.loop-i.invariant
+    (c.uid.ensures.value nobody) (c.uid-in-loop-i.ensures.value nobody)
     (OnTrue_at c.if-not-comes_before.false c.comes_before.ensures)
 
 pub returns : goal.returns

@@ -13,34 +13,55 @@ byte_of true = refl
 byte_of false = refl
 
 pub index-first-requires : goal.index-first-requires
-index-first-requires g c = omega (arith, flags_count (is_first c.args.listing.now) c.args.listing.now c.in_ok-firsts.firsts.items c.in_ok-firsts.ensures)
+index-first-requires g c =
+    omega (
+      arith,
+      flags_count (is_first c.args.listing.now) c.args.listing.now c.in_ok-firsts.firsts.items
+          c.in_ok-firsts.ensures,
+    )
 
 pub index-requires : goal.index-requires
 index-requires g c = omega (arith, c.in_ok-lasts.ensures.count)
 
-first : (g : _) (c : goal.After-from-candidates g) (item : Item) → c.index-first.result.now ≡ is_first c.args.listing.now (c.loop-i.i + 1, get_or c.args.listing.now c.loop-i.i item)
-first g c = flag_at (is_first c.args.listing.now) c.args.listing.now c.in_ok-firsts.firsts.items c.loop-i.i c.index-first.result.now c.in_ok-firsts.ensures (omega arith) c.index-first.ensures
+first : (g : _) (c : goal.After-from-candidates g) (item : Item)
+    → c.index-first.result.now ≡ is_first c.args.listing.now (c.loop-i.i + 1, get_or c.args.listing.now c.loop-i.i item)
+first g c = flag_at (is_first c.args.listing.now) c.args.listing.now c.in_ok-firsts.firsts.items c.loop-i.i
+    c.index-first.result.now c.in_ok-firsts.ensures (omega arith) c.index-first.ensures
 
 alone : (g : _) (c : goal.After-from-candidates g) (item : Item) → may_delete c.args.settings.now ≡ true
-    → (c.index-first.result.now && c.index.result.now) ≡ (is_first c.args.listing.now (c.loop-i.i + 1, get_or c.args.listing.now c.loop-i.i item) && is_last c.args.listing.now (c.loop-i.i + 1, get_or c.args.listing.now c.loop-i.i item))
-alone g c item asked = rw (first g c item, flag_at (is_last c.args.listing.now) c.args.listing.now c.in_ok-lasts.lasts.items c.loop-i.i c.index.result.now (c.in_ok-lasts.ensures.flags asked) (omega arith) c.index.ensures item) refl
+    → (c.index-first.result.now && c.index.result.now)
+    ≡ (is_first c.args.listing.now (c.loop-i.i + 1, get_or c.args.listing.now c.loop-i.i item) && is_last
+    c.args.listing.now (c.loop-i.i + 1, get_or c.args.listing.now c.loop-i.i item))
+alone g c item asked = rw (
+  first g c item,
+  flag_at (is_last c.args.listing.now) c.args.listing.now
+      c.in_ok-lasts.lasts.items c.loop-i.i c.index.result.now (c.in_ok-lasts.ensures.flags asked) (omega arith)
+      c.index.ensures item,
+) refl
 
 candidate : (g : _) (c : goal.After-from-candidates g) (item : Item)
-    → c.is_candidate-candidate.result ≡ is_candidate c.args.settings.now c.args.seen.now.rows c.args.listing.now (c.loop-i.i + 1, get_or c.args.listing.now c.loop-i.i item)
-candidate g c item = c.is_candidate-candidate.ensures item ∙ ap (λ (b : Bool). b && is_asked_for c.args.settings.now c.args.seen.now.rows (c.loop-i.i + 1, get_or c.args.listing.now c.loop-i.i item)) (first g c item)
+    → c.is_candidate-candidate.result ≡ is_candidate c.args.settings.now c.args.seen.now.rows c.args.listing.now
+    (c.loop-i.i + 1, get_or c.args.listing.now c.loop-i.i item)
+candidate g c item = c.is_candidate-candidate.ensures item
+    ∙ ap (λ (b : Bool). b && is_asked_for c.args.settings.now c.args.seen.now.rows
+    (c.loop-i.i + 1, get_or c.args.listing.now c.loop-i.i item)) (first g c item)
 
 deleted : (g : _) (c : goal.After-from-candidates g) (item : Item)
-    → c.is_done_with-delete.result ≡ is_deleted c.args.settings.now c.args.seen.now.rows c.args.listing.now c.args.now c.is_below_limit-retrieve.result (c.loop-i.i + 1, get_or c.args.listing.now c.loop-i.i item)
+    → c.is_done_with-delete.result ≡ is_deleted c.args.settings.now c.args.seen.now.rows c.args.listing.now c.args.now
+    c.is_below_limit-retrieve.result (c.loop-i.i + 1, get_or c.args.listing.now c.loop-i.i item)
 deleted g c item = c.is_done_with-delete.ensures item ∙ elim (cases_Bool (may_delete c.args.settings.now)) [
   | inl asked ↦ rw (alone g c item asked) refl
-  | inr never ↦ rw (never_due c.args.settings.now c.args.now (seen_since c.args.seen.now.rows (get_or c.args.listing.now c.loop-i.i item).uid c.args.now) never) refl
+  | inr never ↦ rw (never_due c.args.settings.now c.args.now
+      (seen_since c.args.seen.now.rows (get_or c.args.listing.now c.loop-i.i item).uid c.args.now) never) refl
 ]
 
 pub loop-i-preserved : goal.loop-i-preserved
 loop-i-preserved g c =
     rw c.in_ok-push.ensures.items
-    (HasPlanned-more _ _ _ _ _ _ _ c.is_candidate-candidate.result c.is_below_limit-retrieve.result c.is_done_with-delete.result _ c.loop-i.invariant (omega arith)
-    (candidate g c) c.is_below_limit-retrieve.ensures (deleted g c) (ap (λ (k : ℕ). c.loop-i.candidates + k) (c.from-candidates.ensures ∙ byte_of c.is_candidate-candidate.result)))
+    (HasPlanned-more _ _ _ _ _ _ _ c.is_candidate-candidate.result c.is_below_limit-retrieve.result
+    c.is_done_with-delete.result _ c.loop-i.invariant (omega arith)
+    (candidate g c) c.is_below_limit-retrieve.ensures (deleted g c)
+    (ap (λ (k : ℕ). c.loop-i.candidates + k) (c.from-candidates.ensures ∙ byte_of c.is_candidate-candidate.result)))
 
 pub returns-clause-steps : goal.returns-clause-steps
 returns-clause-steps g c = HasPlanned-all _ _ _ _ _ _ _ c.loop-i.invariant (omega arith)

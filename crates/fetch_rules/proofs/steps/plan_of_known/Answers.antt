@@ -13,7 +13,8 @@ loop-i-preserved g c =
     (HasPlanned-more settings rows listing c.args.now c.loop-i.i _ 0 false false false 0 c.loop-i.invariant (omega arith)
     (λ d. rw (c.requires.new_alone, c.requires.known c.loop-i.i d (omega arith), and-false, and-false) refl)
     refl
-    (λ d. rw (never_due settings c.args.now (seen_since rows (get_or listing c.loop-i.i d).uid c.args.now) (sym c.may_delete.ensures ∙ c.if-may_delete.false)) refl)
+    (λ d. rw (never_due settings c.args.now (seen_since rows (get_or listing c.loop-i.i d).uid c.args.now)
+    (sym c.may_delete.ensures ∙ c.if-may_delete.false)) refl)
     refl)
 
 pub returns : goal.returns

@@ -5,15 +5,29 @@ use Rattle.std.proofs.lemmas.Bool.{false≢true}
 use Rattle.fetch_session.proofs.appending.read_text.Goals as goal
 
 pub returns-in_err-piece-clause-holds : goal.returns-in_err-piece-clause-holds
-returns-in_err-piece-clause-holds g c = rw (err_is c.from_residual.ensures.1) (and_then g.W.Wire g.met.W.Wire.leads_on c.pieces.invariant.1 c.in_err-piece.ensures.takes (λ before took number start now.
+returns-in_err-piece-clause-holds g c =
+    rw (err_is c.from_residual.ensures.1) (and_then g.W.Wire g.met.W.Wire.leads_on c.pieces.invariant.1
+    c.in_err-piece.ensures.takes (λ before took number start now.
     (refl, inl (c.in_err-piece.field-0.0, refl, inr (inl (took number start c.pieces.text.items (before number start now)))))))
 
 pub returns-in_err-extend_from_slice-clause-holds : goal.returns-in_err-extend_from_slice-clause-holds
-returns-in_err-extend_from_slice-clause-holds g c = rw (err_is c.from_residual-in_err-extend_from_slice.ensures.1) (and_then g.W.Wire g.met.W.Wire.leads_on c.pieces.invariant.1 c.in_ok-piece.ensures.takes (λ before took number start now.
-    (refl, inr (refl, (c.next_piece.new.body, c.pieces.text.items ++ take c.in_ok-piece.piece.put c.next_piece.new.out, (took number start c.pieces.text.items (before number start now)).0)))))
+returns-in_err-extend_from_slice-clause-holds g c = rw (err_is c.from_residual-in_err-extend_from_slice.ensures.1)
+    (and_then g.W.Wire g.met.W.Wire.leads_on c.pieces.invariant.1 c.in_ok-piece.ensures.takes
+    (λ before took number start now. (
+      refl,
+      inr (
+        refl,
+        (
+          c.next_piece.new.body,
+          c.pieces.text.items ++ take c.in_ok-piece.piece.put c.next_piece.new.out,
+          (took number start c.pieces.text.items (before number start now)).0,
+        ),
+      ),
+    )))
 
 pub returns-then-piece-clause-holds : goal.returns-then-piece-clause-holds
-returns-then-piece-clause-holds g c = and_then g.W.Wire g.met.W.Wire.leads_on c.pieces.invariant.1 c.in_ok-piece.ensures.takes (λ before took number start now.
+returns-then-piece-clause-holds g c = and_then g.W.Wire g.met.W.Wire.leads_on c.pieces.invariant.1
+    c.in_ok-piece.ensures.takes (λ before took number start now.
     rw c.in_ok-extend_from_slice.ensures.items ((took number start c.pieces.text.items (before number start now)).1 c.if-piece.true))
 
 pub pieces-preserved : goal.pieces-preserved
@@ -26,5 +40,8 @@ pieces-preserved g c = (
 )
 
 pub returns-in_err-piece-clause-counted : goal.returns-in_err-piece-clause-counted
-returns-in_err-piece-clause-counted g c = rw (err_is c.from_residual.ensures.1) (before_cut (g.W.Wire.history c.args.client.now.wire.now) (g.W.Wire.history c.pieces.client.wire.now) (g.W.Wire.history c.next_piece.new.self.wire.now) _ c.pieces.invariant.2
-    (cut_by c.in_err-piece.field-0.0 (g.W.Wire.history c.pieces.client.wire.now) (g.W.Wire.history c.next_piece.new.self.wire.now) c.in_err-piece.ensures.counted))
+returns-in_err-piece-clause-counted g c =
+    rw (err_is c.from_residual.ensures.1) (before_cut (g.W.Wire.history c.args.client.now.wire.now)
+    (g.W.Wire.history c.pieces.client.wire.now) (g.W.Wire.history c.next_piece.new.self.wire.now) _ c.pieces.invariant.2
+    (cut_by c.in_err-piece.field-0.0 (g.W.Wire.history c.pieces.client.wire.now)
+    (g.W.Wire.history c.next_piece.new.self.wire.now) c.in_err-piece.ensures.counted))

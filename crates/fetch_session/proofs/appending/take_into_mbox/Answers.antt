@@ -13,7 +13,7 @@ use Rattle.pop3_wire.proofs.LinkLemmas.{and_then, in_words}
 use Rattle.fetch_session.proofs.TalkLemmas.{took_talked, takes_held, before_cut, err_is, did_both, did_so}
 use Rattle.fetch_session.proofs.PartLemmas.{link_broke, link_then_cut, marked_ledger, same_ledger}
 use Rattle.fetch_session.specs.Parts.{KeepsLink}
-use Rattle.fetch_session.specs.Report.{Adds}
+use Rattle.fetch_session.specs.Report.{AddsLines}
 use Rattle.fetch_session.proofs.SceneLemmas.{both_sound, link_alone}
 use Rattle.fetch_session.proofs.appending.take_into_mbox.Goals.{After-len-length, After-note, In_ok-text}
 use Rattle.fetch_session.proofs.appending.take_into_mbox.Goals as goal
@@ -22,18 +22,24 @@ long : (g : _) (c : After-len-length g) → c.len-length.result ≡ length c.in_
 long g c = let same = ap length c.deref.ensures.value in omega (arith, c.len-length.ensures, c.deref.ensures.len, same)
 
 -- the line of the text is noted
-told : (g : _) (c : After-note g) → c.note.new.lines.items ≡ c.args.ledger.now.lines.items ++ Delivered c.args.number c.len-length.result ∷ []
-told g c = c.note.ensures.items ∙ ap (λ (v : Vec ReportLine _). v.items ++ Delivered c.args.number c.len-length.result ∷ []) c.append_text.ensures.ledger.lines
+told : (g : _) (c : After-note g)
+    → c.note.new.lines.items ≡ c.args.ledger.now.lines.items ++ Delivered c.args.number c.len-length.result ∷ []
+told g c = c.note.ensures.items
+    ∙ ap (λ (v : Vec ReportLine _). v.items ++ Delivered c.args.number c.len-length.result ∷ [])
+    c.append_text.ensures.ledger.lines
 
-noted : (g : _) (c : After-note g) → Adds c.args.ledger.now.lines 1 c.note.new.lines
-noted g c = subst (λ lines. Adds lines 1 c.note.new.lines) c.append_text.ensures.ledger.lines (omega (arith, c.note.ensures.len), c.note.ensures.capacity)
+noted : (g : _) (c : After-note g) → AddsLines c.args.ledger.now.lines 1 c.note.new.lines
+noted g c = subst (λ lines. AddsLines lines 1 c.note.new.lines) c.append_text.ensures.ledger.lines
+    (omega (arith, c.note.ensures.len), c.note.ensures.capacity)
 
 -- the text was read
 read : (g : _) (c : In_ok-text g) → WhereSound g.W.Wire.sound g.W.Wire.leads_to c.args.client.now.wire.now c.read_text.new.client.wire.now
     (Fetched (retr c.args.number) (place_of g.W.Wire c.args.client.now) c.in_ok-text.text.items (place_of g.W.Wire c.read_text.new.client))
-read g c = and_then g.W.Wire g.met.W.Wire.leads_on c.in_ok-body.ensures.opens c.in_ok-text.ensures.holds (λ opened held. held c.args.number _ opened)
+read g c = and_then g.W.Wire g.met.W.Wire.leads_on c.in_ok-body.ensures.opens c.in_ok-text.ensures.holds
+    (λ opened held. held c.args.number _ opened)
 
-took : (g : _) (c : In_ok-text g) → KeepsLink g.W.Wire (TookTillCut (most (retr c.args.number))) c.args.client.now (Ok tt) c.read_text.new.client
+took : (g : _) (c : In_ok-text g)
+    → KeepsLink g.W.Wire (TookTillCut (most (retr c.args.number))) c.args.client.now (Ok tt) c.read_text.new.client
 took g c = record {
   same = c.read_text.ensures.link ∙ c.open.ensures.link;
   counted = c.in_ok-text.ensures.counted ∙ c.in_ok-body.ensures.counted;
@@ -44,7 +50,8 @@ took g c = record {
 
 pub returns-in_err-body : goal.returns-in_err-body
 returns-in_err-body g c = rw (err_is c.from_residual.ensures.1) (record {
-  link = link_broke c.conversations_are_paced.ensures (retr c.args.number) c.in_err-body.field-0.0 c.open.ensures.link c.in_err-body.ensures.counted c.in_err-body.ensures.opens;
+  link = link_broke c.conversations_are_paced.ensures (retr c.args.number) c.in_err-body.field-0.0 c.open.ensures.link
+      c.in_err-body.ensures.counted c.in_err-body.ensures.opens;
   ledger = same_ledger c.args.uid.now c.args.ledger.now _ c.requires.ready;
   before = λ m. m;
   takes = link_alone (in_words g.W.Wire c.in_err-body.ensures.opens (text_broken AsEntries c.in_err-body.field-0.0 refl));
@@ -56,12 +63,17 @@ pub returns-in_err-text : goal.returns-in_err-text
 returns-in_err-text g c = rw (err_is c.from_residual-in_err-text.ensures.1) (record {
   link = record {
     same = c.read_text.ensures.link ∙ c.open.ensures.link;
-    counted = before_cut (link_of g.W.Wire c.args.client.now) (link_of g.W.Wire c.open.new.self) (link_of g.W.Wire c.read_text.new.client) c.in_err-text.field-0.0 c.in_ok-body.ensures.counted c.in_err-text.ensures.counted;
-    took = did_both g.W.Wire c.in_ok-body.ensures.opens c.in_err-text.ensures.holds (λ opened held. takes_held c.conversations_are_paced.ensures c.args.number _ c.in_err-text.field-0.0 _ (held c.args.number _ opened));
+    counted = before_cut (link_of g.W.Wire c.args.client.now) (link_of g.W.Wire c.open.new.self)
+        (link_of g.W.Wire c.read_text.new.client) c.in_err-text.field-0.0 c.in_ok-body.ensures.counted
+        c.in_err-text.ensures.counted;
+    took = did_both g.W.Wire c.in_ok-body.ensures.opens c.in_err-text.ensures.holds
+        (λ opened held. takes_held c.conversations_are_paced.ensures c.args.number _ c.in_err-text.field-0.0 _
+        (held c.args.number _ opened));
   };
   ledger = same_ledger c.args.uid.now c.args.ledger.now _ c.requires.ready;
   before = λ m. m;
-  takes = link_alone (and_then g.W.Wire g.met.W.Wire.leads_on c.in_ok-body.ensures.opens c.in_err-text.ensures.holds (λ opened held. not_held (held c.args.number (place_of g.W.Wire c.args.client.now) opened)));
+  takes = link_alone (and_then g.W.Wire g.met.W.Wire.leads_on c.in_ok-body.ensures.opens c.in_err-text.ensures.holds
+      (λ opened held. not_held (held c.args.number (place_of g.W.Wire c.args.client.now) opened)));
   keeps = search rules;
   lasts = search rules;
 })
@@ -75,7 +87,8 @@ returns-then-not-is_whole g c =
       before = λ m. m;
       takes = λ w m f.
           let fetched = (read g here w).2 in
-          absurd (true≢false (sym (c.is_whole.ensures.1 (rw (c.deref.ensures.value, fetched.2) (body_whole fetched.0.body))) ∙ c.if-not-is_whole.true));
+          absurd (true≢false (sym (c.is_whole.ensures.1
+          (rw (c.deref.ensures.value, fetched.2) (body_whole fetched.0.body))) ∙ c.if-not-is_whole.true));
       keeps = search rules;
       lasts = search rules;
     }
@@ -87,7 +100,7 @@ returns-in_err-append_text g c =
     rw (err_is c.from_residual-in_err-append_text.ensures.1) (record {
       link = link_then_cut (took g here);
       ledger = record {
-        lines = subst (λ lines. Adds lines 1 c.append_text.new.ledger.lines) kept.ledger.lines (omega arith, omega arith);
+        lines = subst (λ lines. AddsLines lines 1 c.append_text.new.ledger.lines) kept.ledger.lines (omega arith, omega arith);
         sound = λ f. (kept.ledger.steady f).0;
         written = tt;
         rows = tt;
@@ -95,7 +108,8 @@ returns-in_err-append_text g c =
       };
       before = kept.before;
       takes = both_sound (read g here) c.in_err-append_text.ensures.appends (λ text _ refuses.
-          text_refused c.in_ok-text.text.items c.in_err-append_text.field-0.0 text refuses kept.ledger.rows (ap (λ (v : Vec ReportLine _). v.items) kept.ledger.lines));
+          text_refused c.in_ok-text.text.items c.in_err-append_text.field-0.0 text refuses kept.ledger.rows
+          (ap (λ (v : Vec ReportLine _). v.items) kept.ledger.lines));
       keeps = kept.keeps;
       lasts = search rules;
     })
@@ -107,11 +121,15 @@ returns g c =
     let marks = c.in_ok-remember.ensures in
     record {
       link = took g here.In_ok-text;
-      ledger = marked_ledger (Ok tt) c.marked_keeps_rows.ensures kept.ledger.rows (noted g here.After-note) (λ f. (kept.ledger.steady (marks.saves f).0).0)
-          (marks.rows, record { closed = marks.closed; steady = λ f. (marks.steady f).1 }) (λ f safe. (c.remember.ensures.keeps f).1 (c.in_ok-append_text.ensures.ledger.lasts (marks.saves f).0 safe).0);
+      ledger = marked_ledger (Ok tt) c.marked_keeps_rows.ensures kept.ledger.rows (noted g here.After-note)
+          (λ f. (kept.ledger.steady (marks.saves f).0).0)
+          (marks.rows, record { closed = marks.closed; steady = λ f. (marks.steady f).1 })
+          (λ f safe. (c.remember.ensures.keeps f).1
+          (c.in_ok-append_text.ensures.ledger.lasts (marks.saves f).0 safe).0);
       before = kept.before;
       takes = both_sound (read g here.In_ok-text) (λ m f. c.in_ok-append_text.ensures.appends m (marks.saves f).0) (λ text f appends.
-          entry_stored c.len-length.result c.in_ok-text.text.items (g.F.FlatFile.stored c.append_text.new.ledger.file) c.args.ledger.now.seen c.append_text.new.ledger.seen text
+          entry_stored c.len-length.result c.in_ok-text.text.items (g.F.FlatFile.stored c.append_text.new.ledger.file)
+          c.args.ledger.now.seen c.append_text.new.ledger.seen text
           (long g here.After-len-length) appends kept.ledger.rows marks.rows (marks.saves f).1 (told g here.After-note));
       keeps = λ m f. let keeps = kept.keeps m (marks.saves f).0 in (keeps.0, λ last. (c.remember.ensures.keeps f).0 _ (keeps.1 last));
       lasts = λ m f sure safe. let all = c.in_ok-append_text.ensures.lasts m (marks.saves f).0 sure safe in (all.0, marks.lasts f all.1);
@@ -124,11 +142,14 @@ returns-in_err-remember g c =
     let marks = c.in_err-remember.ensures in
     rw (err_is c.from_residual-in_err-remember.ensures.1) (record {
       link = link_then_cut (took g here.In_ok-text);
-      ledger = marked_ledger (Err _) c.marked_keeps_rows.ensures kept.ledger.rows (noted g here.After-note) (λ f. (kept.ledger.steady (marks.saves f).0).0) tt
+      ledger = marked_ledger (Err _) c.marked_keeps_rows.ensures kept.ledger.rows (noted g here.After-note)
+          (λ f. (kept.ledger.steady (marks.saves f).0).0) tt
           (λ f safe. (c.remember.ensures.keeps f).1 (c.in_ok-append_text.ensures.ledger.lasts (marks.saves f).0 safe).0);
       before = kept.before;
       takes = both_sound (read g here.In_ok-text) (λ m f. c.in_ok-append_text.ensures.appends m (marks.saves f).0) (λ text f appends.
-          entry_not_saved c.len-length.result c.in_ok-text.text.items (g.F.FlatFile.stored c.append_text.new.ledger.file) c.args.ledger.now.seen c.append_text.new.ledger.seen c.in_err-remember.field-0.0 text
+          entry_not_saved c.len-length.result c.in_ok-text.text.items
+          (g.F.FlatFile.stored c.append_text.new.ledger.file) c.args.ledger.now.seen c.append_text.new.ledger.seen
+          c.in_err-remember.field-0.0 text
           (long g here.After-len-length) appends kept.ledger.rows (marks.saves f).1 (told g here.After-note));
       keeps = λ m f. let keeps = kept.keeps m (marks.saves f).0 in (keeps.0, λ last. (c.remember.ensures.keeps f).0 _ (keeps.1 last));
       lasts = λ m f sure safe. tt;

@@ -5,7 +5,8 @@ use Rattle.pop3_wire.proofs.LinkLemmas.{in_words}
 use Rattle.fetch_session.proofs.TalkLemmas.{err_is, did_so, quit_broke, took_completing, took_less, cut_by}
 use Rattle.fetch_session.specs.Task.{says}
 use Rattle.fetch_session.specs.Target.{kind_of, target_of}
-use Rattle.fetch_session.proofs.PartLemmas.{Looked, runs_quitting, look_maildir, look_told, not_left, quitting_store, link_broke, link_idle, link_on_tail, link_still, link_with_tail}
+use Rattle.fetch_session.proofs.PartLemmas.{Looked, runs_quitting, look_maildir, look_told, not_left, quitting_store}
+use Rattle.fetch_session.proofs.PartLemmas.{link_broke, link_idle, link_on_tail, link_still, link_with_tail}
 use Rattle.fetch_session.proofs.TextLemmas.{taken_idle, text_broken}
 use Rattle.fetch_session.proofs.ending.end.Goals.{After-look_again}
 use Rattle.fetch_session.proofs.ending.end.Goals as goal
@@ -14,7 +15,8 @@ looked : (g : _) (c : After-look_again g) → Looked g.D.MaildirDisk g.F.FlatFil
 looked g c = record {
   ready = c.requires;
   kind = c.look_again.ensures.kind;
-  same = λ d. let looks = c.look_again.ensures.looks d in (looks.0, look_maildir (kind_of c.args.work.now.store) _ _ c.look_again.result _ looks.1);
+  same = λ d. let looks = c.look_again.ensures.looks d
+      in (looks.0, look_maildir (kind_of c.args.work.now.store) _ _ c.look_again.result _ looks.1);
   keeps = c.look_again.ensures.keeps;
 }
 
@@ -41,11 +43,20 @@ returns g c =
     let took = did_so g.W.Wire c.in_ok-quit.ensures.completes (took_completing c.conversations_are_paced.ensures quit _ _ (Ok tt)) in
     record {
       told = λ d. rw c.deref.ensures.value at (look_told (kind_of work.store) _ _ _ c.in_ok-told.told (c.in_ok-told.ensures.looks d).1).0;
-      link = record { same = c.quit.ensures.link; counted = c.in_ok-quit.ensures.counted; took = λ w. ((took w).0, took_less (took w).1 (omega arith)) };
+      link = record {
+        same = c.quit.ensures.link;
+        counted = c.in_ok-quit.ensures.counted;
+        took =
+            λ w. ((took w).0, took_less (took w).1 (omega arith));
+      };
       store = quitting_store is;
-      runs = λ account. runs_quitting is account (record { same = c.quit.ensures.link; counted = c.in_ok-quit.ensures.counted; took = took }) c.in_ok-told.ensures.safe
-          (λ d. in_words g.W.Wire c.in_ok-quit.ensures.completes (λ said. rw (look_told (kind_of work.store) _ _ _ c.in_ok-told.told (c.in_ok-told.ensures.looks d).1).1
-          (taken_idle (target_of work.store account) (record { task = says quit; replies = said.0 ∷ [] }) (λ account. refl) refl refl said.1.good said.1 (sym (append-nil _)))));
+      runs = λ account. runs_quitting is account
+          (record { same = c.quit.ensures.link; counted = c.in_ok-quit.ensures.counted; took = took })
+          c.in_ok-told.ensures.safe
+          (λ d. in_words g.W.Wire c.in_ok-quit.ensures.completes
+          (λ said. rw (look_told (kind_of work.store) _ _ _ c.in_ok-told.told (c.in_ok-told.ensures.looks d).1).1
+          (taken_idle (target_of work.store account) (record { task = says quit; replies = said.0 ∷ [] })
+          (λ account. refl) refl refl said.1.good said.1 (sym (append-nil _)))));
     }
 
 -- it wasn't
@@ -58,10 +69,15 @@ returns-in_err-quit g c =
       told = tt;
       link = link_on_tail (omega arith) link_still (record {
         same = c.quit.ensures.link;
-        counted = cut_by c.in_err-quit.field-0.0 (link_of g.W.Wire c.args.client.now) (link_of g.W.Wire c.quit.new.self) c.in_err-quit.ensures.counted;
+        counted = cut_by c.in_err-quit.field-0.0 (link_of g.W.Wire c.args.client.now) (link_of g.W.Wire c.quit.new.self)
+            c.in_err-quit.ensures.counted;
         took = did_so g.W.Wire broken (quit_broke c.conversations_are_paced.ensures _ _ c.in_err-quit.field-0.0);
       });
       store = quitting_store is;
-      runs = λ account. runs_quitting is account (link_broke c.conversations_are_paced.ensures quit c.in_err-quit.field-0.0 c.quit.ensures.link c.in_err-quit.ensures.counted broken) (λ d safe. tt)
-          (λ d. in_words g.W.Wire broken (λ broke. rw (look_told (kind_of work.store) _ _ _ c.in_ok-told.told (c.in_ok-told.ensures.looks d).1).1 (text_broken (target_of work.store account) c.in_err-quit.field-0.0 refl broke)));
+      runs = λ account. runs_quitting is account
+          (link_broke c.conversations_are_paced.ensures quit c.in_err-quit.field-0.0 c.quit.ensures.link
+          c.in_err-quit.ensures.counted broken) (λ d safe. tt)
+          (λ d. in_words g.W.Wire broken
+          (λ broke. rw (look_told (kind_of work.store) _ _ _ c.in_ok-told.told (c.in_ok-told.ensures.looks d).1).1
+          (text_broken (target_of work.store account) c.in_err-quit.field-0.0 refl broke)));
     })

@@ -19,31 +19,59 @@ returns-clause-proceeds g c = λ w d f.
     let entered = c.in_ok-listing.ensures.enters does.0 in
     let old = c.args.work.now in
     followed does entered.0 (g.met.W.Wire.leads_on _ _ _ entered.1 does.3) (λ left is.
-    dealt g.F.FlatFile old.store old.ledger.file _ (target_of old.store c.args.terms.account.now) _ _ _ c.carry_out.result _ _ _ c.in_ok-listing.listing _ c.reserve.new.self.items c.carry_out.new.work.store c.carry_out.new.work.ledger.file
+    dealt g.F.FlatFile old.store old.ledger.file _ (target_of old.store c.args.terms.account.now) _ _ _
+    c.carry_out.result _ _ _ c.in_ok-listing.listing _ c.reserve.new.self.items c.carry_out.new.work.store
+    c.carry_out.new.work.ledger.file
     (c.reserve.ensures.items ∙ c.requires.nothing.2) entered.2 c.len-counts.ensures.count is)
 
 pub returns-in_err-listing-clause-proceeds : goal.returns-in_err-listing-clause-proceeds
-returns-in_err-listing-clause-proceeds g c = rw (err_is c.from_residual.ensures.1) (link_alone (in_words g.W.Wire c.in_err-listing.ensures.enters (λ entered.
-    untaken _ (inl (record { why = c.in_err-listing.field-0.0; is = refl; enters = entered; same = search rules; nothing = search rules }), untouched _ _))))
+returns-in_err-listing-clause-proceeds g c =
+    rw (err_is c.from_residual.ensures.1) (link_alone (in_words g.W.Wire c.in_err-listing.ensures.enters (λ entered.
+    untaken _ (
+      inl (record {
+        why = c.in_err-listing.field-0.0;
+        is = refl;
+        enters = entered;
+        same =
+            search rules;
+        nothing = search rules;
+      }),
+      untouched _ _,
+    ))))
 
 pub returns-in_err-reserve-clause-proceeds : goal.returns-in_err-reserve-clause-proceeds
-returns-in_err-reserve-clause-proceeds g c = rw (err_is c.from_residual-in_err-reserve.ensures.1) (link_alone (in_words g.W.Wire c.in_ok-listing.ensures.enters (λ entered. untaken _ (inr (inl (search rules)), untouched _ _))))
+returns-in_err-reserve-clause-proceeds g c = rw (err_is c.from_residual-in_err-reserve.ensures.1)
+    (link_alone (in_words g.W.Wire c.in_ok-listing.ensures.enters
+    (λ entered. untaken _ (inr (inl (search rules)), untouched _ _))))
 
 -- ---- what calls leave as it was
 
 pub returns-in_err-listing-clause-link : goal.returns-in_err-listing-clause-link
-returns-in_err-listing-clause-link g c = rw (err_is c.from_residual.ensures.1) (link_on_tail (omega arith) link_still (link_with_tail (link_cut c.in_err-listing.field-0.0 c.enter.ensures.link c.in_err-listing.ensures.counted
-    (did_so g.W.Wire c.in_err-listing.ensures.enters (took_entering c.conversations_are_paced.ensures _ _ _ _ (Err c.in_err-listing.field-0.0))))))
+returns-in_err-listing-clause-link g c =
+    rw (err_is c.from_residual.ensures.1)
+    (link_on_tail (omega arith) link_still
+    (link_with_tail (link_cut c.in_err-listing.field-0.0 c.enter.ensures.link c.in_err-listing.ensures.counted
+    (did_so g.W.Wire c.in_err-listing.ensures.enters (took_entering c.conversations_are_paced.ensures _ _ _ _
+    (Err c.in_err-listing.field-0.0))))))
 
 -- the listing is known
 entered : (g : _) (c : In_ok-listing g) → KeepsLink g.W.Wire (TookTillCut opening_limit) c.args.client.now (Ok tt) c.enter.new.client
-entered g c = record { same = c.enter.ensures.link; counted = c.in_ok-listing.ensures.counted; took = did_so g.W.Wire c.in_ok-listing.ensures.enters (took_entering c.conversations_are_paced.ensures _ _ _ _ (Ok c.in_ok-listing.listing)) }
+entered g c = record {
+  same = c.enter.ensures.link;
+  counted = c.in_ok-listing.ensures.counted;
+  took =
+      did_so g.W.Wire c.in_ok-listing.ensures.enters (took_entering c.conversations_are_paced.ensures _ _ _ _
+      (Ok c.in_ok-listing.listing));
+}
 
 pub returns-in_err-reserve-clause-link : goal.returns-in_err-reserve-clause-link
-returns-in_err-reserve-clause-link g c = rw (err_is c.from_residual-in_err-reserve.ensures.1) (link_on_tail (omega arith) link_still (link_with_tail (link_then_cut (entered g (goal.at.returns-in_err-reserve-clause-link g c).In_ok-listing))))
+returns-in_err-reserve-clause-link g c = rw (err_is c.from_residual-in_err-reserve.ensures.1)
+    (link_on_tail (omega arith) link_still
+    (link_with_tail (link_then_cut (entered g (goal.at.returns-in_err-reserve-clause-link g c).In_ok-listing))))
 
 pub returns-clause-link : goal.returns-clause-link
-returns-clause-link g c = link_on_tail (omega (arith, c.len-counts.ensures.count)) (entered g (goal.at.returns-clause-link g c).In_ok-listing) c.carry_out.ensures.link
+returns-clause-link g c = link_on_tail (omega (arith, c.len-counts.ensures.count))
+    (entered g (goal.at.returns-clause-link g c).In_ok-listing) c.carry_out.ensures.link
 
 pub returns-clause-heard : goal.returns-clause-heard
 returns-clause-heard g c = heard_as g.L.Listener.hears _ _ _ _ (λ plan is. record {
@@ -51,8 +79,12 @@ returns-clause-heard g c = heard_as g.L.Listener.hears _ _ _ _ (λ plan is. reco
   rows = is.rows;
   known = (
     λ w.
-        let took = c.carry_out.ensures.link.took w in
-        (place_of g.W.Wire c.enter.new.client, rw is.known.0 (c.in_ok-listing.ensures.enters took.0).2, rw c.len-counts.ensures.count took.1),
+        let took = c.carry_out.ensures.link.took w in (
+          place_of g.W.Wire c.enter.new.client,
+          rw is.known.0 (c.in_ok-listing.ensures.enters took.0).2,
+          rw
+              c.len-counts.ensures.count took.1,
+        ),
     is.known.1,
   );
   total_is = c.len-counts.ensures.count ∙ is.total_is;

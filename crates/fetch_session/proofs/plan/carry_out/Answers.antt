@@ -1,4 +1,5 @@
-use Rattle.std.proofs.Common.{refl, ◌≡◌, ◌*◌, ℕ, List, [], ◌∷◌, ◌++◌, ◌⊎◌, All, true, inl, arith, length, Result, Ok, Err, sym, ap, subst, ◌∙◌, append-nil}
+use Rattle.std.proofs.Common.{refl, ◌≡◌, ◌*◌, ℕ, List, [], ◌∷◌, ◌++◌, ◌⊎◌, All, true, inl, arith, length, Result, Ok}
+use Rattle.std.proofs.Common.{Err, sym, ap, subst, ◌∙◌, append-nil}
 use Rattle.mail_store.specs.Maildir.{AllNamed}
 use Rattle.mail_terms.specs.UniqueId.{IsLegalId}
 use Rattle.fetch_rules.specs.Plan.{IsQuiet, planned}
@@ -17,22 +18,49 @@ use Rattle.fetch_session.specs.declared.account.Store.{Store}
 use Rattle.fetch_session.specs.declared.work.Work.{Work}
 use Rattle.pop3_client.specs.declared.client.Client.{Client}
 use Rattle.fetch_session.specs.Task.{Task, says, tasks_planned}
-use Rattle.fetch_session.specs.Report.{Adds, HasRoom, skips_of}
+use Rattle.fetch_session.specs.Report.{AddsLines, HasRoom, skips_of}
 use Rattle.fetch_session.specs.Refusal.{TookTillCut, step_limit}
 use Rattle.fetch_session.specs.Parts.{RunsTasks, IsReadyFor, KeepsLink, KeepsStore, WhereWorkSound}
 use Rattle.fetch_session.proofs.ReadyLemmas.{flags_same, fresh_firsts, followed}
 use Rattle.fetch_session.proofs.SessionLemmas.{named_ahead, carried, in_kind}
-use Rattle.fetch_session.proofs.PartLemmas.{runs_before, goes_on, link_idle, link_less, link_on_tail, link_with_tail, most_planned, planned_all, store_less, store_on}
+use Rattle.fetch_session.proofs.PartLemmas.{runs_before, goes_on, link_idle, link_less, link_on_tail, link_with_tail}
+use Rattle.fetch_session.proofs.PartLemmas.{most_planned, planned_all, store_less, store_on}
 use Rattle.fetch_session.proofs.plan.carry_out.Goals.{After-deref-3, After-do_steps, In_ok-do_steps}
 use Rattle.fetch_session.proofs.plan.carry_out.Goals as goal
 
 pub returns-in_err-ready-clause-carries : goal.returns-in_err-ready-clause-carries
 returns-in_err-ready-clause-carries g c = rw (err_is c.from_residual.ensures.1) (λ w d f.
-    let ready = c.in_err-ready.ensures.readies d f in
-    (w, ready.0, ready.1, g.met.W.Wire.leads_same c.args.client.now.wire.now, (ready.2.0, ready.2.1, (([], inl (c.requires.none_skipped, (record { none = refl; unready = ready.2.2.readies; place_is = refl; lines_are = ap (λ lines. lines.items) c.in_err-ready.ensures.store.lines }))), ready.2.2.lasts))))
+    let ready = c.in_err-ready.ensures.readies d f in (
+      w,
+      ready.0,
+      ready.1,
+      g.met.W.Wire.leads_same c.args.client.now.wire.now,
+      (
+        ready.2.0,
+        ready.2.1,
+        (
+          (
+            [],
+            inl (
+              c.requires.none_skipped,
+              (record {
+                none = refl;
+                unready = ready.2.2.readies;
+                place_is = refl;
+                lines_are =
+                    ap (λ lines. lines.items) c.in_err-ready.ensures.store.lines;
+              }),
+            ),
+          ),
+          ready.2.2.lasts,
+        ),
+      ),
+    ))
 
 -- all is ready for the planned steps
-ready_to_do : (g : _) (c : After-deref-3 g) → IsReadyFor g.D.MaildirDisk g.F.FlatFile c.args.terms.account.now (tasks_planned c.deref-2.result.now c.args.listing.now c.deref-3.result.now)
+ready_to_do : (g : _) (c : After-deref-3 g)
+    → IsReadyFor g.D.MaildirDisk g.F.FlatFile c.args.terms.account.now
+    (tasks_planned c.deref-2.result.now c.args.listing.now c.deref-3.result.now)
     c.prepare.new.work
 ready_to_do g c =
     let account = c.args.terms.account.now in
@@ -52,10 +80,21 @@ ready_to_do g c =
       legal = planned_all IsLegalId steps items held c.requires.legal;
       rows = planned_all (λ (uid : List ℕ). has_row rows uid ≡ true) steps items held c.in_ok-ready.ensures.plans.rows;
       free = λ kept.
-          rw (c.deref-2.ensures.value, c.deref-3.ensures.value, c.in_ok-ready.ensures.held kept, c.in_ok-ready.ensures.plans.steps, ← c.prepare.ensures.store.kind, flags_same g.D.MaildirDisk g.F.FlatFile c.prepare.new.work.store account items)
-          (fresh_firsts account (stores_of g.D.MaildirDisk g.F.FlatFile c.prepare.new.work.store).maildir [] (planned c.args.terms.settings.now rows items c.args.terms.now) items
+          rw (
+            c.deref-2.ensures.value,
+            c.deref-3.ensures.value,
+            c.in_ok-ready.ensures.held kept,
+            c.in_ok-ready.ensures.plans.steps,
+            ← c.prepare.ensures.store.kind,
+            flags_same g.D.MaildirDisk g.F.FlatFile
+                c.prepare.new.work.store account items,
+          )
+          (fresh_firsts account (stores_of g.D.MaildirDisk g.F.FlatFile c.prepare.new.work.store).maildir []
+          (planned c.args.terms.settings.now rows items c.args.terms.now) items
           (c.firsts_are_fetched.ensures c.args.terms.settings.now rows items c.args.terms.now) c.requires.legal);
-      named = λ kept. named_ahead steps items held (subst (λ (ss : List Step). All IsQuiet ss ⊎ AllNamed (stores_of g.D.MaildirDisk g.F.FlatFile c.prepare.new.work.store).maildir.files) (sym c.deref-2.ensures.value) (c.in_ok-ready.ensures.named kept));
+      named = λ kept. named_ahead steps items held (subst (λ (ss : List Step). All IsQuiet ss
+          ⊎ AllNamed (stores_of g.D.MaildirDisk g.F.FlatFile c.prepare.new.work.store).maildir.files)
+          (sym c.deref-2.ensures.value) (c.in_ok-ready.ensures.named kept));
     }
 
 pub do_steps-requires-clause-ready : goal.do_steps-requires-clause-ready
@@ -64,7 +103,8 @@ do_steps-requires-clause-ready g c = ready_to_do g (goal.at.do_steps-requires-cl
 pub end-requires : goal.end-requires
 end-requires g c =
     let ready = ready_to_do g (goal.at.end-requires g c).After-deref-3 in
-    (c.in_ok-do_steps.ensures.runs.0.next [] (rw (append-nil (tasks_planned c.deref-2.result.now c.args.listing.now c.deref-3.result.now)) ready)).ready
+    (c.in_ok-do_steps.ensures.runs.0.next []
+    (rw (append-nil (tasks_planned c.deref-2.result.now c.args.listing.now c.deref-3.result.now)) ready)).ready
 
 -- the planned tasks, and QUIT
 abbrev tasks_on : (g : _) (c : After-deref-3 g) → List Task
@@ -73,7 +113,8 @@ tasks_on g c = tasks_planned c.deref-2.result.now c.args.listing.now c.deref-3.r
 -- what was done once all was ready, up to a fault or QUIT's reply
 carries : (g : _) (c : After-deref-3 g) (r : Result (Unit {0}) Cut) {client : Client g.row.W.Denot}
     {work : Work g.row.D.Denot g.row.F.Denot _ _}
-    → RunsTasks g.W.Wire g.D.MaildirDisk g.F.FlatFile c.args.terms.account.now (tasks_on g c) c.args.client.now c.prepare.new.work r client work
+    → RunsTasks g.W.Wire g.D.MaildirDisk g.F.FlatFile c.args.terms.account.now (tasks_on g c) c.args.client.now
+    c.prepare.new.work r client work
     → WhereWorkSound g.W.Wire g.D.MaildirDisk g.F.FlatFile c.args.client.now c.args.work.now client work
     (λ old new. AfterTakingIn old.store (λ left.
     (is : Carries c.args.terms.settings.now (target_of c.args.work.now.store c.args.terms.account.now) c.args.listing.now c.args.terms.now
@@ -86,23 +127,30 @@ carries g c r (keeps, does) = λ w d f.
     let before = c.prepare.new.work in
     let was = c.args.work.now in
     followed (done.0, ready.0, ready.1, done.3, ready.2) done.0 done.3 (λ left is.
-    carried g.D.MaildirDisk g.F.FlatFile was.store before.store was.ledger.file before.ledger.file before.ledger.lines.items c.deref-2.result.now c.deref-3.result.now
+    carried g.D.MaildirDisk g.F.FlatFile was.store before.store was.ledger.file before.ledger.file
+    before.ledger.lines.items c.deref-2.result.now c.deref-3.result.now
     (ap (λ lines. lines.items) c.prepare.ensures.store.lines) is.readies c.deref-2.ensures.value c.deref-3.ensures.value
-    (c.skips_of.ensures ∙ ap (skips_of c.args.terms.settings.now before.ledger.seen.rows c.args.listing.now c.args.terms.now) c.deref.ensures.value)
+    (c.skips_of.ensures ∙ ap (skips_of c.args.terms.settings.now before.ledger.seen.rows c.args.listing.now
+    c.args.terms.now) c.deref.ensures.value)
     is.lasts keeps.idle (in_kind before.store was.store c.args.terms.account.now c.prepare.ensures.store.kind done.4 (λ safe. safe)))
 
 -- ---- what calls leave as it was
 
 -- all steps were done
-did : (g : _) (c : In_ok-do_steps g) → KeepsLink g.W.Wire (TookTillCut (length c.args.listing.now * step_limit)) c.args.client.now (Ok tt) c.do_steps.new.client
-did g c = link_less (length c.args.listing.now * step_limit) (most_planned c.deref-2.result.now c.args.listing.now c.deref-3.result.now).0 c.in_ok-do_steps.ensures.runs.0.talk
+did : (g : _) (c : In_ok-do_steps g)
+    → KeepsLink g.W.Wire (TookTillCut (length c.args.listing.now * step_limit)) c.args.client.now
+    (Ok tt) c.do_steps.new.client
+did g c = link_less (length c.args.listing.now * step_limit)
+    (most_planned c.deref-2.result.now c.args.listing.now c.deref-3.result.now).0 c.in_ok-do_steps.ensures.runs.0.talk
 
 -- the store was prepared, and then used
-stood : (g : _) (c : After-do_steps g) → KeepsStore g.D.MaildirDisk g.F.FlatFile (2 * length c.args.listing.now) c.args.work.now c.do_steps.new.work
+stood : (g : _) (c : After-do_steps g)
+    → KeepsStore g.D.MaildirDisk g.F.FlatFile (2 * length c.args.listing.now) c.args.work.now c.do_steps.new.work
 stood g c =
     let kept = store_less (most_planned c.deref-2.result.now c.args.listing.now c.deref-3.result.now).1 c.do_steps.ensures.runs.0.store in
     record {
-      lines = subst (λ lines. Adds lines (2 * length c.args.listing.now) c.do_steps.new.work.ledger.lines) c.prepare.ensures.store.lines kept.lines;
+      lines = subst (λ lines. AddsLines lines (2 * length c.args.listing.now) c.do_steps.new.work.ledger.lines)
+          c.prepare.ensures.store.lines kept.lines;
       kind = kept.kind ∙ c.prepare.ensures.store.kind;
       none_begun = λ d. ((c.prepare.ensures.store.begun (kept.none_begun d).0).0, (kept.none_begun d).1);
     }
@@ -132,7 +180,8 @@ told g c store file back =
       );
       total_is = refl;
       skips = c.skips_of.ensures ∙ ap (skips_of settings rows items now) (c.deref.ensures.value ∙ c.in_ok-ready.ensures.plans.steps);
-      is = is ∙ ap (λ (steps : List Step). message_previews settings rows now 0 steps items (none_held items)) (c.deref-2.ensures.value ∙ c.in_ok-ready.ensures.plans.steps);
+      is = is ∙ ap (λ (steps : List Step). message_previews settings rows now 0 steps items (none_held items))
+          (c.deref-2.ensures.value ∙ c.in_ok-ready.ensures.plans.steps);
     }) c.tell_plan.ensures) c.do_steps.ensures.heard
 
 pub returns-in_err-do_steps : goal.returns-in_err-do_steps
@@ -140,10 +189,12 @@ returns-in_err-do_steps g c =
     let here = goal.at.returns-in_err-do_steps g c in
     let done = c.in_err-do_steps.ensures in
     rw (err_is c.from_residual-in_err-do_steps.ensures.1) (record {
-      link = link_with_tail (link_less (length c.args.listing.now * step_limit) (most_planned c.deref-2.result.now c.args.listing.now c.deref-3.result.now).0 done.runs.0.talk);
+      link = link_with_tail (link_less (length c.args.listing.now * step_limit)
+          (most_planned c.deref-2.result.now c.args.listing.now c.deref-3.result.now).0 done.runs.0.talk);
       store = stood g here.After-do_steps;
       carries = carries g here.After-deref-3 (Err c.in_err-do_steps.field-0.0) (runs_before _ _ done.runs);
-      heard = told g here.After-do_steps c.do_steps.new.work.store c.do_steps.new.work.ledger.file (λ d f. ((done.runs.0.store.none_begun d).0, (done.runs.0.lasts d f).0));
+      heard = told g here.After-do_steps c.do_steps.new.work.store c.do_steps.new.work.ledger.file
+          (λ d f. ((done.runs.0.store.none_begun d).0, (done.runs.0.lasts d f).0));
     })
 
 pub returns : goal.returns
@@ -156,7 +207,8 @@ returns g c =
       link = link_on_tail (omega arith) (did g here.In_ok-do_steps) last.link;
       store = store_on (omega arith) (stood g here.After-do_steps) c.end.ensures.store;
       carries = carries g here.After-deref-3 (Ok tt) all;
-      heard = told g here.After-do_steps c.end.new.work.store c.end.new.work.ledger.file (λ d f. ((all.0.store.none_begun d).0, (all.0.lasts d f).0));
+      heard = told g here.After-do_steps c.end.new.work.store c.end.new.work.ledger.file
+          (λ d f. ((all.0.store.none_begun d).0, (all.0.lasts d f).0));
     }
 
 pub returns-in_err-end : goal.returns-in_err-end
@@ -169,8 +221,10 @@ returns-in_err-end g c =
       link = link_on_tail (omega arith) (did g here.In_ok-do_steps) last.link;
       store = store_on (omega arith) (stood g here.After-do_steps) c.end.ensures.store;
       carries = carries g here.After-deref-3 (Err c.in_err-end.field-0.0) all;
-      heard = told g here.After-do_steps c.end.new.work.store c.end.new.work.ledger.file (λ d f. ((all.0.store.none_begun d).0, (all.0.lasts d f).0));
+      heard = told g here.After-do_steps c.end.new.work.store c.end.new.work.ledger.file
+          (λ d f. ((all.0.store.none_begun d).0, (all.0.lasts d f).0));
     })
 
 pub returns-in_err-ready-clause-link : goal.returns-in_err-ready-clause-link
-returns-in_err-ready-clause-link g c = rw (err_is c.from_residual.ensures.1) (link_with_tail (link_idle {limit = length c.args.listing.now * step_limit}))
+returns-in_err-ready-clause-link g c =
+    rw (err_is c.from_residual.ensures.1) (link_with_tail (link_idle {limit = length c.args.listing.now * step_limit}))

@@ -12,7 +12,8 @@ pub returns-clause-looks : goal.returns-clause-looks
 returns-clause-looks g c = λ d. let judges = c.in_ok-stored.ensures d in (
   judges.0,
   judged_good c.args.seen.now.intent _ c.args.listing.now (record { held = c.in_ok-held.held; stored = c.in_ok-stored.stored }) _ judges.1
-      (c.in_ok-held.ensures.items_if_clones_equal (λ y same. same) ∙ splat_is_map c.args.listing.now c.len.result false (sym c.len.ensures.count)),
+      (c.in_ok-held.ensures.items_if_clones_equal (λ y same. same)
+      ∙ splat_is_map c.args.listing.now c.len.result false (sym c.len.ensures.count)),
 )
 
 pub returns-in_err-held-clause-looks : goal.returns-in_err-held-clause-looks

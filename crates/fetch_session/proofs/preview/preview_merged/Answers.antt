@@ -9,7 +9,8 @@ use Rattle.fetch_session.proofs.preview.preview_merged.Goals as goal
 
 pub message_previews-requires-clause-all_steps : goal.message_previews-requires-clause-all_steps
 message_previews-requires-clause-all_steps g c =
-    ap length (c.deref.ensures.value ∙ c.in_ok-steps.ensures.steps) ∙ planned_length c.args.terms.settings.now c.merge.new.self.rows c.args.listing.now c.args.terms.now
+    ap length (c.deref.ensures.value ∙ c.in_ok-steps.ensures.steps)
+    ∙ planned_length c.args.terms.settings.now c.merge.new.self.rows c.args.listing.now c.args.terms.now
 
 pub returns : goal.returns
 returns g c =
@@ -21,6 +22,8 @@ returns g c =
     ∙ ap (λ (seen : Loaded). merged seen.rows items c.deref-held.result.now now) c.close.ensures.after
     ∙ ap (λ (flags : List Bool). merged ended items flags now) c.deref-held.ensures.value in
     IfOk-weaker c.message_previews.result _ _
-    (λ told is. is ∙ ap (λ (flags : List Bool). message_previews settings c.merge.new.self.rows now 0 c.deref.result.now items flags) c.deref-held.ensures.value
-    ∙ previews_are settings ended _ items c.args.found.now.held.items now c.deref.result.now rows (c.deref.ensures.value ∙ c.in_ok-steps.ensures.steps))
+    (λ told is. is ∙ ap (λ (flags : List Bool). message_previews settings c.merge.new.self.rows now 0 c.deref.result.now
+    items flags) c.deref-held.ensures.value
+    ∙ previews_are settings ended _ items c.args.found.now.held.items now c.deref.result.now rows (c.deref.ensures.value
+    ∙ c.in_ok-steps.ensures.steps))
     c.message_previews.ensures

@@ -8,13 +8,19 @@ pub returns-clause-previews : goal.returns-clause-previews
 returns-clause-previews g c = λ d f.
     let reads = c.in_ok-read.ensures.reads f in
     asked (c.in_ok-found.ensures.looks d) reads.0 (λ left is.
-    work_preview c.args.terms.settings.now (target_of c.args.work.now.store c.args.terms.account.now) c.args.listing.now c.args.terms.now _ _ _ c.read.new.seen _ c.in_ok-found.found _ reads.1.0 reads.1.2 is
+    work_preview c.args.terms.settings.now (target_of c.args.work.now.store c.args.terms.account.now) c.args.listing.now
+    c.args.terms.now _ _ _ c.read.new.seen _ c.in_ok-found.found _ reads.1.0 reads.1.2 is
     c.in_ok-preview_merged.ensures)
 
 pub returns-in_err-read-clause-previews : goal.returns-in_err-read-clause-previews
 returns-in_err-read-clause-previews g c = rw (err_is c.from_residual.ensures.1) (λ d f.
-    let reads = c.in_err-read.ensures.reads f in
-    (d, reads.0, untaken _ (not_read c.args.terms.settings.now (target_of c.args.work.now.store c.args.terms.account.now) c.args.listing.now c.args.terms.now _ _ _ c.read.new.seen _ reads.1)))
+    let reads = c.in_err-read.ensures.reads f in (
+      d,
+      reads.0,
+      untaken _ (not_read c.args.terms.settings.now
+          (target_of c.args.work.now.store c.args.terms.account.now) c.args.listing.now c.args.terms.now _ _ _
+          c.read.new.seen _ reads.1),
+    ))
 
 pub returns-in_err-found-clause-previews : goal.returns-in_err-found-clause-previews
 returns-in_err-found-clause-previews g c = λ d f.
@@ -26,7 +32,8 @@ returns-in_err-found-clause-previews g c = λ d f.
         looks.1.0,
         looks.1.1,
         rw (err_is c.from_residual-in_err-found.ensures.1)
-            (not_looked c.args.terms.settings.now (target_of c.args.work.now.store c.args.terms.account.now) c.args.listing.now c.args.terms.now _ _ _ c.read.new.seen _ _ reads.1.0 reads.1.2 looks.1.2),
+            (not_looked c.args.terms.settings.now (target_of c.args.work.now.store c.args.terms.account.now)
+            c.args.listing.now c.args.terms.now _ _ _ c.read.new.seen _ _ reads.1.0 reads.1.2 looks.1.2),
       ),
     )
 
@@ -34,4 +41,5 @@ pub returns-in_err-preview_merged-clause-previews : goal.returns-in_err-preview_
 returns-in_err-preview_merged-clause-previews g c = rw (err_is c.from_residual-in_err-preview_merged.ensures.1) (λ d f.
     let reads = c.in_ok-read.ensures.reads f in
     asked (c.in_ok-found.ensures.looks d) reads.0 (λ left is.
-    not_told c.args.terms.settings.now (target_of c.args.work.now.store c.args.terms.account.now) c.args.listing.now c.args.terms.now _ _ _ c.read.new.seen.intent _ c.in_ok-found.found reads.1.2 is))
+    not_told c.args.terms.settings.now (target_of c.args.work.now.store c.args.terms.account.now) c.args.listing.now
+    c.args.terms.now _ _ _ c.read.new.seen.intent _ c.in_ok-found.found reads.1.2 is))

@@ -12,17 +12,25 @@ returns-in_err-check_mbox-clause-asks g c =
     let p = err_from_is_err_and c.from_residual-in_err-check_mbox.result c.from_residual-in_err-check_mbox.ensures.1 in
     rw p.1 (λ kept.
     let checks = c.in_err-check_mbox.ensures.checks kept in
-    let settles = c.in_ok-stored.ensures.settles checks.0 in
-    (settles.0, asks_refused c.args.seen.now.intent (g.F.FlatFile.stored c.args.mbox.now) (g.F.FlatFile.stored c.settle.new.mbox) (g.F.FlatFile.stored c.check_mbox.new.file) c.in_ok-stored.stored c.args.listing.now c.in_err-check_mbox.field-0.0 p.0 settles.1 checks.1 p.2))
+    let settles = c.in_ok-stored.ensures.settles checks.0 in (
+      settles.0,
+      asks_refused c.args.seen.now.intent (g.F.FlatFile.stored c.args.mbox.now)
+          (g.F.FlatFile.stored c.settle.new.mbox) (g.F.FlatFile.stored c.check_mbox.new.file) c.in_ok-stored.stored
+          c.args.listing.now c.in_err-check_mbox.field-0.0 p.0 settles.1 checks.1 p.2,
+    ))
 
 pub returns-clause-asks : goal.returns-clause-asks
 returns-clause-asks g c = λ kept.
     let checks = c.in_ok-check_mbox.ensures.checks kept in
-    and_so (c.in_ok-stored.ensures.settles checks.0) (λ sound settles. asks_ok c.args.seen.now.intent _ _ _ c.in_ok-stored.stored c.args.listing.now (record { held = c.in_ok-held.held; stored = c.in_ok-stored.stored }) settles checks.1 refl
-    (c.in_ok-held.ensures.items_if_clones_equal (λ y same. same) ∙ splat_is_map c.args.listing.now c.len.result false (sym c.len.ensures.count)))
+    and_so (c.in_ok-stored.ensures.settles checks.0)
+    (λ sound settles. asks_ok c.args.seen.now.intent _ _ _ c.in_ok-stored.stored c.args.listing.now
+    (record { held = c.in_ok-held.held; stored = c.in_ok-stored.stored }) settles checks.1 refl
+    (c.in_ok-held.ensures.items_if_clones_equal (λ y same. same)
+    ∙ splat_is_map c.args.listing.now c.len.result false (sym c.len.ensures.count)))
 
 pub returns-clause-lasts : goal.returns-clause-lasts
 returns-clause-lasts g c = λ kept sure.
-    let firm = all_sure (g.F.FlatFile.disk c.settle.new.mbox) (g.F.FlatFile.disk c.check_mbox.new.file) (c.in_ok-check_mbox.ensures.durable kept)
+    let firm = all_sure (g.F.FlatFile.disk c.settle.new.mbox) (g.F.FlatFile.disk c.check_mbox.new.file)
+    (c.in_ok-check_mbox.ensures.durable kept)
     (c.in_ok-stored.ensures.lasts (c.in_ok-check_mbox.ensures.checks kept).0 sure) in
     durable_safe g.F.FlatFile c.check_mbox.new.file (g.met.F.FlatFile.shown c.check_mbox.new.file) firm

@@ -6,8 +6,18 @@ use Rattle.fetch_session.proofs.readiness.find_held.Goals as goal
 pub returns-clause-finds : goal.returns-clause-finds
 returns-clause-finds g c = λ d.
     let found = c.in_ok-flush_held.ensures.finds d in
-    let is = found.1.2 in
-    (found.0, (found.1.0, found.1.1, (rw (c.deref.ensures.value, c.in_ok-flags.ensures) at is.0.0, is.0.1, (is.0.4, rw (c.deref.ensures.value, c.in_ok-flags.ensures, is.0.1) at is.1))))
+    let is = found.1.2 in (
+      found.0,
+      (
+        found.1.0,
+        found.1.1,
+        (
+          rw (c.deref.ensures.value, c.in_ok-flags.ensures) at is.0.0,
+          is.0.1,
+          (is.0.4, rw (c.deref.ensures.value, c.in_ok-flags.ensures, is.0.1) at is.1),
+        ),
+      ),
+    )
 
 pub returns-in_err-flags-clause-finds : goal.returns-in_err-flags-clause-finds
 returns-in_err-flags-clause-finds g c = rw (err_is c.from_residual.ensures.1) (λ d.

@@ -7,8 +7,13 @@ use Rattle.fetch_session.proofs.readiness.prepare_by_store.Goals as goal
 pub returns-clause-plans : goal.returns-clause-plans
 returns-clause-plans g c = record {
   steps = c.in_ok-steps.ensures.steps;
-  lengths = (ap length c.in_ok-steps.ensures.steps ∙ planned_length c.args.terms.settings.now c.take_in.new.seen.rows c.args.listing.now c.args.terms.now, c.in_ok-found.ensures.length);
-  rows = all_have_rows c.listed_has_row.ensures _ c.args.listing.now _ c.args.terms.now c.take_in.new.seen.rows c.in_ok-take_in.ensures.rows;
+  lengths = (
+    ap length c.in_ok-steps.ensures.steps
+        ∙ planned_length c.args.terms.settings.now c.take_in.new.seen.rows c.args.listing.now c.args.terms.now,
+    c.in_ok-found.ensures.length,
+  );
+  rows = all_have_rows c.listed_has_row.ensures _ c.args.listing.now _ c.args.terms.now c.take_in.new.seen.rows
+      c.in_ok-take_in.ensures.rows;
   closed = c.in_ok-take_in.ensures.closed;
 }
 
@@ -19,39 +24,55 @@ returns-clause-held g c = λ d.
     let was = c.args.work.now.ledger.seen in
     let rows = c.take_in.new.seen.rows in
     let steps = c.in_ok-steps.steps.items in
-    let only_asked = rw (sym c.in_ok-steps.ensures.steps) at (c.plans_fetch_what_is_asked_for.ensures settings rows c.args.listing.now c.args.terms.now) in (
-      rw stays.2.0 (found_as_held (target_of c.args.work.now.store c.args.terms.account.now) _ settings was.rows rows steps c.args.listing.now
-          (not_before c.held_is_delivered.ensures c.marked_is_delivered.ensures c.in_ok-found.found.stored was.rows was.intent c.args.listing.now c.in_ok-found.found.held.items c.args.terms.now rows c.in_ok-take_in.ensures.rows) only_asked),
+    let only_asked = rw (sym c.in_ok-steps.ensures.steps) at
+    (c.plans_fetch_what_is_asked_for.ensures settings rows c.args.listing.now c.args.terms.now) in (
+      rw stays.2.0 (found_as_held (target_of c.args.work.now.store c.args.terms.account.now) _ settings was.rows rows
+          steps c.args.listing.now
+          (not_before c.held_is_delivered.ensures c.marked_is_delivered.ensures c.in_ok-found.found.stored was.rows
+          was.intent c.args.listing.now c.in_ok-found.found.held.items c.args.terms.now rows
+          c.in_ok-take_in.ensures.rows) only_asked),
       stays.2.1,
     )
 
 pub returns-in_err-found-clause-readies : goal.returns-in_err-found-clause-readies
-returns-in_err-found-clause-readies g c = rw (err_is c.from_residual.ensures.1) (λ d f. asked (c.in_err-found.ensures.finds d) f (λ left finds. record {
-  readies = record {
-    cause = not_found _ (target_of c.args.work.now.store c.args.terms.account.now) _ _ _ _ _ c.args.work.now.ledger.seen c.in_err-found.field-0.0 (c.requires.stands f) finds;
-    content = inl refl;
-  };
-  lasts = λ safe left may. may;
-}))
+returns-in_err-found-clause-readies g c = rw (err_is c.from_residual.ensures.1)
+    (λ d f. asked (c.in_err-found.ensures.finds d) f (λ left finds. record {
+      readies = record {
+        cause = not_found _ (target_of c.args.work.now.store c.args.terms.account.now) _ _ _ _ _ c.args.work.now.ledger.seen
+            c.in_err-found.field-0.0 (c.requires.stands f) finds;
+        content = inl refl;
+      };
+      lasts = λ safe left may. may;
+    }))
 
 pub returns-in_err-take_in-clause-readies : goal.returns-in_err-take_in-clause-readies
 returns-in_err-take_in-clause-readies g c = rw (err_is c.from_residual-in_err-take_in.ensures.1) (λ d f.
     let merges = c.in_err-take_in.ensures.merges f in
     asked (c.in_ok-found.ensures.finds d) merges.0 (λ left finds.
-    unready _ _ _ _ _ c.take_in.new.file c.args.terms.account.now _ _ _ left c.args.work.now.ledger.seen c.in_ok-found.found (c.requires.stands merges.0) c.merges_ask_only_for_new_ids.ensures c.requires.is_record finds
+    unready _ _ _ _ _ c.take_in.new.file c.args.terms.account.now _ _ _ left c.args.work.now.ledger.seen
+    c.in_ok-found.found (c.requires.stands merges.0) c.merges_ask_only_for_new_ids.ensures
+    c.requires.is_record finds
     (Err c.in_err-take_in.field-0.0) merges.1 (λ safe. (c.in_err-take_in.ensures.lasts f safe.1).0)))
 
 pub returns-in_err-steps-clause-readies : goal.returns-in_err-steps-clause-readies
 returns-in_err-steps-clause-readies g c = rw (err_is c.from_residual-in_err-steps.ensures.1) (λ d f.
     let merges = c.in_ok-take_in.ensures.merges f in
     asked (c.in_ok-found.ensures.finds d) merges.0 (λ left finds.
-    unready _ _ _ _ _ c.take_in.new.file c.args.terms.account.now _ _ _ left c.args.work.now.ledger.seen c.in_ok-found.found (c.requires.stands merges.0) c.merges_ask_only_for_new_ids.ensures c.requires.is_record finds
+    unready _ _ _ _ _ c.take_in.new.file c.args.terms.account.now _ _ _ left c.args.work.now.ledger.seen
+    c.in_ok-found.found (c.requires.stands merges.0) c.merges_ask_only_for_new_ids.ensures
+    c.requires.is_record finds
     (Ok tt) merges.1 (λ safe. (c.in_ok-take_in.ensures.lasts f safe.1).0)))
 
 pub returns-clause-readies : goal.returns-clause-readies
 returns-clause-readies g c = λ d f.
     let merges = c.in_ok-take_in.ensures.merges f in
-    let only_asked = rw (sym c.in_ok-steps.ensures.steps) at (c.plans_fetch_what_is_asked_for.ensures c.args.terms.settings.now c.take_in.new.seen.rows c.args.listing.now c.args.terms.now) in
+    let only_asked = rw (sym c.in_ok-steps.ensures.steps) at
+    (c.plans_fetch_what_is_asked_for.ensures c.args.terms.settings.now c.take_in.new.seen.rows
+    c.args.listing.now c.args.terms.now) in
     asked (c.in_ok-found.ensures.finds d) merges.0 (λ left finds.
-    ready _ _ _ _ _ c.take_in.new.file c.args.terms.account.now _ _ _ left c.args.work.now.ledger.seen c.in_ok-found.found (c.requires.stands merges.0) c.merges_ask_only_for_new_ids.ensures c.requires.is_record finds
-    _ c.held_is_delivered.ensures c.marked_is_delivered.ensures only_asked merges.1 c.in_ok-take_in.ensures.rows refl c.in_ok-steps.ensures.steps (λ safe. ((c.in_ok-take_in.ensures.lasts f safe.1).1, c.in_ok-found.ensures.lasts d safe.0)))
+    ready _ _ _ _ _ c.take_in.new.file c.args.terms.account.now _ _ _ left c.args.work.now.ledger.seen
+    c.in_ok-found.found (c.requires.stands merges.0) c.merges_ask_only_for_new_ids.ensures
+    c.requires.is_record finds
+    _ c.held_is_delivered.ensures c.marked_is_delivered.ensures only_asked merges.1 c.in_ok-take_in.ensures.rows refl
+    c.in_ok-steps.ensures.steps
+    (λ safe. ((c.in_ok-take_in.ensures.lasts f safe.1).1, c.in_ok-found.ensures.lasts d safe.0)))

@@ -11,25 +11,32 @@ returns-in_err-ready-clause-readies g c = rw (err_is c.from_residual.ensures.1) 
     let finds = c.in_err-ready.ensures.finds d in (
       finds.0,
       f,
-      unrested g.D.MaildirDisk g.F.FlatFile c.args.terms.account.now c.args.work.now.store c.rest.new.store c.args.work.now.ledger.file c.args.work.now.ledger.file c.args.work.now.ledger.seen c.args.steps.items
+      unrested g.D.MaildirDisk g.F.FlatFile c.args.terms.account.now c.args.work.now.store c.rest.new.store
+          c.args.work.now.ledger.file c.args.work.now.ledger.file c.args.work.now.ledger.seen c.args.steps.items
           c.known_listings_change_nothing.ensures (c.requires.stands f) c.requires.idle c.in_err-ready.field-0.0 finds.1 refl,
     ))
 
 -- ---- the file needs no change
 
 pub returns-then-not-needs_rewrite-clause-steady : goal.returns-then-not-needs_rewrite-clause-steady
-returns-then-not-needs_rewrite-clause-steady g c = λ f.
-    (f, (read_steady (g.F.FlatFile.stored c.args.work.now.ledger.file).content c.args.work.now.ledger.seen (c.requires.stands f) (sym c.needs_rewrite.ensures ∙ c.if-not-needs_rewrite.true)).0)
+returns-then-not-needs_rewrite-clause-steady g c = λ f. (
+  f,
+  (read_steady (g.F.FlatFile.stored c.args.work.now.ledger.file).content c.args.work.now.ledger.seen
+      (c.requires.stands f) (sym c.needs_rewrite.ensures ∙ c.if-not-needs_rewrite.true)).0,
+)
 
 pub returns-then-not-needs_rewrite-clause-readies : goal.returns-then-not-needs_rewrite-clause-readies
 returns-then-not-needs_rewrite-clause-readies g c = λ d f.
     let finds = c.in_ok-ready.ensures.finds d in
     let file = c.args.work.now.ledger.file in
-    let steady = read_steady (g.F.FlatFile.stored file).content c.args.work.now.ledger.seen (c.requires.stands f) (sym c.needs_rewrite.ensures ∙ c.if-not-needs_rewrite.true) in (
+    let steady = read_steady (g.F.FlatFile.stored file).content c.args.work.now.ledger.seen (c.requires.stands f)
+    (sym c.needs_rewrite.ensures ∙ c.if-not-needs_rewrite.true) in (
       finds.0,
       f,
-      rested g.D.MaildirDisk g.F.FlatFile c.args.terms.account.now c.args.work.now.store c.rest.new.store file file c.args.work.now.ledger.seen c.args.steps.items
-          c.known_listings_change_nothing.ensures (c.requires.stands f) c.requires.idle c.in_ok-ready.ready finds.1 (inl refl) steady.0 refl (untouched g.F.FlatFile file)
+      rested g.D.MaildirDisk g.F.FlatFile c.args.terms.account.now c.args.work.now.store c.rest.new.store file file
+          c.args.work.now.ledger.seen c.args.steps.items
+          c.known_listings_change_nothing.ensures (c.requires.stands f) c.requires.idle c.in_ok-ready.ready finds.1
+          (inl refl) steady.0 refl (untouched g.F.FlatFile file)
           c.in_ok-ready.ensures.steps c.in_ok-ready.ensures.length,
     )
 
@@ -44,10 +51,14 @@ returns-in_err-save-clause-readies g c = rw (err_is c.from_residual-in_err-save.
     let stood = c.requires.stands saves.0 in (
       finds.0,
       saves.0,
-      unrenewed g.D.MaildirDisk g.F.FlatFile c.args.terms.account.now c.args.work.now.store c.rest.new.store from c.save.new.file seen c.args.steps.items
+      unrenewed g.D.MaildirDisk g.F.FlatFile c.args.terms.account.now c.args.work.now.store c.rest.new.store from
+          c.save.new.file seen c.args.steps.items
           c.known_listings_change_nothing.ensures stood c.requires.idle c.in_ok-ready.ready c.in_err-save.field-0.0 finds.1
-          (writes_merges (g.F.FlatFile.stored from) (g.F.FlatFile.stored c.save.new.file) (record_state_in seen) (record_state_in seen) (Err c.in_err-save.field-0.0) (read_keeps _ seen stood) c.save.ensures.stands saves.1)
-          (written_merged g.F.FlatFile seen.rows seen.rows from c.save.new.file _ (rw c.requires.idle.closed at c.save.ensures.stands) (c.save.ensures.leaves f)),
+          (writes_merges (g.F.FlatFile.stored from) (g.F.FlatFile.stored c.save.new.file) (record_state_in seen)
+          (record_state_in seen) (Err c.in_err-save.field-0.0) (read_keeps _ seen stood)
+          c.save.ensures.stands saves.1)
+          (written_merged g.F.FlatFile seen.rows seen.rows from c.save.new.file _
+          (rw c.requires.idle.closed at c.save.ensures.stands) (c.save.ensures.leaves f)),
     ))
 
 pub returns-clause-steady : goal.returns-clause-steady
@@ -62,10 +73,14 @@ returns-clause-readies g c = λ d f.
     let seen = c.args.work.now.ledger.seen in
     let from = c.args.work.now.ledger.file in
     let stood = c.requires.stands saves.0 in
-    let anew = is_anew seen (g.F.FlatFile.stored from) (g.F.FlatFile.stored c.save.new.file) stood c.requires.idle.closed (sym c.needs_rewrite.ensures ∙ c.if-not-needs_rewrite.false) saves.1 in (
+    let anew = is_anew seen (g.F.FlatFile.stored from) (g.F.FlatFile.stored c.save.new.file) stood
+    c.requires.idle.closed (sym c.needs_rewrite.ensures ∙ c.if-not-needs_rewrite.false) saves.1 in (
       finds.0,
       saves.0,
-      rested g.D.MaildirDisk g.F.FlatFile c.args.terms.account.now c.args.work.now.store c.rest.new.store from c.save.new.file seen c.args.steps.items
-          c.known_listings_change_nothing.ensures stood c.requires.idle c.in_ok-ready.ready finds.1 (inr anew) (rw (saves.1, c.requires.idle.closed) (rw c.requires.idle.closed at c.save.ensures.stands)) (rw saves.1 refl)
+      rested g.D.MaildirDisk g.F.FlatFile c.args.terms.account.now c.args.work.now.store c.rest.new.store from
+          c.save.new.file seen c.args.steps.items
+          c.known_listings_change_nothing.ensures stood c.requires.idle c.in_ok-ready.ready finds.1 (inr anew)
+          (rw (saves.1, c.requires.idle.closed) (rw c.requires.idle.closed at c.save.ensures.stands))
+          (rw saves.1 refl)
           (refl, c.in_ok-save.ensures.lasts f) c.in_ok-ready.ensures.steps c.in_ok-ready.ensures.length,
     )

@@ -14,13 +14,16 @@ use Rattle.fetch_session.proofs.readiness.take_in.Goals as goal
 grows : (g : _) (c : After-grow g) → g.F.FlatFile.sound c.grow.new.file
     → Steady (g.F.FlatFile.stored c.args.file.now).content (none_open c.args.seen.now.rows) × (c.args.seen.now.intent ≡ None)
     × Updates c.args.seen.now.rows None c.deref-2.result.now
-    (merged (closed_rows c.args.found.now.stored c.args.seen.now.rows c.args.seen.now.intent) c.args.listing.now c.args.found.now.held.items c.args.now) None
+    (merged (closed_rows c.args.found.now.stored c.args.seen.now.rows c.args.seen.now.intent) c.args.listing.now
+    c.args.found.now.held.items c.args.now) None
 grows g c kept =
     let was = c.args.seen.now.rows in
     let closed = closed_rows c.args.found.now.stored was c.args.seen.now.intent in
     let rows = merged closed c.args.listing.now c.args.found.now.held.items c.args.now in
-    let fresh : c.args.seen.now.stale ≡ false = rw (c.in_ok-group.ensures.after, c.close.ensures.after) at (sym c.needs_rewrite.ensures ∙ c.if-needs_rewrite.false) in
-    let steady = read_steady (g.F.FlatFile.stored c.args.file.now).content c.args.seen.now (c.requires.stands (c.grow.ensures.saves kept).0) fresh in
+    let fresh : c.args.seen.now.stale ≡ false = rw (c.in_ok-group.ensures.after, c.close.ensures.after) at
+    (sym c.needs_rewrite.ensures ∙ c.if-needs_rewrite.false) in
+    let steady = read_steady (g.F.FlatFile.stored c.args.file.now).content c.args.seen.now
+    (c.requires.stands (c.grow.ensures.saves kept).0) fresh in
     let is_was : closed ≡ was = ap (closed_rows c.args.found.now.stored was) steady.1 in (
       steady.0,
       steady.1,
@@ -31,17 +34,21 @@ grows g c kept =
 pub returns-clause-merges : goal.returns-clause-merges
 returns-clause-merges g c = λ kept.
     let was = c.args.seen.now.rows in
-    let rows = merged (closed_rows c.args.found.now.stored was c.args.seen.now.intent) c.args.listing.now c.args.found.now.held.items c.args.now in
+    let rows = merged (closed_rows c.args.found.now.stored was c.args.seen.now.intent) c.args.listing.now
+    c.args.found.now.held.items c.args.now in
     let it = grows g (goal.at.returns-clause-merges g c).After-grow kept in
     let old = g.F.FlatFile.stored c.args.file.now in
     let new = g.F.FlatFile.stored c.grow.new.file in
-    and_so (c.grow.ensures.saves kept) (λ sound saves. subst (λ (h : RecordState). Merges old h (none_open rows) c.grow.result new) (held_is c.args.seen.now it.1)
+    and_so (c.grow.ensures.saves kept)
+    (λ sound saves. subst (λ (h : RecordState). Merges old h (none_open rows) c.grow.result new)
+    (held_is c.args.seen.now it.1)
     (saves_merges old new (none_open was) (none_open rows) c.grow.result it.0 (saves (none_open was) (none_open rows) (inl it.2))))
 
 pub returns-clause-lasts : goal.returns-clause-lasts
 returns-clause-lasts g c = λ kept safe.
     let it = grows g (goal.at.returns-clause-lasts g c).After-grow kept in (
-      grown_merged g.F.FlatFile c.args.seen.now.rows _ c.args.file.now c.grow.new.file c.deref-2.result.now it.2 (c.grow.ensures.leaves kept safe (none_open c.args.seen.now.rows) it.0).1,
+      grown_merged g.F.FlatFile c.args.seen.now.rows _ c.args.file.now c.grow.new.file c.deref-2.result.now it.2
+          (c.grow.ensures.leaves kept safe (none_open c.args.seen.now.rows) it.0).1,
       c.grow.ensures.lasts kept safe,
     )
 
@@ -50,12 +57,15 @@ returns-clause-lasts g c = λ kept safe.
 pub returns-then-needs_rewrite-clause-merges : goal.returns-then-needs_rewrite-clause-merges
 returns-then-needs_rewrite-clause-merges g c = λ kept. and_so (c.save.ensures.saves kept) (λ sound writes.
     let old = g.F.FlatFile.stored c.args.file.now in
-    rw (c.in_ok-group.ensures.after, c.deref.ensures.value, c.close.ensures.after) at (writes_merges old (g.F.FlatFile.stored c.save.new.file) (record_state_in c.args.seen.now) (record_state_in c.merge_rows.new.self) c.save.result
+    rw (c.in_ok-group.ensures.after, c.deref.ensures.value, c.close.ensures.after) at
+    (writes_merges old (g.F.FlatFile.stored c.save.new.file) (record_state_in c.args.seen.now)
+    (record_state_in c.merge_rows.new.self) c.save.result
     (read_keeps old.content c.args.seen.now (c.requires.stands sound)) c.save.ensures.stands writes))
 
 pub returns-then-needs_rewrite-clause-lasts : goal.returns-then-needs_rewrite-clause-lasts
 returns-then-needs_rewrite-clause-lasts g c = λ kept safe. (
-  written_merged g.F.FlatFile c.args.seen.now.rows _ c.args.file.now c.save.new.file _ (rw (c.in_ok-group.ensures.after, c.deref.ensures.value, c.close.ensures.after) at c.save.ensures.stands)
+  written_merged g.F.FlatFile c.args.seen.now.rows _ c.args.file.now c.save.new.file _
+      (rw (c.in_ok-group.ensures.after, c.deref.ensures.value, c.close.ensures.after) at c.save.ensures.stands)
       (rw (c.in_ok-group.ensures.after, c.deref.ensures.value, c.close.ensures.after) at (c.save.ensures.leaves kept)),
   c.save.ensures.lasts kept,
 )

@@ -5,4 +5,5 @@ use Rattle.fetch_session.specs.Text.{heading}
 use Rattle.fetch_session.proofs.reasons.explained_report.Given as goal
 
 abbrev pub invariant-loop-line : goal.invariant-loop-line
-invariant-loop-line l = string_bytes l.text ≡ heading l.settings ++ flat_map (explained_line l.settings.verbose l.report.total l.plan) (take l.line-index l.line-items)
+invariant-loop-line l = string_bytes l.text ≡ heading l.settings ++ flat_map
+    (explained_line l.settings.verbose l.report.total l.plan) (take l.line-index l.line-items)

@@ -11,14 +11,21 @@ returns-in-Ok-clause-size g c = λ kept. and_so (c.in-Ok.ensures.measures kept) 
     (ap (λ (e : Edges). e.size) measures.0.2 ∙ ap (λ (o : Option (List ℕ)). length (bytes_in o)) (sym measures.0.1), measures.1))
 
 pub returns-in-Err-clause-size : goal.returns-in-Err-clause-size
-returns-in-Err-clause-size g c = λ kept. and_so (c.in-Err.ensures.measures kept) (λ sound denies. not_there _ _ c.in-Err.field-0 (c.requires.begun sound) denies)
+returns-in-Err-clause-size g c = λ kept. and_so (c.in-Err.ensures.measures kept)
+    (λ sound denies. not_there _ _ c.in-Err.field-0 (c.requires.begun sound) denies)
 
 pub returns-in-Ok-clause-keeps : goal.returns-in-Ok-clause-keeps
-returns-in-Ok-clause-keeps g c = λ kept. (flushes_for_good (g.F.FlatFile.disk c.args.file.now) (g.F.FlatFile.disk c.edges.new.self) c.edges.result (c.edges.ensures.durable kept)).no_more
+returns-in-Ok-clause-keeps g c =
+    λ kept. (flushes_for_good (g.F.FlatFile.disk c.args.file.now) (g.F.FlatFile.disk c.edges.new.self) c.edges.result
+    (c.edges.ensures.durable kept)).no_more
 
 pub returns-in-Err-clause-keeps : goal.returns-in-Err-clause-keeps
-returns-in-Err-clause-keeps g c = λ kept. (flushes_for_good (g.F.FlatFile.disk c.args.file.now) (g.F.FlatFile.disk c.edges.new.self) c.edges.result (c.edges.ensures.durable kept)).no_more
+returns-in-Err-clause-keeps g c =
+    λ kept. (flushes_for_good (g.F.FlatFile.disk c.args.file.now) (g.F.FlatFile.disk c.edges.new.self) c.edges.result
+    (c.edges.ensures.durable kept)).no_more
 
 pub returns-in-Ok-clause-lasts : goal.returns-in-Ok-clause-lasts
 returns-in-Ok-clause-lasts g c = λ kept sure.
-    durable_safe g.F.FlatFile c.edges.new.self (g.met.F.FlatFile.shown c.edges.new.self) (all_sure (g.F.FlatFile.disk c.args.file.now) (g.F.FlatFile.disk c.edges.new.self) (c.in-Ok.ensures.durable kept) sure)
+    durable_safe g.F.FlatFile c.edges.new.self (g.met.F.FlatFile.shown c.edges.new.self)
+    (all_sure (g.F.FlatFile.disk c.args.file.now) (g.F.FlatFile.disk c.edges.new.self)
+    (c.in-Ok.ensures.durable kept) sure)

@@ -19,12 +19,15 @@ returns-clause-stands g c = c.bytes_stand.ensures _ _ c.bytes.ensures.is_record 
 
 -- the bytes are those of the record, and may be what is left
 leaves : (g : _) (c : After-replace g) → g.F.FlatFile.sound c.replace.new.self
-    → LeavesEither (MayLeave (g.F.FlatFile.disk c.args.file.now)) (file_of c.args.seen.now.rows None) (MayLeave (g.F.FlatFile.disk c.replace.new.self))
+    → LeavesEither (MayLeave (g.F.FlatFile.disk c.args.file.now)) (file_of c.args.seen.now.rows None)
+    (MayLeave (g.F.FlatFile.disk c.replace.new.self))
 leaves g c kept =
     let bytes_are : c.deref.result.now ≡ file_of c.args.seen.now.rows None =
     c.deref.ensures.value ∙ c.in_ok-bytes.ensures.file ∙ ap (λ (i : Option Intent). file_of c.args.seen.now.rows i) c.requires.closed in
-    subst (λ (bytes : List ℕ). LeavesEither (MayLeave (g.F.FlatFile.disk c.args.file.now)) bytes (MayLeave (g.F.FlatFile.disk c.replace.new.self))) bytes_are
-    (replaces_for_good (g.F.FlatFile.disk c.args.file.now) (g.F.FlatFile.disk c.replace.new.self) c.deref.result.now c.replace.result (c.replace.ensures.durable kept)).leaves
+    subst (λ (bytes : List ℕ). LeavesEither (MayLeave (g.F.FlatFile.disk c.args.file.now)) bytes
+    (MayLeave (g.F.FlatFile.disk c.replace.new.self))) bytes_are
+    (replaces_for_good (g.F.FlatFile.disk c.args.file.now) (g.F.FlatFile.disk c.replace.new.self) c.deref.result.now
+    c.replace.result (c.replace.ensures.durable kept)).leaves
 
 pub returns-in-Ok-clause-leaves : goal.returns-in-Ok-clause-leaves
 returns-in-Ok-clause-leaves g c = leaves g (goal.at.returns-in-Ok-clause-leaves g c).After-replace
@@ -34,4 +37,6 @@ returns-clause-leaves g c = leaves g (goal.at.returns-clause-leaves g c).After-r
 
 pub returns-in-Ok-clause-lasts : goal.returns-in-Ok-clause-lasts
 returns-in-Ok-clause-lasts g c = λ kept.
-    durable_safe g.F.FlatFile c.replace.new.self (g.met.F.FlatFile.shown c.replace.new.self) (replaces_for_good (g.F.FlatFile.disk c.args.file.now) (g.F.FlatFile.disk c.replace.new.self) c.deref.result.now (Ok (tt {0})) (c.in-Ok.ensures.durable kept)).durable
+    durable_safe g.F.FlatFile c.replace.new.self (g.met.F.FlatFile.shown c.replace.new.self)
+    (replaces_for_good (g.F.FlatFile.disk c.args.file.now) (g.F.FlatFile.disk c.replace.new.self) c.deref.result.now
+    (Ok (tt {0})) (c.in-Ok.ensures.durable kept)).durable

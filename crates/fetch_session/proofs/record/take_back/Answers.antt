@@ -3,11 +3,14 @@ use Rattle.fetch_session.proofs.SceneLemmas.{taken_back, and_so}
 use Rattle.fetch_session.proofs.record.take_back.Goals as goal
 
 pub returns-clause-closes : goal.returns-clause-closes
-returns-clause-closes g c = λ kept. and_so (c.cut_to.ensures.cuts kept) (λ sound cuts was till. taken_back _ _ c.args.size was c.cut_to.result till cuts)
+returns-clause-closes g c = λ kept. and_so (c.cut_to.ensures.cuts kept)
+    (λ sound cuts was till. taken_back _ _ c.args.size was c.cut_to.result till cuts)
 
 pub returns-clause-keeps : goal.returns-clause-keeps
-returns-clause-keeps g c = λ kept rows till. front_rows g.F.FlatFile c.args.file.now c.cut_to.new.self rows c.args.size till c.cut_to.result (g.met.F.FlatFile.shown c.args.file.now) (c.cut_to.ensures.durable kept)
+returns-clause-keeps g c = λ kept rows till. front_rows g.F.FlatFile c.args.file.now c.cut_to.new.self rows c.args.size
+    till c.cut_to.result (g.met.F.FlatFile.shown c.args.file.now) (c.cut_to.ensures.durable kept)
 
 pub returns-clause-leaves : goal.returns-clause-leaves
 returns-clause-leaves g c = λ kept safe rows others till.
-    cut_left g.F.FlatFile c.args.file.now c.cut_to.new.self rows c.args.size till c.cut_to.result (g.met.F.FlatFile.shown c.args.file.now) (c.cut_to.ensures.durable kept) safe others
+    cut_left g.F.FlatFile c.args.file.now c.cut_to.new.self rows c.args.size till c.cut_to.result
+    (g.met.F.FlatFile.shown c.args.file.now) (c.cut_to.ensures.durable kept) safe others

@@ -6,4 +6,5 @@ use Rattle.fetch_session.proofs.report.kept_lines.Goals as goal
 
 pub returns-clause-kept : goal.returns-clause-kept
 returns-clause-kept c =
-    let e = filter_from_retain _ (λ (line : ReportLine). not (is_deletion line)) (λ p x b q called. search called) _ c.args.lines.items c.retain.new.self.items c.retain.ensures.filtered in search e
+    let e = filter_from_retain _ (λ (line : ReportLine). not (is_deletion line)) (λ p x b q called. search called) _
+    c.args.lines.items c.retain.new.self.items c.retain.ensures.filtered in search e

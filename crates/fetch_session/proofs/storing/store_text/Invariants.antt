@@ -14,8 +14,11 @@ invariant-pieces g l =
     (l.rest.spot ≢ Done)
     × (l.length + 4097 * l.rest.left ≤ 4097 * text_limit)
     × ((text : List ℕ) × (l.length ≡ Rattle.std.specs.Prelude.length text)
-    × (g.D.MaildirDisk.sound l.disk → g.D.MaildirDisk.sound l.fn.disk × (g.D.MaildirDisk.maildir l.disk ≡ begun_with (g.D.MaildirDisk.maildir l.fn.disk) (draft (string_bytes l.fn.stem) text)))
-    × WhereSound g.W.Wire.sound g.W.Wire.leads_to l.fn.client.wire.now l.client.wire.now ((number : ℕ) (start : Place) → Fetching (retr number) start (place_of g.W.Wire l.fn.client) l.fn.body []
+    × (g.D.MaildirDisk.sound l.disk → g.D.MaildirDisk.sound l.fn.disk
+    × (g.D.MaildirDisk.maildir l.disk ≡ begun_with (g.D.MaildirDisk.maildir l.fn.disk)
+    (draft (string_bytes l.fn.stem) text)))
+    × WhereSound g.W.Wire.sound g.W.Wire.leads_to l.fn.client.wire.now l.client.wire.now ((number : ℕ) (start : Place)
+    → Fetching (retr number) start (place_of g.W.Wire l.fn.client) l.fn.body []
     → Fetching (retr number) start (place_of g.W.Wire l.client) l.rest text))
     × ((g.W.Wire.history l.client.wire.now).failures ≡ (g.W.Wire.history l.fn.client.wire.now).failures)
     × HasSameLink l.fn.client l.client

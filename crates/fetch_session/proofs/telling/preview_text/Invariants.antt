@@ -5,4 +5,5 @@ use Rattle.fetch_session.specs.Text.{heading}
 use Rattle.fetch_session.proofs.telling.preview_text.Given as goal
 
 abbrev pub invariant-loop-message_preview : goal.invariant-loop-message_preview
-invariant-loop-message_preview l = string_bytes l.text ≡ heading l.settings ++ flat_map (message_preview_text l.preview.total) (take l.message_preview-index l.message_preview-items)
+invariant-loop-message_preview l = string_bytes l.text ≡ heading l.settings ++ flat_map
+    (message_preview_text l.preview.total) (take l.message_preview-index l.message_preview-items)

@@ -4,4 +4,5 @@ use Rattle.fetch_session.specs.Text.{heading, line_text}
 use Rattle.fetch_session.proofs.text.report_text.Given as goal
 
 abbrev pub invariant-loop-line : goal.invariant-loop-line
-invariant-loop-line l = string_bytes l.text ≡ heading l.settings ++ flat_map (line_text l.settings.verbose l.report.total) (take l.line-index l.line-items)
+invariant-loop-line l = string_bytes l.text ≡ heading l.settings ++ flat_map
+    (line_text l.settings.verbose l.report.total) (take l.line-index l.line-items)

@@ -17,4 +17,5 @@ returns-clause-keeps g c = λ was device found.
 
 pub returns-clause-stays : goal.returns-clause-stays
 returns-clause-stays g c = λ old left device loses found.
-    rw (files_moved left.entries (g.F.MailFolders.directories device.folders).entries found.moves) (left_durable _ _ (left_as old.entries left.entries loses.each))
+    rw (files_moved left.entries (g.F.MailFolders.directories device.folders).entries found.moves)
+    (left_durable _ _ (left_as old.entries left.entries loses.each))

@@ -7,7 +7,8 @@ abbrev pub invariant-loop-rest : goal.invariant-loop-rest
 invariant-loop-rest g l =
     (done : List ℕ) × (l.bytes ≡ done ++ l.rest)
     × (g.F.FileFolder.sound l.folder → g.F.FileFolder.sound l.fn.folder
-    × Becomes (IsAppended done) (disk_at (g.F.FileFolder.directory l.fn.folder) l.name) (disk_at (g.F.FileFolder.directory l.folder) l.name))
+    × Becomes (IsAppended done) (disk_at (g.F.FileFolder.directory l.fn.folder) l.name)
+    (disk_at (g.F.FileFolder.directory l.folder) l.name))
 
 abbrev pub decreases-loop-rest : goal.decreases-loop-rest
 decreases-loop-rest g l = length l.rest

@@ -1,5 +1,5 @@
 use Rattle.std.proofs.Common.{[], refl, inl, inr}
-use Rattle.mail_store.specs.Maildir.{counted}
+use Rattle.mail_store.specs.Maildir.{maildir_refused}
 use Rattle.fetch_session.specs.Target.{no_maildir}
 use Rattle.getmail_program.proofs.doubt.fault_of.Goals as goal
 
@@ -7,4 +7,4 @@ pub returns-in-NotFound : goal.returns-in-NotFound
 returns-in-NotFound c = inr (no_maildir, no_maildir, [], inl (refl, refl, refl))
 
 pub returns-in_default : goal.returns-in_default
-returns-in_default c = inr (no_maildir, counted no_maildir, [], inr (refl, refl))
+returns-in_default c = inr (no_maildir, maildir_refused no_maildir, [], inr (refl, refl))

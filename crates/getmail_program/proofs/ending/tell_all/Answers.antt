@@ -12,5 +12,6 @@ returns-clause-told g c =
       idle = c.is_idle.ensures;
       status = c.status_when-status.ensures.status ∙ ap (λ outcome. status_when outcome c.args.refusal) c.outcome-outcome.ensures;
       found = cut.found;
-      said = said _ _ _ _ _ _ _ (left_out_said c.args.settings.now c.args.errors.now.says_why c.args.told.now) c.tell_left_out.new.errors.err cut unwritten left;
+      said = said _ _ _ _ _ _ _ (left_out_said c.args.settings.now c.args.errors.now.says_why c.args.told.now)
+          c.tell_left_out.new.errors.err cut unwritten left;
     }

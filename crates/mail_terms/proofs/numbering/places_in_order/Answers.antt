@@ -10,9 +10,11 @@ returns-in_default-clause-disagree c =
 pub returns-clause-numbering : goal.returns-clause-numbering
 returns-clause-numbering c =
     let has = rw (← c.deref-slot-items.ensures.value) at c.in_ok-slots.ensures.ok in
-    (numbering_from_places _ _ _ c.loop-slot.places.items has (omega (arith, has.room)) (λ k inside. c.loop-slot.invariant.1 k (omega (arith, has.room)))).0
+    (numbering_from_places _ _ _ c.loop-slot.places.items has (omega (arith, has.room))
+    (λ k inside. c.loop-slot.invariant.1 k (omega (arith, has.room)))).0
 
 pub returns-clause-order : goal.returns-clause-order
 returns-clause-order c =
     let has = rw (← c.deref-slot-items.ensures.value) at c.in_ok-slots.ensures.ok in
-    (numbering_from_places _ _ _ c.loop-slot.places.items has (omega (arith, has.room)) (λ k inside. c.loop-slot.invariant.1 k (omega (arith, has.room)))).1
+    (numbering_from_places _ _ _ c.loop-slot.places.items has (omega (arith, has.room))
+    (λ k inside. c.loop-slot.invariant.1 k (omega (arith, has.room)))).1

@@ -9,7 +9,8 @@ use Rattle.pop3_server.proofs.commands.leave.Goals as goal
 
 pub remove_at-done-requires : goal.remove_at-done-requires
 remove_at-done-requires g c = λ s.
-    (c.loop-i.invariant.1 s).1 c.loop-i.i c.index-rows-i.result (omega arith) (slice_get_read c.args.rows.now _ c.loop-i.i c.index-rows-i.result refl c.loop-i-test.true c.index-rows-i.is)
+    (c.loop-i.invariant.1 s).1 c.loop-i.i c.index-rows-i.result (omega arith)
+    (slice_get_read c.args.rows.now _ c.loop-i.i c.index-rows-i.result refl c.loop-i-test.true c.index-rows-i.is)
 
 pub loop-i-preserved-then-not-row : goal.loop-i-preserved-then-not-row
 loop-i-preserved-then-not-row g c =
@@ -19,8 +20,12 @@ loop-i-preserved-then-not-row g c =
     let cut = rw (← c.index-rows-i.is) at (drop_more rows i row c.loop-i-test.true) in
     let mail = g.D.Maildrop.mail c.loop-i.drop in (
       rw (cut, c.if-not-row.true) at c.loop-i.invariant.0,
-      λ s. let inv = c.loop-i.invariant.1 s in
-          (inv.0, (λ k r later h. inv.1 k r (omega arith) h), (λ tail end h. inv.2 tail end (rw cut (stays i row (drop (i + 1) rows) mail tail end c.if-not-row.true h)))),
+      λ s. let inv = c.loop-i.invariant.1 s in (
+        inv.0,
+        (λ k r later h. inv.1 k r (omega arith) h),
+        (λ tail end h. inv.2 tail end
+            (rw cut (stays i row (drop (i + 1) rows) mail tail end c.if-not-row.true h))),
+      ),
     )
 
 pub loop-i-preserved : goal.loop-i-preserved
@@ -37,7 +42,9 @@ loop-i-preserved g c =
           let inv = c.loop-i.invariant.1 tried.0 in (
             inv.0,
             (λ k r later h. later_place mail next i k done tried.1 (omega (arith, later)) (inv.1 k r (omega arith) h)),
-            (λ tail end h. rw and_assoc (inv.2 (done && tail) end (rw cut (goes i row (drop (i + 1) rows) mail next done tail end c.if-not-row.false tried.1 h)))),
+            (λ tail end h. rw and_assoc
+                (inv.2 (done && tail) end
+                (rw cut (goes i row (drop (i + 1) rows) mail next done tail end c.if-not-row.false tried.1 h)))),
           ),
     )
 

@@ -3,41 +3,52 @@ use Rattle.std.proofs.lemmas.Simd.{map-map}
 use Rattle.pop3_wire.specs.World.{Message}
 use Rattle.pop3_server.specs.declared.rows.MessageRow.{MessageRow}
 use Rattle.pop3_server.specs.declared.state.State.TheVariants.{Transaction}
-use Rattle.pop3_server.specs.Maildrop.{Listed, Mail, there, entry_of, ListsMessages}
-use Rattle.pop3_server.specs.ServerMachine.{row_of, row_of_entry, Unanswered, Tied}
+use Rattle.pop3_server.specs.Maildrop.{ListedMessage, DropMail, there, listed_message, ListsMessages}
+use Rattle.pop3_server.specs.ServerMachine.{message_row, row_of_entry, Unanswered, Tied}
 use Rattle.pop3_server.proofs.SlotLemmas.{there_map}
 use Rattle.mail_terms.proofs.ErrLemmas.{is_err}
 use Rattle.pop3_server.proofs.commands.open.Goals as goal
 
 -- a row of a listing has its message
-placed : (ms : List Message) (i : ℕ) (row : MessageRow) → slice_get (map row_of ms) i ≡ Some row → (m : Message) × (slice_get (map (λ x. Some x) ms) i ≡ Some (Some m))
+placed : (ms : List Message) (i : ℕ) (row : MessageRow) → slice_get (map message_row ms) i ≡ Some row → (m : Message)
+    × (slice_get (map (λ x. Some x) ms) i ≡ Some (Some m))
 placed [] i row h = cc
 placed (m ∷ ms) zero row h = (m, refl)
 placed (m ∷ ms) (suc i) row h = placed ms i row h
 
-module _ {D Z : Type 0} (sound : D → Type 0) (mail : D → Mail) (old new : D) (entries : Vec Listed Z) (lists : sound new → sound old × ListsMessages (mail old) (Ok entries) (mail new)) where
+module _ {D Z : Type 0} (sound : D → Type 0) (mail : D
+    → DropMail) (old new : D) (entries : Vec ListedMessage Z) (lists : sound new → sound old
+    × ListsMessages (mail old) (Ok entries) (mail new)) where
   unanswered_listing : (mail new).failures ≡ (mail old).failures → (mail new).removals ≡ (mail old).removals → Unanswered sound mail old new
   unanswered_listing failures removals = record {
     failures = failures;
     removals = removals;
-    messages = λ s. let l = lists s in (l.0, ap (λ (m : Mail). there m.slots) l.1.0 ∙ there_map (there (mail old).slots));
+    messages = λ s. let l = lists s in (l.0, ap (λ (m : DropMail). there m.slots) l.1.0 ∙ there_map (there (mail old).slots));
   }
 
-  rows_are : {rows : List MessageRow} → rows ≡ map row_of_entry entries.items → sound new → rows ≡ map row_of (there (mail old).slots)
-  rows_are are s = are ∙ ap (map row_of_entry) (lists s).1.1 ∙ map-map row_of_entry entry_of (there (mail old).slots)
+  rows_are : {rows : List MessageRow} → rows ≡ map row_of_entry entries.items → sound new → rows ≡ map message_row (there (mail old).slots)
+  rows_are are s = are ∙ ap (map row_of_entry) (lists s).1.1 ∙ map-map row_of_entry listed_message (there (mail old).slots)
 
   tied_open : (rows : List MessageRow) → rows ≡ map row_of_entry entries.items → Tied (sound new) (mail new) (Transaction rows)
   tied_open rows are = λ s i row h.
       let p = placed (there (mail old).slots) i row (rw (rows_are are s) at h) in
-      (p.0, ap (λ (m : Mail). slice_get m.slots i) (lists s).1.0 ∙ p.1)
+      (p.0, ap (λ (m : DropMail). slice_get m.slots i) (lists s).1.0 ∙ p.1)
 
 pub returns-in_err-rows-clause-err : goal.returns-in_err-rows-clause-err
 returns-in_err-rows-clause-err g c =
-    rw (is_err c.from_residual-in_err-rows.result c.from_residual-in_err-rows.ensures.1) (refl, unanswered_listing _ _ _ _ c.in-Ok.entries c.in-Ok.ensures.lists c.in-Ok.ensures.tally c.in-Ok.ensures.removes_none)
+    rw (is_err c.from_residual-in_err-rows.result c.from_residual-in_err-rows.ensures.1) (
+      refl,
+      unanswered_listing _ _ _ _ c.in-Ok.entries c.in-Ok.ensures.lists c.in-Ok.ensures.tally
+          c.in-Ok.ensures.removes_none,
+    )
 
 pub returns-in_err-reply-clause-err : goal.returns-in_err-reply-clause-err
 returns-in_err-reply-clause-err g c =
-    rw (is_err c.from_residual-in_err-reply.result c.from_residual-in_err-reply.ensures.1) (c.in_err-reply.ensures.err, unanswered_listing _ _ _ _ c.in-Ok.entries c.in-Ok.ensures.lists c.in-Ok.ensures.tally c.in-Ok.ensures.removes_none)
+    rw (is_err c.from_residual-in_err-reply.result c.from_residual-in_err-reply.ensures.1) (
+      c.in_err-reply.ensures.err,
+      unanswered_listing _ _ _ _ c.in-Ok.entries c.in-Ok.ensures.lists
+          c.in-Ok.ensures.tally c.in-Ok.ensures.removes_none,
+    )
 
 pub returns-clause-ok : goal.returns-clause-ok
 returns-clause-ok g c = λ state. rw c.go-2.ensures (record {
@@ -48,9 +59,19 @@ returns-clause-ok g c = λ state. rw c.go-2.ensures (record {
     rw c.as_slice.ensures.value at c.in_ok-reply.ensures.ok,
     refl,
     λ s.
-        let l = c.in-Ok.ensures.lists s in (l.0, (l.1.0, rows_are g.D.Maildrop.sound g.D.Maildrop.mail c.args.drop.now c.entries.new.self c.in-Ok.entries c.in-Ok.ensures.lists c.in_ok-rows.ensures.rows s)),
+        let l = c.in-Ok.ensures.lists s
+        in (
+          l.0,
+          (
+            l.1.0,
+            rows_are g.D.Maildrop.sound g.D.Maildrop.mail c.args.drop.now c.entries.new.self
+                c.in-Ok.entries c.in-Ok.ensures.lists c.in_ok-rows.ensures.rows s,
+          ),
+        ),
   );
 })
 
 pub returns-clause-tied : goal.returns-clause-tied
-returns-clause-tied g c = λ state. rw c.go-2.ensures (tied_open g.D.Maildrop.sound g.D.Maildrop.mail c.args.drop.now c.entries.new.self c.in-Ok.entries c.in-Ok.ensures.lists c.in_ok-rows.rows c.in_ok-rows.ensures.rows)
+returns-clause-tied g c =
+    λ state. rw c.go-2.ensures (tied_open g.D.Maildrop.sound g.D.Maildrop.mail c.args.drop.now c.entries.new.self
+    c.in-Ok.entries c.in-Ok.ensures.lists c.in_ok-rows.rows c.in_ok-rows.ensures.rows)

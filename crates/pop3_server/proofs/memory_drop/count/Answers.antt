@@ -5,5 +5,6 @@ use Rattle.pop3_server.proofs.memory_drop.count.Goals.{in-None, in-Some}
 
 pub loop-slot-preserved : goal.loop-slot-preserved
 loop-slot-preserved c =
-    let more = simp length-append at (ap length (there_more c.args.slots.now c.loop-slot.slot-index _ c.loop-slot-test.true c.slot-item.is)) in
+    let more = simp length-append at
+    (ap length (there_more c.args.slots.now c.loop-slot.slot-index _ c.loop-slot-test.true c.slot-item.is)) in
     elim c.match-slot.branch [ in-None w ↦ grind (arith, rw w.in-None.is at more) | in-Some w ↦ grind (arith, rw w.in-Some.is at more) ]

@@ -15,7 +15,11 @@ invariant-loop-bytes g l = ((g.W.Wire.history l.wire).failures ≡ (g.W.Wire.his
     × (l.closing ≡ not (is_open l.server.state))
     × IfSome l.rest (λ text. (0 < text.start) × (98309 ≤ vec_capacity l.bytes))
     × ((sent : List ℕ) × MakesAnswer g.D.Maildrop.sound g.D.Maildrop.mail l.fn.server l.fn.line (sent ++ l.bytes.items) l.rest l.server
-    × WhereSound g.W.Wire.sound g.W.Wire.leads_to l.fn.wire l.wire (g.W.Wire.history l.wire ≡ record (g.W.Wire.history l.fn.wire) { sent = (g.W.Wire.history l.fn.wire).sent ++ sent }))
+    × WhereSound g.W.Wire.sound g.W.Wire.leads_to l.fn.wire l.wire
+    (g.W.Wire.history l.wire ≡ record (g.W.Wire.history l.fn.wire) {
+      sent =
+          (g.W.Wire.history l.fn.wire).sent ++ sent;
+    }))
 
 abbrev pub decreases-loop-bytes : goal.decreases-loop-bytes
 decreases-loop-bytes g l = to_come l.rest

@@ -11,10 +11,12 @@ returns-then-is_end_mark-clause-found c =
 pub loop-line-preserved : goal.loop-line-preserved
 loop-line-preserved c =
     let text : c.push.new.self.items ≡ c.loop-line.text.items ++ kept c.in-Some.line.now =
-    c.in_ok-push.ensures.items ∙ ap (λ (t : List ℕ). t ++ 10 ∷ []) (c.in_ok-extend_from_slice.ensures.items ∙ ap (λ (t : List ℕ). c.loop-line.text.items ++ t) c.without_dot.ensures)
+    c.in_ok-push.ensures.items ∙ ap (λ (t : List ℕ). t ++ 10 ∷ []) (c.in_ok-extend_from_slice.ensures.items
+    ∙ ap (λ (t : List ℕ). c.loop-line.text.items ++ t) c.without_dot.ensures)
     ∙ append_assoc c.loop-line.text.items (unstuffed c.in-Some.line.now) (10 ∷ []) in
     subst (λ (t : List ℕ). Reads c.args.bytes.now c.in-Some.after.now t) (sym text)
-    (reads_more _ _ _ _ _ c.loop-line.invariant c.in-Some.ensures.found.0 c.in-Some.ensures.found.1 (λ e. false≢true (c.if-is_end_mark.ensures.1 e)))
+    (reads_more _ _ _ _ _ c.loop-line.invariant c.in-Some.ensures.found.0 c.in-Some.ensures.found.1
+    (λ e. false≢true (c.if-is_end_mark.ensures.1 e)))
 
 pub returns-clause-none : goal.returns-clause-none
 returns-clause-none c = no_body _ _ _ c.loop-line.invariant c.in_default.ensures.none

@@ -9,7 +9,8 @@ use Rattle.pop3_wire.proofs.command_line.cut_word.Goals as goal
 
 -- a line without a space is one word
 one_word : (bytes : List ℕ) → position_or_len is_space bytes ≡ length bytes → slice_split is_space bytes ≡ bytes ∷ []
-one_word bytes h = slice_split_none is_space bytes (All-from_get_or (λ x. is_space x ≡ false) bytes 0 (λ k lt. fails_before_first is_space bytes k 0 (omega arith)))
+one_word bytes h = slice_split_none is_space bytes (All-from_get_or (λ x. is_space x ≡ false) bytes 0
+    (λ k lt. fails_before_first is_space bytes k 0 (omega arith)))
 
 pub returns-then-length-bytes-clause-rest : goal.returns-then-length-bytes-clause-rest
 returns-then-length-bytes-clause-rest c =
@@ -19,4 +20,5 @@ returns-then-length-bytes-clause-rest c =
 pub returns-clause-rest : goal.returns-clause-rest
 returns-clause-rest c =
     let lt : position_or_len is_space c.args.bytes.now < length c.args.bytes.now = omega arith in
-    rw (take_rest c.args.bytes.now (c.field_length-length.result + 1), c.field_length-length.ensures.value) (slice_split_first is_space c.args.bytes.now 0 lt, refl)
+    rw (take_rest c.args.bytes.now (c.field_length-length.result + 1), c.field_length-length.ensures.value)
+    (slice_split_first is_space c.args.bytes.now 0 lt, refl)

@@ -12,13 +12,15 @@ pub returns-in-13-byte-clause-reached : goal.returns-in-13-byte-clause-reached
 returns-in-13-byte-clause-reached c bytes text h = rw c.in-13-byte.is (dot_cr (rw c.in-Dot.is at h))
 
 pub returns-in_default-byte-clause-reached : goal.returns-in_default-byte-clause-reached
-returns-in_default-byte-clause-reached c bytes text h = in_line (c.args.byte ∷ []) c.args.byte (rw c.in-Dot.is at h) (λ e. omega arith) (inr NoCr-dot) (λ e. cc) refl
+returns-in_default-byte-clause-reached c bytes text h = in_line (c.args.byte ∷ []) c.args.byte (rw c.in-Dot.is at h)
+    (λ e. omega arith) (inr NoCr-dot) (λ e. cc) refl
 
 pub returns-in-13-byte-2-clause-reached : goal.returns-in-13-byte-2-clause-reached
 returns-in-13-byte-2-clause-reached c bytes text h = rw c.in-13-byte-2.is (at_cr (13 ∷ []) (rw c.in-DotCr.is at h) (λ e. cc) refl)
 
 pub returns-in_default-byte-2-clause-reached : goal.returns-in_default-byte-2-clause-reached
-returns-in_default-byte-2-clause-reached c bytes text h = in_line (13 ∷ c.args.byte ∷ []) c.args.byte (rw c.in-DotCr.is at h) (λ e. omega arith) (inl (λ e. omega arith)) (λ e. cc) refl
+returns-in_default-byte-2-clause-reached c bytes text h = in_line (13 ∷ c.args.byte ∷ []) c.args.byte
+    (rw c.in-DotCr.is at h) (λ e. omega arith) (inl (λ e. omega arith)) (λ e. cc) refl
 
 pub returns-in-13-byte-3-clause-reached : goal.returns-in-13-byte-3-clause-reached
 returns-in-13-byte-3-clause-reached c bytes text h = rw c.in-13-byte-3.is (middle_cr (rw c.in-Middle.is at h))

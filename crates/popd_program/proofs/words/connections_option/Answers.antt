@@ -8,7 +8,8 @@ use Rattle.popd_program.proofs.words.connections_option.Goals as goal
 pub returns-clause-rule : goal.returns-clause-rule
 returns-clause-rule c =
     let given = c.value_parser-2.ensures.given in
-    let parser_is : c.value_parser-2.result.value_parser ≡ Some (Signed (pos 0) (pos 4294967295)) = given.1 ∙ ap Some (given.2 ∙ c.value_parser.ensures) in
+    let parser_is : c.value_parser-2.result.value_parser ≡ Some (Signed (pos 0) (pos 4294967295)) = given.1
+    ∙ ap Some (given.2 ∙ c.value_parser.ensures) in
     ap rule_of c.value_parser-2.ensures.others
     ∙ ap (λ (rule : Rule). record rule { parser = c.value_parser-2.result.value_parser }) c.long_value_option.ensures.rule
     ∙ ap (λ parser. record (long_value_rule (codes "connections")) { parser = parser }) parser_is

@@ -6,4 +6,5 @@ use Rattle.rc_file.proofs.warning.find_warnings.Given as goal
 
 abbrev pub invariant-loop-row : goal.invariant-loop-row
 invariant-loop-row l =
-    IsFinding (warnings_in (rows_in l.rows)) (map warned (filter has_no_effect (rows_in (drop l.row-index l.rows)))) (map warning_of l.warnings.items) l.told
+    IsFinding (warnings_in (rows_in l.rows)) (map warned (filter has_no_effect (rows_in (drop l.row-index l.rows))))
+    (map warning_of l.warnings.items) l.told

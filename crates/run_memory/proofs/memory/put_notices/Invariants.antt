@@ -1,7 +1,7 @@
 use Rattle.std.proofs.Common.{◌≡◌, ◌++◌, take, flat_map}
 use Rattle.run_memory.specs.Lines.{notice_line}
-use Rattle.run_memory.specs.Memory.{ended}
+use Rattle.run_memory.specs.Memory.{with_lf}
 use Rattle.run_memory.proofs.memory.put_notices.Given as goal
 
 abbrev pub invariant-loop-key : goal.invariant-loop-key
-invariant-loop-key l = l.text.items ≡ l.initial.text.items ++ flat_map (λ key. ended (notice_line key)) (take l.key-index l.notices)
+invariant-loop-key l = l.text.items ≡ l.initial.text.items ++ flat_map (λ key. with_lf (notice_line key)) (take l.key-index l.notices)

@@ -1,5 +1,5 @@
 use Rattle.std.proofs.Common.{List, Some, ap, sym, string_bytes, ◌∙◌}
-use Rattle.test_devices.specs.MemoryFolder.{blob_of, entries_of}
+use Rattle.test_devices.specs.MemoryFolder.{blob_of, folder_entries}
 use Rattle.test_devices.proofs.MemoryFiles.{Pair, found_at, not_found, push_placed, set_placed}
 use Rattle.test_devices.proofs.memory_folder.place.Goals as goal
 
@@ -19,7 +19,7 @@ returns-in-Some-clause-was c =
 pub returns-in_ok-push-in-None-clause-placed : goal.returns-in_ok-push-in-None-clause-placed
 returns-in_ok-push-in-None-clause-placed c =
     let none = rw (c.deref.ensures.value, c.as_str.ensures.value) at (not_found _ _ c.in-None.ensures.none) in
-    ap (λ (fs : List Pair). entries_of fs) c.in_ok-push-in-None.ensures.items ∙ push_placed _ (c.args.name, c.args.file) none
+    ap (λ (fs : List Pair). folder_entries fs) c.in_ok-push-in-None.ensures.items ∙ push_placed _ (c.args.name, c.args.file) none
 
 pub returns-in_ok-push-in-None-clause-was : goal.returns-in_ok-push-in-None-clause-was
 returns-in_ok-push-in-None-clause-was c =

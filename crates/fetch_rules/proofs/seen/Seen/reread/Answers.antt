@@ -15,5 +15,6 @@ returns-clause-rows g c = record {
 pub invariant_of-self-2 : goal.invariant_of-self-2
 invariant_of-self-2 g c = (
   c.in-Ok.ensures.is_record,
-  rw c.in-Ok-copied.ensures (open_has_row c.args.bytes.now (version_of c.in-Ok.read.0.older) c.read.new.self (open_seen c.in-Ok.read.0.intent) c.in-Ok.read.1 c.in-Ok.ensures.ok),
+  rw c.in-Ok-copied.ensures (open_has_row c.args.bytes.now (version_of c.in-Ok.read.0.older) c.read.new.self
+      (open_seen c.in-Ok.read.0.intent) c.in-Ok.read.1 c.in-Ok.ensures.ok),
 )

@@ -3,11 +3,14 @@ use Rattle.fetch_rules.proofs.LineLemmas.{line_split, behind_id, number_behind}
 use Rattle.fetch_rules.proofs.seen.line.read_row.Goals as goal
 
 pub returns-in_err-uid-clause-none : goal.returns-in_err-uid-clause-none
-returns-in_err-uid-clause-none c = rw c.from_residual.ensures (λ row behind is line. c.in_err-uid.ensures.none row.uid _ is.legal (line ∙ line_split row behind))
+returns-in_err-uid-clause-none c = rw c.from_residual.ensures
+    (λ row behind is line. c.in_err-uid.ensures.none row.uid _ is.legal (line ∙ line_split row behind))
 
 pub returns-in_err-first_seen-clause-none : goal.returns-in_err-first_seen-clause-none
 returns-in_err-first_seen-clause-none c = rw c.from_residual-in_err-first_seen.ensures (λ row behind is line.
-    c.in_err-first_seen.ensures.none row.first_seen _ is.fits (behind_id _ _ _ row.uid _ c.in_ok-uid.ensures.legal is.legal c.in_ok-uid.ensures.found (line ∙ line_split row behind)))
+    c.in_err-first_seen.ensures.none row.first_seen _ is.fits
+    (behind_id _ _ _ row.uid _ c.in_ok-uid.ensures.legal is.legal c.in_ok-uid.ensures.found (line
+    ∙ line_split row behind)))
 
 pub returns-in_err-delivered-clause-none : goal.returns-in_err-delivered-clause-none
 returns-in_err-delivered-clause-none c = rw c.from_residual-in_err-delivered.ensures (λ row behind is line.

@@ -1,6 +1,6 @@
 use Rattle.std.proofs.Common.{◌∙◌, ◌++◌, ◌∷◌, [], sym, ap, refl, List, ℕ, append-nil}
 use Rattle.fetch_rules.specs.Record.{Row}
-use Rattle.fetch_rules.specs.RecordFile.{line_of}
+use Rattle.fetch_rules.specs.RecordFile.{record_row_line}
 use Rattle.fetch_rules.specs.Rows.{row_from}
 use Rattle.fetch_rules.proofs.seen.line.row_group.Goals as goal
 
@@ -8,4 +8,5 @@ pub returns : goal.returns
 returns c =
     let row : Row = row_from c.args.uid.now c.args.state in
     c.group.ensures (row ∷ []) refl
-    (append-nil (line_of row) ∙ sym (c.deref.ensures.value ∙ c.in_ok-write_line.ensures ∙ ap (λ (xs : List ℕ). xs ++ line_of row) c.new-line.ensures.items))
+    (append-nil (record_row_line row) ∙ sym (c.deref.ensures.value ∙ c.in_ok-write_line.ensures
+    ∙ ap (λ (xs : List ℕ). xs ++ record_row_line row) c.new-line.ensures.items))

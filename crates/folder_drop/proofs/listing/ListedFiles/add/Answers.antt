@@ -1,6 +1,6 @@
 use Rattle.std.proofs.Common.{◌<◌, arith, length, map}
 use Rattle.pop3_server.specs.Maildrop.{max_count}
-use Rattle.folder_drop.specs.RealMaildir.{id_of_name, name_of, names_of}
+use Rattle.folder_drop.specs.RealMaildir.{id_of_name, listed_name, listed_names}
 use Rattle.folder_drop.proofs.MaildirLemmas.{listed_more, seen_more, seen_same}
 use Rattle.folder_drop.proofs.listing.ListedFiles.add.Goals as goal
 use Rattle.folder_drop.proofs.listing.ListedFiles.add.Goals.{in-Some+in_ok-insert, in_default}
@@ -9,8 +9,8 @@ pub returns : goal.returns
 returns c = λ next few small listed.
     let old = c.args.self.now.long_ids in
     let files = c.args.self.now.files.items in
-    let ids = map id_of_name (names_of files) in
-    let id = id_of_name (name_of c.args.file) in
+    let ids = map id_of_name (listed_names files) in
+    let id = id_of_name (listed_name c.args.file) in
     let ok = c.args.self.now.files.ok in
     let room : length files < max_count = omega (arith, few, ok) in
     elim c.match-long_id.branch [

@@ -3,18 +3,20 @@ use Rattle.mail_terms.specs.MaildirName.{base}
 use Rattle.pop3_server.specs.Maildrop.{max_size}
 use Rattle.folder_drop.specs.declared.listed_file.ListedFile.{ListedFile}
 use Rattle.folder_drop.specs.Listing.{FollowsLast}
-use Rattle.folder_drop.specs.MaildirNames.{IsKey, id_of}
-use Rattle.folder_drop.specs.RealMaildir.{name_of}
+use Rattle.folder_drop.specs.MaildirNames.{IsIdKey, id_of}
+use Rattle.folder_drop.specs.RealMaildir.{listed_name}
 use Rattle.folder_drop.proofs.maildir_drop.MaildirDrop.list.Goals as goal
 
 pub loop-file-preserved : goal.loop-file-preserved
 loop-file-preserved g c =
-    let named : c.base-base.result.now ≡ base (name_of c.of.result) = c.base-base.ensures ∙ sym (ap (λ (file : ListedFile). base (name_of file)) c.of.ensures) in
+    let named : c.base-base.result.now ≡ base (listed_name c.of.result) = c.base-base.ensures
+    ∙ sym (ap (λ (file : ListedFile). base (listed_name file)) c.of.ensures) in
     let within = rw c.in-Some-size.is at c.in_ok-size.ensures.within in
     let sized = ap (λ (file : ListedFile). file.size) c.of.ensures in
     let small : c.of.result.size ≤ max_size = omega (arith, within, sized) in
     c.in_ok-add.ensures (record {
       behind = subst (λ (name : List ℕ). FollowsLast c.loop-file.listed.files.items name) named (c.if-not-admit.ensures.behind refl);
-      is_key = subst (λ (name : List ℕ). IsKey c.in_ok-long_id.long_id (id_of name)) (c.as_bytes.ensures.value ∙ named) c.in_ok-long_id.ensures;
+      is_key = subst (λ (name : List ℕ). IsIdKey c.in_ok-long_id.long_id (id_of name)) (c.as_bytes.ensures.value
+          ∙ named) c.in_ok-long_id.ensures;
       unseen = c.if-not-admit.ensures.unseen refl;
     }) (c.if-is_full.ensures refl) small c.loop-file.invariant

@@ -8,5 +8,6 @@ returns-clause-lists g c = rw c.tally.ensures.same (λ s.
     let begun = option_map string_bytes c.args.self.now.begun in
     let t = c.told_names.ensures.tells s.0 in (
       (t.0, c.in_ok-admit.ensures.admitted),
-      told_names IsPermutation All (λ names told t. subst (IsPermutation names) (sym t.2) t.1) _ _ begun _ c.tally.new.failures c.told_names.result t.1 c.told_names.ensures.fault c.tally.ensures.counted,
+      told_names IsPermutation All (λ names told t. subst (IsPermutation names) (sym t.2) t.1) _ _ begun _
+          c.tally.new.failures c.told_names.result t.1 c.told_names.ensures.fault c.tally.ensures.counted,
     ))

@@ -22,5 +22,8 @@ returns-clause-settles g c = rw c.take-begun.ensures.after (λ s.
 pub returns-then-is_none-clause-settles : goal.returns-then-is_none-clause-settles
 returns-then-is_none-clause-settles g c = rw c.take-begun.ensures.after (λ s.
     let begun = option_map string_bytes c.args.self.now.begun in
-    let gone = c.discard.ensures s.0 in
-    ((gone.0, c.in_default.ensures.admitted), λ f h. inl (rw c.refuse.ensures.counted (maildir_dropped _ _ begun c.args.self.now.failures _ (gives_up _ _ gone.1)))))
+    let gone = c.discard.ensures s.0 in (
+      (gone.0, c.in_default.ensures.admitted),
+      λ f h. inl
+          (rw c.refuse.ensures.counted (maildir_dropped _ _ begun c.args.self.now.failures _ (gives_up _ _ gone.1))),
+    ))

@@ -1,17 +1,22 @@
 use Rattle.std.proofs.Common.{◌≤◌, ◌+◌, ◌++◌, [], length, drop, refl, arith, take-append-drop}
-use Rattle.pop3_server.specs.ServerMachine.{greeting}
+use Rattle.pop3_server.specs.ServerMachine.{greeting_line}
 use Rattle.local_fetch.specs.LoopLaws.{same_refl, serves_none}
 use Rattle.local_fetch.proofs.LoopLemmas.{nothing_sent, Gives, gives, refused}
 use Rattle.local_fetch.proofs.loop_wire.LoopWireWire.recv.Goals.{After-copy_from_slice}
 use Rattle.local_fetch.proofs.loop_wire.LoopWireWire.recv.Goals as goal
 
 pub returns-then-self-clause-got : goal.returns-then-self-clause-got
-returns-then-self-clause-got g c = refused c.args.self.now [] (nothing_sent g.D.Maildrop.sound g.D.Maildrop.mail c.args.self.now) c.refuse.ensures.counted c.refuse.ensures.same
+returns-then-self-clause-got g c =
+    refused c.args.self.now [] (nothing_sent g.D.Maildrop.sound g.D.Maildrop.mail c.args.self.now)
+    c.refuse.ensures.counted c.refuse.ensures.same
 
-given : (g : _) (c : After-copy_from_slice g) → Gives (greeting ++ c.self.inside.answers.items) (c.copy_from_slice.new.self ++ drop c.min-n.result c.args.buf.now) c.self.inside.given c.min-n.result
+given : (g : _) (c : After-copy_from_slice g)
+    → Gives (greeting_line ++ c.self.inside.answers.items)
+    (c.copy_from_slice.new.self ++ drop c.min-n.result c.args.buf.now) c.self.inside.given c.min-n.result
 given g c =
     let few : c.min-n.result ≤ length c.piece-piece.result.now = omega (arith, c.min-n.ensures) in
-    gives (greeting ++ c.self.inside.answers.items) c.piece-piece.result.now c.piece-piece.ensures.begins.0 c.copy_from_slice.new.self c.args.buf.now c.self.inside.given c.min-n.result c.self.invariant.1
+    gives (greeting_line ++ c.self.inside.answers.items) c.piece-piece.result.now c.piece-piece.ensures.begins.0
+    c.copy_from_slice.new.self c.args.buf.now c.self.inside.given c.min-n.result c.self.invariant.1
     (rw (← c.self.view_is) at c.piece-piece.ensures.begins.1) few c.copy_from_slice.ensures.after
 
 pub invariant_of-self : goal.invariant_of-self
@@ -22,7 +27,8 @@ returns-clause-got g c =
     let r = c.self.inside in
     rw (← c.self.view_is) (λ below. (
       below,
-      serves_none _ _ _ _ (same_refl _ _ _) refl refl refl (λ _. take-append-drop (r.given + c.min-n.result) (greeting ++ r.answers.items)) (λ _. refl) (λ e. e),
+      serves_none _ _ _ _ (same_refl _ _ _) refl refl refl
+          (λ _. take-append-drop (r.given + c.min-n.result) (greeting_line ++ r.answers.items)) (λ _. refl) (λ e. e),
       rw ((given g (goal.at.returns-clause-got g c).After-copy_from_slice).1),
     ))
 

@@ -8,4 +8,11 @@ pub returns : goal.returns
 returns c = λ q.
     let digits = c.in-Some.digits.now in
     let added = c.in_ok-insert.ensures.updates.0 (record c.in-Some.digits { now = q }) in
-    rw (sym c.stem.ensures ∙ c.in-Some.ensures, same_digits c.args.account.now q digits, ← nat_list_eq_equiv.symm digits q, ← is_eq-slice_cmp digits q, added) (grind arith)
+    rw (
+      sym c.stem.ensures ∙ c.in-Some.ensures,
+      same_digits c.args.account.now q digits,
+      ← nat_list_eq_equiv.symm digits
+          q,
+      ← is_eq-slice_cmp digits q,
+      added,
+    ) (grind arith)

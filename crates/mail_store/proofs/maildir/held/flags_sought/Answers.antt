@@ -8,7 +8,8 @@ pub loop-i-preserved : goal.loop-i-preserved
 loop-i-preserved c =
     let none : Item = record { uid = []; size = 0 } in
     c.in_ok-push.ensures.items ∙ rw (c.loop-i.invariant, c.in_ok-is_asked.ensures, c.uid.ensures.value none)
-    (sym (sought_more (has_text c.args.found.now) c.args.listing.now c.args.flags.now c.loop-i.i none _ (omega (arith, c.loop-i-test.true, c.len-i-end.ensures.count)) c.requires))
+    (sym (sought_more (has_text c.args.found.now) c.args.listing.now c.args.flags.now c.loop-i.i none _
+    (omega (arith, c.loop-i-test.true, c.len-i-end.ensures.count)) c.requires))
 
 pub returns-clause-length : goal.returns-clause-length
 returns-clause-length c =

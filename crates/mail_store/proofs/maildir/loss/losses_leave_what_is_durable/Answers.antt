@@ -18,5 +18,13 @@ pub returns-clause-durable : goal.returns-clause-durable
 returns-clause-durable c = λ old new loses. left_durable old.files new.files loses.files
 
 pub returns-clause-possible : goal.returns-clause-possible
-returns-clause-possible c = λ old.
-    (record old { files = map secured old.files; begun = None }, record { there = refl; files = all_may_be_left old.files; begun = refl; taken = refl })
+returns-clause-possible c = λ old. (
+  record old { files = map secured old.files; begun = None },
+  record {
+    there = refl;
+    files =
+        all_may_be_left old.files;
+    begun = refl;
+    taken = refl;
+  },
+)

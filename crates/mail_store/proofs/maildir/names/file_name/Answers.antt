@@ -6,4 +6,11 @@ pub returns-clause-short : goal.returns-clause-short
 returns-clause-short c =
     let name = string_bytes c.in_ok-name.name in
     let digits = length-decimal-le 20 c.args.size (omega arith) (omega arith) c.ranges.size.fits in
-    rw c.add_size.ensures (omega (arith, length-append (name ++ codes ",S=") (decimal c.args.size), length-append name (codes ",S="), digits, c.in_ok-name.ensures.short))
+    rw c.add_size.ensures (omega (
+      arith,
+      length-append (name ++ codes ",S=") (decimal c.args.size),
+      length-append name
+          (codes ",S="),
+      digits,
+      c.in_ok-name.ensures.short,
+    ))

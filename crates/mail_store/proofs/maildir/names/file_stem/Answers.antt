@@ -8,7 +8,14 @@ pub returns-clause-short : goal.returns-clause-short
 returns-clause-short c =
     let ascii = c.in_ok-push.ensures.ascii (lit< tt) in
     let named : string_bytes c.push_str-2.new.self ≡ stem_of c.args.account.now c.args.uid.now = search (rules, append_assoc) in
-    rw named (omega (arith, length-append c.args.account.now (46 ∷ encode_lower c.args.uid.now), length-encode_with lower_digits c.args.uid.now, c.as_str.ensures.digits.0, (c.legal_ids_have_ranges.ensures c.args.uid.now c.requires).short))
+    rw named (omega (
+      arith,
+      length-append c.args.account.now (46 ∷ encode_lower c.args.uid.now),
+      length-encode_with
+          lower_digits c.args.uid.now,
+      c.as_str.ensures.digits.0,
+      (c.legal_ids_have_ranges.ensures c.args.uid.now c.requires).short,
+    ))
 
 pub returns-clause-room : goal.returns-clause-room
 returns-clause-room c = omega (

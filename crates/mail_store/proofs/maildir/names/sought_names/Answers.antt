@@ -11,4 +11,5 @@ loop-name-preserved c = rw (
   map_more (string_bytes {Z = Global}) c.args.names.now c.loop-name.name-index c.name-item.result c.loop-name-test.true,
   ← c.name-item.is,
 )
-    (sym (filter-append (is_sought c.args.stems.now) (map string_bytes (take c.loop-name.name-index c.args.names.now)) (string_bytes c.name-item.result ∷ [])))
+    (sym (filter-append (is_sought c.args.stems.now) (map string_bytes (take c.loop-name.name-index c.args.names.now))
+    (string_bytes c.name-item.result ∷ [])))

@@ -1,4 +1,5 @@
-use Rattle.std.proofs.Common.{◌≡◌, ◌++◌, ℕ, Some, List, [], inl, inr, length, sym, refl, ap, ◌∙◌, arith, length-append, append-nil, take_at, Ok}
+use Rattle.std.proofs.Common.{◌≡◌, ◌++◌, ℕ, Some, List, [], inl, inr, length, sym, refl, ap, ◌∙◌, arith, length-append}
+use Rattle.std.proofs.Common.{append-nil, take_at, Ok}
 use Rattle.std.proofs.lemmas.Option.{same_Some}
 use Rattle.mail_store.specs.declared.file.flat_file.Edges.{Edges}
 use Rattle.mail_store.specs.Durable.{MayLeave, seen_on}
@@ -15,8 +16,12 @@ pub cut_to-requires : goal.cut_to-requires
 cut_to-requires g c = λ sound.
     let appends = c.in-Err.ensures.appends sound in
     let looks = (c.in_ok-edges.ensures.looks appends.0).1 in
-    let left = (rw looks.1 at appends.1) looks.0.0 looks.0.1.0 in
-    (looks.0.0 ++ left.0, ap (λ (s : Stored). s.content) left.3, omega (arith, ap (λ (e : Edges). e.size) looks.0.2, length-append looks.0.0 left.0))
+    let left = (rw looks.1 at appends.1) looks.0.0 looks.0.1.0 in (
+      looks.0.0 ++ left.0,
+      ap (λ (s : Stored). s.content) left.3,
+      omega
+          (arith, ap (λ (e : Edges). e.size) looks.0.2, length-append looks.0.0 left.0),
+    )
 
 pub returns-in-Ok-clause-appends : goal.returns-in-Ok-clause-appends
 returns-in-Ok-clause-appends g c = λ sound.
@@ -51,7 +56,8 @@ returns-clause-appends g c = λ sound.
 
 -- after the cut, whether it was refused or not
 kept : (g : Over) (c : After-cut_to g) → g.F.FlatFile.sound c.cut_to.new.self
-    → KeepsWhole (g.F.FlatFile.stored c.args.file.now).content (MayLeave (g.F.FlatFile.disk c.args.file.now)) (MayLeave (g.F.FlatFile.disk c.cut_to.new.self))
+    → KeepsWhole (g.F.FlatFile.stored c.args.file.now).content (MayLeave (g.F.FlatFile.disk c.args.file.now))
+    (MayLeave (g.F.FlatFile.disk c.cut_to.new.self))
 kept g c = λ sound bytes is outlives.
     let cuts = c.cut_to.ensures.cuts sound in
     let appends = c.in-Err.ensures.appends cuts.0 in
@@ -59,12 +65,16 @@ kept g c = λ sound bytes is outlives.
     let same = same_Some looks.1.0.0 bytes (sym looks.1.0.1.0 ∙ is) in
     let size : c.in_ok-edges.edges.size ≡ length bytes = ap (λ (e : Edges). e.size) looks.1.0.2 ∙ ap length same in
     let left = (rw looks.1.1 at appends.1) looks.1.0.0 looks.1.0.1.0 in
-    cut_keeps (MayLeave (g.F.FlatFile.disk c.look_at.new.file)) (MayLeave (g.F.FlatFile.disk c.append.new.self)) (MayLeave (g.F.FlatFile.disk c.cut_to.new.self)) bytes
+    cut_keeps (MayLeave (g.F.FlatFile.disk c.look_at.new.file)) (MayLeave (g.F.FlatFile.disk c.append.new.self))
+    (MayLeave (g.F.FlatFile.disk c.cut_to.new.self)) bytes
     left.0 (seen_on (g.F.FlatFile.disk c.append.new.self))
-    (λ left may. outlives left (all_no_more (g.F.FlatFile.disk c.args.file.now) (g.F.FlatFile.disk c.look_at.new.file) (c.in_ok-edges.ensures.durable appends.0) left may))
-    (appends_for_good (g.F.FlatFile.disk c.look_at.new.file) (g.F.FlatFile.disk c.append.new.self) c.deref.result.now c.append.result (c.append.ensures.durable cuts.0)).longer
+    (λ left may. outlives left (all_no_more (g.F.FlatFile.disk c.args.file.now) (g.F.FlatFile.disk c.look_at.new.file)
+    (c.in_ok-edges.ensures.durable appends.0) left may))
+    (appends_for_good (g.F.FlatFile.disk c.look_at.new.file) (g.F.FlatFile.disk c.append.new.self) c.deref.result.now
+    c.append.result (c.append.ensures.durable cuts.0)).longer
     (g.met.F.FlatFile.shown c.append.new.self ∙ ap (λ (s : Stored). s.content) left.3 ∙ ap (λ (l : List ℕ). Some (l ++ left.0)) same)
-    (rw size at (cuts_for_good (g.F.FlatFile.disk c.append.new.self) (g.F.FlatFile.disk c.cut_to.new.self) c.in_ok-edges.edges.size c.cut_to.result (c.cut_to.ensures.durable sound)).front)
+    (rw size at (cuts_for_good (g.F.FlatFile.disk c.append.new.self) (g.F.FlatFile.disk c.cut_to.new.self)
+    c.in_ok-edges.edges.size c.cut_to.result (c.cut_to.ensures.durable sound)).front)
 
 pub returns-in-Ok-cut_to-clause-keeps : goal.returns-in-Ok-cut_to-clause-keeps
 returns-in-Ok-cut_to-clause-keeps g c = kept g (goal.at.returns-in-Ok-cut_to-clause-keeps g c).After-cut_to
@@ -74,19 +84,25 @@ returns-clause-keeps g c = kept g (goal.at.returns-clause-keeps g c).After-cut_t
 
 pub returns-in-Ok-clause-lasts : goal.returns-in-Ok-clause-lasts
 returns-in-Ok-clause-lasts g c = λ sound sure.
-    let before = all_sure (g.F.FlatFile.disk c.args.file.now) (g.F.FlatFile.disk c.look_at.new.file) (c.in_ok-edges.ensures.durable (c.in-Ok.ensures.appends sound).0) sure in
-    (appends_for_good (g.F.FlatFile.disk c.look_at.new.file) (g.F.FlatFile.disk c.append.new.self) c.deref.result.now (Ok (tt {0})) (c.in-Ok.ensures.durable sound)).durable before
+    let before = all_sure (g.F.FlatFile.disk c.args.file.now) (g.F.FlatFile.disk c.look_at.new.file)
+    (c.in_ok-edges.ensures.durable (c.in-Ok.ensures.appends sound).0) sure in
+    (appends_for_good (g.F.FlatFile.disk c.look_at.new.file) (g.F.FlatFile.disk c.append.new.self) c.deref.result.now
+    (Ok (tt {0})) (c.in-Ok.ensures.durable sound)).durable before
 
 pub returns-in-Ok-clause-keeps : goal.returns-in-Ok-clause-keeps
 returns-in-Ok-clause-keeps g c = λ sound bytes is outlives left may.
-    let before = all_no_more (g.F.FlatFile.disk c.args.file.now) (g.F.FlatFile.disk c.look_at.new.file) (c.in_ok-edges.ensures.durable (c.in-Ok.ensures.appends sound).0) in
-    let longer = (appends_for_good (g.F.FlatFile.disk c.look_at.new.file) (g.F.FlatFile.disk c.append.new.self) c.deref.result.now (Ok (tt {0})) (c.in-Ok.ensures.durable sound)).longer in
+    let before = all_no_more (g.F.FlatFile.disk c.args.file.now) (g.F.FlatFile.disk c.look_at.new.file)
+    (c.in_ok-edges.ensures.durable (c.in-Ok.ensures.appends sound).0) in
+    let longer = (appends_for_good (g.F.FlatFile.disk c.look_at.new.file) (g.F.FlatFile.disk c.append.new.self)
+    c.deref.result.now (Ok (tt {0})) (c.in-Ok.ensures.durable sound)).longer in
     longer_keeps _ _ longer bytes (λ left may. outlives left (before left may)) left may
 
 pub returns-in_err-edges-clause-keeps : goal.returns-in_err-edges-clause-keeps
 returns-in_err-edges-clause-keeps g c = λ sound bytes is outlives left may.
-    outlives left ((flushes_for_good (g.F.FlatFile.disk c.args.file.now) (g.F.FlatFile.disk c.look_at.new.file) c.look_at.result (c.look_at.ensures.durable sound)).no_more left may)
+    outlives left ((flushes_for_good (g.F.FlatFile.disk c.args.file.now) (g.F.FlatFile.disk c.look_at.new.file)
+    c.look_at.result (c.look_at.ensures.durable sound)).no_more left may)
 
 pub returns-in_err-make_entry-clause-keeps : goal.returns-in_err-make_entry-clause-keeps
 returns-in_err-make_entry-clause-keeps g c = λ sound bytes is outlives left may.
-    outlives left ((flushes_for_good (g.F.FlatFile.disk c.args.file.now) (g.F.FlatFile.disk c.look_at.new.file) c.look_at.result (c.look_at.ensures.durable sound)).no_more left may)
+    outlives left ((flushes_for_good (g.F.FlatFile.disk c.args.file.now) (g.F.FlatFile.disk c.look_at.new.file)
+    c.look_at.result (c.look_at.ensures.durable sound)).no_more left may)

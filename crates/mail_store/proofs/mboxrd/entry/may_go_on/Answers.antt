@@ -1,4 +1,5 @@
-use Rattle.std.proofs.Common.{◌≡◌, inl, inr, ℕ, ◌+◌, Bool, true, List, [], ◌∷◌, ◌++◌, length, take, drop, sym, ap, ◌∙◌, arith, length-append, bytes_eq}
+use Rattle.std.proofs.Common.{◌≡◌, inl, inr, ℕ, ◌+◌, Bool, true, List, [], ◌∷◌, ◌++◌, length, take, drop, sym, ap, ◌∙◌}
+use Rattle.std.proofs.Common.{arith, length-append, bytes_eq}
 use Rattle.std.proofs.lemmas.List.{drop_at, take-append-drop}
 use Rattle.std.proofs.lemmas.Slice.Eq.{bytes_eq-Decides}
 use Rattle.mail_store.specs.FlatFile.{edges_of}
@@ -24,7 +25,8 @@ ends_decide was test some head e =
       λ yes. inr (heads_tell was head, tails_tell was (sym (tail_is was) ∙ same.0 (sym e ∙ yes))),
       λ goes. elim goes [
         | inl none ↦ absurd (some (ap length none))
-        | inr p ↦ e ∙ same.1 (tail_is was ∙ rw p.1.1 (drop_at (0 ∷ 0 ∷ p.1.0) (10 ∷ 10 ∷ []) _ (omega (arith, length-append p.1.0 (10 ∷ 10 ∷ [])))))
+        | inr p ↦ e ∙ same.1 (tail_is was
+            ∙ rw p.1.1 (drop_at (0 ∷ 0 ∷ p.1.0) (10 ∷ 10 ∷ []) _ (omega (arith, length-append p.1.0 (10 ∷ 10 ∷ [])))))
       ],
     )
 

@@ -10,7 +10,8 @@ returns-in-Some-clause-cuts c =
     let found = c.in-Some.ensures in
     rw (c.split_at.ensures.front, c.split_at.ensures.back)
     (cut_at text c.in-Some.place found.0.high
-    (λ k below at. found.0.before k (omega arith) below ((Decides-eqb (slice_index text k) 10).1 at)) ((Decides-eqb (slice_index text c.in-Some.place) 10).0 found.1))
+    (λ k below at. found.0.before k (omega arith) below ((Decides-eqb (slice_index text k) 10).1 at))
+    ((Decides-eqb (slice_index text c.in-Some.place) 10).0 found.1))
 
 pub returns-in-None-clause-cuts : goal.returns-in-None-clause-cuts
 returns-in-None-clause-cuts c =

@@ -1,4 +1,5 @@
-use Rattle.std.proofs.Common.{◌≡◌, ◌≤◌, List, ℕ, ◌++◌, ◌+◌, ◌-◌, length, take, drop, arith, ap, ◌∙◌, sym, append_assoc, length-append, slice_range}
+use Rattle.std.proofs.Common.{◌≡◌, ◌≤◌, List, ℕ, ◌++◌, ◌+◌, ◌-◌, length, take, drop, arith, ap, ◌∙◌, sym, append_assoc}
+use Rattle.std.proofs.Common.{length-append, slice_range}
 use Rattle.std.proofs.lemmas.List.{drop-append-le, drop-take, length-take-le, take-append-drop, take-take}
 use Rattle.mail_terms.specs.Text.{IsWhole}
 use Rattle.mail_store.specs.Mboxrd.{quoted, quoted_text}
@@ -16,7 +17,9 @@ record Last (text bytes : List ℕ) (start from to : ℕ) : Type 0 where
   less : start ≤ length (quoted_text (take start text))
   shown : quoted_text (drop start text) ≡ quoted line ++ quoted_text (drop from text)
 
-last : (c : After-last_line-start) → Last (take c.args.count c.args.bytes.now.items) c.loop-from.bytes.items c.last_line-start.result c.loop-from.from c.loop-from.to
+last : (c : After-last_line-start)
+    → Last (take c.args.count c.args.bytes.now.items) c.loop-from.bytes.items c.last_line-start.result
+    c.loop-from.from c.loop-from.to
 last c =
     let was = c.loop-from.invariant in
     let text = take c.args.count c.args.bytes.now.items in
@@ -29,14 +32,23 @@ last c =
     let fits : start ≤ from = omega (arith, rw front at c.last_line-start.ensures.fits, size) in
     let whole = rw (front, take-take start from text fits) at c.last_line-start.ensures.front in
     let before = rw (take-take start from text fits) at (take-append-drop start (take from text)) in
-    let behind = ap (drop start) (sym (take-append-drop from text)) ∙ drop-append-le start (take from text) (drop from text) (omega (arith, fits, size)) in
+    let behind = ap (drop start) (sym (take-append-drop from text))
+    ∙ drop-append-le start (take from text) (drop from text) (omega (arith, fits, size)) in
     let sum : start + (from - start) ≡ from = omega (arith, fits) in
     record {
       line = line;
       whole = whole;
       fits = fits;
       taken = rw (← drop-take start (from - start) c.loop-from.bytes.items, sum, was.front);
-      room = omega (arith, ap (λ (l : List ℕ). length (quoted_text l)) before, ap length (quoted_last (take start text) line whole is), length-append (quoted_text (take start text)) (quoted line), was.room);
+      room = omega (
+        arith,
+        ap (λ (l : List ℕ). length (quoted_text l)) before,
+        ap length
+            (quoted_last (take start text) line whole is),
+        length-append (quoted_text (take start text))
+            (quoted line),
+        was.room,
+      );
       less = omega (arith, length-take-le start text (omega (arith, fits, was.fits)), quoted_longer (take start text));
       shown = rw behind (quoted_first line (drop from text) is);
     }
@@ -47,7 +59,18 @@ move_line-to-requires c =
     let line = last (goal.at.move_line-to-requires c).After-last_line-start in
     let text = take c.loop-from.from (take c.args.count c.args.bytes.now.items) in
     record {
-      order = (line.fits, omega (arith, was.room, length-take-le c.loop-from.from (take c.args.count c.args.bytes.now.items) was.fits, quoted_longer text), omega (arith, was.place, was.size, c.requires.fits.1));
+      order = (
+        line.fits,
+        omega (
+          arith,
+          was.room,
+          length-take-le c.loop-from.from
+              (take c.args.count c.args.bytes.now.items) was.fits,
+          quoted_longer text,
+        ),
+        omega
+            (arith, was.place, was.size, c.requires.fits.1),
+      );
       room = omega (arith, line.room, line.less, ap (λ (l : List ℕ). length (quoted l)) line.taken);
     }
 
@@ -64,7 +87,8 @@ loop-from-preserved c =
       fits = omega (arith, line.fits, was.fits);
       size = moved.size ∙ was.size;
       whole = line.whole;
-      front = moved.front ∙ sym (take-take start from c.loop-from.bytes.items line.fits) ∙ ap (take start) was.front ∙ take-take start from text line.fits;
+      front = moved.front ∙ sym (take-take start from c.loop-from.bytes.items line.fits) ∙ ap (take start) was.front
+          ∙ take-take start from text line.fits;
       room = omega (arith, line.room, place);
       place = omega (arith, ap length line.shown, length-append (quoted line.line) (quoted_text (drop from text)), place, was.place);
       back = rw (line.shown, append_assoc (quoted line.line) (quoted_text (drop from text))) (rw (line.taken, was.back) at moved.back);

@@ -16,8 +16,11 @@ parts_of c text held =
     let cut = c.cut_line.ensures.cuts in
     let both : head ∷ lines_of rest ≡ held.head ∷ lines_of (text ++ 10 ∷ []) =
     sym cut.lines ∙ ap lines_of held.split ∙ line_first held.head (text ++ 10 ∷ []) held.begins.0 in
-    let same : head ≡ held.head = cc in
-    (rw same held.begins, append_cancel_left head rest (text ++ 10 ∷ []) (sym cut.whole ∙ held.split ∙ ap (λ (l : List ℕ). l ++ (text ++ 10 ∷ [])) (sym same)))
+    let same : head ≡ held.head = cc in (
+      rw same held.begins,
+      append_cancel_left head rest (text ++ 10 ∷ []) (sym cut.whole ∙ held.split
+          ∙ ap (λ (l : List ℕ). l ++ (text ++ 10 ∷ [])) (sym same)),
+    )
 
 pub returns-in_err-quoted-clause-none : goal.returns-in_err-quoted-clause-none
 returns-in_err-quoted-clause-none c = rw c.from_residual.ensures (λ text held.

@@ -1,10 +1,10 @@
 use Rattle.std.proofs.Common.{length}
-use Rattle.mail_store.specs.MboxCalls.{texts_of}
+use Rattle.mail_store.specs.MboxCalls.{text_bytes}
 use Rattle.mail_store.proofs.MboxLemmas.{ReadsOn}
 use Rattle.mail_store.proofs.mboxrd.reading.read_mbox.Given as goal
 
 abbrev pub invariant-loop-rest : goal.invariant-loop-rest
-invariant-loop-rest l = ReadsOn l.bytes l.rest (texts_of l.texts)
+invariant-loop-rest l = ReadsOn l.bytes l.rest (text_bytes l.texts)
 
 abbrev pub decreases-loop-rest : goal.decreases-loop-rest
 decreases-loop-rest l = length l.rest

@@ -7,11 +7,14 @@ use Rattle.mail_store.proofs.mboxrd.settling.settle_file.Goals.{After-cut_to}
 use Rattle.mail_store.proofs.mboxrd.settling.settle_file.Goals as goal
 
 cut_back : (g : _) (c : After-cut_to g) → g.F.FlatFile.sound c.cut_to.new.self
-    → LeavesFront (g.F.FlatFile.stored c.args.file.now).content c.args.start (MayLeave (g.F.FlatFile.disk c.args.file.now)) (MayLeave (g.F.FlatFile.disk c.cut_to.new.self))
+    → LeavesFront (g.F.FlatFile.stored c.args.file.now).content c.args.start
+    (MayLeave (g.F.FlatFile.disk c.args.file.now)) (MayLeave (g.F.FlatFile.disk c.cut_to.new.self))
 cut_back g c = λ kept was has left may.
     let sound = (c.cut_to.ensures.cuts kept).0 in
-    let law = cuts_for_good (g.F.FlatFile.disk c.look_behind.new.file) (g.F.FlatFile.disk c.cut_to.new.self) c.args.start c.cut_to.result (c.cut_to.ensures.durable kept) in
-    let same = g.met.F.FlatFile.shown c.look_behind.new.file ∙ ap (λ (s : Stored). s.content) (c.in_ok-look_behind.ensures.looks sound).1.1 in
+    let law = cuts_for_good (g.F.FlatFile.disk c.look_behind.new.file) (g.F.FlatFile.disk c.cut_to.new.self)
+    c.args.start c.cut_to.result (c.cut_to.ensures.durable kept) in
+    let same = g.met.F.FlatFile.shown c.look_behind.new.file
+    ∙ ap (λ (s : Stored). s.content) (c.in_ok-look_behind.ensures.looks sound).1.1 in
     ⊎_elim (λ before. inl (c.look_behind.ensures.keeps sound left before)) inr (law.front was (same ∙ has) left may)
 
 pub returns-in_err-cut_to-in-Torn-clause-keeps : goal.returns-in_err-cut_to-in-Torn-clause-keeps

@@ -45,7 +45,8 @@ pub returns-clause-joined : goal.returns-clause-joined
 returns-clause-joined c =
     let ids = c.uids.inside.ids.items in
     let order = rw (c.deref-2.ensures.value, c.in_ok-uid_numbers.ensures, c.deref.ensures.value) at c.in_ok-uid_places.ensures.order in
-    let numbering = rw (c.deref-2.ensures.value, c.in_ok-uid_numbers.ensures, c.deref.ensures.value) at c.in_ok-uid_places.ensures.numbering in
+    let numbering = rw (c.deref-2.ensures.value, c.in_ok-uid_numbers.ensures, c.deref.ensures.value) at
+    c.in_ok-uid_places.ensures.numbering in
     let size_order = rw (c.deref-3.ensures.value, c.in_ok-size_numbers.ensures) at c.in_ok-size_places.ensures.order in
     let size_numbering = rw (c.deref-3.ensures.value, c.in_ok-size_numbers.ensures) at c.in_ok-size_places.ensures.numbering in
     let rows = rw (c.deref-4.ensures.value, c.deref-5.ensures.value, c.deref-6.ensures.value) at c.in_ok-items.ensures.rows in

@@ -25,5 +25,6 @@ returns-clause-ok c =
     ap (λ (bytes : List ℕ). map (row_at bytes) c.push_reserved.new.self.items) grown
     ∙ ap (map (row_at (ids ++ uid))) (c.push_reserved.ensures.items
     ∙ ap (λ (places : List UidPlace). places ++ place ∷ []) c.in_ok-reserve.ensures.items)
-    ∙ row_added ids uid place (omega arith) (omega (arith, ap length grown, length-append ids uid)) c.self.inside.places.items c.self.invariant
+    ∙ row_added ids uid place (omega arith) (omega (arith, ap length grown, length-append ids uid))
+    c.self.inside.places.items c.self.invariant
     ∙ ap (λ (rows : List UidRow). rows ++ record { number = c.args.number; uid = uid } ∷ []) c.self.view_is

@@ -11,7 +11,9 @@ returns-then-has_ended-clause-completes g c = λ s.
 
 pub returns-in_err-piece-clause-completes : goal.returns-in_err-piece-clause-completes
 returns-in_err-piece-clause-completes g c =
-    rw (is_err c.from_residual.result c.from_residual.ensures.1) (and_then g.W.Wire g.met.W.Wire.leads_on c.pieces.invariant.3 c.in_err-piece.ensures.takes (λ before took number start text now.
+    rw (is_err c.from_residual.result c.from_residual.ensures.1)
+    (and_then g.W.Wire g.met.W.Wire.leads_on c.pieces.invariant.3 c.in_err-piece.ensures.takes
+    (λ before took number start text now.
     let mid = before number start text now in took number start mid.0 mid.1))
 
 pub pieces-preserved : goal.pieces-preserved
@@ -24,6 +26,7 @@ pieces-preserved g c = (
 )
 
 pub returns-then-piece-clause-completes : goal.returns-then-piece-clause-completes
-returns-then-piece-clause-completes g c = and_then g.W.Wire g.met.W.Wire.leads_on c.pieces.invariant.3 c.in_ok-piece.ensures.takes (λ before took number start text now.
+returns-then-piece-clause-completes g c = and_then g.W.Wire g.met.W.Wire.leads_on c.pieces.invariant.3
+    c.in_ok-piece.ensures.takes (λ before took number start text now.
     let mid = before number start text now in
     let whole = (took number start mid.0 mid.1).1 c.if-piece.true in (whole.0, whole.1))

@@ -11,7 +11,8 @@ invariant-pieces g l =
     HasSameLink l.fn.self l.self
     × ((g.W.Wire.history l.self.wire.now).failures ≡ (g.W.Wire.history l.fn.self.wire.now).failures)
     × (l.body.spot ≢ Done)
-    × WhereLinkSound g.W.Wire l.fn.self l.self (λ old new. (number : ℕ) (start : Place) (text : List ℕ) → Fetching (retr number) start old l.fn.body text
+    × WhereLinkSound g.W.Wire l.fn.self l.self (λ old new. (number : ℕ) (start : Place) (text : List ℕ)
+    → Fetching (retr number) start old l.fn.body text
     → (more : List ℕ) × Fetching (retr number) start new l.body more)
 
 abbrev pub decreases-pieces : goal.decreases-pieces

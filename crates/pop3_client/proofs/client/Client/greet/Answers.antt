@@ -9,5 +9,9 @@ use Rattle.pop3_client.proofs.client.Client.greet.Goals as goal
 pub returns-clause-asks : goal.returns-clause-asks
 returns-clause-asks g c =
     let old = place_of g.W.Wire c.args.self.now in
-    in_words g.W.Wire c.in_ok-length.ensures.heard (λ hears.
-    (take c.in_ok-length.length c.hear.new.self.reader, rw c.skip.ensures (opened {old = old} greeting (nothing_said old.link) refl (hears greeting refl) (λ gives. absurd (false≢true gives)))))
+    in_words g.W.Wire c.in_ok-length.ensures.heard (λ hears. (
+      take c.in_ok-length.length c.hear.new.self.reader,
+      rw c.skip.ensures
+          (opened {old = old} greeting (nothing_said old.link) refl (hears greeting refl)
+          (λ gives. absurd (false≢true gives))),
+    ))

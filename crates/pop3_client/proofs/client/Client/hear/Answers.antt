@@ -5,16 +5,27 @@ use Rattle.pop3_client.proofs.client.Client.hear.Goals as goal
 
 pub returns-in_err-length-clause-heard : goal.returns-in_err-length-clause-heard
 returns-in_err-length-clause-heard g c =
-    rw (is_err c.from_residual.result c.from_residual.ensures.1) (in_words g.W.Wire c.in_err-length.ensures.waits (λ waits turn names. heard_none c.in_err-length.field-0.0 waits.0.1 waits.1))
+    rw (is_err c.from_residual.result c.from_residual.ensures.1) (in_words g.W.Wire c.in_err-length.ensures.waits
+    (λ waits turn names. heard_none c.in_err-length.field-0.0 waits.0.1 waits.1))
 
 pub returns-in-Ok-Positive-default-clause-heard : goal.returns-in-Ok-Positive-default-clause-heard
 returns-in-Ok-Positive-default-clause-heard g c =
     let first = rw (c.in-Ok-Positive-default.field-0-0-is, c.waiting.ensures.value) at c.in-Ok-Positive-default.ensures.ok in
-    in_words g.W.Wire c.in_ok-length.ensures.waits (λ waits turn names. (waits.0.0, waits.0.1, waits.1.0, waits.1.1, (c.in-Ok-Positive-default.field-0-1.now, first)))
+    in_words g.W.Wire c.in_ok-length.ensures.waits
+    (λ waits turn names. (
+      waits.0.0,
+      waits.0.1,
+      waits.1.0,
+      waits.1.1,
+      (c.in-Ok-Positive-default.field-0-1.now, first),
+    ))
 
 pub returns-in-Ok-Positive-default-clause-positive : goal.returns-in-Ok-Positive-default-clause-positive
-returns-in-Ok-Positive-default-clause-positive g c =
-    (c.in-Ok-Positive-default.field-0-1.now, rw (c.in-Ok-Positive-default.field-0-0-is, c.waiting.ensures.value) at c.in-Ok-Positive-default.ensures.ok)
+returns-in-Ok-Positive-default-clause-positive g c = (
+  c.in-Ok-Positive-default.field-0-1.now,
+  rw (c.in-Ok-Positive-default.field-0-0-is, c.waiting.ensures.value) at
+      c.in-Ok-Positive-default.ensures.ok,
+)
 
 pub returns-in-Ok-Negative-default-clause-heard : goal.returns-in-Ok-Negative-default-clause-heard
 returns-in-Ok-Negative-default-clause-heard g c =
@@ -24,4 +35,5 @@ returns-in-Ok-Negative-default-clause-heard g c =
 
 pub returns-in-Err-clause-heard : goal.returns-in-Err-clause-heard
 returns-in-Err-clause-heard g c =
-    in_words g.W.Wire c.in_ok-length.ensures.waits (λ waits turn names. heard_bad waits.0.1 waits.1.0 turn (rw c.waiting.ensures.value at c.in-Err.ensures.err.1))
+    in_words g.W.Wire c.in_ok-length.ensures.waits
+    (λ waits turn names. heard_bad waits.0.1 waits.1.0 turn (rw c.waiting.ensures.value at c.in-Err.ensures.err.1))

@@ -1,5 +1,5 @@
 use Rattle.pop3_client.specs.Client.{place_of}
-use Rattle.pop3_client.specs.Listing.{rows_in}
+use Rattle.pop3_client.specs.Listing.{rows_taken}
 use Rattle.std.proofs.Common.{◌≡◌, false, refl}
 use Rattle.pop3_client.specs.Turns.{gives_count}
 use Rattle.pop3_client.proofs.TalkLemmas.{lists_of, by_listing}
@@ -9,5 +9,7 @@ use Rattle.pop3_client.proofs.client.Client.listing.Goals as goal
 pub returns-clause-lists : goal.returns-clause-lists
 returns-clause-lists g c =
     and_then g.W.Wire g.met.W.Wire.leads_on c.in_ok-ask.ensures.asks c.rows.ensures.takes (λ asks takes.
-    let begun = asks g.R.ListedRows.turn c.asked.ensures (by_listing (λ turn. gives_count turn ≡ false) refl refl _ g.met.R.ListedRows.is_listing) c.command.ensures in
-    lists_of g.R.ListedRows.turn g.R.ListedRows.stands_for begun.0 _ (place_of g.W.Wire c.ask.new.self) _ (rows_in g.R.ListedRows.rows c.rows.result) begun.1 g.met.R.ListedRows.is_listing takes)
+    let begun = asks g.R.ListedRows.turn c.asked.ensures (by_listing (λ turn. gives_count turn ≡ false) refl refl _
+    g.met.R.ListedRows.is_listing) c.command.ensures in
+    lists_of g.R.ListedRows.turn g.R.ListedRows.stands_for begun.0 _ (place_of g.W.Wire c.ask.new.self) _
+    (rows_taken g.R.ListedRows.rows c.rows.result) begun.1 g.met.R.ListedRows.is_listing takes)

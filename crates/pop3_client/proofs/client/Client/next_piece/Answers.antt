@@ -16,16 +16,20 @@ returns-in-Ok-clause-takes g c =
     (there, λ ended. fetched there (c.in-Ok.ensures.ended.0 ended)))
 
 pub returns-in-Err-Ended-clause-takes : goal.returns-in-Err-Ended-clause-takes
-returns-in-Err-Ended-clause-takes g c = in_words g.W.Wire (rw c.in-Err-Ended.field-0-is at c.in-Err-Ended.ensures.takes) (λ took number start text now.
+returns-in-Err-Ended-clause-takes g c = in_words g.W.Wire (rw c.in-Err-Ended.field-0-is at c.in-Err-Ended.ensures.takes)
+    (λ took number start text now.
     let (leaves, (gained, drew, why)) = took text_limit now.mid text now.under in
     broke_text now.opened ConnectionEnded leaves drew (λ begins. (why.2, inr (now.mid.waiting ++ gained, begins, (why.0, why.1)))) tt)
 
 pub returns-in-Err-Failed-clause-takes : goal.returns-in-Err-Failed-clause-takes
-returns-in-Err-Failed-clause-takes g c = in_words g.W.Wire (rw c.in-Err-Failed.field-0-is at c.in-Err-Failed.ensures.takes) (λ took number start text now.
+returns-in-Err-Failed-clause-takes g c =
+    in_words g.W.Wire (rw c.in-Err-Failed.field-0-is at c.in-Err-Failed.ensures.takes) (λ took number start text now.
     let (leaves, (gained, drew, why)) = took text_limit now.mid text now.under in
-    broke_text now.opened ReadFailed leaves drew (λ begins. (omega (arith, why.3), inr (now.mid.waiting ++ gained, begins, (why.0, why.1)))) tt)
+    broke_text now.opened ReadFailed leaves drew
+    (λ begins. (omega (arith, why.3), inr (now.mid.waiting ++ gained, begins, (why.0, why.1)))) tt)
 
 pub returns-in-Err-TooLong-clause-takes : goal.returns-in-Err-TooLong-clause-takes
-returns-in-Err-TooLong-clause-takes g c = in_words g.W.Wire (rw c.in-Err-TooLong.field-0-is at c.in-Err-TooLong.ensures.takes) (λ took number start text now.
+returns-in-Err-TooLong-clause-takes g c =
+    in_words g.W.Wire (rw c.in-Err-TooLong.field-0-is at c.in-Err-TooLong.ensures.takes) (λ took number start text now.
     let (leaves, (gained, drew, why)) = took text_limit now.mid text now.under in
     broke_text now.opened TextTooLong leaves drew (λ begins. ((number, refl), (now.mid.waiting ++ gained, begins, why.0, why.1))) tt)

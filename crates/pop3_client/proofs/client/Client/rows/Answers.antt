@@ -5,17 +5,28 @@ use Rattle.mail_terms.proofs.ErrLemmas.{is_err}
 use Rattle.pop3_client.proofs.client.Client.rows.Goals as goal
 
 pub rows-init : goal.rows-init
-rows-init g c = rw c.no_rows-rows.ensures (refl, refl, λ s. (s, g.met.W.Wire.leads_same _, took_none g.R.ListedRows.turn g.R.ListedRows.stands_for _ g.met.R.ListedRows.is_listing))
+rows-init g c = rw c.no_rows-rows.ensures (
+  refl,
+  refl,
+  λ s. (
+    s,
+    g.met.W.Wire.leads_same _,
+    took_none g.R.ListedRows.turn g.R.ListedRows.stands_for _
+        g.met.R.ListedRows.is_listing,
+  ),
+)
 
 pub returns-in_err-length-clause-takes : goal.returns-in_err-length-clause-takes
 returns-in_err-length-clause-takes g c =
-    rw (is_err c.from_residual.result c.from_residual.ensures.1) (and_then g.W.Wire g.met.W.Wire.leads_on c.rows.invariant.2 c.in_err-length.ensures.waits (λ now waits.
+    rw (is_err c.from_residual.result c.from_residual.ensures.1)
+    (and_then g.W.Wire g.met.W.Wire.leads_on c.rows.invariant.2 c.in_err-length.ensures.waits (λ now waits.
     rows_cause now c.in_err-length.field-0.0 waits.0.1 waits.1))
 
 pub returns-then-is_end_mark-clause-takes : goal.returns-then-is_end_mark-clause-takes
 returns-then-is_end_mark-clause-takes g c =
     and_then g.W.Wire g.met.W.Wire.leads_on c.rows.invariant.2 c.in_ok-length.ensures.waits (λ before waits.
-    rw c.skip.ensures (rows_end (took_on before waits.0.1 waits.1.1) waits.1.0 (ap (take c.in_ok-length.length) (sym c.waiting.ensures.value) ∙ c.if-is_end_mark.ensures.0 refl)))
+    rw c.skip.ensures (rows_end (took_on before waits.0.1 waits.1.1) waits.1.0
+    (ap (take c.in_ok-length.length) (sym c.waiting.ensures.value) ∙ c.if-is_end_mark.ensures.0 refl)))
 
 pub returns-then-count-clause-takes : goal.returns-then-count-clause-takes
 returns-then-count-clause-takes g c =
@@ -26,7 +37,8 @@ pub returns-in_err-add-clause-takes : goal.returns-in_err-add-clause-takes
 returns-in_err-add-clause-takes g c =
     let row = take c.in_ok-length.length c.next_line.new.self.reader in
     let rows = g.R.ListedRows.rows c.rows.rows in
-    rw (is_err c.from_residual-in_err-add.result c.from_residual-in_err-add.ensures.1) (and_then g.W.Wire g.met.W.Wire.leads_on c.rows.invariant.2 c.in_ok-length.ensures.waits (λ before waits.
+    rw (is_err c.from_residual-in_err-add.result c.from_residual-in_err-add.ensures.1)
+    (and_then g.W.Wire g.met.W.Wire.leads_on c.rows.invariant.2 c.in_ok-length.ensures.waits (λ before waits.
     let now = took_on before waits.0.1 waits.1.1 in
     let there = row_behind now waits.1.0 (not_end _ c.waiting.ensures.value c.if-is_end_mark.ensures.1) in
     rows_stop now c.in_err-add.field-0.0 (elim c.in_err-add.ensures.err [
@@ -42,5 +54,7 @@ rows-preserved g c =
       c.in_ok-length.ensures.counted ∙ c.rows.invariant.1,
       and_then g.W.Wire g.met.W.Wire.leads_on c.rows.invariant.2 c.in_ok-length.ensures.waits (λ before waits.
           let now = took_on before waits.0.1 waits.1.1 in
-          rw c.skip-in-rows.ensures (took_row now waits.1.0 (not_end _ c.waiting.ensures.value c.if-is_end_mark.ensures.1) (g.met.R.ListedRows.is_row _ _ read) read (omega arith))),
+          rw c.skip-in-rows.ensures
+          (took_row now waits.1.0 (not_end _ c.waiting.ensures.value c.if-is_end_mark.ensures.1)
+          (g.met.R.ListedRows.is_row _ _ read) read (omega arith))),
     )

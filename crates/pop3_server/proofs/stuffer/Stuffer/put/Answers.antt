@@ -27,4 +27,10 @@ loop-line-preserved c =
 
 pub returns-clause-body : goal.returns-clause-body
 returns-clause-body c =
-    rw (c.in_ok-extend_from_slice-3.ensures.items, c.in_ok-put_stuffing-2.ensures.body, append_assoc, ← sent_rest c.loop-line.self.in_line c.loop-line.rest.now c.in_default.ensures.cut) c.loop-line.invariant.0
+    rw (
+      c.in_ok-extend_from_slice-3.ensures.items,
+      c.in_ok-put_stuffing-2.ensures.body,
+      append_assoc,
+      ← sent_rest
+          c.loop-line.self.in_line c.loop-line.rest.now c.in_default.ensures.cut,
+    ) c.loop-line.invariant.0

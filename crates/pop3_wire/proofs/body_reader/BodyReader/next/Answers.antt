@@ -21,7 +21,8 @@ returns-in_err-draw-clause-takes g c =
     let after = nothing.2 s in (
       after.0,
       after.1,
-      λ limit start text under. under_way_ends under c.requires (omega (arith, left)) c.in_err-draw.field-0.0 (g.W.Wire.history c.draw.new.wire) c.draw.new.reader nothing.0 nothing.1 after.2,
+      λ limit start text under. under_way_ends under c.requires (omega (arith, left)) c.in_err-draw.field-0.0
+          (g.W.Wire.history c.draw.new.wire) c.draw.new.reader nothing.0 nothing.1 after.2,
     ))
 
 pub returns-clause-takes : goal.returns-clause-takes
@@ -32,7 +33,9 @@ returns-clause-takes g c = λ s.
       after.0,
       after.1,
       λ limit start text under. under_way_on
-          (subst (λ (b : Rest). UnderWay limit start (at (g.W.Wire.history c.args.wire.now) c.args.reader.now) b text) (sym c.self.view_is) under)
-          (g.W.Wire.history c.draw.new.wire) drawn.0 c.draw.new.reader c.use_waiting-fed.new.reader c.use_waiting-fed.result.used c.use_waiting-fed.new.unstuffer _
+          (subst (λ (b : Rest). UnderWay limit start (at (g.W.Wire.history c.args.wire.now) c.args.reader.now) b text)
+          (sym c.self.view_is) under)
+          (g.W.Wire.history c.draw.new.wire) drawn.0 c.draw.new.reader c.use_waiting-fed.new.reader
+          c.use_waiting-fed.result.used c.use_waiting-fed.new.unstuffer _
           drawn.1 after.2.0 after.2.1 used.0 used.1 used.2 c.use_waiting-fed.ensures.reached,
     )

@@ -9,7 +9,8 @@ returns-clause-ok g c =
     let r = c.self.inside in
     let within : n ≤ length buf = c.in_ok-n.ensures.within in
     let size : length (take n buf) ≡ n = length-take-le n buf within in
-    let waits = window_fill (r.end - r.start) ((r.end - r.start) + c.min.result - (r.end - r.start)) n c.move_to_front.new.bytes buf (omega arith) within in
+    let waits = window_fill (r.end - r.start) ((r.end - r.start) + c.min.result - (r.end - r.start)) n
+    c.move_to_front.new.bytes buf (omega arith) within in
     let moved = ap (λ (l : List ℕ). l ++ take n buf) (c.move_to_front.ensures ∙ c.self.view_is) in (
       take n buf,
       size,

@@ -5,7 +5,8 @@ use Rattle.pop3_wire.proofs.line_reader.LineReader.line_end.Goals as goal
 
 pub returns-in-Some-clause-found : goal.returns-in-Some-clause-found
 returns-in-Some-clause-found c =
-    line_end_found c.args.self.now c.args.limit c.self.inside.searched c.min-until.result c.saturating_sub-from.result c.in-Some.line.now c.in-Some.field-0-1.now
+    line_end_found c.args.self.now c.args.limit c.self.inside.searched c.min-until.result c.saturating_sub-from.result
+    c.in-Some.line.now c.in-Some.field-0-1.now
     (cc) (cc) (subst (HasNoLine c.self.inside.searched) c.self.view_is c.self.invariant.3) c.in-Some.ensures.found.0
     (rw c.waiting-2.ensures.value at c.in-Some.ensures.found.1)
 
@@ -22,7 +23,8 @@ invariant_of-self c =
     let w = take (r.end - r.start) (drop r.start r.bytes) in
     let over : HasNoLine c.min-until.result w = subst (HasNoLine c.min-until.result) (sym c.self.view_is) (searched_over c) in
     let top : HasNoLine c.max-self-inside.result w =
-    subst (λ (k : ℕ). HasNoLine k w) (sym c.max-self-inside.ensures) (no_line_max r.searched c.min-until.result w c.self.invariant.3 over) in
+    subst (λ (k : ℕ). HasNoLine k w) (sym c.max-self-inside.ensures)
+    (no_line_max r.searched c.min-until.result w c.self.invariant.3 over) in
     let until : c.min-until.result ≡ min c.args.limit (length w) = cc in
     let size : length w ≡ min (r.end - r.start) (length (drop r.start r.bytes)) = length-take (r.end - r.start) (drop r.start r.bytes) in
     (c.self.invariant.0, c.self.invariant.1, omega arith, top)

@@ -1,6 +1,6 @@
 use Rattle.std.proofs.Common.{arith, map, option_map, refl, true}
 use Rattle.folder_store.specs.MailFolders.{files_at}
-use Rattle.test_devices.specs.MemoryFolders.{made_draft, mail_file}
+use Rattle.test_devices.specs.MemoryFolders.{made_draft, stored_file}
 use Rattle.test_devices.proofs.MemoryMail.{file_moves}
 use Rattle.test_devices.proofs.memory_folders.MemoryFolders.take_file.Goals as goal
 
@@ -11,8 +11,16 @@ pub returns : goal.returns
 returns c =
     let was = c.self.inside in
     let file = c.index_mut-file.result.now in
-    rw c.self.view_is at (file_moves c.readers_move.ensures.one was.files.items c.args.place file (record file { is_gone = true }) was.new_rests c.still_rests-self-inside.result
-    was.cur_rests c.still_rests-self-inside-2.result (option_map made_draft was.made) (files_at (map mail_file was.taken.items))
+    rw c.self.view_is at (file_moves c.readers_move.ensures.one was.files.items c.args.place file
+    (record file { is_gone = true }) was.new_rests c.still_rests-self-inside.result
+    was.cur_rests c.still_rests-self-inside-2.result (option_map made_draft was.made) (files_at (map stored_file was.taken.items))
     (omega (arith, c.if-place-len.false, c.len.ensures)) c.index_mut-file.ensures.value
-    (record { keeps = record { title = refl; content = refl; flushed = λ h. h; named = λ h. h }; flushed = refl; named = refl; new = λ h. h; cur = λ h. h })
+    (record {
+      keeps = record { title = refl; content = refl; flushed = λ h. h; named = λ h. h };
+      flushed = refl;
+      named =
+          refl;
+      new = λ h. h;
+      cur = λ h. h;
+    })
     c.still_rests-self-inside.ensures c.still_rests-self-inside-2.ensures)

@@ -1,7 +1,7 @@
 use Rattle.std.proofs.Common.{◌≡◌, ◌+◌, ◌++◌, List, ℕ, drop, length, ap, sym, ◌∙◌, subst, take-append-drop, arith}
 use Rattle.std.proofs.lemmas.Grind.{common_steps}
 use Rattle.std.proofs.Math.Seq.{take-add, take-append_seam}
-use Rattle.test_devices.specs.Script.{Script, is_sound, IsTold}
+use Rattle.test_devices.specs.Script.{Script, is_script_sound, TellsReplies}
 use Rattle.test_devices.proofs.script_wire.ScriptWireWire.recv.Goals.{then-self, else-self}
 use Rattle.test_devices.proofs.script_wire.ScriptWireWire.recv.Goals as goal
 
@@ -11,19 +11,22 @@ returns-then-is_full-clause-front c =
     (drop c.self.inside.given c.self.inside.replies.items, sym (take-append-drop c.self.inside.given c.self.inside.replies.items))
 
 pub returns-clause-front : goal.returns-clause-front
-returns-clause-front c =
-    (drop (c.self.inside.given + c.min-n.result) c.self.inside.replies.items, sym (take-append-drop (c.self.inside.given + c.min-n.result) c.self.inside.replies.items))
+returns-clause-front c = (
+  drop (c.self.inside.given + c.min-n.result) c.self.inside.replies.items,
+  sym
+      (take-append-drop (c.self.inside.given + c.min-n.result) c.self.inside.replies.items),
+)
 
 pub returns-clause-got : goal.returns-clause-got
 returns-clause-got c = λ below. (
-  subst (λ (w : Script). is_sound w) c.self.view_is below,
+  subst (λ (w : Script). is_script_sound w) c.self.view_is below,
   (
     ap (λ (w : Script). w.replies) c.self.view_is,
     ap (λ (w : Script). w.cut) c.self.view_is,
     λ told. record {
       begins = returns-clause-front c;
       whole = λ e.
-          let was = subst (λ (w : Script). IsTold w) (sym c.self.view_is) told in
+          let was = subst (λ (w : Script). TellsReplies w) (sym c.self.view_is) told in
           let none : c.min-n.result ≡ 0 = elim c.if-self.branch [
             | then-self w ↦ let all = ap length (was.whole w.if-self.true) in grind (arith, common_steps, all)
             | else-self w ↦ let empty = sym w.self-is ∙ e in grind (arith, empty)

@@ -7,7 +7,8 @@ use Rattle.fetch_rules.proofs.seen.row_map.RowMap.add_until_refused.Goals as goa
 
 pub loop-i-preserved-then-has : goal.loop-i-preserved-then-has
 loop-i-preserved-then-has g c = (
-  sym (added_next c.args.self.now c.args.listing.now c.args.now c.loop-i.i c.loop-i.self c.uid-uid.result.now c.loop-i.invariant.0 c.uid-uid.ensures.value (omega arith) ∙ cond-true _ _ _ (sym c.has.ensures ∙ c.if-has.true)),
+  sym (added_next c.args.self.now c.args.listing.now c.args.now c.loop-i.i c.loop-i.self c.uid-uid.result.now
+      c.loop-i.invariant.0 c.uid-uid.ensures.value (omega arith) ∙ cond-true _ _ _ (sym c.has.ensures ∙ c.if-has.true)),
   c.loop-i.invariant.1,
 )
 
@@ -15,7 +16,8 @@ pub loop-i-preserved : goal.loop-i-preserved
 loop-i-preserved g c =
     let none = sym c.has.ensures ∙ c.if-has.false in
     let added = rw (c.in_ok-put.ensures.old ∙ state_in_none c.uid-uid.result.now c.loop-i.self none) at c.in_ok-put.ensures.added in (
-      added ∙ sym (added_next c.args.self.now c.args.listing.now c.args.now c.loop-i.i c.loop-i.self c.uid-uid.result.now c.loop-i.invariant.0 c.uid-uid.ensures.value (omega arith) ∙ cond-false _ _ _ none),
+      added ∙ sym (added_next c.args.self.now c.args.listing.now c.args.now c.loop-i.i c.loop-i.self
+          c.uid-uid.result.now c.loop-i.invariant.0 c.uid-uid.ensures.value (omega arith) ∙ cond-false _ _ _ none),
       c.in_ok-put.ensures.is_record,
     )
 

@@ -9,7 +9,10 @@ loop-place-init g c = AllWithin-none (λ row. row.delivered ≡ true) c.args.sel
 
 pub loop-place-preserved : goal.loop-place-preserved
 loop-place-preserved g c =
-    AllWithin-more (λ row. row.delivered ≡ true) c.args.self.now 0 c.loop-place.place c.loop-place.invariant (λ d. ap (λ (row : Row). row.delivered) (c.at.ensures d) ∙ not-false _ c.if-not-state.false)
+    AllWithin-more (λ row. row.delivered ≡ true) c.args.self.now 0 c.loop-place.place c.loop-place.invariant
+    (λ d. ap (λ (row : Row). row.delivered) (c.at.ensures d) ∙ not-false _ c.if-not-state.false)
 
 pub returns : goal.returns
-returns g c = All-from_all_within (λ row. row.delivered ≡ true) c.args.self.now (AllWithin-upto (λ row. row.delivered ≡ true) c.args.self.now 0 c.loop-place.place _ (omega arith) c.loop-place.invariant)
+returns g c = All-from_all_within (λ row. row.delivered ≡ true) c.args.self.now
+    (AllWithin-upto (λ row. row.delivered ≡ true) c.args.self.now 0 c.loop-place.place _ (omega arith)
+    c.loop-place.invariant)

@@ -7,5 +7,10 @@ pub returns-clause-durable : goal.returns-clause-durable
 returns-clause-durable c = λ sound.
     let was = c.in-Some.content.items in
     let is : c.args.self.now.content ≡ Some was =
-    sym (ap (λ (f : Stored). f.content) c.self.view_is) ∙ ap (option_map (λ (b : Vec ℕ Global). b.items)) c.in-Some.is in
-    (secured was, secured (take c.args.len was), ap (option_map secured) is, refl, ap (λ (l : List ℕ). all_durable (Some l)) c.truncate.ensures.items)
+    sym (ap (λ (f : Stored). f.content) c.self.view_is) ∙ ap (option_map (λ (b : Vec ℕ Global). b.items)) c.in-Some.is in (
+      secured was,
+      secured (take c.args.len was),
+      ap (option_map secured) is,
+      refl,
+      ap (λ (l : List ℕ). all_durable (Some l)) c.truncate.ensures.items,
+    )
