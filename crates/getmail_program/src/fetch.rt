@@ -3,9 +3,9 @@ ghost use Rattle.std.specs.Prelude.{◌≡◌, ◌≤◌, ℕ, Bool, true};
 ghost use Rattle.rc_file.specs.Settings.{IsValid};
 ghost use Rattle.getmail_setup.specs.Lock.{goes_on};
 ghost use Rattle.getmail_setup.specs.declared.setup.Setup.{Setup};
-ghost use Rattle.getmail_program.specs.Fetching.{ConnectsAndHolds, Runs};
+ghost use Rattle.getmail_program.specs.Fetching.{ConnectsAndHolds, HoldsSetup, Runs};
 
-use crate::devices::{HostDevices, seconds_now};
+use crate::devices::{Devices, HostDevices, seconds_now};
 use crate::errand::{Errand, fetch_at};
 use fetch_rules::Settings;
 use folder_store::{FolderMaildir, HostFile, HostFolder, HostFolders, ProcessMark};
@@ -16,7 +16,7 @@ use getmail_setup::{
 use mail_store::{FlatFile, MaildirDisk};
 use pop3_wire::Wire;
 use std::fs::File;
-use std::hash::RandomState;
+use std::hash::{BuildHasher, RandomState};
 use std::io::{self, Write};
 use std::net::{Net, TcpStream};
 use std::process::Process;
@@ -72,6 +72,34 @@ fn prepare<'a, R: RandomSource + AllocGlobal>(
     }
 }
 
+/// Runs one session over the devices, or only previews it, and returns the exit status.
+fn fetch_setup<'a, R, M, E, W, H, O>(
+    rt: &R,
+    devices: &M,
+    errand: Errand<'a>,
+    link: (W, H),
+    out: O,
+    errors: Errors<'_, E>,
+) -> u8
+where
+    R: Files + Clock + AllocGlobal,
+    M: Devices<'a>,
+    E: Write + Copy + Drop,
+    W: Wire + Drop,
+    H: BuildHasher + Drop,
+    O: Write + Drop,
+    requires { IsValid errand.settings }
+    ensures within { result ≤ 1 }
+    ensures holds { HoldsSetup W.Wire M.Maildir.MaildirDisk M.File.FlatFile (record {
+      settings = errand.entry.settings;
+      paths = errand.entry.paths.now;
+      pretends = errand.entry.pretends;
+    }) result }
+{
+    let mut out = Output::new(out);
+    fetch_at(rt, devices, errand, link, &mut out, errors)
+}
+
 /// Connects, runs one session or only shows what it would do, and returns the exit status. A run of which
 /// another one has the lock does neither.
 fn fetch_with<'a, R, O, E>(
@@ -115,8 +143,7 @@ where
         paths: &paths,
         pretends,
     };
-    let mut out = Output::new(out);
-    fetch_at(rt, &devices, errand, (link, hasher), &mut out, errors)
+    fetch_setup(rt, &devices, errand, (link, hasher), out, errors)
 }
 
 /// Whether an unattended run says nothing of another one that has the lock: not for the first hour.
