@@ -1,8 +1,9 @@
 -- What a file in a folder of a file system is, and what is done to it in several calls.
-use Rattle.std.specs.Prelude.{◌≡◌, ℕ, List, [], Some, Result, Ok, Err, ◌⊎◌}
+use Rattle.std.specs.Prelude.{◌≡◌, ℕ, Bool, true, List, [], Some, Result, Ok, Err, ◌⊎◌}
 use Rattle.mail_store.specs.declared.fault.StoreFault.{StoreFault}
 use Rattle.mail_store.specs.FlatFile.{Stored}
-use Rattle.mail_store.specs.Durable.{Blob, secured}
+use Rattle.mail_store.specs.Durable.{Blob, Disk, secured}
+use Rattle.mail_store.specs.DiskCalls.{all_flushed}
 use Rattle.folder_store.specs.FileFolder.{Directory, ChangesMade, content_at, names_flushed, put_in, unknown_directory}
 
 -- the file of this name
@@ -25,3 +26,7 @@ abbrev pub PutsFlushed : {T : Type 0} → Directory → List ℕ → Result T St
 PutsFlushed old name (Ok done) new =
     (b : Blob) × (old.made ≡ Some b) × (new ≡ names_flushed (put_in old (secured b.content) name))
 PutsFlushed old name (Err fault) new = ChangesMade old new ⊎ StandsInFolder old name new
+
+-- while the folder's calls did what they promise, a file that was flushed has all durable that calls see
+pub record IsSettled (is_flushed : Bool) (sound : Type 0) (disk : Disk) : Type 0 where
+  pub flushed : is_flushed ≡ true → sound → all_flushed disk ≡ disk

@@ -1,10 +1,10 @@
 //! A file in a folder of a file system.
 
-ghost use Rattle.std.specs.Prelude.{◌≡◌, ◌<◌, true};
+ghost use Rattle.std.specs.Prelude.{◌≡◌, ◌<◌};
 ghost use Rattle.std.proofs.Common.{refl};
 ghost use Rattle.mail_terms.specs.FailureCount.{greatest_count};
-ghost use Rattle.mail_store.specs.DiskCalls.{FlushesBoth, all_flushed};
-ghost use Rattle.folder_store.specs.HostFile.{stored_in, unknown_file};
+ghost use Rattle.mail_store.specs.DiskCalls.{FlushesBoth};
+ghost use Rattle.folder_store.specs.HostFile.{IsSettled, stored_in, unknown_file};
 ghost use Rattle.folder_store.specs.NewDevices.{LeftFilesStand, NewFilesKeepBytes};
 ghost use Rattle.folder_store.specs.PowerLoss.{disk_at};
 
@@ -38,8 +38,7 @@ pub struct HostFile<'a, F: FileFolder> {
     rests: Option<Rests<'a, F>>,
     failures: FailureCount,
     // Then another flush would change nothing.
-    ghost settled: { is_flushed ≡ true → F.sound folder → all_flushed (disk_at (F.directory folder) name.now)
-        ≡ disk_at (F.directory folder) name.now },
+    ghost settled: { IsSettled is_flushed (F.sound folder) (disk_at (F.directory folder) name.now) },
 }
 
 impl<'a, F: FileFolder> HostFile<'a, F> {
