@@ -8,7 +8,7 @@ ghost use Rattle.folder_store.specs.HostFile.{IsSettled, stored_in, unknown_file
 ghost use Rattle.folder_store.specs.NewDevices.{LeftFilesStand, NewFilesKeepBytes};
 ghost use Rattle.folder_store.specs.PowerLoss.{disk_at};
 
-use crate::device::FileFolder;
+use crate::device::{FileFolder, FolderState};
 use crate::host::HostFolder;
 use crate::process_mark::ProcessMark;
 use crate::rests::{Rests, append_noting, cut_keeping};
@@ -28,7 +28,7 @@ use trace::System;
 /// and its name are flushed, so that no loss of power takes back what an earlier run wrote and this
 /// one relies on.
 #[derive(Drop)]
-pub struct HostFile<'a, F: FileFolder> {
+pub struct HostFile<'a, F: FolderState> {
     folder: F,
     name: &'a str,
     appending: Appending,
@@ -41,7 +41,7 @@ pub struct HostFile<'a, F: FileFolder> {
     ghost settled: { IsSettled is_flushed (F.sound folder) (disk_at (F.directory folder) name.now) },
 }
 
-impl<'a, F: FileFolder> HostFile<'a, F> {
+impl<'a, F: FolderState> HostFile<'a, F> {
     /// Whether this run kept what it cut off, and appended nothing since that begins with it.
     pub fn keeps_others(&self) -> bool {
         match &self.rests {

@@ -4,7 +4,7 @@ ghost use Rattle.std.specs.Prelude.{◌≡◌, ◌≤◌, length, IfErr, IfOk, O
 ghost use Rattle.mail_store.specs.Fault.{IsDeviceFault};
 ghost use Rattle.folder_store.specs.FileFolder.{unknown_directory};
 
-use crate::device::FileFolder;
+use crate::device::{FileFolder, FolderState};
 use crate::exact_listing::{FolderNames, list_names};
 use crate::handles::{Changed, Handles, Names, bytes_in, piece_in};
 use crate::host_paths::HostPaths;
@@ -45,7 +45,7 @@ impl<'a, R: Files + AllocGlobal> HostFolder<'a, R> {
         folder: &'a str,
         mark: ProcessMark,
     ) -> HostFolder<'a, R>
-        ensures { ⟦<HostFolder<'a, R> as FileFolder>⟧.directory result ≡ unknown_directory }
+        ensures { ⟦<HostFolder<'a, R> as FolderState>⟧.directory result ≡ unknown_directory }
     {
         HostFolder {
             system,
@@ -73,7 +73,7 @@ impl<'a, R: Files + AllocGlobal> HostFolder<'a, R> {
         mark: ProcessMark,
         keeps_handle: bool,
     ) -> HostFolder<'a, R>
-        ensures { ⟦<HostFolder<'a, R> as FileFolder>⟧.directory result ≡ unknown_directory }
+        ensures { ⟦<HostFolder<'a, R> as FolderState>⟧.directory result ≡ unknown_directory }
     {
         HostFolder {
             system,
@@ -358,12 +358,14 @@ pub(crate) fn answer_of<T>(refusals: &Refusals, answer: io::Result<T>) -> Result
     }
 }
 
-impl<'a, R: Files + AllocGlobal> FileFolder for HostFolder<'a, R> {
+impl<'a, R: Files> FolderState for HostFolder<'a, R> {
     ghost directory = { λ _. unknown_directory };
 
     // Of the file system nothing is known.
     ghost sound = { λ _. ⊥ };
+}
 
+impl<'a, R: Files + AllocGlobal> FileFolder for HostFolder<'a, R> {
     fn make(&mut self, name: &str) -> Result<(), StoreFault> {
         answer_of(self.system.refusals, self.make_marked(name))
     }

@@ -11,7 +11,7 @@ ghost use Rattle.mail_store.specs.DiskCalls.{appended, cut, flushed};
 ghost use Rattle.mail_store.specs.Durable.{IsLeft, secured};
 ghost use Rattle.test_devices.specs.MemoryFolder.{MayBeOf, Survive, blob_of, folder_entries, folder_entry, older_of};
 
-use folder_store::FileFolder;
+use folder_store::{FileFolder, FolderState};
 use mail_store::{Edges, StoreFault, edges_of, read_piece};
 use std::alloc::{AllocError, Global};
 use std::marker::Model;
@@ -318,11 +318,13 @@ impl MemoryFolder {
     }
 }
 
-impl FileFolder for MemoryFolder {
+impl FolderState for MemoryFolder {
     ghost directory = { λ m. m };
 
     ghost sound = { λ _. Unit {0} };
+}
 
+impl FileFolder for MemoryFolder {
     // The calls that take no memory answer.
     fn make(&mut self, _name: &str) -> Result<(), StoreFault>
         ensures makes { Unit {0} → Unit {0} × Makes self.old result self.new }

@@ -13,7 +13,7 @@ returns-in_err-append_flushed g c =
     let sized = c.in_ok-size.ensures piece.0 in
     let front = c.split_at.result.0.now in (
       sized.0,
-      front_of_all {T = Unit {0}} (Unit {0}) (disk_at (g.F.FileFolder.directory c.args.folder.now) c.args.name.now) _
+      front_of_all {T = Unit {0}} (Unit {0}) (disk_at (g.F.FolderState.directory c.args.folder.now) c.args.name.now) _
           _ front _ (Err p.0) p.0
           (in_parts _ front _ _ c.split_at.ensures.front c.split_at.ensures.back) (rw sized.1.1 at piece.1),
     ))
@@ -26,8 +26,8 @@ returns-in_err-append_flushed-2 g c =
     let done = c.loop-rest.invariant in
     let before = done.2 piece.0 in (
       before.0,
-      later_refused (disk_at (g.F.FileFolder.directory c.args.folder.now) c.args.name.now)
-          (disk_at (g.F.FileFolder.directory c.loop-rest.folder) c.args.name.now) _ _ done.0 _ _ p.0 _ done.1
+      later_refused (disk_at (g.F.FolderState.directory c.args.folder.now) c.args.name.now)
+          (disk_at (g.F.FolderState.directory c.loop-rest.folder) c.args.name.now) _ _ done.0 _ _ p.0 _ done.1
           (in_parts _ _ _ _ c.split_at-in-loop-rest.ensures.front c.split_at-in-loop-rest.ensures.back) before.1 piece.1,
     ))
 
@@ -45,7 +45,7 @@ loop-rest-preserved g c =
       λ s. let piece = c.in_ok-append_flushed-2.ensures s in
           let before = done.2 piece.0 in (
             before.0,
-            later_done (disk_at (g.F.FileFolder.directory c.args.folder.now) c.args.name.now)
-                (disk_at (g.F.FileFolder.directory c.loop-rest.folder) c.args.name.now) _ done.0 page before.1 piece.1,
+            later_done (disk_at (g.F.FolderState.directory c.args.folder.now) c.args.name.now)
+                (disk_at (g.F.FolderState.directory c.loop-rest.folder) c.args.name.now) _ done.0 page before.1 piece.1,
           ),
     )

@@ -6,9 +6,9 @@ use Rattle.folder_store.proofs.steps.append_blocks.Given as goal
 abbrev pub invariant-loop-rest : goal.invariant-loop-rest
 invariant-loop-rest g l =
     (done : List ℕ) × (l.bytes ≡ done ++ l.rest)
-    × (g.F.FileFolder.sound l.folder → g.F.FileFolder.sound l.fn.folder
-    × Becomes (IsAppended done) (disk_at (g.F.FileFolder.directory l.fn.folder) l.name)
-    (disk_at (g.F.FileFolder.directory l.folder) l.name))
+    × (g.F.FolderState.sound l.folder → g.F.FolderState.sound l.fn.folder
+    × Becomes (IsAppended done) (disk_at (g.F.FolderState.directory l.fn.folder) l.name)
+    (disk_at (g.F.FolderState.directory l.folder) l.name))
 
 abbrev pub decreases-loop-rest : goal.decreases-loop-rest
 decreases-loop-rest g l = length l.rest

@@ -7,7 +7,7 @@ pub returns-in-Err-clause-appends : goal.returns-in-Err-clause-appends
 returns-in-Err-clause-appends g c = λ s.
     let told = c.in-Err.ensures s.0 in (
       (told.0, c.in_ok-admit.ensures.admitted),
-      appends {T = Unit {0}} (disk_at (g.F.FileFolder.directory c.args.self.now.folder) c.args.self.now.name.now) _ _ _
+      appends {T = Unit {0}} (disk_at (g.F.FolderState.directory c.args.self.now.folder) c.args.self.now.name.now) _ _ _
           _ (Err c.in-Err.field-0) told.1 c.refuse.ensures.counted,
     )
 
@@ -15,6 +15,6 @@ pub returns-in-Ok-clause-appends : goal.returns-in-Ok-clause-appends
 returns-in-Ok-clause-appends g c = λ s.
     let told = c.in-Ok.ensures s.0 in (
       (told.0, c.in_ok-admit.ensures.admitted),
-      appends {T = Unit {0}} (disk_at (g.F.FileFolder.directory c.args.self.now.folder) c.args.self.now.name.now) _ _ _
+      appends {T = Unit {0}} (disk_at (g.F.FolderState.directory c.args.self.now.folder) c.args.self.now.name.now) _ _ _
           _ (Ok (tt {0})) told.1 refl,
     )

@@ -7,6 +7,6 @@ pub returns-in-Err-clause-cuts : goal.returns-in-Err-clause-cuts
 returns-in-Err-clause-cuts g c = λ s.
     let told = c.in-Err.ensures s.0 in (
       (told.0, c.in_ok-admit.ensures.admitted),
-      cuts {T = Unit {0}} (disk_at (g.F.FileFolder.directory c.args.self.now.folder) c.args.self.now.name.now) _ _ _ _
+      cuts {T = Unit {0}} (disk_at (g.F.FolderState.directory c.args.self.now.folder) c.args.self.now.name.now) _ _ _ _
           (Err c.in-Err.field-0) told.1 c.refuse.ensures.counted,
     )

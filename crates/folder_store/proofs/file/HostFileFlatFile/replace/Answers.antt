@@ -7,6 +7,6 @@ pub returns-in-Err-clause-replaces : goal.returns-in-Err-clause-replaces
 returns-in-Err-clause-replaces g c = λ s.
     let told = c.in-Err.ensures.replaces s.0 in (
       (told.0, c.in_ok-admit.ensures.admitted),
-      replaces {T = Unit {0}} (disk_at (g.F.FileFolder.directory c.args.self.now.folder) c.args.self.now.name.now) _ _ _
+      replaces {T = Unit {0}} (disk_at (g.F.FolderState.directory c.args.self.now.folder) c.args.self.now.name.now) _ _ _
           _ (Err c.in-Err.field-0) told.1 c.refuse.ensures.counted,
     )
