@@ -21,6 +21,7 @@ PROGRAMS = ("getmail", "popd")
 UNKNOWN = "λ _. ⊥"
 WHERE_SOUND = "sound self.new → sound self.old × "
 FUNCTION = re.compile(r"^( *)(?:pub(?:\([a-z]+\))? )?(?:const )?fn (\w+)", re.MULTILINE)
+TRAIT = re.compile(r"^(?:pub(?:\(crate\))? )?trait (\w+)(?:<[^>]*>)?(?:: ([^{;]*))?[^{;]*\{", re.MULTILINE)
 HANDLE = re.compile(r"\b(Threads|Wait|Net|Processes)\b[<+ ]")
 NAMES_PREMISE = re.compile(r"\bsound\b")
 
@@ -110,14 +111,21 @@ class Programs:
         self.top, self.crates = sources.top, crates
         self.files = {(crate, file): without_comments(sources.text(crate, file))
                       for crate in crates for file in sources.files(crate)}
-        self.traits = {found[1]: functions_in(braced(text, found.end() - 1) + "\n") for text in self.files.values()
-                       for found in re.finditer(r"^(?:pub(?:\(crate\))? )?trait (\w+)[^{;]*\{", text, re.MULTILINE)}
+        traits = [(found, text) for text in self.files.values() for found in TRAIT.finditer(text)]
+        self.traits = {found[1]: functions_in(braced(text, found.end() - 1) + "\n") for found, text in traits}
+        self.above = {found[1]: re.findall(r"\w+", found[2] or "") for found, _ in traits}
+        self.impls = {(impl.type, impl.trait): impl for text in self.files.values() for impl in impls_in(text)}
+
+    def premise(self, impl):
+        """What the impl says of `sound`, or that of a trait above."""
+        impls = [impl, *(self.impls.get((impl.type, trait)) for trait in self.above.get(impl.trait, ()))]
+        return next((said for each in impls if each and (said := each.premise())), None)
 
     def devices(self):
-        """Each `impl` of a trait that has a premise, with its place."""
+        """Each `impl` of a trait with calls that has a premise, with its place."""
         for (crate, file), text in self.files.items():
             for impl in impls_in(text):
-                if impl.trait in self.traits and impl.premise():
+                if self.traits.get(impl.trait) and self.premise(impl):
                     yield impl, f"crates/{crate}/{file}"
 
     def clauses(self, impl):
@@ -129,7 +137,7 @@ class Programs:
         """Whether the trait says something of the function, and all of it is proved of this type."""
         clauses = [text for each in self.traits.get(impl.trait, ()) if each.name == function.name
                    for kind, _, text in each.clauses if kind == "ensures"]
-        is_assumed = impl.premise() == UNKNOWN and any(map(NAMES_PREMISE.search, clauses))
+        is_assumed = self.premise(impl) == UNKNOWN and any(map(NAMES_PREMISE.search, clauses))
         return impl.at <= function.at < impl.at + len(impl.text) and clauses != [] and not is_assumed
 
     def uncovered(self, text):
@@ -152,7 +160,7 @@ class Programs:
 def assumptions(programs):
     number = 0
     for impl, place in programs.devices():
-        if impl.premise() != UNKNOWN:
+        if programs.premise(impl) != UNKNOWN:
             continue
         clauses = programs.clauses(impl)
         mine = [clause for clause in clauses if NAMES_PREMISE.search(clause[2])]
@@ -160,13 +168,13 @@ def assumptions(programs):
         yield from ("", f"{impl.type}, a {impl.trait} ({place}): {len(mine)} clauses are assumed, {rest} are proved")
         for call, label, text in mine:
             number += 1
-            yield f"  {number:2}  {call + (' ' + label if label else ''):20} {text.removeprefix(WHERE_SOUND)}"
+            yield f"  {number:2}  {call + (' ' + label if label else ''):20} {text.replace('Self.', '').removeprefix(WHERE_SOUND)}"
 
 
 def premises(programs):
     for impl, place in programs.devices():
-        if impl.premise() != UNKNOWN:
-            yield f"  {impl.type}, a {impl.trait} ({place}): {impl.premise()}"
+        if (premise := programs.premise(impl)) != UNKNOWN:
+            yield f"  {impl.type}, a {impl.trait} ({place}): {premise}"
 
 
 def uncovered_code(programs):
