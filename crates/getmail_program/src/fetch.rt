@@ -5,7 +5,7 @@ ghost use Rattle.getmail_setup.specs.Lock.{goes_on};
 ghost use Rattle.getmail_setup.specs.declared.setup.Setup.{Setup};
 ghost use Rattle.getmail_program.specs.Fetching.{ConnectsAndHolds, HoldsSetup, Runs};
 
-use crate::devices::{Devices, HostDevices, seconds_now};
+use crate::devices::{HostDevices, seconds_now};
 use crate::errand::{Errand, fetch_at};
 use fetch_rules::Settings;
 use folder_store::{FolderMaildir, HostFile, HostFolder, HostFolders, ProcessMark};
@@ -72,29 +72,29 @@ fn prepare<'a, R: RandomSource + AllocGlobal>(
     }
 }
 
-/// Runs one session over the devices, or only previews it, and returns the exit status.
-fn fetch_setup<'a, R, M, E, W, H, O>(
+/// Runs one session over the machine's files, or only previews it, and returns the exit status.
+fn fetch_setup<'a, R, E, W, H, O>(
     rt: &R,
-    devices: &M,
+    devices: &HostDevices<'a, R>,
     errand: Errand<'a>,
     link: (W, H),
     out: O,
     errors: Errors<'_, E>,
 ) -> u8
 where
-    R: Files + Clock + AllocGlobal,
-    M: Devices<'a>,
+    R: Files + Clock + AllocGlobal + Clone + Drop,
     E: Write + Copy + Drop,
     W: Wire + Drop,
     H: BuildHasher + Drop,
     O: Write + Drop,
     requires { IsValid errand.settings }
     ensures within { result ≤ 1 }
-    ensures holds { HoldsSetup W.Wire M.Maildir.MaildirDisk M.File.FlatFile (record {
-      settings = errand.entry.settings;
-      paths = errand.entry.paths.now;
-      pretends = errand.entry.pretends;
-    }) result }
+    ensures holds { HoldsSetup W.Wire ⟦<FolderMaildir<HostFolders<'a, R>> as MaildirDisk>⟧
+        ⟦<HostFile<'a, HostFolder<'a, R>> as FlatFile>⟧ (record {
+          settings = errand.entry.settings;
+          paths = errand.entry.paths.now;
+          pretends = errand.entry.pretends;
+        }) result }
 {
     let mut out = Output::new(out);
     fetch_at(rt, devices, errand, link, &mut out, errors)
