@@ -35,7 +35,8 @@ use Rattle.fetch_runs.specs.Below.{Below}
 use Rattle.fetch_runs.proofs.MboxPromised.{appends, starts, ends_whole, open_row}
 use Rattle.fetch_runs.proofs.Promised.{IsSession, others_leave_kept, sessions_keep_promises, copies_came}
 use Rattle.fetch_runs.proofs.Promised.{copies_messages, held_copies, named_messages, one_text}
-use Rattle.fetch_runs.proofs.Steps.{mbox_session_is_a_step, session_is_a_step, texts_stand}
+use Rattle.fetch_runs.proofs.Safety.{texts_stand}
+use Rattle.fetch_runs.proofs.Steps.{mbox_session_is_a_step, session_is_a_step}
 use Rattle.std.specs.List.{AllByRecursion}
 use Rattle.std.proofs.lemmas.Bool.{both_ways, false_from_ne_true, or_left, cases_Bool}
 use Rattle.std.proofs.lemmas.List.{append-nil}

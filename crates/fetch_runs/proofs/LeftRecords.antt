@@ -55,7 +55,7 @@ use Rattle.fetch_runs.specs.Accounts.{has_named, AccountMail}
 use Rattle.fetch_runs.specs.Losses.{RecordIsSure}
 use Rattle.fetch_runs.specs.Steps.{holds}
 use Rattle.fetch_runs.proofs.State.{unready_files}
-use Rattle.fetch_runs.proofs.Talk.{both_none}
+use Rattle.fetch_runs.proofs.Turns.{both_none}
 use Rattle.fetch_runs.proofs.Lists.{bytes_same, all_append, same_rows}
 use Rattle.fetch_runs.specs.Below.{Below}
 

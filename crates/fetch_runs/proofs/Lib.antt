@@ -1,11 +1,15 @@
 pub mod Calls
 pub mod Core
+pub mod Fronts
 pub mod LeftRecords
 pub mod Listed
 pub mod Lists
 pub mod Losses
 pub mod MboxPromised
 pub mod Promised
+pub mod Safety
 pub mod State
 pub mod Steps
 pub mod Talk
+pub mod Tasks
+pub mod Turns

@@ -27,7 +27,7 @@ use Rattle.fetch_runs.proofs.Lists.{fewer_copies, held_some, part_copies, reache
 use Rattle.fetch_runs.proofs.Lists.{all_both, all_filter, all_front, all_ids_at, all_map, bytes_same, same_rows, all_at}
 use Rattle.fetch_runs.proofs.Lists.{ids_both, members}
 use Rattle.fetch_runs.specs.Below.{Below}
-use Rattle.fetch_runs.proofs.Steps.{served_session}
+use Rattle.fetch_runs.proofs.Safety.{served_session}
 
 -- ---- files whose names are durable
 

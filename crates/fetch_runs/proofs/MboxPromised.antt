@@ -34,7 +34,7 @@ use Rattle.fetch_runs.proofs.Lists.{distinct_is, are_distinct, all_map, all_take
 use Rattle.fetch_runs.proofs.Lists.{members, ids_both, bytes_swap, delivered_unheld, delivered_one, delivered_all}
 use Rattle.fetch_session.specs.Target.{none_held}
 use Rattle.fetch_session.specs.declared.report.Outcome.TheVariants.{Ended}
-use Rattle.fetch_runs.proofs.Steps.{mbox_served_session}
+use Rattle.fetch_runs.proofs.Safety.{mbox_served_session}
 use Rattle.std.proofs.lemmas.List.Folds.{flat_map-map}
 
 -- ---- distinct lists of messages

@@ -30,7 +30,7 @@ use Rattle.fetch_runs.proofs.Lists.{each_text, all_map, all_filter, all_take, al
 use Rattle.fetch_runs.proofs.Lists.{all_passing, members, no_texts, has_texts, texts_filtered, taken_more}
 use Rattle.fetch_runs.proofs.Lists.{delivered_marked, delivered_merged, marks_stay, mapped_at}
 use Rattle.fetch_session.specs.declared.report.Outcome.TheVariants.{Ended}
-use Rattle.fetch_runs.proofs.Steps.{served_session}
+use Rattle.fetch_runs.proofs.Safety.{served_session}
 
 -- ---- held
 

@@ -96,7 +96,7 @@ pub fn session_is_a_step()
 }
 
 /// An uncut session of an account with a Maildir did its tasks.
-#[tactic(auto, using(crate::proofs::Talk::uncut_sessions_do_tasks))]
+#[tactic(auto, using(crate::proofs::Fronts::uncut_sessions_do_tasks))]
 pub fn uncut_sessions_do_tasks()
     ensures { UncutSessionsDoTasks }
 {}

@@ -1,4 +1,4 @@
-use Rattle.fetch_runs.proofs.Talk as lemmas
+use Rattle.fetch_runs.proofs.Fronts as lemmas
 use Rattle.fetch_runs.proofs.laws.fronts_are_sessions.Goals as goal
 
 pub returns : goal.returns
