@@ -1,6 +1,5 @@
 pub mod Calls
 pub mod Core
-pub mod Fronts
 pub mod LeftRecords
 pub mod Listed
 pub mod Lists

@@ -462,7 +462,7 @@ name_of settings = string_bytes settings.username
 abbrev pub word_of : Settings → List ℕ
 word_of settings = string_bytes settings.password
 
-abbrev pub opening_of : Settings → List Turn
+abbrev opening_of : Settings → List Turn
 opening_of settings = opening (name_of settings) (word_of settings)
 
 -- ---- the listing was joined

@@ -354,12 +354,6 @@ IsPlain (stores number uid) = number < 2 ^ 32
 IsPlain (rereads number uid) = number < 2 ^ 32
 IsPlain (deletes number) = number < 2 ^ 32
 
--- the replies to one turn are one reply
-pub one_reply : (turn : Turn) (replies : List WholeReply) → AllZip IsGood (turn ∷ []) replies → (reply : WholeReply)
-    × (replies ≡ reply ∷ [])
-one_reply turn (reply ∷ []) good = (reply, refl)
-one_reply turn replies good = search rules
-
 -- what one task's replies retrieve, before others
 read_first : (task : Task) (replies others : List WholeReply) (commands : List Command) (found : List (ℕ × List ℕ))
     → IsPlain task → AllZip IsGood (turns_in task) replies

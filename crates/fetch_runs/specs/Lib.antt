@@ -2,7 +2,6 @@ pub mod Accounts
 pub mod Below
 pub mod Calls
 pub mod Conversations
-pub mod Fronts
 pub mod Headline
 pub mod Losses
 pub mod Promises

@@ -3,7 +3,6 @@
 ghost use Rattle.fetch_runs.specs.Below.{Below};
 ghost use Rattle.fetch_runs.specs.Calls.{CallsKeepPromises, EmptyAccountsAreKept};
 ghost use Rattle.fetch_runs.specs.Conversations.{MboxSessionsFollowPlans, SessionsAreConversations};
-ghost use Rattle.fetch_runs.specs.Fronts.{FrontsAreSessions, UncutSessionsDoTasks};
 ghost use Rattle.fetch_runs.specs.Headline.{EmptyFrontsBegin, EntriesMeanTexts, Headline, MboxHeadline};
 ghost use Rattle.fetch_runs.specs.Headline.{MboxStartsInOrder, NoneTaken, StaysAway};
 ghost use Rattle.fetch_runs.specs.Losses.{DurableAccountsAreSafe, DurableFrontsBegin};
@@ -91,21 +90,6 @@ pub fn sessions_are_conversations()
 /// maildrop's, and each file that it stores is that of one of the maildrop's messages, with the message's text.
 pub fn session_is_a_step()
     ensures { SessionIsAStep }
-{
-    laws_below();
-}
-
-/// An uncut session of an account with a Maildir did its tasks.
-#[tactic(auto, using(crate::proofs::Fronts::uncut_sessions_do_tasks))]
-pub fn uncut_sessions_do_tasks()
-    ensures { UncutSessionsDoTasks }
-{}
-
-/// If a program is stopped between two tasks of an uncut session, or after a text was stored and before the
-/// record shows it, the files and the record are what a session leaves that was cut there, and whose server
-/// was honest if that of the uncut one was.
-pub fn fronts_are_sessions()
-    ensures { FrontsAreSessions }
 {
     laws_below();
 }
