@@ -1,22 +1,21 @@
 -- Each call of `session` is a session over accounts, and lists of calls and what else happens keep what is promised;
 -- what is promised of any list, and the order of the maildrops, give the headlines.
 use Rattle.std.proofs.Common.{◌≡◌, ◌⊎◌, inl, inr, ℕ, true, List, [], ◌∷◌, ◌++◌, refl, sym, ap, subst, ◌∙◌, arith}
-use Rattle.std.proofs.Common.{length, ◌≤◌, false, Bool, length-append, not, ◌&&◌, ◌||◌, map}
+use Rattle.std.proofs.Common.{length, false, Bool, length-append, not, ◌||◌, map}
 use Rattle.std.proofs.Math.Logic.{⊎_elim}
 use Rattle.pop3_wire.specs.declared.wire.Wire.{Ghosts as WireGhosts}
 use Rattle.mail_store.specs.declared.maildir.disk.MaildirDisk.{Ghosts as DiskGhosts}
 use Rattle.mail_store.specs.declared.file.flat_file.FlatFile.{Ghosts as FileGhosts}
 use Rattle.std.proofs.lemmas.Slice.Eq.{bytes_eq-Decides}
 use Rattle.pop3_wire.specs.World.{Message, IsWorld}
-use Rattle.mail_store.specs.FileName.{IsAccountText, name_of, names_id, stem_of, is_held}
+use Rattle.mail_store.specs.FileName.{IsAccountText, name_of, names_id, stem_of}
 use Rattle.std.specs.String.{string_bytes}
 use Rattle.mail_store.specs.Loss.{LosesPower}
 use Rattle.mail_store.specs.Maildir.{Maildir, WereTaken}
 use Rattle.fetch_session.specs.Account.{digits_of}
 use Rattle.fetch_session.specs.Laws.{MboxSessions}
 use Rattle.fetch_session.specs.Session.{account_files, mbox_account_files}
-use Rattle.fetch_runs.specs.Accounts.{AccountMail, files, message_ids, is_selected, without, texts_of, copies}
-use Rattle.fetch_runs.specs.Accounts.{has_named, selected, without_flags}
+use Rattle.fetch_runs.specs.Accounts.{AccountMail, files, message_ids, is_selected, without, texts_of, copies, selected, without_flags}
 use Rattle.fetch_runs.specs.Promises.{Mail, State, state_with, IsBetween, Kept, Call, Devices, AppendsMail, Base}
 use Rattle.fetch_runs.specs.Promises.{HoldsEntries, IsMaildrop, IsSafe, IsFront, ShowsNext, is_safe, IsMboxFront}
 use Rattle.fetch_runs.specs.Sessions.{SessionOverLink, MboxMail}
@@ -27,9 +26,8 @@ use Rattle.fetch_runs.proofs.LeftRecords.{LeavesDurably, leaves_durably}
 use Rattle.fetch_runs.proofs.Losses.{all_left_durable, calls_keep_order, calls_keep_safe, durable_is_safe}
 use Rattle.fetch_runs.proofs.Losses.{left_keeps_front, left_keeps_safe, losses_keep_order, losses_leave_kept}
 use Rattle.fetch_runs.proofs.Losses.{others_keep_order, others_keep_safe, front_stays, left_front}
-use Rattle.fetch_runs.proofs.Lists.{left_or_none, all_filter, all_ids_at, all_map, all_front, are_distinct}
-use Rattle.fetch_runs.proofs.Lists.{distinct_filter, distinct_is, front_is, is_some, no_texts, all_at, bytes_self}
-use Rattle.fetch_runs.proofs.Lists.{ids_both, all_mapped}
+use Rattle.fetch_runs.proofs.Lists.{left_or_none, all_filter, all_ids_at, all_map, all_front, are_distinct, distinct_filter, distinct_is}
+use Rattle.fetch_runs.proofs.Lists.{front_is, is_some, no_texts, all_at, bytes_self, ids_both, all_mapped, none_or_one}
 use Rattle.fetch_session.specs.declared.account.Store.TheVariants.{Maildir as InMaildir, Mboxrd as InMbox}
 use Rattle.fetch_runs.specs.Below.{Below}
 use Rattle.fetch_runs.proofs.MboxPromised.{appends, starts, ends_whole, open_row}
@@ -42,9 +40,8 @@ use Rattle.std.proofs.lemmas.Bool.{both_ways, false_from_ne_true, or_left, cases
 use Rattle.std.proofs.lemmas.List.{append-nil}
 use Rattle.mail_terms.specs.UniqueId.{is_legal_id, has_id}
 use Rattle.fetch_rules.specs.Record.{is_delivered}
-use Rattle.fetch_runs.specs.Headline.{World, IsSound, HoldsAPrefix, EmptyFrontsBegin, NoneTaken, StaysAway, selected_of}
-use Rattle.fetch_runs.specs.Headline.{MboxStartsInOrder, EntriesMeanTexts, IsInOrder, world_without, Headline}
-use Rattle.fetch_runs.specs.Headline.{MboxHeadline, HoldsAMboxPrefix, IsUnbegun}
+use Rattle.fetch_runs.specs.Headline.{World, IsSound, HoldsAPrefix, EmptyFrontsBegin, NoneTaken, StaysAway, selected_of, MboxStartsInOrder}
+use Rattle.fetch_runs.specs.Headline.{EntriesMeanTexts, IsInOrder, world_without, Headline, MboxHeadline, HoldsAMboxPrefix, IsUnbegun}
 use Rattle.fetch_runs.proofs.Core.{next_here, prefix_left, done_legal, done_distinct}
 use Rattle.mail_terms.specs.Text.{IsWhole}
 use Rattle.rc_file.specs.declared.settings.Settings.{Settings}
@@ -118,13 +115,9 @@ left_between : (mail : Mail) (state : State) (left : Maildir) → Kept mail stat
 left_between mail state left kept taken = record {
   holds = λ id l. ⊎_elim (λ same. rw same (kept.holds id l)) (λ (none, some). inl none)
       (left_or_none (stem_of mail.account id) (files state.account) left.files (taken.gone, taken.files)
-      (at_most_one (kept.holds id l)));
+      (none_or_one (kept.holds id l)));
   shows_no_more = λ id d. d;
 }
-  where
-    at_most_one : {texts : List (List ℕ)} {text : List ℕ} → (texts ≡ []) ⊎ (texts ≡ text ∷ []) → length texts ≤ 1
-    at_most_one (inl none) = rw none (omega arith)
-    at_most_one (inr one) = rw one (omega arith)
 
 pub calls_keep_promises : Below → {W D F : Type 0} (link : WireGhosts W) (disk : DiskGhosts D) (file : FileGhosts F)
     → CallsKeepPromises link disk file
@@ -303,7 +296,7 @@ module _ (world : World Mail) (state : State) (sound : IsSound world)
     below = let e = ap length front.prefix in omega (arith, e, length-append front.done front.rest);
     texts = λ id l. rw (front_is front.done front.rest front.prefix) (holds_done kept id l);
     ids = λ id l h. rw (front_is front.done front.rest front.prefix) (safe_done id (l, or_left _ _ h));
-    once = λ id l. ⊎_elim (λ none. rw none (omega arith)) (λ text. rw text (omega arith)) (kept.holds id l);
+    once = λ id l. none_or_one (kept.holds id l);
   }
 
 pub empty_fronts_begin : EmptyFrontsBegin
@@ -345,13 +338,7 @@ order_shows_next text_of limit all done rest settings maildrop are prefix order 
 -- ---- what is taken away
 
 pub none_taken : NoneTaken
-none_taken mail state after none stays id =
-    untaken (is_held mail.account state.account.maildir id) (state.taken id) (is_held mail.account after.maildir id)
-    (has_named mail.account after.maildir id) (none id) (stays id)
-  where
-    untaken : (held taken held' named : Bool) → taken ≡ false → (held ≡ true → held' ≡ true)
-        → (((held || taken) && not held') || (taken && not named)) ≡ false
-    untaken held taken held' named none stays = grind (arith, none, stays)
+none_taken mail state after none stays id = grind (arith, none id, stays id)
 
 pub stays_away : Below → {W D F : Type 0} (link : WireGhosts W) (disk : DiskGhosts D) (file : FileGhosts F)
     → StaysAway link disk file

@@ -5,7 +5,7 @@ use Rattle.std.proofs.Common.{take, drop, map, refl, sym, ◌∙◌, ap, arith, 
 use Rattle.std.proofs.Common.{length-append, Some, slice_get, ◌⊎◌, inl, inr, true, false}
 use Rattle.std.specs.Prelude.{bytes_eq, if◌then◌else◌, nat_le, zip}
 use Rattle.std.specs.List.{filter, enumerate_from, AllByRecursion}
-use Rattle.std.proofs.lemmas.Bool.{both_ways, cond_both, or_left, or_right, cases_Bool, false_from_ne_true}
+use Rattle.std.proofs.lemmas.Bool.{cond_both, or_left, or_right, cases_Bool, false_from_ne_true}
 use Rattle.std.proofs.lemmas.Bool.Decides.{nat_tests}
 use Rattle.std.proofs.lemmas.List.{take-map, append-nil, take_all, length-map}
 use Rattle.std.proofs.lemmas.List.Elements.{recursion_from_All, filter-append}
@@ -23,17 +23,16 @@ use Rattle.mail_terms.specs.UniqueId.{has_id, is_legal_id}
 use Rattle.fetch_runs.specs.Accounts.{message_ids, item_of, listing_of, is_selected, selected, without, AccountMail}
 use Rattle.fetch_runs.specs.Sessions.{AreTexts, file_for, is_unheld, Effect, IsHonest, ids_wanted, StoresTexts, MboxMail, MboxStores}
 use Rattle.fetch_runs.specs.Promises.{may_fetch, IsPastCount}
-use Rattle.fetch_runs.proofs.Lists.{filter-map, filter-swap, any-map, all_map, all_take, all_filter, Distinct}
-use Rattle.fetch_runs.proofs.Lists.{are_distinct, front_is, filter-filter, filter_all, all_both, all_passing, all_front}
-use Rattle.fetch_runs.proofs.Lists.{distinct_is, distinct_take, distinct_filter, ids_both, all_at, all_ids_at}
-use Rattle.fetch_runs.proofs.Lists.{bytes_self, bytes_same, members, other_id}
+use Rattle.fetch_runs.proofs.Lists.{filter-map, filter-swap, list_any-map, all_map, all_take, all_filter, Distinct, are_distinct, front_is}
+use Rattle.fetch_runs.proofs.Lists.{filter-filter, filter_all, all_both, all_passing, all_front, distinct_is, distinct_take}
+use Rattle.fetch_runs.proofs.Lists.{distinct_filter, ids_both, all_at, all_ids_at, bytes_self, bytes_same, members, other_id}
 use Rattle.fetch_session.specs.declared.report.Report.{Report}
 use Rattle.pop3_wire.specs.declared.command.Command.{Command}
 
 pub has_listed : {listing : List Item} (ms : List Message) → listing ≡ listing_of ms → (id : List ℕ)
     → has_item listing id ≡ has_id (message_ids ms) id
-has_listed ms e id = rw e (any-map (λ (i : Item). bytes_eq id i.uid) item_of ms
-    ∙ sym (any-map (bytes_eq id) (λ (m : Message). m.uid) ms))
+has_listed ms e id = rw e (list_any-map (λ (i : Item). bytes_eq id i.uid) item_of ms
+    ∙ sym (list_any-map (bytes_eq id) (λ (m : Message). m.uid) ms))
 
 -- ---- numbered messages
 
@@ -295,18 +294,7 @@ placed p n front (m ∷ ms) = let later = placed p n (front ++ m ∷ []) ms in (
 more_pass : (p q : Message → Bool) (ms : List Message) → AllByRecursion (λ (m : Message). p m ≡ true → q m ≡ true) ms
     → length (filter p ms) ≤ length (filter q ms)
 more_pass p q [] h = omega arith
-more_pass p q (m ∷ ms) h = let more = more_pass p q ms h.1 in elim (cases_Bool (p m)) [
-  | inl passes ↦ rw (passes, h.0 passes) (omega (arith, more))
-  | inr fails ↦ elim (cases_Bool (q m)) [
-    | inl yes' ↦ rw (fails, yes') (omega (arith, more))
-    | inr misses ↦
-        rw (fails, misses) more
-  ]
-]
-
-positive : (n : ℕ) → (n == 0) ≡ false → 0 < n
-positive zero e = absurd (both_ways _ refl (sym e))
-positive (suc n) e = omega arith
+more_pass p q (m ∷ ms) h = grind (arith, h.0, more_pass p q ms h.1)
 
 -- a message that passes a test keeps its id in the filtered list
 passing_in : (p : Message → Bool) (ms : List Message)
@@ -399,7 +387,7 @@ module _ {settings : Settings} {rows : List Row} {drop' : List Message} {effect 
         let all : length ws ≡ settings.max_count = rw (some, length-take) (omega (arith, enough, more)) in
         inr (inr (inr (record {
           may = may_m asks;
-          limit = positive settings.max_count some;
+          limit = grind (arith, nat_tests, some);
           full = counted ∙ length_is ∙ all;
           front = front;
           behind = behind;

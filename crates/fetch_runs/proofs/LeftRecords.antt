@@ -1,7 +1,7 @@
 -- Each id that a record's file delivers is legal.
 -- What a session leaves of a record's file, and what a loss of power may leave of that, shows as delivered only what it
 -- showed or could show before, and messages of which a file is there whose name is durable.
-use Rattle.std.proofs.Common.{◌≡◌, inl, inr, ℕ, suc, List, [], ◌∷◌, ◌++◌, true, Option, arith, Bool, zero, not, ◌+◌}
+use Rattle.std.proofs.Common.{◌≡◌, inl, inr, ℕ, suc, List, [], ◌∷◌, ◌++◌, true, Option, arith, Bool, zero, ◌+◌}
 use Rattle.std.proofs.Common.{None, Some, ◌⊎◌, false, length, subst, bytes_eq, sym, ⊎_elim, ap, ◌∙◌, Contains}
 use Rattle.std.proofs.Common.{length-append, Result, Ok, Err, refl, All, ◌-◌, ◌%◌, ◌==◌, take, ◌&&◌}
 use Rattle.std.specs.List.{AllByRecursion, list_all, list_any}
@@ -11,9 +11,8 @@ use Rattle.fetch_session.specs.Record.{KeepsRows}
 use Rattle.mail_terms.specs.UniqueId.{is_legal_id}
 use Rattle.std.proofs.lemmas.List.Elements.{recursion_from_All, Contains-push}
 use Rattle.fetch_rules.specs.RecordFile.{Version, Two, Line, RowLine, IsRecordLine, GroupLine, file_of}
-use Rattle.fetch_rules.specs.RecordMeaning.{Ends, Fails, Judged, InBase, InGroup, Means, Progress, Rows, Stands}
-use Rattle.fetch_rules.specs.RecordMeaning.{after_intent, after_line, counted, judged, may_take, with_taken}
-use Rattle.fetch_rules.specs.RecordMeaning.{BetweenGroups, Fault, FileStandsFor}
+use Rattle.fetch_rules.specs.RecordMeaning.{Ends, Fails, Judged, InBase, InGroup, Means, Progress, Rows, Stands, after_intent, after_line}
+use Rattle.fetch_rules.specs.RecordMeaning.{counted, judged, may_take, with_taken, BetweenGroups, Fault, FileStandsFor}
 use Rattle.mail_store.specs.Durable.{MayLeave}
 use mathlib.Core.Logic.{⊎_map}
 use Rattle.std.proofs.lemmas.Bool.Decides.{nat_tests}

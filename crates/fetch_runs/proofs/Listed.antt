@@ -1,7 +1,6 @@
 -- What was got splits into replies in one way only, so what was read is what an honest server said of its maildrop.
-use Rattle.std.proofs.Common.{◌≡◌, ◌-◌, ◌+◌, ◌<◌, ℕ, take_while, List, [], ◌∷◌, ◌++◌, Bool, rules, length, map, get_or}
-use Rattle.std.proofs.Common.{refl, sym, ◌∙◌, ap, arith, Ok, Result, Option, Contains, inl, inr, append_assoc, Some}
-use Rattle.std.proofs.Common.{None}
+use Rattle.std.proofs.Common.{◌≡◌, ◌-◌, ◌+◌, ◌<◌, ℕ, take_while, List, [], ◌∷◌, ◌++◌, Bool, rules, length, map, get_or, refl, sym, ◌∙◌, ap}
+use Rattle.std.proofs.Common.{arith, Ok, Result, Option, Contains, inl, inr, append_assoc, Some, None}
 use Rattle.std.specs.List.{All, AllByRecursion, AllZip, HoldsAt, enumerate_from, filter, flat_map}
 use Rattle.std.specs.Char.{is_ascii_digit}
 use Rattle.std.specs.Str.Parse.{digits_value}

@@ -1,8 +1,7 @@
 -- Lists and what holds of each element; ids of messages; what a record says of an id; and what is left of an id's files
 -- once readers took some away.
-use Rattle.std.proofs.Common.{◌≡◌, ℕ, List, [], ◌∷◌, ◌++◌, Bool, true, false, ◌&&◌, ◌||◌, length, take, drop, map, refl}
-use Rattle.std.proofs.Common.{ap, arith, ◌∙◌, take-append-drop, ◌≢◌, ◌≤◌, ◌<◌, inl, zero, suc, cond, sym, ◌⊎◌, Some}
-use Rattle.std.proofs.Common.{Option}
+use Rattle.std.proofs.Common.{◌≡◌, ℕ, List, [], ◌∷◌, ◌++◌, Bool, true, false, ◌&&◌, ◌||◌, length, take, drop, map, refl, ap, arith, ◌∙◌}
+use Rattle.std.proofs.Common.{take-append-drop, ◌≢◌, ◌≤◌, ◌<◌, inl, zero, suc, cond, sym, ◌⊎◌, Some, Option}
 use Rattle.std.specs.List.{filter, list_any, AllByRecursion}
 use Rattle.std.specs.Prelude.{bytes_eq, slice_get}
 use Rattle.std.proofs.Math.Bool.{or-false}
@@ -15,6 +14,7 @@ use Rattle.std.proofs.lemmas.List.Kept.{AllPairs-cons}
 use Rattle.std.proofs.lemmas.Option.{same_Some}
 use Rattle.std.proofs.lemmas.Slice.Eq.{bytes_eq-Decides}
 use Rattle.pop3_wire.specs.World.{Message}
+pub use Rattle.mail_terms.proofs.ListLemmas.{all_append, list_any-map}
 use Rattle.mail_terms.specs.Distinct.{AreDistinct}
 use Rattle.mail_terms.specs.Listing.{Item, has_item, is_flagged}
 use Rattle.mail_terms.specs.UniqueId.{has_id}
@@ -41,11 +41,6 @@ pub filter-map : {X Y : Type 0} (p : Y → Bool) (f : X → Y) (xs : List X)
 filter-map p f [] = refl
 filter-map p f (x ∷ xs) = grind (arith, filter-map p f xs)
 
-pub any-map : {X Y : Type 0} (p : Y → Bool) (f : X → Y) (xs : List X)
-    → list_any p (map f xs) ≡ list_any (λ x. p (f x)) xs
-any-map p f [] = refl
-any-map p f (x ∷ xs) = ap (λ b. p (f x) || b) (any-map p f xs)
-
 -- whether a list has elements
 abbrev pub is_some : {X : Type 0} → List X → Bool
 is_some [] = false
@@ -65,6 +60,10 @@ pub mapped_at : {A B : Type 0} (f : A → B) (xs : List A) (n : ℕ) (y : B) →
 mapped_at f [] n y e = absurd cc
 mapped_at f (x ∷ xs) zero y e = (x, refl, same_Some (f x) y e)
 mapped_at f (x ∷ xs) (suc n) y e = mapped_at f xs n y e
+
+-- a list that is empty or one element
+pub none_or_one : {A : Type 0} {xs : List A} {x : A} → (xs ≡ []) ⊎ (xs ≡ x ∷ []) → length xs ≤ 1
+none_or_one once = ⊎_elim (λ none. rw none (omega arith)) (λ one. rw one (omega arith)) once
 
 -- what stands after those before it
 pub at_length : {A : Type 0} (xs : List A) (y : A) (ys : List A) → slice_get (xs ++ y ∷ ys) (length xs) ≡ Some y
@@ -94,11 +93,6 @@ module _ {X : Type 0} where
   pub filter_all : (p : X → Bool) (xs : List X) → AllByRecursion (λ x. p x ≡ true) xs → filter p xs ≡ xs
   filter_all p [] h = refl
   filter_all p (x ∷ xs) h = grind (arith, filter_all p xs h.1)
-
-  pub all_append : (P : X → Type 0) (xs ys : List X) → AllByRecursion P xs → AllByRecursion P ys
-      → AllByRecursion P (xs ++ ys)
-  all_append P [] ys h k = k
-  all_append P (x ∷ xs) ys h k = (h.0, all_append P xs ys h.1 k)
 
   pub all_front : (P : X → Type 0) (xs ys : List X) → AllByRecursion P (xs ++ ys) → AllByRecursion P xs
   all_front P [] ys h = tt
@@ -145,7 +139,7 @@ pub ids_filtered : (p : List ℕ → Bool) (ms : List Message) (id : List ℕ)
 ids_filtered p ms id = rw (← filter-map p (λ (m : Message). m.uid) ms) (has_filtered p (message_ids ms) id)
 
 pub has_texts : (ms : List Message) (id : List ℕ) → has_id (message_ids ms) id ≡ is_some (texts_of ms id)
-has_texts ms id = any-map (bytes_eq id) (λ (m : Message). m.uid) ms
+has_texts ms id = list_any-map (bytes_eq id) (λ (m : Message). m.uid) ms
     ∙ any_filter (λ (m : Message). bytes_eq id m.uid) (λ (m : Message). m.text) ms
 
 pub ids_both : (ms ns : List Message) (id : List ℕ)
@@ -327,10 +321,9 @@ fewer_copies front (x ∷ a) b f = let fewer = fewer_copies front a b f in grind
 -- of which more may be durable
 pub reached_copies : (front : List ℕ) (fs left : List File) → AreReached fs left → copies left front ≡ copies fs front
 reached_copies front [] [] are = refl
-reached_copies front [] (g ∷ left) never = absurd never
-reached_copies front (f ∷ fs) [] never = absurd never
 reached_copies front (f ∷ fs) (g ∷ left) (same, are) = let rest = reached_copies front fs left are
     in grind (arith, same.name, same.content, rest)
+reached_copies front fs left never = absurd never
 
 -- all that an id's files held, or less
 pub part_copies : (front : List ℕ) (fs left : List File) → IsPart fs left → (copies left front ≡ copies fs front)

@@ -1,11 +1,10 @@
 -- A loss of power between two calls leaves a kept state, if what is recorded or gone is durable; and calls and others keep that.
-use Rattle.std.proofs.Common.{◌≡◌, ◌⊎◌, inl, inr, ℕ, List, [], ◌∷◌, ◌++◌, true, false, length, Option, refl, sym, ◌∙◌}
-use Rattle.std.proofs.Common.{arith, bytes_eq, ⊎_elim, Bool, ap, subst, map, append_assoc, ◌≤◌, ◌<◌, not, ◌+◌, ◌||◌}
-use Rattle.std.proofs.Common.{◌&&◌}
+use Rattle.std.proofs.Common.{◌≡◌, ◌⊎◌, inl, inr, ℕ, List, [], ◌∷◌, ◌++◌, true, false, length, Option, refl, sym, ◌∙◌, arith, bytes_eq}
+use Rattle.std.proofs.Common.{⊎_elim, Bool, ap, subst, map, append_assoc, ◌≤◌, ◌<◌, not, ◌||◌, ◌&&◌}
 use Rattle.mail_store.specs.Durable.{Disk, MayLeave}
 use Rattle.std.specs.List.{AllByRecursion, filter, list_any}
-use Rattle.std.proofs.lemmas.Bool.{both_ways, cases_Bool, or_left, or_right, or_cases}
-use Rattle.std.proofs.lemmas.List.{append-nil, append_cancel_left, nil_from_length}
+use Rattle.std.proofs.lemmas.Bool.{both_ways, cases_Bool, or_left, or_right, or_cases, and_from}
+use Rattle.std.proofs.lemmas.List.{append-nil, append_cancel_left, nil_from_length, length-map}
 use Rattle.std.proofs.lemmas.List.Elements.{filter-append}
 use Rattle.std.proofs.lemmas.List.Folds.{list_any-append}
 use Rattle.mail_terms.specs.UniqueId.{has_id, is_legal_id}
@@ -23,11 +22,11 @@ use Rattle.fetch_runs.specs.Sessions.{IsHonest, Leaves, StoresTexts, wanted_at}
 use Rattle.fetch_runs.specs.Losses.{DurableAccountsAreSafe, DurableFrontsBegin, IsCrashSafe, IsDurableFront}
 use Rattle.fetch_runs.specs.Losses.{IsDurableFor, IsFlushedFor, RecordIsSure, KeepsDurable, lasts}
 use Rattle.fetch_runs.proofs.LeftRecords.{LeavesDurably, all_named, kept_legal}
-use Rattle.fetch_runs.proofs.Lists.{fewer_copies, held_some, part_copies, reached_copies, some_held, all_append}
-use Rattle.fetch_runs.proofs.Lists.{all_both, all_filter, all_front, all_ids_at, all_map, bytes_same, same_rows, all_at}
-use Rattle.fetch_runs.proofs.Lists.{ids_both, members}
+use Rattle.fetch_runs.proofs.Lists.{fewer_copies, held_some, part_copies, reached_copies, some_held, all_append, all_both, all_filter}
+use Rattle.fetch_runs.proofs.Lists.{all_front, all_ids_at, all_map, bytes_same, same_rows, all_at, ids_both, members, all_back, none_or_one}
 use Rattle.fetch_runs.specs.Below.{Below}
 use Rattle.fetch_runs.proofs.Safety.{served_session}
+use Rattle.fetch_runs.proofs.State.{came_too}
 
 -- ---- files whose names are durable
 
@@ -59,34 +58,6 @@ left_durable [] left is = rw is tt
 left_durable (f ∷ fs) left (inl (gone, rest)) = left_durable fs left rest
 left_durable (f ∷ fs) left (inr (g, rest, is, like, more)) = rw is (like.durable, left_durable fs rest more)
 
-copies_yes : (front : List ℕ) (f : File) (fs : List File) → bytes_eq front (stem f.name) ≡ true
-    → copies (f ∷ fs) front ≡ f.content ∷ copies fs front
-copies_yes front f fs same = grind (arith, same)
-
-copies_no : (front : List ℕ) (f : File) (fs : List File) → bytes_eq front (stem f.name) ≡ false → copies (f ∷ fs) front ≡ copies fs front
-copies_no front f fs apart = grind (arith, apart)
-
-left_step : (front : List ℕ) (f g : File) (fs rest : List File) → g.name ≡ f.name
-    → (bytes_eq front (stem f.name) ≡ true → g.content ≡ f.content)
-    → (copies rest front ≡ copies fs front) ⊎ (length (copies rest front) < length (copies fs front))
-    → (copies (g ∷ rest) front ≡ copies (f ∷ fs) front) ⊎ (length (copies (g ∷ rest) front) < length (copies (f ∷ fs) front))
-left_step front f g fs rest name content less = ⊎_elim by_same by_apart (cases_Bool (bytes_eq front (stem f.name)))
-  where
-    too : {b : Bool} → bytes_eq front (stem f.name) ≡ b → bytes_eq front (stem g.name) ≡ b
-    too same = ap (λ name. bytes_eq front (stem name)) name ∙ same
-
-    by_same : bytes_eq front (stem f.name) ≡ true → (copies (g ∷ rest) front ≡ copies (f ∷ fs) front)
-        ⊎ (length (copies (g ∷ rest) front) < length (copies (f ∷ fs) front))
-    by_same same = elim less [
-      | inl e ↦ inl (copies_yes front g rest (too same) ∙ ap (λ first. first ∷ copies rest front) (content same)
-          ∙ ap (λ more. f.content ∷ more) e ∙ sym (copies_yes front f fs same))
-      | inr fewer ↦ inr (grind (arith, fewer, copies_yes front g rest (too same), copies_yes front f fs same))
-    ]
-
-    by_apart : bytes_eq front (stem f.name) ≡ false → (copies (g ∷ rest) front ≡ copies (f ∷ fs) front)
-        ⊎ (length (copies (g ∷ rest) front) < length (copies (f ∷ fs) front))
-    by_apart apart = rw (copies_no front g rest (too apart), copies_no front f fs apart) less
-
 -- of an id's files, if their bytes are durable, it leaves all that they held, or less
 left_copies : (front : List ℕ) (fs left : List File) → AreLeftAs fs left
     → AllByRecursion (λ (f : File). bytes_eq front (stem f.name) ≡ true → f.is_flushed ≡ true) fs
@@ -94,7 +65,11 @@ left_copies : (front : List ℕ) (fs left : List File) → AreLeftAs fs left
 left_copies front [] left is flushed = inl (rw is refl)
 left_copies front (f ∷ fs) left (inl (gone, rest)) flushed = let less = left_copies front fs left rest flushed.1 in grind (arith, less)
 left_copies front (f ∷ fs) left (inr (g, rest, is, like, more)) flushed =
-    rw is (left_step front f g fs rest like.name (λ same. like.content (flushed.0 same)) (left_copies front fs rest more flushed.1))
+    let less = left_copies front fs rest more flushed.1 in
+    rw (is, like.name) (elim (cases_Bool (bytes_eq front (stem f.name))) [
+      | inl its ↦ rw (its, like.content (flushed.0 its)) (grind (arith, less))
+      | inr apart ↦ rw apart less
+    ])
 
 -- what is held has one, if the account's files are durable
 durable_named : (account : List ℕ) (fs : List File) (id : List ℕ) → is_legal_id id ≡ true → AllByRecursion (IsDurableFor account) fs
@@ -108,9 +83,8 @@ durable_named account (f ∷ fs) id legal all held = let here : names_id account
 
 any_reached : (p : List ℕ → Bool) (fs left : List File) → AreReached fs left → any_named p fs ≡ true → any_named p left ≡ true
 any_reached p [] [] are any = any
-any_reached p [] (g ∷ left) never any = absurd never
-any_reached p (f ∷ fs) [] never any = absurd never
 any_reached p (f ∷ fs) (g ∷ left) (same, are) any = grind (arith, same.name, same.named, any, any_reached p fs left are)
+any_reached p fs left never any = absurd never
 
 one_fewer : (front : List ℕ) (a b : List File) (f : File) → bytes_eq front (stem f.name) ≡ true
     → length (copies (a ++ b) front) < length (copies (a ++ f ∷ b) front)
@@ -146,32 +120,27 @@ named_stays front (f ∷ gone) fs left (a, b, are, is) once named held =
           (λ (g : File). bytes_eq front (stem g.name) && g.is_named) a b,
     )
 
-all_cut : (P : File → Type 0) (a b : List File) (f : File) → AllByRecursion P (a ++ f ∷ b) → AllByRecursion P (a ++ b)
-all_cut P [] b f all = all.1
-all_cut P (x ∷ a) b f all = (all.0, all_cut P a b f all.1)
-
 flushed_reached : (account : List ℕ) (fs left : List File) → AreReached fs left
     → AllByRecursion (IsFlushedFor account) fs → AllByRecursion (IsFlushedFor account) left
 flushed_reached account [] [] are all = tt
-flushed_reached account [] (g ∷ left) never all = absurd never
-flushed_reached account (f ∷ fs) [] never all = absurd never
 flushed_reached account (f ∷ fs) (g ∷ left) (same, are) all =
     (λ id legal names. same.flushed (all.0 id legal (rw same.name at names)), flushed_reached account fs left are all.1)
+flushed_reached account fs left never all = absurd never
 
 flushed_stays : (account : List ℕ) (gone fs left : List File) → IsWithout fs gone left
     → AllByRecursion (IsFlushedFor account) fs → AllByRecursion (IsFlushedFor account) left
 flushed_stays account [] fs left are all = flushed_reached account fs left are all
 flushed_stays account (f ∷ gone) fs left (a, b, are, is) all =
-    flushed_stays account gone (a ++ b) left is (all_cut (IsFlushedFor account) a b f (flushed_reached account fs (a ++ f ∷ b) are all))
+    let reached = flushed_reached account fs (a ++ f ∷ b) are all in
+    flushed_stays account gone (a ++ b) left is
+    (all_append _ a b (all_front _ a (f ∷ b) reached) (all_back _ a (f ∷ b) reached).1)
 
 -- ---- what lasts
 
 lasts_bits : (named held taken named' held' : Bool) → (named ≡ true → held ≡ true)
     → (named ≡ true → held' ≡ true → named' ≡ true) → (named || taken) ≡ true
     → (named' || (((held || taken) && not held') || (taken && not named'))) ≡ true
-lasts_bits true held taken named' true is stays some = or_left _ _ (stays refl refl)
-lasts_bits true held taken named' false is stays some = let there = is refl in grind (arith, there)
-lasts_bits false held taken named' held' is stays some = grind (arith, some)
+lasts_bits named held taken named' held' is stays some = grind (arith, is, stays, some)
 
 -- it still does, if a durable name stays while the message is held
 lasts_on : (mail : Mail) (state : State) (after : AccountMail) (id : List ℕ)
@@ -210,29 +179,19 @@ others_keep_safe laws file from f mail state after intent kept stands between ke
     shown id d = let was = between.shows_no_more id d in on id (kept.recorded id was).0 (safe.recorded id was)
 
 module _ (mail : Mail) (state : State) (left : Maildir) (kept : Kept mail state) (taken : WereTaken state.account.maildir left) where
-  once : {texts : List (List ℕ)} {text : List ℕ} → (texts ≡ []) ⊎ (texts ≡ text ∷ []) → length texts ≤ 1
-  once (inl none) = rw none (omega arith)
-  once (inr one) = rw one (omega arith)
-
   pub lasts_left : (id : List ℕ) → is_legal_id id ≡ true → lasts mail state id ≡ true
       → lasts mail (state_with mail state [] (record state.account { maildir = left })) id ≡ true
   lasts_left id legal = lasts_on mail state (record state.account { maildir = left }) id
-      (named_stays (stem_of mail.account id) taken.gone state.account.maildir.files left.files taken.files (once (kept.holds id legal)))
+      (named_stays (stem_of mail.account id) taken.gone state.account.maildir.files left.files taken.files
+      (none_or_one (kept.holds id legal)))
 
   -- nothing came
   pub held_back : (id : List ℕ) → is_held mail.account left id ≡ true → is_held mail.account state.account.maildir id ≡ true
   held_back id held =
       let part = part_copies (stem_of mail.account id) state.account.maildir.files left.files (taken.gone, taken.files) in
       let some = held_some (stem_of mail.account id) left.files held in
-      some_held mail.account id state.account.maildir.files (λ none. some (by_none none part))
-    where
-      by_none : copies state.account.maildir.files (stem_of mail.account id) ≡ []
-          → (copies left.files (stem_of mail.account id) ≡ copies state.account.maildir.files (stem_of mail.account id))
-          ⊎ (length (copies left.files (stem_of mail.account id)) < length
-          (copies state.account.maildir.files (stem_of mail.account id)))
-          → copies left.files (stem_of mail.account id) ≡ []
-      by_none none (inl same) = same ∙ none
-      by_none none (inr fewer) = nil_from_length (copies left.files (stem_of mail.account id)) (omega (arith, rw none at fewer))
+      some_held mail.account id state.account.maildir.files
+      (λ none. some (grind (arith, none, part, nil_from_length (copies left.files (stem_of mail.account id)))))
 
 -- readers took some files away while a call was under way; the record's device is as it was
 pub left_keeps_safe : (disk : Disk) (mail : Mail) (state : State) (left : Maildir) → Kept mail state → WereTaken state.account.maildir left
@@ -322,6 +281,21 @@ calls_keep_safe laws file from f mail state call sent now kept is leaves sure sa
 
 -- ---- a loss of power
 
+-- the first of two cases leads to another
+or_on : {a b : Bool} (c : Bool) → (a ≡ true → b ≡ true) → (a || c) ≡ true → (b || c) ≡ true
+or_on c on some = ⊎_elim (λ is. or_left _ _ (on is)) (or_right _ _) (or_cases _ _ some)
+
+-- what lasts is safe afterwards
+lasts_safe : (mail : Mail) (state : State) (after : AccountMail) → LosesPower state.account.maildir after.maildir
+    → (id : List ℕ) → lasts mail state id ≡ true → is_safe mail (record state { account = after }) id ≡ true
+lasts_safe mail state after loses id = or_on _ (any_left (names_id mail.account id) state.account.maildir.files
+    after.maildir.files loses.files)
+
+-- what is safe lasts, if the account's files are durable
+durable_lasts : (mail : Mail) (state : State) → AllByRecursion (IsDurableFor mail.account) state.account.maildir.files
+    → (id : List ℕ) → is_legal_id id ≡ true → is_safe mail state id ≡ true → lasts mail state id ≡ true
+durable_lasts mail state durable id legal = or_on _ (durable_named mail.account state.account.maildir.files id legal durable)
+
 pub losses_leave_kept : (disk : Disk) (mail : Mail) (state : State) (after : AccountMail) (left : Option (List ℕ))
     (intent : Option Intent) → Kept mail state
     → IsCrashSafe disk mail state → LosesPower state.account.maildir after.maildir → MayLeave disk left
@@ -339,8 +313,7 @@ losses_leave_kept disk mail state after left intent kept safe loses may stands =
     same_or_none {was} {now} {text} once less = grind (arith, once, less, nil_from_length now)
 
     still : (id : List ℕ) → lasts mail state id ≡ true → is_safe mail (record state { account = after }) id ≡ true
-    still id last = ⊎_elim (λ named. or_left _ _ (any_left (names_id mail.account id) state.account.maildir.files
-        after.maildir.files loses.files named)) (or_right _ _) (or_cases _ _ last)
+    still = lasts_safe mail state after loses
 
 pub durable_is_safe : Below → {F : Type 0} (file : FileGhosts F) → DurableAccountsAreSafe file
 durable_is_safe laws file f mail state intent kept stands durable same = record {
@@ -354,9 +327,7 @@ durable_is_safe laws file f mail state intent kept stands durable same = record 
 }
   where
     on : (id : List ℕ) → is_legal_id id ≡ true → is_safe mail state id ≡ true → lasts mail state id ≡ true
-    on id legal safe = ⊎_elim
-        (λ held. or_left _ _ (durable_named mail.account state.account.maildir.files id legal durable held))
-        (or_right _ _) (or_cases _ _ safe)
+    on = durable_lasts mail state durable
 
 pub all_left_durable : (account : List ℕ) (old new : Maildir) → LosesPower old new → AllByRecursion (IsDurableFor account) new.files
 all_left_durable account old new loses = all_map new.files (left_durable old.files new.files loses.files) (λ g is id legal names. is)
@@ -383,13 +354,9 @@ durable_fronts_begin mail state all legal front durable = record {
   done = sym (append-nil front.done);
   at_most_one = omega arith;
   named = all_both front.done (all_front (λ (m : Message). is_legal_id m.uid ≡ true) front.done front.rest
-      (rw front.prefix at legal)) (members front.done) (λ m l there. on m.uid l (sym (front.is_done m.uid l) ∙ there));
+      (rw front.prefix at legal)) (members front.done)
+      (λ m l there. durable_lasts mail state durable m.uid l (sym (front.is_done m.uid l) ∙ there));
 }
-  where
-    on : (id : List ℕ) → is_legal_id id ≡ true → is_safe mail state id ≡ true → lasts mail state id ≡ true
-    on id legal safe = ⊎_elim
-        (λ held. or_left _ _ (durable_named mail.account state.account.maildir.files id legal durable held))
-        (or_right _ _) (or_cases _ _ safe)
 
 -- ---- what others and readers leave
 
@@ -448,24 +415,15 @@ others_keep_order file from f mail state after keeps back all legal front =
 
 -- ---- what a call leaves
 
-same_cons : {A : Type 0} (x y : A) (xs ys : List A) → x ∷ xs ≡ y ∷ ys → (x ≡ y) × (xs ≡ ys)
-same_cons x y xs ys e = (cc, cc)
-
-never_cons : {A : Type 0} (x : A) (xs : List A) → [] ≡ x ∷ xs → ⊥
-never_cons x xs e = cc
-
 split_map : {A B : Type 0} (g : A → B) (xs : List A) (front back : List B) → map g xs ≡ front ++ back → (ys : List A)
     × (zs : List A) × (xs ≡ ys ++ zs) × (map g ys ≡ front) × (map g zs ≡ back)
 split_map g xs [] back e = ([], xs, refl, refl, e)
-split_map g [] (y ∷ front) back e = absurd (never_cons y (front ++ back) e)
+split_map g [] (y ∷ front) back e = absurd cc
 split_map g (x ∷ xs) (y ∷ front) back e =
-    let (head, tail) = same_cons (g x) y (map g xs) (front ++ back) e in
+    let head : g x ≡ y = cc in
+    let tail : map g xs ≡ front ++ back = cc in
     let (ys, zs, is, first, last) = split_map g xs front back tail in
     (x ∷ ys, zs, ap (λ l. x ∷ l) is, ap (λ l. g x ∷ l) first ∙ ap (λ z. z ∷ front) head, last)
-
-without_append : (a b : List File) → without_flags (a ++ b) ≡ without_flags a ++ without_flags b
-without_append [] b = refl
-without_append (g ∷ a) b = ap (λ (l : List File). file g.name g.content ∷ l) (without_append a b)
 
 shorter : (p : Message → Bool) (ms : List Message) → length (filter p ms) ≤ length ms
 shorter p [] = omega arith
@@ -475,27 +433,17 @@ module _ (mail : Mail) (own : (m : Message) → names_id mail.account m.uid (nam
   abbrev its_file : Message → File
   its_file m = file (name_of mail.account m.uid (length m.text)) m.text
 
-  same_length : (ms : List Message) (fs : List File) → map its_file ms ≡ without_flags fs → length ms ≡ length fs
-  same_length [] [] e = refl
-  same_length [] (g ∷ fs) e = absurd (never_cons (file g.name g.content) (without_flags fs) e)
-  same_length (m ∷ ms) [] e = absurd (never_cons (its_file m) (map its_file ms) (sym e))
-  same_length (m ∷ ms) (g ∷ fs) e =
-      let rest = same_length ms fs (same_cons (its_file m) (file g.name g.content) (map its_file ms) (without_flags fs)
-      e).1 in omega (arith, rest)
-
-  both_true : {a b : Bool} → a ≡ true → b ≡ true → (a && b) ≡ true
-  both_true is also = rw (is, also) refl
-
   has_come : (came : List File) (ms : List Message) → map its_file ms ≡ without_flags came
       → AllByRecursion IsDurableFile came
       → AllByRecursion (λ (m : Message). any_named (names_id mail.account m.uid) came ≡ true) ms
   has_come came [] e all = tt
-  has_come [] (m ∷ ms) e all = absurd (never_cons (its_file m) (map its_file ms) (sym e))
+  has_come [] (m ∷ ms) e all = absurd cc
   has_come (g ∷ came) (m ∷ ms) e all =
-      let (head, tail) = same_cons (its_file m) (file g.name g.content) (map its_file ms) (without_flags came) e in
+      let head : its_file m ≡ file g.name g.content = cc in
+      let tail : map its_file ms ≡ without_flags came = cc in
       let name : names_id mail.account m.uid g.name ≡ true =
       subst (λ (h : File). names_id mail.account m.uid h.name ≡ true) head (own m) in (
-        or_left _ _ (both_true name all.0.0),
+        or_left _ _ (and_from _ _ name all.0.0),
         all_map ms (has_come came ms tail all.1) (λ x there. or_right _ _ there),
       )
 
@@ -521,15 +469,13 @@ module _ (mail : Mail) (own : (m : Message) → names_id mail.account m.uid (nam
     came_are : map its_file promises.came ≡ without_flags leaves.came ++ without_flags leaves.last
     came_are = append_cancel_left (without_flags state.account.maildir.files) (map its_file promises.came)
         (without_flags leaves.came ++ without_flags leaves.last)
-        (sym promises.added ∙ ap without_flags leaves.files ∙ without_append state.account.maildir.files (leaves.came ++ leaves.last)
-        ∙ ap (λ (l : List File). without_flags state.account.maildir.files ++ l) (without_append leaves.came leaves.last))
+        (sym promises.added ∙ came_too state.account.maildir.files now.maildir.files (leaves.came ++ leaves.last) leaves.files
+        ∙ ap (λ (l : List File). without_flags state.account.maildir.files ++ l)
+        (came_too leaves.came (leaves.came ++ leaves.last) leaves.last refl))
 
     none_came : leaves.came ++ leaves.last ≡ [] → promises.came ≡ []
-    none_came none = by promises.came (came_are ∙ sym (without_append leaves.came leaves.last) ∙ ap without_flags none)
-      where
-        by : (ms : List Message) → map its_file ms ≡ [] → ms ≡ []
-        by [] e = refl
-        by (m ∷ ms) e = absurd (never_cons (its_file m) (map its_file ms) (sym e))
+    none_came none = nil_from_length promises.came (sym (length-map promises.came its_file) ∙ ap length (came_are
+        ∙ sym (came_too leaves.came (leaves.came ++ leaves.last) leaves.last refl) ∙ ap without_flags none))
 
     by_none : leaves.came ++ leaves.last ≡ [] → IsDurableFront mail after all
     by_none none = record {
@@ -552,21 +498,17 @@ module _ (mail : Mail) (own : (m : Message) → names_id mail.account m.uid (nam
           done = later.1 ∙ ap (λ (ms : List Message). front.is.done ++ filter new ms) are
               ∙ ap (λ (l : List Message). front.is.done ++ l) (filter-append new first last)
               ∙ sym (append_assoc front.is.done (filter new first) (filter new last));
-          at_most_one = let short = shorter new last in let same = same_length last leaves.last ended in let most =
-              leaves.at_most_one in omega (arith, short, same, most);
+          at_most_one = let short = shorter new last in let same = sym (length-map last its_file)
+              ∙ ap length ended ∙ length-map leaves.last _ in let most = leaves.at_most_one in omega (arith, short, same, most);
           named = all_append (λ (m : Message). lasts mail after m.uid ≡ true) front.is.done (filter new first)
               (all_both front.is.done (all_front (λ (m : Message). is_legal_id m.uid ≡ true) front.is.done front.is.rest
               (rw front.is.prefix at legal)) (members front.is.done)
-              (λ m l there. on m.uid (safe_lasts m.uid (sym (front.is.is_done m.uid l) ∙ there))))
+              (λ m l there. on m.uid (or_on _ (all_named mail.account state.account.maildir.files m.uid named)
+              (sym (front.is.is_done m.uid l) ∙ there))))
               (all_filter (λ (m : Message). lasts mail after m.uid ≡ true) new first
               (all_map first (has_come leaves.came first came leaves.durable)
               (λ m there. or_left _ _ (came_there store from f mail state call.vanished now leaves m.uid there))));
         }
-      where
-        safe_lasts : (id : List ℕ) → is_safe mail state id ≡ true → lasts mail state id ≡ true
-        safe_lasts id safe = ⊎_elim
-            (λ held. or_left _ _ (all_named mail.account state.account.maildir.files id named held))
-            (or_right _ _) (or_cases _ _ safe)
 
     pub calls_keep_order : IsDurableFront mail after all
     calls_keep_order = ⊎_elim by_none by_named leaves.named
@@ -581,21 +523,9 @@ module _ (mail : Mail) (state : State) (after : AccountMail) (all : List Message
   abbrev safe_next : List ℕ → Bool
   safe_next id = is_held mail.account after.maildir id || state.taken id
 
-  still_safe : (id : List ℕ) → lasts mail state id ≡ true → safe_next id ≡ true
-  still_safe id last = ⊎_elim
-      (λ named. or_left _ _ (any_left (names_id mail.account id) state.account.maildir.files after.maildir.files
-      loses.files named)) (or_right _ _) (or_cases _ _ last)
-
-  safe_before : (id : List ℕ) → is_legal_id id ≡ true → safe_next id ≡ true → is_safe mail state id ≡ true
-  safe_before id l safe = ⊎_elim
-      (λ held. or_left _ _ (any_before (names_id mail.account id) state.account.maildir.files after.maildir.files
-      loses.files held)) (or_right _ _) (or_cases _ _ safe)
-
-  now_lasts : (id : List ℕ) → is_legal_id id ≡ true → safe_next id ≡ true → lasts mail next_state id ≡ true
-  now_lasts id l safe = ⊎_elim
-      (λ held. or_left _ _ (durable_named mail.account after.maildir.files id l
-      (all_left_durable mail.account state.account.maildir after.maildir loses) held))
-      (or_right _ _) (or_cases _ _ safe)
+  safe_before : (id : List ℕ) → safe_next id ≡ true → is_safe mail state id ≡ true
+  safe_before id = or_on _ (any_before (names_id mail.account id) state.account.maildir.files after.maildir.files
+      loses.files)
 
   made : (done rest : List Message) → all ≡ done ++ rest
       → ((id : List ℕ) → is_legal_id id ≡ true → has_id (message_ids done) id ≡ safe_next id)
@@ -607,16 +537,17 @@ module _ (mail : Mail) (state : State) (after : AccountMail) (all : List Message
     done = sym (append-nil done);
     at_most_one = omega arith;
     named = all_both done (all_front (λ (m : Message). is_legal_id m.uid ≡ true) done rest (rw prefix at legal))
-        (members done) (λ m l there. now_lasts m.uid l (sym (is_done m.uid l) ∙ there));
+        (members done) (λ m l there. durable_lasts mail next_state
+        (all_left_durable mail.account state.account.maildir after.maildir loses) m.uid l (sym (is_done m.uid l) ∙ there));
   }
 
   in_first : (id : List ℕ) → has_id (message_ids front.first) id ≡ true → safe_next id ≡ true
-  in_first id there = still_safe id (all_at (λ x. lasts mail state x ≡ true) front.first front.named there)
+  in_first id there = lasts_safe mail state after loses id (all_at (λ x. lasts mail state x ≡ true) front.first front.named there)
 
   in_done : (id : List ℕ) → is_legal_id id ≡ true → safe_next id ≡ true
       → (has_id (message_ids front.first) id || has_id (message_ids front.last) id) ≡ true
   in_done id l safe = sym (ids_both front.first front.last id) ∙ ap (λ ms. has_id (message_ids ms) id) (sym front.done)
-      ∙ front.is.is_done id l ∙ safe_before id l safe
+      ∙ front.is.is_done id l ∙ safe_before id safe
 
   prefix_is : all ≡ front.first ++ (front.last ++ front.is.rest)
   prefix_is = front.is.prefix ∙ ap (λ l. l ++ front.is.rest) front.done ∙ append_assoc front.first front.last front.is.rest
@@ -640,7 +571,7 @@ module _ (mail : Mail) (state : State) (after : AccountMail) (all : List Message
             (λ at_last. subst (λ x. safe_next x ≡ true) (sym (its_id id m (rw is at at_last))) safe)
             (or_cases _ _ (sym (ids_both front.first front.last id)
             ∙ ap (λ ms. has_id (message_ids ms) id) (sym front.done) ∙ there)))
-            (λ safe. front.is.is_done id l ∙ safe_before id l safe))
+            (λ safe. front.is.is_done id l ∙ safe_before id safe))
         | inr lost ↦ without (m ∷ []) is (λ id there. subst (λ x. safe_next x ≡ false) (sym (its_id id m there)) lost)
       ]
         where

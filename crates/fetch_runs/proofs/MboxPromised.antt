@@ -14,9 +14,8 @@ use Rattle.mail_store.specs.Settling.{MayBeLeft, listed_size}
 use Rattle.mail_store.proofs.SettlingLemmas.{all_left, part_left}
 use Rattle.std.proofs.lemmas.Grind.{flat_map-append}
 use Rattle.std.proofs.lemmas.Option.{same_Some}
-use Rattle.fetch_runs.specs.Sessions.{AreTexts, Effect, IsHonest, SendsOnly, IsBegun, Served, is_retr, MboxMail}
-use Rattle.fetch_runs.specs.Sessions.{settled, mbox_rows, mbox_wanted, entries, IsBroken, MboxLeaves, MboxStores}
-use Rattle.fetch_runs.specs.Sessions.{entries_of, MboxSessionOverLink}
+use Rattle.fetch_runs.specs.Sessions.{AreTexts, Effect, IsHonest, SendsOnly, IsBegun, Served, is_retr, MboxMail, settled, mbox_rows}
+use Rattle.fetch_runs.specs.Sessions.{mbox_wanted, entries, IsBroken, MboxLeaves, MboxStores, entries_of, MboxSessionOverLink}
 use Rattle.fetch_rules.specs.Record.{Intent, marked, is_delivered, Row, has_row, marked_all}
 use Rattle.fetch_rules.specs.RecordMeaning.{FileStandsFor}
 use Rattle.pop3_wire.specs.World.{Message}
@@ -25,10 +24,9 @@ use Rattle.fetch_runs.specs.Below.{Below}
 use Rattle.fetch_runs.specs.Promises.{IsOf, IsMaildrop, ShowsNext, Call, Base, is_entered, IsOpenFor, Stands}
 use Rattle.fetch_runs.specs.Promises.{HoldsEntries, IsMboxFront, MboxPromises, MboxStarts, AppendsMail}
 use Rattle.fetch_runs.proofs.Promised.{sends_such}
-use Rattle.fetch_runs.proofs.Core.{BeginsWith, next_in, added, added_begins, prefix_after, all_added, parts_apart}
-use Rattle.fetch_runs.proofs.Core.{IsNumbered, num_item, Fetch, all_wanted, distinct_wanted, wanted_is, taken_is}
-use Rattle.fetch_runs.proofs.Core.{texts_are, wanted_ids, none_recorded, left_out, qs, wants, wants_placed, has_listed}
-use Rattle.fetch_runs.proofs.Core.{mbox_fetched}
+use Rattle.fetch_runs.proofs.Core.{BeginsWith, next_in, added, added_begins, prefix_after, all_added, parts_apart, IsNumbered, num_item}
+use Rattle.fetch_runs.proofs.Core.{Fetch, all_wanted, distinct_wanted, wanted_is, taken_is, texts_are, wanted_ids, none_recorded, left_out}
+use Rattle.fetch_runs.proofs.Core.{qs, wants, wants_placed, has_listed, mbox_fetched}
 use Rattle.fetch_runs.proofs.Lists.{all_ids_at, distinct_filter, filter_all, other_id, bytes_self, Distinct}
 use Rattle.fetch_runs.proofs.Lists.{distinct_is, are_distinct, all_map, all_take, all_append, all_back, all_mapped}
 use Rattle.fetch_runs.proofs.Lists.{members, ids_both, bytes_swap, delivered_unheld, delivered_one, delivered_all}

@@ -3,7 +3,7 @@ use Rattle.std.proofs.Common.{◌≡◌, ◌⊎◌, inl, inr, ◌-◌, ℕ, List
 use Rattle.std.proofs.Common.{sym, subst, ◌∙◌, ap, ap₂, arith, not, cond, ◌&&◌, ◌||◌, take, drop}
 use Rattle.std.specs.Prelude.{bytes_eq, ◌↔◌}
 use Rattle.std.specs.List.{AllByRecursion, count_by, filter}
-use Rattle.std.proofs.lemmas.Bool.{cases_Bool, both_ways, or_left, or_right, or_cases, and_parts, false_from_ne_true}
+use Rattle.std.proofs.lemmas.Bool.{cases_Bool, both_ways, or_left, or_right, or_cases, and_parts, false_from_ne_true, not-true}
 use Rattle.std.proofs.lemmas.List.{append-nil, map-append}
 use Rattle.std.proofs.lemmas.List.Elements.{filter-append}
 use Rattle.std.proofs.Math.Logic.{⊎_elim, ⊎_map}
@@ -22,13 +22,11 @@ use Rattle.fetch_runs.specs.Sessions.{SendsOnly, IsBegun, Served, SessionOverLin
 use Rattle.fetch_runs.specs.Below.{Below}
 use Rattle.fetch_runs.specs.Promises.{Mail, IsOf, IsMaildrop, State, is_safe, IsSafe, state_with, DeletesOneOf}
 use Rattle.fetch_runs.specs.Promises.{ShowsNext, IsFront, Promises, Kept, Call, IsBetween}
-use Rattle.fetch_runs.proofs.Core.{added, added_begins, prefix_after, Fetch, all_wanted, distinct_wanted, texts_are}
-use Rattle.fetch_runs.proofs.Core.{taken_is, wanted_ids, none_recorded, left_out, IsLegal, wants, stored_files}
-use Rattle.fetch_runs.proofs.Core.{message_file, has_listed, fetched, order}
-use Rattle.fetch_runs.proofs.Lists.{ids_both, ids_filtered, any_filter, same_tests, is_some, Distinct, distinct_is}
-use Rattle.fetch_runs.proofs.Lists.{each_text, all_map, all_filter, all_take, all_append, all_at, all_both, all_ids_at}
-use Rattle.fetch_runs.proofs.Lists.{all_passing, members, no_texts, has_texts, texts_filtered, taken_more}
-use Rattle.fetch_runs.proofs.Lists.{delivered_marked, delivered_merged, marks_stay, mapped_at}
+use Rattle.fetch_runs.proofs.Core.{added, added_begins, prefix_after, Fetch, all_wanted, distinct_wanted, texts_are, taken_is, wanted_ids}
+use Rattle.fetch_runs.proofs.Core.{none_recorded, left_out, IsLegal, wants, stored_files, message_file, has_listed, fetched, order}
+use Rattle.fetch_runs.proofs.Lists.{ids_both, ids_filtered, any_filter, same_tests, is_some, Distinct, distinct_is, each_text, all_map}
+use Rattle.fetch_runs.proofs.Lists.{all_filter, all_take, all_append, all_at, all_both, all_ids_at, all_passing, members, no_texts}
+use Rattle.fetch_runs.proofs.Lists.{has_texts, texts_filtered, taken_more, delivered_marked, delivered_merged, marks_stay, mapped_at}
 use Rattle.fetch_session.specs.declared.report.Outcome.TheVariants.{Ended}
 use Rattle.fetch_runs.proofs.Safety.{served_session}
 
@@ -82,10 +80,6 @@ some_both : {X : Type 0} (xs ys : List X) → is_some (xs ++ ys) ≡ (is_some xs
 some_both [] ys = refl
 some_both (x ∷ xs) ys = refl
 
-not_true : (b : Bool) → not b ≡ true → b ≡ false
-not_true false e = refl
-not_true true e = absurd (both_ways false refl e)
-
 unheld_part : {X : Type 0} (held : Bool) (xs : List X) → (held || is_some (cond (not held) xs [])) ≡ (held || is_some xs)
 unheld_part true xs = refl
 unheld_part false xs = refl
@@ -101,6 +95,9 @@ filter_within : (p q : Message → Bool) (ms : List Message)
     → AllByRecursion (λ (m : Message). p m ≡ true → q m ≡ true) ms → filter p (filter q ms) ≡ filter p ms
 filter_within p q [] all = refl
 filter_within p q (m ∷ ms) all = grind (arith, all.0, filter_within p q ms all.1)
+
+unsafe : (done held taken : Bool) → done ≡ (held || taken) → not done ≡ true → not held ≡ true
+unsafe done held taken e f = grind (arith, e, f)
 
 more_done : (done held got taken held' named : Bool) → done ≡ (held || taken) → held' ≡ (held || got)
     → (done || (got && not done)) ≡ (held' || (((held || taken) && not held') || (taken && not named)))
@@ -257,11 +254,6 @@ module _ {W S F : Type 0} (laws : Below) {mail : Mail} (account_is : IsAccountTe
       → AllByRecursion (λ (m : Message). not (has_id (message_ids done) m.uid) ≡ true → not (held m.uid) ≡ true) got
   new_unheld done is_done = all_map got (all_got IsLegal legal_drop)
       (λ m l undone. unsafe (has_id (message_ids done) m.uid) (held m.uid) (state.taken m.uid) (is_done m.uid l) undone)
-    where
-      unsafe : (done held taken : Bool) → done ≡ (held || taken) → not done ≡ true → not held ≡ true
-      unsafe true held taken e f = absurd (both_ways false refl f)
-      unsafe false true taken e f = absurd (both_ways false refl e)
-      unsafe false false taken e f = refl
 
   -- what came is the next, if what could come is
   front_after : (all : List Message) → AllByRecursion IsLegal all → (front : IsFront mail state all)
@@ -312,7 +304,7 @@ module _ {W S F : Type 0} (laws : Below) {mail : Mail} (account_is : IsAccountTe
     where
       shown_came : AllByRecursion (λ (m : Message). (has_id (message_ids o.maildrop) m.uid ≡ true) × (held m.uid ≡ false)) came
       shown_came = all_both _ (all_filter _ _ got (all_got _ (members o.maildrop))) (all_passing _ got)
-          (λ m there unheld. (there, not_true (held m.uid) unheld))
+          (λ m there unheld. (there, not-true (held m.uid) unheld))
 
       new_unrecorded : o.settings.read_all ≡ false → (m : Message) → is_delivered rows m.uid ≡ false
           → is_delivered state.account.rows m.uid ≡ false

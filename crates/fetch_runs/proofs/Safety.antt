@@ -34,9 +34,8 @@ use Rattle.pop3_wire.specs.World.{Message}
 use Rattle.pop3_wire.specs.Honest.{Grants, Replies, no_marks, Honest}
 use Rattle.fetch_runs.proofs.Listed.{honest_is_granted, listing_is_maildrop, texts_are_messages}
 use Rattle.pop3_wire.specs.Reading.{WholeReply}
-use Rattle.fetch_runs.proofs.Lists.{all_map, all_both, all_filter, all_passing, bytes_same, bytes_self, taken_more}
-use Rattle.fetch_runs.proofs.Lists.{all_ids_at, delivered_marked, delivered_merged, delivered_unheld, all_back}
-use Rattle.fetch_runs.proofs.Lists.{all_take, all_mapped}
+use Rattle.fetch_runs.proofs.Lists.{all_map, all_both, all_filter, all_passing, bytes_same, bytes_self, taken_more, all_ids_at}
+use Rattle.fetch_runs.proofs.Lists.{delivered_marked, delivered_merged, delivered_unheld, all_back, all_take, all_mapped}
 use Rattle.pop3_wire.specs.Place.{at}
 use Rattle.mail_store.specs.Maildir.{File}
 use Rattle.fetch_session.specs.declared.report.Outcome.TheVariants.{Ended}

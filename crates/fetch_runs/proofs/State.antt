@@ -7,15 +7,12 @@ use Rattle.std.proofs.lemmas.List.Concat.{flat_map-append}
 use Rattle.mail_terms.specs.Listing.{Item}
 use Rattle.rc_file.specs.declared.settings.Settings.{Settings}
 use Rattle.fetch_rules.specs.Record.{Row, marked, RecordState, none_open, Intent}
-use Rattle.fetch_rules.specs.Wanted.{wanted}
 use Rattle.mail_store.specs.Maildir.{Maildir, File}
 use Rattle.mail_store.specs.FileName.{stem_of}
-use Rattle.fetch_session.specs.Task.{Task, stores, rereads, Done, IsAnswered, tasks_of, files_in, files_of, file_from}
-use Rattle.fetch_session.specs.Task.{texts_in, done_texts}
+use Rattle.fetch_session.specs.Task.{Task, stores, rereads, Done, IsAnswered, tasks_of, files_in, files_of, file_from, texts_in, done_texts}
 use Rattle.fetch_session.specs.Target.{AsFiles, in_maildir, Target, Stores, no_maildir, AsEntries, mail_in, closed_file, closed_rows_in}
 use Rattle.pop3_wire.specs.Reading.{WholeReply}
-use Rattle.fetch_runs.specs.Sessions.{StopsAtList}
-use Rattle.fetch_runs.specs.Sessions.{StoresTexts as Did, MboxLeaves, MboxStores, IsBroken, settled, entries, bytes_at}
+use Rattle.fetch_runs.specs.Sessions.{StopsAtList, StoresTexts as Did, MboxLeaves, MboxStores, IsBroken, settled, entries, bytes_at}
 use Rattle.std.proofs.lemmas.Simd.{map-map}
 use Rattle.fetch_runs.proofs.Turns.{found_in, found_by, deleted_by, text_found, Course, course, SessionCourse, Idle}
 use Rattle.fetch_runs.proofs.Turns.{Deals, course_carried, course_carries, course_proceeded, stored_done, found_of}
@@ -45,11 +42,10 @@ use Rattle.std.proofs.lemmas.Option.{same_Some}
 use Rattle.fetch_session.specs.Laws.{SteadyFilesKeep, UnsavedFilesKeep}
 use Rattle.fetch_session.specs.Mbox.{IsTakenBack, RefusesEntry, intent_of}
 use Rattle.fetch_session.specs.declared.fault.Why.TheVariants as why
-use Rattle.fetch_runs.proofs.Tasks.{tasks_ahead, key, fetched_in, fetched, IsRight, Inputs, rows_on, tasks_on}
-use Rattle.fetch_runs.proofs.Tasks.{messages_on, texts_by, count, same_length, rows_after, Part, right_part, wanted_are}
-use Rattle.fetch_runs.proofs.Tasks.{records_part, files_part, is_ended, Starts, or_less, Tally, not_ended, tally_begun}
-use Rattle.fetch_runs.proofs.Tasks.{tally_number, tally_recorded, tally_none, mid_rows, mid_keeps, part_all, tally_all}
-use Rattle.fetch_runs.proofs.Tasks.{part_done, tally_no_line, full_found, tally_spare, tally_old, tally_new, full_rows}
+use Rattle.fetch_runs.proofs.Tasks.{tasks_ahead, key, fetched_in, fetched, IsRight, Inputs, rows_on, tasks_on, messages_on, texts_by, count}
+use Rattle.fetch_runs.proofs.Tasks.{same_length, rows_after, Part, right_part, wanted_are, records_part, files_part, is_ended, Starts}
+use Rattle.fetch_runs.proofs.Tasks.{or_less, Tally, not_ended, tally_begun, tally_number, tally_recorded, tally_none, mid_rows, mid_keeps}
+use Rattle.fetch_runs.proofs.Tasks.{part_all, tally_all, part_done, tally_no_line, full_found, tally_spare, tally_old, tally_new, full_rows}
 
 -- ---- of a session
 
@@ -131,7 +127,7 @@ made_files account (d ∷ dones) = map-append _ (files_in account d.task d.repli
         (by (stores number uid) replies)
     by other replies = refl
 
-came_too : (old new added : List File) → new ≡ old ++ added
+pub came_too : (old new added : List File) → new ≡ old ++ added
     → without_flags new ≡ without_flags old ++ without_flags added
 came_too old new added came = ap without_flags came ∙ map-append _ old added
 

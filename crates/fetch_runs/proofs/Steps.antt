@@ -27,9 +27,8 @@ use Rattle.fetch_session.specs.Record.{Keeps, KeepsRows}
 use Rattle.fetch_session.specs.Session.{keeps_files, outcome_of, Keeping, keeps_entries, SessionIn}
 use Rattle.fetch_session.specs.Target.{AsFiles, AsEntries, mail_in, no_maildir, Target}
 use Rattle.fetch_runs.proofs.Talk.{name_of, word_of, Spoke, session_spoke, Planned, idle_said, is_tail_for}
-use Rattle.fetch_runs.proofs.Turns.{Course, course, SessionCourse, Idle, Deals, begun_of, IsOfTask, begins_of}
-use Rattle.fetch_runs.proofs.Turns.{both_none, deleted_in, deleted_by, effect_of, tail_for}
-use Rattle.fetch_runs.proofs.Turns.{course_proceeded, found_by, found_in}
+use Rattle.fetch_runs.proofs.Turns.{Course, course, SessionCourse, Idle, Deals, begun_of, IsOfTask, begins_of, both_none, deleted_in}
+use Rattle.fetch_runs.proofs.Turns.{deleted_by, effect_of, tail_for, course_proceeded, found_by, found_in}
 use Rattle.fetch_runs.proofs.Tasks.{IsRight, found_all, count, is_ended, tally_numbers, tally_right}
 use Rattle.fetch_runs.proofs.State.{CourseLeads, inputs, Leads, figures, course_leads, mbox_inputs, MboxLeads, Rests}
 use Rattle.fetch_runs.proofs.State.{mbox_figures, course_leaves}

@@ -16,24 +16,20 @@ use Rattle.mail_store.specs.FlatFile.{Stored}
 use Rattle.fetch_session.specs.declared.fault.Cut.{Cut}
 use Rattle.fetch_session.specs.declared.report.ReportLine.{ReportLine}
 use Rattle.fetch_session.specs.declared.report.Skips.{Skips}
-use Rattle.fetch_session.specs.Task.{Task, stores, rereads, deletes, Done, tasks_of, says, turns_in, turns_of}
+use Rattle.fetch_session.specs.Task.{Task, stores, rereads, Done, tasks_of, says, turns_in, turns_of}
 use Rattle.fetch_session.specs.Task.{IsAnswered, tasks_planned, report_lines, lines_in}
 use Rattle.fetch_session.specs.Plan.{tasks_ahead, Carried, Carries, Prepared}
 use Rattle.fetch_session.specs.Scene.{Scene, scene, Does}
-use Rattle.fetch_session.specs.Session.{Keeping, Dealt, Proceeds, LeavesLink, Enters_with, SessionIn}
-use Rattle.fetch_session.specs.Session.{keeps_entries, keeps_files}
+use Rattle.fetch_session.specs.Session.{Keeping, Dealt, Proceeds, LeavesLink, Enters_with, SessionIn, keeps_entries, keeps_files}
 use Rattle.fetch_session.specs.Target.{Target, AsFiles, AsEntries, Stores}
 use mathlib.Core.Logic.{⊎_map}
 use Rattle.std.proofs.lemmas.List.{append-nil, append_cancel_left}
 use Rattle.std.proofs.lemmas.List.Concat.{flat_map-append, flat_map_single}
-use Rattle.pop3_wire.specs.Line.{ended}
 use Rattle.pop3_wire.specs.Honest.{HasSent}
 use Rattle.pop3_client.specs.Turns.{Turn, quit, IsBody, IsGood, greeting, rset}
-use Rattle.fetch_runs.specs.Sessions.{BeginsOne, ReadsReplies, Retrieves, IsListed, TalkedWith as IsTalked}
-use Rattle.fetch_runs.specs.Sessions.{tail_behind, SaysOnly, is_retr}
-use Rattle.fetch_runs.specs.Conversations.{Conversation, plan_turns, Converses, plan_commands}
-use Rattle.fetch_runs.specs.Conversations.{IsTail as IsTailOf, IsFrontOfPlan, is_retrieval, retrieved_by, FollowsPlan}
-use Rattle.fetch_runs.specs.Conversations.{MboxSessionsFollowPlans, EndsInOpening, SpeaksByPlan}
+use Rattle.fetch_runs.specs.Sessions.{BeginsOne, ReadsReplies, Retrieves, IsListed, TalkedWith as IsTalked, tail_behind, SaysOnly, is_retr}
+use Rattle.fetch_runs.specs.Conversations.{Conversation, plan_turns, Converses, plan_commands, IsTail as IsTailOf, IsFrontOfPlan}
+use Rattle.fetch_runs.specs.Conversations.{is_retrieval, retrieved_by, FollowsPlan, MboxSessionsFollowPlans, EndsInOpening, SpeaksByPlan}
 use Rattle.fetch_runs.specs.Conversations.{SessionsAreConversations, step_commands}
 use Rattle.fetch_rules.specs.Record.{Row}
 use Rattle.fetch_rules.specs.Plan.{planned, step_of}
@@ -59,13 +55,11 @@ use Rattle.fetch_session.specs.Report.{is_text_taken}
 use Rattle.std.specs.String.{string_bytes}
 use Rattle.rc_file.specs.Settings.{IsValid}
 use Rattle.fetch_session.specs.declared.report.Report.{Report}
-use Rattle.fetch_runs.proofs.Turns.{Course, SessionCourse, Idle, Deals, course_does, course_carried, course_carries}
-use Rattle.fetch_runs.proofs.Turns.{course_dealt, course_proceeded, found_of, begun_of, IsOfTask, number_found}
-use Rattle.fetch_runs.proofs.Turns.{number_of, effect_of, said_in, commands_in, CanBeSaid, both_none, begins_any}
-use Rattle.fetch_runs.proofs.Turns.{begins_one, Commanded, commanded, IsCommand, replies_read, each_found, IsPlain}
-use Rattle.fetch_runs.proofs.Turns.{plain_ahead, said_tasks, commands_tasks, of_tasks, fronted, Goes, goes_tail}
-use Rattle.fetch_runs.proofs.Turns.{goes_broke, conversation, Took, tail_for, Ahead, ahead_cut, tailed, all_done}
-use Rattle.fetch_runs.proofs.Turns.{ahead_stopped}
+use Rattle.fetch_runs.proofs.Turns.{Course, SessionCourse, Idle, Deals, course_does, course_carried, course_carries, course_dealt}
+use Rattle.fetch_runs.proofs.Turns.{course_proceeded, found_of, begun_of, IsOfTask, number_found, number_of, effect_of, said_in}
+use Rattle.fetch_runs.proofs.Turns.{commands_in, CanBeSaid, both_none, begins_any, begins_one, Commanded, commanded, IsCommand}
+use Rattle.fetch_runs.proofs.Turns.{replies_read, each_found, IsPlain, plain_ahead, said_tasks, commands_tasks, of_tasks, fronted, Goes}
+use Rattle.fetch_runs.proofs.Turns.{goes_tail, goes_broke, conversation, Took, tail_for, Ahead, ahead_cut, tailed, all_done, ahead_stopped}
 
 -- ---- The opening of a session, as the law over accounts reads it.
 

@@ -1,14 +1,13 @@
 -- The tasks of a plan, and those of them that were done: what they retrieved, stored, recorded and deleted, beside what was
 -- wanted; and how many of them a course took, recorded and retrieved.
-use Rattle.std.proofs.Common.{◌≡◌, ◌+◌, ◌-◌, ℕ, Bool, true, false, cond, List, ◌∷◌, ◌++◌, map, zip, Option, Some}
-use Rattle.std.proofs.Common.{refl, sym, ap, append_assoc, length, length-append, arith, rules, take, ◌∙◌, ◌⊎◌}
-use Rattle.std.proofs.Common.{inl, inr, None, Result, Ok, Err, []}
+use Rattle.std.proofs.Common.{◌≡◌, ◌+◌, ◌-◌, ℕ, Bool, true, false, cond, List, ◌∷◌, ◌++◌, map, zip, Option, Some, refl, sym, ap}
+use Rattle.std.proofs.Common.{append_assoc, length, length-append, arith, rules, take, ◌∙◌, ◌⊎◌, inl, inr, None, Result, Ok, Err, []}
 use Rattle.std.specs.Prelude.{◌&&◌, ◌<◌, bytes_eq, slice_get, option_to_list}
 use Rattle.std.specs.List.{flat_map, filter, AllByRecursion, enumerate_from, AllZip}
 use Rattle.std.proofs.lemmas.Bool.{or_right, or_left}
 use Rattle.std.proofs.lemmas.List.{append-nil, take_at, take-map, length-map, map-append}
 use Rattle.std.proofs.lemmas.List.Concat.{flat_map-append}
-use Rattle.std.proofs.lemmas.List.Folds.{list_any-append, flat_map-map}
+use Rattle.std.proofs.lemmas.List.Folds.{flat_map-map, list_any_at}
 use Rattle.mail_terms.specs.Listing.{Item, has_item, numbered, is_first, is_last, is_flagged}
 use Rattle.rc_file.specs.declared.settings.Settings.{Settings}
 use Rattle.fetch_rules.specs.Record.{Row, is_delivered, is_of, has_row, with_delivered, marked, marked_all, new_ids}
@@ -19,9 +18,8 @@ use Rattle.fetch_rules.specs.declared.steps.Step.{Step}
 use Rattle.mail_store.specs.Maildir.{Maildir}
 use Rattle.mail_store.specs.FileName.{is_held}
 use Rattle.pop3_client.specs.Turns.{quit, IsGood}
-use Rattle.fetch_session.specs.Task.{Task, says, stores, rereads, deletes, fetching, deleting, tasks_in, tasks_planned}
-use Rattle.fetch_session.specs.Task.{Done, IsAnswered, turns_in, tasks_of, files_in, files_of, lines_in, report_lines}
-use Rattle.fetch_session.specs.Task.{ids_ahead, task_in, ids_in, marked_ids}
+use Rattle.fetch_session.specs.Task.{Task, says, stores, rereads, deletes, fetching, deleting, tasks_in, tasks_planned, Done, IsAnswered}
+use Rattle.fetch_session.specs.Task.{turns_in, tasks_of, files_in, files_of, lines_in, report_lines, ids_ahead, task_in, ids_in, marked_ids}
 use Rattle.fetch_session.specs.Target.{AsFiles, in_maildir, Target}
 use Rattle.std.proofs.lemmas.List.Sums.{sum_by-append}
 use Rattle.pop3_wire.specs.Reading.{WholeReply}
@@ -31,7 +29,7 @@ use Rattle.std.proofs.lemmas.Simd.{map-map}
 use Rattle.fetch_runs.proofs.Turns.{found_in, found_by, deleted_in, deleted_by, number_found, text_found, Course}
 use Rattle.fetch_runs.proofs.Turns.{course, stored_done, found_of, nothing_found, number_of}
 use Rattle.mail_store.specs.Held.{flags_of}
-use Rattle.fetch_runs.proofs.Lists.{bytes_self, bytes_same, all_append, all_front, all_map, at_length, marks_stay}
+use Rattle.fetch_runs.proofs.Lists.{bytes_self, bytes_same, all_append, all_front, all_map, marks_stay}
 use Rattle.fetch_runs.specs.Below.{Below}
 use mathlib.Core.Logic.{⊎_map}
 use Rattle.pop3_client.specs.Texts.{body_text}
@@ -41,6 +39,8 @@ use Rattle.fetch_session.specs.Record.{Keeps, Steady}
 use Rattle.fetch_session.specs.Scene.{Scene, Went, Fell}
 use Rattle.fetch_session.specs.Session.{outcome_of}
 use Rattle.fetch_session.specs.Plan as Session
+use Rattle.std.proofs.lemmas.Option.{slice_get_within, get_or_from_slice_get}
+use Rattle.fetch_runs.proofs.Core.{IsNumbered, are_numbered}
 
 -- the tasks of an account with a Maildir
 abbrev pub tasks_ahead : Settings → List ℕ → List Item → ℕ → Maildir → List Row → List Task
@@ -131,29 +131,11 @@ fetched_plan f held same (q ∷ qs) =
       fetched_plan f held same qs,
     )
 
--- ---- what is held
+-- ---- what is listed
 
--- a message is at its number, which counts from 1, and is listed
-abbrev IsAt : List Item → ℕ × Item → Type 0
-IsAt items message = (slice_get items (message.0 - 1) ≡ Some message.1)
-    × (has_item items message.1.uid ≡ true) × (0 < message.0)
-
-all_stand : (items front behind : List Item) (n : ℕ) → items ≡ front ++ behind → n ≡ length front + 1
-    → AllByRecursion (IsAt items) (enumerate_from n behind)
-all_stand items front [] n split is = tt
-all_stand items front (item ∷ behind) n split is =
-    let place : n - 1 ≡ length front = omega (arith, is) in
-    let listed : has_item (front ++ item ∷ behind) item.uid ≡ true =
-    grind (
-      arith,
-      bytes_self item.uid,
-      list_any-append (λ (i : Item). bytes_eq item.uid i.uid)
-          front (item ∷ behind),
-    ) in (
-      rw (split, place) (at_length front item behind, listed, omega (arith, is)),
-      all_stand items (front ++ item ∷ [])
-          behind (n + 1) (simp (split, append_assoc)) (simp length-append (omega (arith, is))),
-    )
+listed_at : (items : List Item) (n : ℕ) (item : Item) → slice_get items n ≡ Some item → has_item items item.uid ≡ true
+listed_at items n item at = list_any_at (λ (i : Item). bytes_eq item.uid i.uid) items n item
+    (slice_get_within items n item at) (rw (get_or_from_slice_get items n item item at) (bytes_self item.uid))
 
 -- ---- what is deleted
 
@@ -175,15 +157,15 @@ module _ (D : List ℕ → Type 0) (p : Inputs) (delivered : (uid : List ℕ) �
       ((tt, (at refl, tt)), λ safe. (gone (due refl refl), safe))
   fit_by r h d n uid size later held listed at due gone = search rules
 
-  fit_all : (qs : List (ℕ × Item)) (later : List Task) → AllByRecursion (IsAt p.items) qs
+  fit_all : (qs : List (ℕ × Item)) (later : List Task) → AllByRecursion (IsNumbered p.items) qs
       → AreFit (flat_map (tasks_at (steps_on p) (is_held p.account p.maildir)) qs) later
   fit_all [] later at = (tt, λ safe. safe)
   fit_all (q ∷ qs) later at =
       let more = fit_all qs later at.1 in
       let first = fit_by (steps_on p q).retrieve (is_held p.account p.maildir q.1.uid) (steps_on p q).delete q.0 q.1.uid
-      q.1.size (flat_map (tasks_at (steps_on p) (is_held p.account p.maildir)) qs ++ later) refl at.0.1
-      (λ is. (q.1, at.0.0, at.0.2, grind (arith, is))) (λ is not. delivered q.1.uid (grind (arith, is, not)))
-      (λ is. rw at.0.0 (is, tt)) in (
+      q.1.size (flat_map (tasks_at (steps_on p) (is_held p.account p.maildir)) qs ++ later) refl
+      (listed_at p.items (q.0 - 1) q.1 at.0.1) (λ is. (q.1, at.0.1, at.0.0, grind (arith, is)))
+      (λ is not. delivered q.1.uid (grind (arith, is, not))) (λ is. rw at.0.1 (is, tt)) in (
         all_append _ _ _ first.0 more.0,
         λ safe. rw (append_assoc (tasks_at (steps_on p) (is_held p.account p.maildir) q)
             (flat_map (tasks_at (steps_on p) (is_held p.account p.maildir)) qs) later) (first.1 (more.1 safe)),
@@ -193,7 +175,7 @@ module _ (D : List ℕ → Type 0) (p : Inputs) (delivered : (uid : List ℕ) �
   -- listed
   fit_ahead : AllByRecursion (IsRightOn p) (tasks_on p) × Safe D p.items (tasks_on p)
   fit_ahead =
-      let all = fit_all (numbered p.items) (says quit ∷ []) (all_stand p.items [] p.items 1 refl refl) in
+      let all = fit_all (numbered p.items) (says quit ∷ []) (are_numbered p.items) in
       rw (tasks_are p) (all_append _ _ _ all.0 (tt, tt), all.1 tt)
 
 -- ---- tasks that were done

@@ -43,7 +43,7 @@ use Rattle.pop3_client.specs.Conversation.{Talked, Talks, Broke, IsFrontOfNext}
 use Rattle.fetch_session.specs.Fault.{fault_of}
 use Rattle.fetch_session.specs.Tail.{tail, turns_of_tail as tail_turns, LeftBy, Left, WentOn}
 use Rattle.std.proofs.lemmas.List.Folds.{flat_map-map}
-use Rattle.fetch_session.specs.declared.fault.Fault.TheVariants.{Refused, StoreRefused}
+use Rattle.fetch_session.specs.declared.fault.Fault.TheVariants.{StoreRefused}
 use Rattle.std.specs.Prelude.{◌-◌, slice_get, option_to_list}
 use Rattle.fetch_session.specs.declared.report.Outcome.TheVariants.{Ended, Cut as WasCut}
 use Rattle.fetch_runs.proofs.Lists.{all_append}
