@@ -67,8 +67,7 @@ pub record IsLeft {W D F : Type 0} (link : WireGhosts W) (disk : DiskGhosts D) (
 calls_leave : Below → {W D F : Type 0} (link : WireGhosts W) (disk : DiskGhosts D) (file : FileGhosts F) (mail : Mail)
     (account : AccountMail) (devices : Devices D F) (call : Call W D F)
     → Shows disk file devices account → digits_of call.settings ≡ mail.account
-    → IsCall link disk file InMaildir disk.sound mail.text devices call
-    → IsLeft link disk file mail account devices call
+    → IsCall link disk file InMaildir disk.sound mail.text devices call → IsLeft link disk file mail account devices call
 calls_leave laws link disk file mail account devices call shows account_is is =
     let met = is.made.2 is.link_sound is.store_sound is.file_sound in
     let left : Maildir = met.4.0 in
@@ -123,10 +122,8 @@ pub calls_keep_promises : Below → {W D F : Type 0} (link : WireGhosts W) (disk
     → CallsKeepPromises link disk file
 calls_keep_promises laws {W} {D} {F} link disk file = keep
   where
-    own : (account : List ℕ) → IsAccountText account → (m : Message)
-        → names_id account m.uid (name_of account m.uid (length m.text)) ≡ true
-    own account text m = (bytes_eq-Decides (stem_of account m.uid) _).1
-        (sym (laws.stems account m.uid (length m.text) text))
+    own : (account : List ℕ) → IsAccountText account → (m : Message) → names_id account m.uid (name_of account m.uid (length m.text)) ≡ true
+    own account text m = (bytes_eq-Decides (stem_of account m.uid) _).1 (sym (laws.stems account m.uid (length m.text) text))
 
     keep : CallsKeepPromises link disk file
     keep mail state devices [] shows kept = (shows, kept)
@@ -172,8 +169,7 @@ calls_keep_promises laws {W} {D} {F} link disk file = keep
           λ back all legal front. others_keep_order file devices.file left.file mail state account
               keeps back all legal front,
         ),
-        keep mail (state_with mail state [] account) left later then
-            (others_leave_kept mail state account kept between),
+        keep mail (state_with mail state [] account) left later then (others_leave_kept mail state account kept between),
       ),
       λ safe lost.
           let loses : LosesPower state.account.maildir account.maildir =
@@ -259,8 +255,7 @@ withdrawn text ids all is = record {
       (distinct_is all is.distinct));
 }
 
-module _ (world : World Mail) (state : State) (sound : IsSound world)
-    (front : IsFront world.start state (selected_of world)) where
+module _ (world : World Mail) (state : State) (sound : IsSound world) (front : IsFront world.start state (selected_of world)) where
   open world use {start as mail, max_size, all}
 
   mail_is : IsWorld all
@@ -300,18 +295,11 @@ module _ (world : World Mail) (state : State) (sound : IsSound world)
   }
 
 pub empty_fronts_begin : EmptyFrontsBegin
-empty_fronts_begin mail state all none = record {
-  done = [];
-  rest = all;
-  prefix = refl;
-  is_done =
-      λ id l. sym (none id l);
-}
+empty_fronts_begin mail state all none = record { done = []; rest = all; prefix = refl; is_done = λ id l. sym (none id l) }
 
 -- so it is without messages that are neither held nor were taken away
 withdrawn_leave_fronts : (world : World Mail) (state : State) (ids : List (List ℕ)) → IsSound world
-    → (front : IsFront world.start state (selected_of world))
-    → AllByRecursion (λ id. is_safe world.start state id ≡ false) ids
+    → (front : IsFront world.start state (selected_of world)) → AllByRecursion (λ id. is_safe world.start state id ≡ false) ids
     → IsSound (world_without ids world) × (later : IsFront world.start state (selected_of (world_without ids world)))
     × (later.done ≡ front.done)
 withdrawn_leave_fronts world state ids sound front none = (
@@ -329,8 +317,7 @@ withdrawn_leave_fronts world state ids sound front none = (
 -- a maildrop in order shows what is next, if these are done
 order_shows_next : (text_of : List ℕ → List ℕ) (limit : ℕ) (all done rest : List Message) (settings : Settings)
     (maildrop : List Message) → IsMaildrop text_of all → selected limit all ≡ done ++ rest
-    → IsInOrder limit all (λ id. has_id (message_ids done) id ≡ true) settings maildrop
-    → ShowsNext settings maildrop done rest
+    → IsInOrder limit all (λ id. has_id (message_ids done) id ≡ true) settings maildrop → ShowsNext settings maildrop done rest
 order_shows_next text_of limit all done rest settings maildrop are prefix order =
     rw (order.max_size, order.shown) (next_here limit order.come order.gone done rest
     (as_world text_of all are) prefix order.done)
@@ -340,8 +327,7 @@ order_shows_next text_of limit all done rest settings maildrop are prefix order 
 pub none_taken : NoneTaken
 none_taken mail state after none stays id = grind (arith, none id, stays id)
 
-pub stays_away : Below → {W D F : Type 0} (link : WireGhosts W) (disk : DiskGhosts D) (file : FileGhosts F)
-    → StaysAway link disk file
+pub stays_away : Below → {W D F : Type 0} (link : WireGhosts W) (disk : DiskGhosts D) (file : FileGhosts F) → StaysAway link disk file
 stays_away laws link disk file mail state devices call id account drop is new legal recorded unheld =
     let promises = is.promises in
     let legal_came = all_map _ promises.new
@@ -355,8 +341,7 @@ stays_away laws link disk file mail state devices call id account drop is new le
           (promises.added ∙ ap (λ fs. without_flags is.left.files ++ fs)
           (sym (named_messages laws mail.account account promises.came)))
           ∙ ap (λ c. before ++ c) (copies_messages laws mail.account account promises.came id legal legal_came ∙ unlike)
-          ∙ append-nil before)
-          ∙ sym (held_copies mail.account (record state.account { maildir = is.left }) id) ∙ unheld,
+          ∙ append-nil before) ∙ sym (held_copies mail.account (record state.account { maildir = is.left }) id) ∙ unheld,
     )
   where
     none_has : (ms : List Message) → AllByRecursion (λ (m : Message). is_delivered state.account.rows m.uid ≡ false) ms
@@ -402,8 +387,7 @@ starts_in_order world account first rest closed prefix recorded = record {
     rest = rest;
     prefix = rw append-nil prefix;
     had = recorded;
-    next =
-        λ o e. absurd (let never = sym closed ∙ o.intent in cc);
+    next = λ o e. absurd (let never = sym closed ∙ o.intent in cc);
   };
 }
 
@@ -417,19 +401,16 @@ entries_mean_texts laws base done account first holds closed stands =
 
 -- what is done is among these, by whichever test
 in_order : {limit : ℕ} {all : List Message} {P Q : List ℕ → Type 0} {settings : Settings} {maildrop : List Message}
-    → ((id : List ℕ) → P id → Q id)
-    → IsInOrder limit all P settings maildrop → IsInOrder limit all Q settings maildrop
+    → ((id : List ℕ) → P id → Q id) → IsInOrder limit all P settings maildrop → IsInOrder limit all Q settings maildrop
 in_order f order = record {
   max_size = order.max_size;
   come = order.come;
   gone = order.gone;
-  done =
-      all_map order.gone order.done f;
+  done = all_map order.gone order.done f;
   shown = order.shown;
 }
 
-legal_selected : (world : World Mail) → IsSound world
-    → AllByRecursion (λ (m : Message). is_legal_id m.uid ≡ true) (selected_of world)
+legal_selected : (world : World Mail) → IsSound world → AllByRecursion (λ (m : Message). is_legal_id m.uid ≡ true) (selected_of world)
 legal_selected world sound = all_filter (λ (m : Message). is_legal_id m.uid ≡ true) (is_selected world.max_size)
     world.all (all_map world.all sound.all.each (λ m is. is.legal))
 
@@ -460,8 +441,7 @@ headline link disk file promised = all_hold
                   is = is';
                   first = durable.first;
                   last = durable.last;
-                  done = done_is
-                      ∙ durable.done;
+                  done = done_is ∙ durable.done;
                   at_most_one = durable.at_most_one;
                   named = durable.named;
                 }) (shown is'),

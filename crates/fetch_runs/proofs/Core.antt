@@ -61,8 +61,7 @@ at_most-map : {X Y : Type 0} (f : X → Y) (n : ℕ) (xs : List X) → at_most n
 at_most-map f n xs = grind (arith, take-map f n xs)
 
 module _ (settings : Settings) (rows : List Row) where
-  pub candidates_are : DistinctAreFiltered → {listing : List Item} (ms : List Message) → listing ≡ listing_of ms
-      → Distinct (message_ids ms)
+  pub candidates_are : DistinctAreFiltered → {listing : List Item} (ms : List Message) → listing ≡ listing_of ms → Distinct (message_ids ms)
       → candidates settings rows listing ≡ map num_item (offered_by_number settings rows ms)
   candidates_are filtered ms e d =
       rw e (filtered settings rows (listing_of ms) (rw map-map (are_distinct (message_ids ms) d))
@@ -73,8 +72,7 @@ module _ (settings : Settings) (rows : List Row) where
       enumerated n [] = refl
       enumerated n (m ∷ ms) = ap (λ (l : List (ℕ × Item)). (n, item_of m) ∷ l) (enumerated (n + 1) ms)
 
-  pub wanted_are : DistinctAreFiltered → {listing : List Item} (ms : List Message) → listing ≡ listing_of ms
-      → Distinct (message_ids ms)
+  pub wanted_are : DistinctAreFiltered → {listing : List Item} (ms : List Message) → listing ≡ listing_of ms → Distinct (message_ids ms)
       → wanted settings rows listing ≡ map num_item (wants_by_number settings rows ms)
   wanted_are filtered ms e d =
       rw (candidates_are filtered ms e d) (at_most-map num_item settings.max_count (offered_by_number settings rows ms))
@@ -82,8 +80,7 @@ module _ (settings : Settings) (rows : List Row) where
   pub offered_snd : (ms : List Message) → map snd (offered_by_number settings rows ms) ≡ offered settings rows ms
   offered_snd ms = snds 1 ms
     where
-      snds : (n : ℕ) (ms : List Message)
-          → map snd (filter (λ (q : ℕ × Message). asked settings rows q.1) (enumerate_from n ms))
+      snds : (n : ℕ) (ms : List Message) → map snd (filter (λ (q : ℕ × Message). asked settings rows q.1) (enumerate_from n ms))
           ≡ offered settings rows ms
       snds n [] = refl
       snds n (m ∷ ms) = grind (arith, snds (n + 1) ms)
@@ -102,14 +99,9 @@ pub are_numbered : {X : Type 0} (xs : List X) → AllByRecursion (IsNumbered xs)
 are_numbered xs = recursion_from_All (IsNumbered xs) (enumerate_from 1 xs) (λ k d l.
     let inside : k < length xs = omega (arith, l, length-enumerate_from 1 xs) in
     let place : 1 + k - 1 ≡ k = omega arith in
-    rw (get_or-enumerate_from 1 xs k d inside) (
-      omega arith,
-      ap (slice_get xs) place
-          ∙ slice_get-get_or xs k d.1 inside,
-    ))
+    rw (get_or-enumerate_from 1 xs k d inside) (omega arith, ap (slice_get xs) place ∙ slice_get-get_or xs k d.1 inside))
 
-pub all_at_most : {X : Type 0} (P : X → Type 0) (n : ℕ) (xs : List X) → AllByRecursion P xs
-    → AllByRecursion P (at_most n xs)
+pub all_at_most : {X : Type 0} (P : X → Type 0) (n : ℕ) (xs : List X) → AllByRecursion P xs → AllByRecursion P (at_most n xs)
 all_at_most P n xs h = cond_both (n == 0) xs (take n xs) (AllByRecursion P) (λ e. h) (λ e. all_take P n xs h)
 
 pub wants_placed : (settings : Settings) (rows : List Row) (ms : List Message)
@@ -157,13 +149,11 @@ past_limit limit xs = if limit == 0 then [] else drop limit xs
 pub both_parts : {X : Type 0} (limit : ℕ) (xs : List X) → at_most limit xs ++ past_limit limit xs ≡ xs
 both_parts limit xs = grind (arith, append-nil xs, take-append-drop limit xs)
 
-pub begins : {X : Type 0} (n limit : ℕ) (xs : List X)
-    → take n (at_most limit xs) ++ (drop n (at_most limit xs) ++ past_limit limit xs) ≡ xs
+pub begins : {X : Type 0} (n limit : ℕ) (xs : List X) → take n (at_most limit xs) ++ (drop n (at_most limit xs) ++ past_limit limit xs) ≡ xs
 begins n limit xs =
     rw (
       ← append_assoc (take n (at_most limit xs)) (drop n (at_most limit xs)) (past_limit limit xs),
-      take-append-drop n
-          (at_most limit xs),
+      take-append-drop n (at_most limit xs),
     ) (both_parts limit xs)
 
 -- the ids of the second part are distinct, and none is among those of the first
@@ -188,8 +178,7 @@ parts_apart (f ∷ front) rest d = let more = parts_apart front rest d.1 in (
 
 -- the messages that are left, which are those that fit and aren't done, are the next of those that fit
 pub bridge : (fit left : Message → Bool) (done ms later rest : List Message) → Distinct (message_ids ms)
-    → filter fit ms ++ later ≡ done ++ rest
-    → AllByRecursion (λ (m : Message). left m ≡ (fit m && not (has_id (message_ids done) m.uid))) ms
+    → filter fit ms ++ later ≡ done ++ rest → AllByRecursion (λ (m : Message). left m ≡ (fit m && not (has_id (message_ids done) m.uid))) ms
     → BeginsWith (filter left ms) rest
 bridge fit left done [] later rest d e h = (rest, refl)
 bridge fit left [] (m ∷ ms) later rest d e h =
@@ -214,8 +203,7 @@ abbrev pub IsLegal : Message → Type 0
 IsLegal m = is_legal_id m.uid ≡ true
 
 -- they have distinct and legal ids
-module _ (limit : ℕ) {all : List Message} (done rest : List Message) (mail : IsWorld all)
-    (prefix : selected limit all ≡ done ++ rest) where
+module _ (limit : ℕ) {all : List Message} (done rest : List Message) (mail : IsWorld all) (prefix : selected limit all ≡ done ++ rest) where
   pub done_distinct : Distinct (message_ids done)
   done_distinct = rw (← front_is done rest prefix) (distinct_take (length done) (selected limit all)
       (distinct_filter (is_selected limit) all (distinct_is all mail.distinct)))
@@ -236,8 +224,7 @@ prefix_left limit all done rest ids prefix stays = let stay = λ (m : Message). 
     ∙ rw (
       prefix,
       filter-append stay done rest,
-      filter_all stay done
-          (all_map _ (members done) (λ m is. ap not (false_from_ne_true _ (stays m.uid is)))),
+      filter_all stay done (all_map _ (members done) (λ m is. ap not (false_from_ne_true _ (stays m.uid is)))),
     )
 
 -- ---- how many messages a session stored
@@ -306,8 +293,7 @@ passing_in p (m ∷ ms) = (
       (λ x h e. grind (arith, h, e)),
 )
 
-module _ {settings : Settings} {rows : List Row} {drop' : List Message} {effect : Effect}
-    (is : Fetch settings rows drop' effect) where
+module _ {settings : Settings} {rows : List Row} {drop' : List Message} {effect : Effect} (is : Fetch settings rows drop' effect) where
   abbrev os : List Message
   os = offered settings rows drop'
 
@@ -414,8 +400,7 @@ next_in limit done ms = filter (λ (m : Message). is_selected limit m && not (ha
 
 -- of a maildrop that keeps its order it is the first of what is left
 pub next_here : (limit : ℕ) {all : List Message} (come : ℕ) (gone : List (List ℕ)) (done rest : List Message)
-    → IsWorld all → selected limit all ≡ done ++ rest
-    → AllByRecursion (λ id. has_id (message_ids done) id ≡ true) gone
+    → IsWorld all → selected limit all ≡ done ++ rest → AllByRecursion (λ id. has_id (message_ids done) id ≡ true) gone
     → BeginsWith (next_in limit done (maildrop_of all come gone)) rest
 next_here limit {all} come gone done rest mail prefix all_gone =
     simp filter-filter (bridge fit
@@ -448,24 +433,20 @@ module _ {settings : Settings} {rows : List Row} {drop' : List Message} {effect 
     behind n = drop n (wants settings rows drop') ++ past_limit settings.max_count some'
 
     undone_offered : (ms : List Message) → AllByRecursion (λ (m : Message). is_delivered rows m.uid ≡ true
-        → has_id (message_ids done) m.uid ≡ true) ms
-        → next_in settings.max_size done ms ≡ filter undone (offered settings rows ms)
+        → has_id (message_ids done) m.uid ≡ true) ms → next_in settings.max_size done ms ≡ filter undone (offered settings rows ms)
     undone_offered [] h = refl
     undone_offered (m ∷ ms) h = grind (arith, h.0, undone_offered ms h.1)
 
     pub added_begins : (n : ℕ) → BeginsWith (added n) rest
     added_begins n = (
       filter undone (behind n) ++ next.0,
-      next.1 ∙ ap (λ l. l ++ next.0) (undone_offered drop' known
-          ∙ ap (filter undone) (sym (begins n settings.max_count some'))
+      next.1 ∙ ap (λ l. l ++ next.0) (undone_offered drop' known ∙ ap (filter undone) (sym (begins n settings.max_count some'))
           ∙ filter-append undone (take n (wants settings rows drop')) (behind n))
           ∙ append_assoc (added n) (filter undone (behind n)) next.0,
     )
 
-    pub prefix_after : {chosen : List Message} → chosen ≡ done ++ rest → (n : ℕ)
-        → chosen ≡ (done ++ added n) ++ (added_begins n).0
-    prefix_after prefix n = prefix ∙ ap (λ l. done ++ l) (added_begins n).1
-        ∙ sym (append_assoc done (added n) (added_begins n).0)
+    pub prefix_after : {chosen : List Message} → chosen ≡ done ++ rest → (n : ℕ) → chosen ≡ (done ++ added n) ++ (added_begins n).0
+    prefix_after prefix n = prefix ∙ ap (λ l. done ++ l) (added_begins n).1 ∙ sym (append_assoc done (added n) (added_begins n).0)
 
     -- if all that is done is recorded, and only what is new is read, none is done
     pub all_added : ((id : List ℕ) → is_delivered rows id ≡ has_id (message_ids done) id) → settings.read_all ≡ false

@@ -65,8 +65,7 @@ marked_legal : (rows : List Row) (uid : List ℕ) → AreLegal rows → AreLegal
 marked_legal [] uid all = tt
 marked_legal (r ∷ rows) uid all = (all.0, marked_legal rows uid all.1)
 
-taken_legal : (rows : List Row) (row : Row) → AreLegal rows → is_legal_id row.uid ≡ true
-    → AreLegal (with_taken rows row)
+taken_legal : (rows : List Row) (row : Row) → AreLegal rows → is_legal_id row.uid ≡ true → AreLegal (with_taken rows row)
 taken_legal rows row all one = cond_both (has_row rows row.uid) (marked rows row.uid) (rows ++ row ∷ []) AreLegal
     (λ there. marked_legal rows row.uid all) (λ absent. all_append _ rows (row ∷ []) all (one, tt))
 
@@ -133,10 +132,8 @@ kept_legal (Some bytes) rows keeps id delivered =
 
 -- what a call leaves. No file came, or each name was durable before; and what the record shows as delivered, or may
 -- show after a loss of power, it showed or could show before, or it has a file whose name is durable
-pub record LeavesDurably {F : Type 0} (file : FileGhosts F) (account : List ℕ) (from f : F)
-    (before after : AccountMail) : Type 0 where
-  pub is : LeavesDurable account (account_files before.maildir (file.stored from))
-      (account_files after.maildir (file.stored f))
+pub record LeavesDurably {F : Type 0} (file : FileGhosts F) (account : List ℕ) (from f : F) (before after : AccountMail) : Type 0 where
+  pub is : LeavesDurable account (account_files before.maildir (file.stored from)) (account_files after.maildir (file.stored f))
   pub open is use {came, last, files, durable, flushed, at_most_one}
   pub named : (came ++ last ≡ []) ⊎ AllNamed before.maildir.files
   pub shown : (id : List ℕ) → is_delivered after.rows id ≡ true → (is_delivered before.rows id ≡ true)
@@ -161,8 +158,7 @@ part_of place (word ∷ words) (byte ∷ left) (is, more) =
 -- ---- the rows that are left
 
 pub left_stands : OneRecord → OneMeaning → AppendedCounts → TornIsIgnoredOrSeen
-    → (rows others now : List Row) (left : Option (List ℕ)) → AreLeft rows others left → KeepsRows left now
-    → (now ≡ rows) ⊎ (now ≡ others)
+    → (rows others now : List Row) (left : Option (List ℕ)) → AreLeft rows others left → KeepsRows left now → (now ≡ rows) ⊎ (now ≡ others)
 left_stands one meaning counts torn rows others now left is (intent, stands) = elim is.file.begun [
   | inl none ↦ inl (same_rows one (Some is.file.bytes) now rows (intent, rw (none, append-nil) at there)
       (is.before, (Two, false, is.file.stands)))
@@ -170,12 +166,7 @@ left_stands one meaning counts torn rows others now left is (intent, stands) = e
     | inl same ↦ rw (same_rows one (Some (is.file.bytes ++ is.added)) now is.next
         (intent, rw ((bytes_eq-Decides is.file.behind is.added).0 same) at there) (
           is.after,
-          (
-            Two,
-            false,
-            counts is.file.bytes is.added rows is.next is.before is.after some
-                is.file.stands is.grows,
-          ),
+          (Two, false, counts is.file.bytes is.added rows is.next is.before is.after some is.file.stands is.grows),
         )) is.next_is
     | inr apart ↦
         let ignored = torn is.file.bytes is.added is.file.behind rows is.next is.before is.after some
@@ -238,8 +229,7 @@ pub quiet_ids : (steps : List Step) (items : List Item) (held : List Bool) → A
 quiet_ids (s ∷ ss) (i ∷ is) (h ∷ hs) quiet = grind (arith, quiet.0.0, quiet.0.1, quiet_ids ss is hs quiet.1)
 quiet_ids steps items held quiet = refl
 
-module _ (account : List ℕ) (settings : Settings) (items : List Item) (now : ℕ) (place : Place)
-    (left : Maildir) (file : Stored) where
+module _ (account : List ℕ) (settings : Settings) (items : List Item) (now : ℕ) (place : Place) (left : Maildir) (file : Stored) where
   -- no file came
   quiet_came : (result : Result (Unit {0}) Cut) (new : Scene) (skipped : Skips)
       → (c : Carried settings (AsFiles account) items now place (in_maildir left) file [] result new skipped)
@@ -253,8 +243,7 @@ module _ (account : List ℕ) (settings : Settings) (items : List Item) (now : �
 
       none_came : {later : Scene} (dones : List Done) → Went (AsFiles account) dones c.mid later
           → ids_ahead (tasks_of dones) ≡ [] → later.store.maildir.files ≡ left.files
-      none_came dones went none = went.stored.came
-          ∙ ap (λ (s : Stores). s.maildir.files ++ files_of account dones) c.prepared.settles
+      none_came dones went none = went.stored.came ∙ ap (λ (s : Stores). s.maildir.files ++ files_of account dones) c.prepared.settles
           ∙ rw (no_files account dones none) (append-nil left.files)
 
       by : (result : Result (Unit {0}) Cut)
@@ -269,8 +258,7 @@ module _ (account : List ℕ) (settings : Settings) (items : List Item) (now : �
               (rw (fell.split, flat_map-append ids_in (tasks_of fell.dones) (fell.next ∷ fell.later)) at none) in
               (both.0, (both_none (ids_in fell.next) (ids_ahead fell.later) both.1).0)
 
-          stopped : Stops (AsFiles account) fell.next fell.mid cut new
-              → new.store.maildir.files ≡ fell.mid.store.maildir.files
+          stopped : Stops (AsFiles account) fell.next fell.mid cut new → new.store.maildir.files ≡ fell.mid.store.maildir.files
           stopped (inl broken) = ap (λ (s : Stores). s.maildir.files) broken.store
           stopped (inr (inl n)) = absurd (cc (rw n.is at parts.1))
           stopped (inr (inr u)) = absurd (cc (rw u.is at parts.1))
@@ -291,13 +279,11 @@ module _ (laws : Below) {D F : Type 0} (files : FileGhosts F) (device device' : 
   has_is : (id : List ℕ) → HasDurable account maildir id → has_named account maildir id ≡ true
   has_is id (g, there, names, is) = has_file account maildir id g there names is.0
 
-  pub shown : (id : List ℕ) → is_delivered rows id ≡ true → (is_delivered was id ≡ true)
-      ⊎ (has_named account maildir id ≡ true)
+  pub shown : (id : List ℕ) → is_delivered rows id ≡ true → (is_delivered was id ≡ true) ⊎ (has_named account maildir id ≡ true)
   shown id d = ⊎_map (λ x. x) (has_is id) (durable.shown was rows id stood keeps d)
 
   abbrev Said : Option (List ℕ) → List ℕ → Type 0
-  Said could id = (is_delivered was id ≡ true)
-      ⊎ ((has_named account maildir id ≡ true) ⊎ MayLeave (files.disk from) could)
+  Said could id = (is_delivered was id ≡ true) ⊎ ((has_named account maildir id ≡ true) ⊎ MayLeave (files.disk from) could)
 
   abbrev pub Answered : Type 0
   Answered = (could : Option (List ℕ)) (then : List Row) → MayLeave (files.disk f) could → KeepsRows could then
@@ -358,8 +344,7 @@ module _ (laws : Below) {D F : Type 0} (files : FileGhosts F) (device device' : 
 
         of_merged : (could : Option (List ℕ)) (id : List ℕ) → is_delivered here id ≡ true → Said could id
         of_merged could id delivered = elim m.durable [
-          | inl same_merged ↦ of_was could id
-              (subst (λ (some : List Row). is_delivered some id ≡ true) same_merged delivered)
+          | inl same_merged ↦ of_was could id (subst (λ (some : List Row). is_delivered some id ≡ true) same_merged delivered)
           | inr durable ↦ ⊎_elim (of_was could id)
               (λ flagged. inr (inl (rw same
               (all_named account left.files id durable.0 (flag_held account left items id flagged)))))
@@ -369,8 +354,7 @@ module _ (laws : Below) {D F : Type 0} (files : FileGhosts F) (device device' : 
         merged_left : LeavesMerged files m.was.rows here from f → Answered
         merged_left leaves could then may k id d = elim (leaves could may) [
           | inl before ↦ inr (inr before)
-          | inr are ↦ ⊎_elim (λ is. of_was could id (rw is at d)) (λ is. of_merged could id (rw is at d))
-              (stands could then k are)
+          | inr are ↦ ⊎_elim (λ is. of_was could id (rw is at d)) (λ is. of_merged could id (rw is at d)) (stands could then k are)
         ]
 
       unready : (content : IsMergedAtMost (AsFiles account) items now (in_maildir left) (files.stored from)
@@ -389,12 +373,10 @@ module _ (laws : Below) {D F : Type 0} (files : FileGhosts F) (device device' : 
           result end_with session.notes.skipped
 
       -- it did all its tasks
-      answer_ok : (c : CarriedTo (Ok tt)) → CarriedLasts files (InMaildir device) from c (InMaildir device') f
-          → Answered
+      answer_ok : (c : CarriedTo (Ok tt)) → CarriedLasts files (InMaildir device) from c (InMaildir device') f → Answered
       answer_ok c lasts = by c.prepared.durable (lasts (tt, sure.0))
         where
-          within : (id : List ℕ) → is_delivered (marked_all c.mid.rows (marked_ids c.does.dones)) id ≡ true
-              → is_delivered rows id ≡ true
+          within : (id : List ℕ) → is_delivered (marked_all c.mid.rows (marked_ids c.does.dones)) id ≡ true → is_delivered rows id ≡ true
           within id d =
               rw (
                 same_rows laws.one (files.stored f).content rows rows' keeps
@@ -430,14 +412,12 @@ module _ (laws : Below) {D F : Type 0} (files : FileGhosts F) (device device' : 
             rw (
               same_rows laws.one c.does.mid.file.content rows c.does.mid.rows (rw same at keeps) (
                 None,
-                laws.steady c.does.mid.file.content (none_open c.does.mid.rows)
-                    (c.does.went.saved c.prepared.saved),
+                laws.steady c.does.mid.file.content (none_open c.does.mid.rows) (c.does.went.saved c.prepared.saved),
               ),
               c.does.went.rows,
             ) d
 
-        unmarked : LeavesFile files f (AreLeft c.does.mid.rows c.does.mid.rows)
-            → files.stored f ≡ c.does.mid.file → Answered
+        unmarked : LeavesFile files f (AreLeft c.does.mid.rows c.does.mid.rows) → files.stored f ≡ c.does.mid.file → Answered
         unmarked leaves same = shown_by rows_then rows_then (rw c.does.went.rows at leaves) (same_has same)
             (λ could id d. by_rows could id (same_has same id d))
 
@@ -482,21 +462,15 @@ module _ (laws : Below) {D F : Type 0} (files : FileGhosts F) (device device' : 
         ]
 
         unsaved : (u : FileNotSaved account c.does.next c.does.mid end_with cut) → Answered
-        unsaved u = marked_one u.number u.uid u.is (file_from account u.uid u.reply) u.stored.came
-            (named_one u.uid _) refl within
+        unsaved u = marked_one u.number u.uid u.is (file_from account u.uid u.reply) u.stored.came (named_one u.uid _) refl within
           where
             within : Has rows_then
             within id d = elim (laws.unsaved c.does.mid.file (none_open c.does.mid.rows)
                 (none_open (marked c.does.mid.rows u.uid)) cut.fault (files.stored f) u.saves
                 (c.does.went.saved c.prepared.saved)) [
-                  | inl old ↦ rw (
-                    same_rows laws.one (files.stored f).content rows c.does.mid.rows keeps
-                        (None, old),
-                    c.does.went.rows,
-                  ) d
+                  | inl old ↦ rw (same_rows laws.one (files.stored f).content rows c.does.mid.rows keeps (None, old), c.does.went.rows) d
                   | inr new ↦ rw (
-                    same_rows laws.one (files.stored f).content rows (marked c.does.mid.rows u.uid) keeps
-                        (None, new),
+                    same_rows laws.one (files.stored f).content rows (marked c.does.mid.rows u.uid) keeps (None, new),
                     c.does.went.rows,
                     laws.marks rows_then u.uid id,
                     d,

@@ -39,8 +39,7 @@ body_is one reply first body line says whole =
 
 -- ---- texts
 
-pub texts_are_messages : Below
-    → (drop : List Message) (marks : List Bool) (commands : List Command) (replies : List WholeReply)
+pub texts_are_messages : Below → (drop : List Message) (marks : List Bool) (commands : List Command) (replies : List WholeReply)
     (found : List (ℕ × List ℕ))
     → AreGood commands replies → AreGranted drop marks commands replies → Retrieves commands replies found
     → AllByRecursion (IsNumbered drop) found
@@ -73,8 +72,7 @@ scan_agrees law row (n, m) scan (field, more, (word, are, value), size) e =
     let first : word' ≡ word = cc in
     let second : field' ≡ field = cc in (
       sym value' ∙ ap (digits_value 10) first ∙ value,
-      sym size'
-          ∙ ap (λ (l : List ℕ). digits_value 10 (take_while is_ascii_digit l)) second ∙ size,
+      sym size' ∙ ap (λ (l : List ℕ). digits_value 10 (take_while is_ascii_digit l)) second ∙ size,
     )
 
 nobody : Message
@@ -104,10 +102,8 @@ module _ {R V : Type 0} (read : List ℕ → Result (ℕ × V) WireFault) (numbe
 
   -- so the item at each place has the value of the message there
   value_at : OneLine → OneListOfLines → (drop : List Message) (marks : List Bool) (reply : WholeReply) (rows : List R)
-      → marks ≡ no_marks drop → IsLine reply.first
-      → (listing : HasListing IsRead reply rows) → AllByRecursion IsContent listing.0
-      → ListsAll IsRow drop marks (reply_bytes reply)
-      → All (λ row. Has (number row) (value row)) rows → (k : ℕ) → k < length drop
+      → marks ≡ no_marks drop → IsLine reply.first → (listing : HasListing IsRead reply rows) → AllByRecursion IsContent listing.0
+      → ListsAll IsRow drop marks (reply_bytes reply) → All (λ row. Has (number row) (value row)) rows → (k : ℕ) → k < length drop
       → what (get_or items k (item_of nobody)) ≡ of (get_or drop k nobody)
   value_at one lists drop marks reply rows none line (lines, is, are) content l all k inside =
       let same : l.lines ≡ lines =
@@ -135,8 +131,7 @@ fields_without (byte ∷ rest) = elim (eqb_tells byte 32) [
 -- STAT's count
 count_same : OneLine → ScanRowsHaveFields
     → (drop : List Message) (marks next : List Bool) (stat : WholeReply) (count : ℕ) → IsGoodReply Stat stat
-    → Grants drop marks Stat (reply_bytes stat) next
-    → marks ≡ no_marks drop → GivesCount stat count → count ≡ length drop
+    → Grants drop marks Stat (reply_bytes stat) next → marks ≡ no_marks drop → GivesCount stat count → count ≡ length drop
 count_same one law drop marks next stat count good (after, more, (line, said), rows, stays) none (rest, size, (after', is, rest_is), read) =
     let first = (one (indicator Positive ++ after) stat.first [] (body_bytes stat.body) line good.line
     (append-nil (ended (indicator Positive ++ after)) ∙ sym said)).0 in

@@ -36,8 +36,7 @@ pub filter-swap : {X : Type 0} (p q : X → Bool) (xs : List X) → filter p (fi
 filter-swap p q [] = refl
 filter-swap p q (x ∷ xs) = grind (arith, filter-swap p q xs)
 
-pub filter-map : {X Y : Type 0} (p : Y → Bool) (f : X → Y) (xs : List X)
-    → filter p (map f xs) ≡ map f (filter (λ x. p (f x)) xs)
+pub filter-map : {X Y : Type 0} (p : Y → Bool) (f : X → Y) (xs : List X) → filter p (map f xs) ≡ map f (filter (λ x. p (f x)) xs)
 filter-map p f [] = refl
 filter-map p f (x ∷ xs) = grind (arith, filter-map p f xs)
 
@@ -105,8 +104,7 @@ module _ {X : Type 0} where
   pub all_take : (P : X → Type 0) (n : ℕ) (xs : List X) → AllByRecursion P xs → AllByRecursion P (take n xs)
   all_take P n xs h = all_front P (take n xs) (drop n xs) (rw take-append-drop h)
 
-  pub all_mapped : {Y : Type 0} (P : Y → Type 0) (f : X → Y) (xs : List X) → AllByRecursion (λ x. P (f x)) xs
-      → AllByRecursion P (map f xs)
+  pub all_mapped : {Y : Type 0} (P : Y → Type 0) (f : X → Y) (xs : List X) → AllByRecursion (λ x. P (f x)) xs → AllByRecursion P (map f xs)
   all_mapped P f [] h = tt
   all_mapped P f (x ∷ xs) h = (h.0, all_mapped P f xs h.1)
 
@@ -129,8 +127,7 @@ bytes_swap a b = same_tests {a = a} {b = b} sym sym
 
 -- ---- whether an id is among these
 
-pub has_filtered : (p : List ℕ → Bool) (ids : List (List ℕ)) (id : List ℕ)
-    → has_id (filter p ids) id ≡ (has_id ids id && p id)
+pub has_filtered : (p : List ℕ → Bool) (ids : List (List ℕ)) (id : List ℕ) → has_id (filter p ids) id ≡ (has_id ids id && p id)
 has_filtered p [] id = refl
 has_filtered p (x ∷ xs) id = grind (arith, has_filtered p xs id, λ (e : bytes_eq id x ≡ true). ap p (bytes_same id x e))
 
@@ -146,8 +143,7 @@ pub ids_both : (ms ns : List Message) (id : List ℕ)
     → has_id (message_ids (ms ++ ns)) id ≡ (has_id (message_ids ms) id || has_id (message_ids ns) id)
 ids_both ms ns id = simp (map-append, list_any-append)
 
-pub all_ids_at : (P : List ℕ → Type 0) (ids : List (List ℕ)) {id : List ℕ} → AllByRecursion P ids
-    → has_id ids id ≡ true → P id
+pub all_ids_at : (P : List ℕ → Type 0) (ids : List (List ℕ)) {id : List ℕ} → AllByRecursion P ids → has_id ids id ≡ true → P id
 all_ids_at P [] h e = absurd (both_ways false refl e)
 all_ids_at P (x ∷ xs) {id} h e = ⊎_elim (λ (same : bytes_eq id x ≡ true). rw (bytes_same id x same) h.0)
     (all_ids_at P xs h.1) (or_cases (bytes_eq id x) (has_id xs id) e)
@@ -200,13 +196,11 @@ distinct_take (suc n) [] d = tt
 distinct_take (suc n) (m ∷ ms) d =
     (grind (arith, d.0, ids_both (take n ms) (drop n ms) m.uid, take-append-drop n ms), distinct_take n ms d.1)
 
-pub distinct_filter : (p : Message → Bool) (ms : List Message) → Distinct (message_ids ms)
-    → Distinct (message_ids (filter p ms))
+pub distinct_filter : (p : Message → Bool) (ms : List Message) → Distinct (message_ids ms) → Distinct (message_ids (filter p ms))
 distinct_filter p [] d = tt
 distinct_filter p (m ∷ ms) d = grind (arith, none_filter ms m.uid d.0, distinct_filter p ms d.1)
   where
-    none_filter : (ms : List Message) (id : List ℕ) → has_id (message_ids ms) id ≡ false
-        → has_id (message_ids (filter p ms)) id ≡ false
+    none_filter : (ms : List Message) (id : List ℕ) → has_id (message_ids ms) id ≡ false → has_id (message_ids (filter p ms)) id ≡ false
     none_filter [] id e = refl
     none_filter (m ∷ ms) id e = grind (arith, e, none_filter ms id)
 
@@ -242,8 +236,7 @@ each_text (m ∷ ms) d = (
 -- ---- what a record says of an id after it was merged and marked
 
 -- an id that is recorded after these were marked was so before, or is one of them
-pub delivered_marked : Below → (rows : List Row) (uids : List (List ℕ)) (id : List ℕ)
-    → is_delivered (marked_all rows uids) id ≡ true
+pub delivered_marked : Below → (rows : List Row) (uids : List (List ℕ)) (id : List ℕ) → is_delivered (marked_all rows uids) id ≡ true
     → (is_delivered rows id ≡ true) ⊎ (has_id uids id ≡ true)
 delivered_marked laws rows [] id e = inl e
 delivered_marked laws rows (uid ∷ uids) id e =
@@ -253,12 +246,10 @@ delivered_marked laws rows (uid ∷ uids) id e =
 pub marks_stay : Below → (rows : List Row) (uids : List (List ℕ)) (id : List ℕ) → is_delivered rows id ≡ true
     → is_delivered (marked_all rows uids) id ≡ true
 marks_stay laws rows [] id e = e
-marks_stay laws rows (uid ∷ uids) id e = marks_stay laws (marked rows uid) uids id
-    (laws.marks rows uid id ∙ or_left _ _ e)
+marks_stay laws rows (uid ∷ uids) id e = marks_stay laws (marked rows uid) uids id (laws.marks rows uid id ∙ or_left _ _ e)
 
 -- after a merge an id is recorded exactly if it was before, or is listed and held
-pub delivered_merged : Below
-    → (account : List ℕ) (maildir : Maildir) (rows : List Row) (items : List Item) (now : ℕ) (id : List ℕ)
+pub delivered_merged : Below → (account : List ℕ) (maildir : Maildir) (rows : List Row) (items : List Item) (now : ℕ) (id : List ℕ)
     → is_delivered (merged rows items (flags_of account maildir items) now) id
     ≡ (is_delivered rows id || (has_item items id && is_held account maildir id))
 delivered_merged laws account maildir rows items now id = laws.merges rows items (flags_of account maildir items) now id
@@ -284,8 +275,7 @@ module _ (laws : Below) (rows : List Row) where
       grind (arith, laws.marks rows uid id, bytes_swap uid id, has, λ (e : bytes_eq id uid ≡ true). bytes_same id uid e)
 
 -- the same for several ids
-pub delivered_all : Below → (rows : List Row) (uids : List (List ℕ)) (id : List ℕ)
-    → AllByRecursion (λ uid. has_row rows uid ≡ true) uids
+pub delivered_all : Below → (rows : List Row) (uids : List (List ℕ)) (id : List ℕ) → AllByRecursion (λ uid. has_row rows uid ≡ true) uids
     → is_delivered (marked_all rows uids) id ≡ (is_delivered rows id || has_id uids id)
 delivered_all laws rows [] id h = sym (or-false (is_delivered rows id))
 delivered_all laws rows (uid ∷ uids) id h =
@@ -300,20 +290,17 @@ delivered_all laws rows (uid ∷ uids) id h =
 pub same_held : OneRecord → (content : Option (List ℕ)) (a b : RecordState) → Keeps content a → Keeps content b → a ≡ b
 same_held one content a b x y = let same = one content a.rows b.rows a.intent b.intent x y in rw (same.0, same.1)
 
-pub same_rows : OneRecord → (content : Option (List ℕ)) (a b : List Row) → KeepsRows content a
-    → KeepsRows content b → a ≡ b
+pub same_rows : OneRecord → (content : Option (List ℕ)) (a b : List Row) → KeepsRows content a → KeepsRows content b → a ≡ b
 same_rows one content a b x y = (one content a b x.0 y.0 x.1 y.1).0
 
 -- ---- files of an id
 
 -- an id is held if it has files
-pub held_is : (front : List ℕ) (fs : List File)
-    → list_any (λ (f : File). bytes_eq front (stem f.name)) fs ≡ is_some (copies fs front)
+pub held_is : (front : List ℕ) (fs : List File) → list_any (λ (f : File). bytes_eq front (stem f.name)) fs ≡ is_some (copies fs front)
 held_is front fs = any_filter (λ (f : File). bytes_eq front (stem f.name)) (λ (f : File). f.content) fs
 
 -- one file fewer
-pub fewer_copies : (front : List ℕ) (a b : List File) (f : File)
-    → (copies (a ++ b) front ≡ copies (a ++ f ∷ b) front)
+pub fewer_copies : (front : List ℕ) (a b : List File) (f : File) → (copies (a ++ b) front ≡ copies (a ++ f ∷ b) front)
     ⊎ (length (copies (a ++ b) front) < length (copies (a ++ f ∷ b) front))
 fewer_copies front [] b f = grind arith
 fewer_copies front (x ∷ a) b f = let fewer = fewer_copies front a b f in grind (arith, fewer)
@@ -343,6 +330,5 @@ pub some_held : (account id : List ℕ) (fs : List File) → copies fs (stem_of 
     → list_any (λ (f : File). names_id account id f.name) fs ≡ true
 some_held account id fs some = grind (arith, some, held_is (stem_of account id) fs)
 
-pub held_some : (front : List ℕ) (fs : List File) → list_any (λ (f : File). bytes_eq front (stem f.name)) fs ≡ true
-    → copies fs front ≢ []
+pub held_some : (front : List ℕ) (fs : List File) → list_any (λ (f : File). bytes_eq front (stem f.name)) fs ≡ true → copies fs front ≢ []
 held_some front fs held none = both_ways (is_some (copies fs front)) (ap is_some none) (sym (held_is front fs) ∙ held)

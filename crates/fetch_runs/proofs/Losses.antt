@@ -145,8 +145,7 @@ lasts_bits named held taken named' held' is stays some = grind (arith, is, stays
 -- it still does, if a durable name stays while the message is held
 lasts_on : (mail : Mail) (state : State) (after : AccountMail) (id : List ℕ)
     → (has_named mail.account state.account.maildir id ≡ true → is_held mail.account after.maildir id ≡ true
-    → has_named mail.account after.maildir id ≡ true)
-    → lasts mail state id ≡ true → lasts mail (state_with mail state [] after) id ≡ true
+    → has_named mail.account after.maildir id ≡ true) → lasts mail state id ≡ true → lasts mail (state_with mail state [] after) id ≡ true
 lasts_on mail state after id stays = lasts_bits (has_named mail.account state.account.maildir id)
     (is_held mail.account state.account.maildir id) (state.taken id)
     (has_named mail.account after.maildir id) (is_held mail.account after.maildir id)
@@ -154,8 +153,7 @@ lasts_on mail state after id stays = lasts_bits (has_named mail.account state.ac
 
 -- ---- others, and readers
 
-pub others_keep_safe : Below
-    → {F : Type 0} (file : FileGhosts F) (from f : F) (mail : Mail) (state : State) (after : AccountMail)
+pub others_keep_safe : Below → {F : Type 0} (file : FileGhosts F) (from f : F) (mail : Mail) (state : State) (after : AccountMail)
     (intent : Option Intent) → Kept mail state
     → FileStandsFor (file.stored f).content after.rows intent → IsBetween mail state.account after
     → KeepsDurable file mail.account state.account from f after
@@ -231,8 +229,7 @@ module _ {F : Type 0} (file : FileGhosts F) (from f : F) (mail : Mail) (state : 
   lasts_call : (id : List ℕ) → lasts mail state id ≡ true → lasts mail (state_with mail state vanished after) id ≡ true
   lasts_call id = lasts_on mail state after id (λ named held. stays id named)
 
-pub calls_keep_safe : Below
-    → {W S F G : Type 0} (file : FileGhosts F) (from f : F) (mail : Mail) (state : State) (call : Call W S G)
+pub calls_keep_safe : Below → {W S F G : Type 0} (file : FileGhosts F) (from f : F) (mail : Mail) (state : State) (call : Call W S G)
     (sent : List ℕ) (now : AccountMail) → Kept mail state
     → IsSession mail state.account call sent now → LeavesDurably file mail.account from f state.account now → RecordIsSure file from f
     → IsCrashSafe (file.disk from) mail state → IsCrashSafe (file.disk f) mail (state_with mail state call.vanished now)
@@ -433,8 +430,7 @@ module _ (mail : Mail) (own : (m : Message) → names_id mail.account m.uid (nam
   abbrev its_file : Message → File
   its_file m = file (name_of mail.account m.uid (length m.text)) m.text
 
-  has_come : (came : List File) (ms : List Message) → map its_file ms ≡ without_flags came
-      → AllByRecursion IsDurableFile came
+  has_come : (came : List File) (ms : List Message) → map its_file ms ≡ without_flags came → AllByRecursion IsDurableFile came
       → AllByRecursion (λ (m : Message). any_named (names_id mail.account m.uid) came ≡ true) ms
   has_come came [] e all = tt
   has_come [] (m ∷ ms) e all = absurd cc
@@ -528,8 +524,7 @@ module _ (mail : Mail) (state : State) (after : AccountMail) (all : List Message
       loses.files)
 
   made : (done rest : List Message) → all ≡ done ++ rest
-      → ((id : List ℕ) → is_legal_id id ≡ true → has_id (message_ids done) id ≡ safe_next id)
-      → IsDurableFront mail next_state all
+      → ((id : List ℕ) → is_legal_id id ≡ true → has_id (message_ids done) id ≡ safe_next id) → IsDurableFront mail next_state all
   made done rest prefix is_done = record {
     is = record { done = done; rest = rest; prefix = prefix; is_done = is_done };
     first = done;

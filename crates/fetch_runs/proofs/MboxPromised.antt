@@ -43,8 +43,7 @@ absent [] id h = refl
 absent (n ∷ ns) id h = grind (arith, h.0, bytes_swap n.uid id, absent ns id h.1)
 
 distinct_both : (ms ns : List Message) → Distinct (message_ids ms) → Distinct (message_ids ns)
-    → AllByRecursion (λ (n : Message). has_id (message_ids ms) n.uid ≡ false) ns
-    → Distinct (message_ids (ms ++ ns))
+    → AllByRecursion (λ (n : Message). has_id (message_ids ms) n.uid ≡ false) ns → Distinct (message_ids (ms ++ ns))
 distinct_both [] ns d e h = e
 distinct_both (m ∷ ms) ns d e h = (
   grind (arith, d.0, ids_both ms ns m.uid, absent ns m.uid (all_map ns h (λ x k. (or_parts _ _ k).0))),
@@ -67,11 +66,7 @@ pub settled_is : Below → {base : Base} {bytes : List ℕ} {account : MboxMail}
     → (((settled listing account).rows ≡ marked account.rows o.next.uid) × ((settled listing account).file ≡ bytes ++ entry_of o.next.text))
     ⊎ (((settled listing account).rows ≡ account.rows) × ((settled listing account).file ≡ bytes))
 settled_is laws {bytes = bytes} listing o =
-    ⊎_map (λ counts. (
-      rw (o.intent, o.file, counts.0),
-      rw (o.intent, o.file) (counts.1
-          ∙ ap (λ l. bytes ++ l) counts.2),
-    ))
+    ⊎_map (λ counts. (rw (o.intent, o.file, counts.0), rw (o.intent, o.file) (counts.1 ∙ ap (λ l. bytes ++ l) counts.2)))
     (λ cut. (rw (o.intent, o.file, cut.0), rw (o.intent, o.file) cut.1))
     (laws.leftovers bytes o.next.text o.part (listed_size listing o.next.uid) o.is.whole o.left)
 
@@ -125,8 +120,7 @@ module _ (base : Base) where
 
   -- more messages that aren't recorded
   grown : (done more : List Message) → AreEntered done → AllByRecursion (IsOf base.text) more
-      → Distinct (message_ids more) → AllByRecursion (λ (m : Message). is_entered base done m.uid ≡ false) more
-      → AreEntered (done ++ more)
+      → Distinct (message_ids more) → AllByRecursion (λ (m : Message). is_entered base done m.uid ≡ false) more → AreEntered (done ++ more)
   grown done more are each distinct fresh = (
     record {
       each = all_append _ _ _ are.0.each each;
@@ -165,8 +159,7 @@ module _ (base : Base) where
   -- after it was settled the next are these
   ahead : (limit : ℕ) (done ms : List Message) → Distinct (message_ids ms)
       → (bytes : List ℕ) (account : MboxMail) (stands : Stands base bytes account) (rest more : List Message)
-      → IsNext bytes account rest stands
-      → IsMore bytes account stands more → BeginsWith (next_in limit done ms) rest
+      → IsNext bytes account rest stands → IsMore bytes account stands more → BeginsWith (next_in limit done ms) rest
       → (later : List Message) × (rest ≡ more ++ later) × BeginsWith (next_in limit (done ++ more) ms) later
   ahead limit done ms d bytes account (inl closed) rest more next is begins = (rest, rw is refl, rw (is, append-nil) begins)
   ahead limit done ms d bytes account (inr o) rest more next (inl is) begins = (rest, rw is refl, rw (is, append-nil) begins)
@@ -187,13 +180,7 @@ module _ (base : Base) where
     no_more : (listing : List Item) → (settled listing before).rows ≡ before.rows → (settled listing before).file ≡ bytes_of done
         → HoldsEntries base (done ++ []) (settled listing before) × ((settled listing before).file ≡ bytes_of (done ++ []))
     no_more listing rows file = (
-      rw append-nil (record {
-        are = kept.are;
-        new = kept.new;
-        recorded = rw rows kept.recorded;
-        stands =
-            inl (refl, file);
-      }),
+      rw append-nil (record { are = kept.are; new = kept.new; recorded = rw rows kept.recorded; stands = inl (refl, file) }),
       rw append-nil file,
     )
 
@@ -211,8 +198,7 @@ module _ (base : Base) where
                 record {
                   are = more.0;
                   new = more.1;
-                  recorded = λ id. ap (λ r. is_delivered r id) rows
-                      ∙ delivered_one laws before.rows o.next.uid id (rowed _ o.intent)
+                  recorded = λ id. ap (λ r. is_delivered r id) rows ∙ delivered_one laws before.rows o.next.uid id (rowed _ o.intent)
                       ∙ ap (λ b. b || bytes_eq id o.next.uid) (kept.recorded id)
                       ∙ ap (λ b. is_entered base done id || b) (sym (or-false (bytes_eq id o.next.uid)))
                       ∙ sym (in_more done (o.next ∷ []) id);
@@ -233,16 +219,14 @@ module _ (base : Base) where
     -- an account that is left, its file perhaps cut back
     module _ (now : MboxMail) (did : Effect) (h : MboxLeaves before did now) where
       pub reopened : (o : IsOpenFor base (bytes_of done) before) → (part : List ℕ)
-          × MayBeLeft (length (bytes_of done)) (entry_of o.next.text) part × (now.file ≡ bytes_of done ++ part)
-          × IsPart now o.next part
+          × MayBeLeft (length (bytes_of done)) (entry_of o.next.text) part × (now.file ≡ bytes_of done ++ part) × IsPart now o.next part
       reopened o = elim h.file [
         | inl same ↦ (o.part, o.left, same ∙ o.file, inl same)
         | inr cut ↦ elim (settled_is laws did.listing o) [
           | inl whole ↦ let entry = entry_of o.next.text in (
             entry,
             all_left (length (bytes_of done)) entry,
-            cut
-                ∙ whole.1,
+            cut ∙ whole.1,
             inr ([], sym (append-nil entry)),
           )
           | inr none ↦ ([], tt, cut ∙ none.1 ∙ sym (append-nil (bytes_of done)), inr (entry_of o.next.text, refl))
@@ -254,8 +238,7 @@ module _ (base : Base) where
         h.intent ∙ closed.0,
         elim h.file [
           | inl same ↦ same ∙ closed.1
-          | inr cut ↦ cut
-              ∙ rw closed.0 closed.1
+          | inr cut ↦ cut ∙ rw closed.0 closed.1
         ],
       )
       left_stands (inr o) =
@@ -264,8 +247,7 @@ module _ (base : Base) where
             next = o.next;
             is = o.is;
             unrecorded = rw h.rows o.unrecorded;
-            intent = h.intent
-                ∙ o.intent;
+            intent = h.intent ∙ o.intent;
             part = again.0;
             left = again.1;
             file = again.2;
@@ -327,8 +309,7 @@ module _ (base : Base) where
       rows_are = s.rows ∙ ap (marked_all rows) (wanted_ids fetch s.stored)
 
       pub recorded_after : (id : List ℕ) → is_delivered now.rows id ≡ is_entered base (was ++ new s.stored) id
-      recorded_after id = ap (λ r. is_delivered r id) rows_are
-          ∙ delivered_all laws rows (message_ids (new s.stored)) id
+      recorded_after id = ap (λ r. is_delivered r id) rows_are ∙ delivered_all laws rows (message_ids (new s.stored)) id
           (all_mapped (λ id. has_row rows id ≡ true) _ _ (has_rows s.stored))
           ∙ ap (λ b. b || has_id (message_ids (new s.stored)) id) (known id) ∙ sym (in_more was (new s.stored) id)
 
@@ -336,8 +317,7 @@ module _ (base : Base) where
       bytes_are = rw (
         origin.2,
         (texts_are fetch (mbox_fetched s)).1,
-        flat_map-map entry_of (λ (m : Message). m.text)
-            (new s.stored),
+        flat_map-map entry_of (λ (m : Message). m.text) (new s.stored),
       ) (sym (bytes_more was (new s.stored)))
 
       placed : (b : IsBroken v.settings before did s.stored now) → (q : ℕ × Message) × (b.message ≡ num_item q)
@@ -476,8 +456,7 @@ module _ (base : Base) where
             let o = broken b in
             let taken : new (suc s.stored) ≡ new s.stored ++ o.next ∷ [] = broken_more b in (
               o.next ∷ (rest_after (suc s.stored)).0,
-              prefix_new (suc s.stored)
-                  ∙ rw taken (simp append_assoc),
+              prefix_new (suc s.stored) ∙ rw taken (simp append_assoc),
               next_is o (rest_after (suc s.stored)).0 refl,
             )
 
@@ -497,8 +476,7 @@ module _ (base : Base) where
       first = front.first;
       rest = front.rest;
       prefix = front.prefix;
-      had =
-          front.had;
+      had = front.had;
       next = go kept.stands front.next;
     }
       where
@@ -553,8 +531,7 @@ module _ (base : Base) where
             more = more;
             promises = promises;
             kept = holds;
-            part =
-                part;
+            part = part;
             in_order = in_order;
           }
 

@@ -86,8 +86,7 @@ unheld_part false xs = refl
 
 -- distinct messages of this mail have the texts of their ids
 pub one_text : (text_of : List ℕ → List ℕ) (ms : List Message) → Distinct (message_ids ms)
-    → AllByRecursion (IsOf text_of) ms → (id : List ℕ) → has_id (message_ids ms) id ≡ true
-    → texts_of ms id ≡ text_of id ∷ []
+    → AllByRecursion (IsOf text_of) ms → (id : List ℕ) → has_id (message_ids ms) id ≡ true → texts_of ms id ≡ text_of id ∷ []
 one_text text_of ms d each id = all_at (λ x. texts_of ms x ≡ text_of x ∷ []) ms (all_both ms (each_text ms d) each
     (λ m e h. e ∙ ap (λ (t : List ℕ). t ∷ []) h.text))
 
@@ -257,8 +256,7 @@ module _ {W S F : Type 0} (laws : Below) {mail : Mail} (account_is : IsAccountTe
 
   -- what came is the next, if what could come is
   front_after : (all : List Message) → AllByRecursion IsLegal all → (front : IsFront mail state all)
-      → ShowsNext o.settings o.maildrop front.done front.rest
-      → (later : IsFront mail after all)
+      → ShowsNext o.settings o.maildrop front.done front.rest → (later : IsFront mail after all)
       × (later.done ≡ front.done ++ filter (λ (m : Message). not (has_id (message_ids front.done) m.uid)) came)
   front_after all legal front next =
       let known = all_map _ legal_drop (λ m l d. front.is_done m.uid l ∙ (known_safe m.uid d).1) in (
@@ -274,8 +272,7 @@ module _ {W S F : Type 0} (laws : Below) {mail : Mail} (account_is : IsAccountTe
             (λ (m : Message). not (held m.uid)) got (new_unheld front.done front.is_done))),
       )
 
-  stored_kept : (e.ended ≡ true) ↔ (o.report.outcome ≡ Ended)
-      → {sent : List ℕ} (sends : SendsOnly (IsBegun e.listing e.begun) sent)
+  stored_kept : (e.ended ≡ true) ↔ (o.report.outcome ≡ Ended) → {sent : List ℕ} (sends : SendsOnly (IsBegun e.listing e.begun) sent)
       → (e.ended ≡ true → o.report.retrieved ≡ count_by is_retr sends.commands)
       → AllByRecursion (λ id. has_id e.begun id ≡ true) o.vanished → Promises mail state o sent now × Kept mail after
   stored_kept ended sends retrieves vanished = (
@@ -335,13 +332,7 @@ left_kept {mail = mail} {state = state} o now e kept left ended sends vanished =
     new = tt;
     recorded = λ id recorded. rw left.rows recorded;
     in_order = λ all legal front next. (
-      record {
-        done = front.done;
-        rest = front.rest;
-        prefix = front.prefix;
-        is_done = λ id l. front.is_done id l
-            ∙ unchanged id;
-      },
+      record { done = front.done; rest = front.rest; prefix = front.prefix; is_done = λ id l. front.is_done id l ∙ unchanged id },
       sym (append-nil front.done),
     );
   },
@@ -372,8 +363,7 @@ others_leave_kept mail state after kept is = record {
 -- a session keeps its promises, and leads from a kept state to a kept state
 pub sessions_keep_promises : Below
     → {W S F : Type 0} (mail : Mail) (state : State) (call : Call W S F) (sent : List ℕ) (after : AccountMail)
-    → IsAccountText mail.account → Kept mail state
-    → IsSession mail state.account call sent after → Promises mail state call sent after
+    → IsAccountText mail.account → Kept mail state → IsSession mail state.account call sent after → Promises mail state call sent after
     × Kept mail (state_with mail state call.vanished after)
 sessions_keep_promises laws mail state call sent after account_is kept is =
     let step = served_session laws call.settings mail.account state.account is.effect is.session is.served in

@@ -48,11 +48,9 @@ use Rattle.fetch_session.specs.declared.report.Report.{Report}
 
 -- a message is at its number, and is the first with its id
 abbrev pub IsFirstAt : List Item → ℕ × Item → Type 0
-IsFirstAt listing message = (0 < message.0) × (slice_get listing (message.0 - 1) ≡ Some message.1)
-    × (is_first listing message ≡ true)
+IsFirstAt listing message = (0 < message.0) × (slice_get listing (message.0 - 1) ≡ Some message.1) × (is_first listing message ≡ true)
 
-one_number : (listing : List Item) (m n : ℕ × Item) → IsFirstAt listing m → IsFirstAt listing n
-    → m.1.uid ≡ n.1.uid → m.0 ≡ n.0
+one_number : (listing : List Item) (m n : ℕ × Item) → IsFirstAt listing m → IsFirstAt listing n → m.1.uid ≡ n.1.uid → m.0 ≡ n.0
 one_number listing m n at at' same = grind (arith, not_before m n at at' same, not_before n m at' at (sym same))
   where
     -- no message before the first with an id has that id
@@ -92,16 +90,14 @@ record FoundIn (listing : List Item) (qs : List (ℕ × Item)) (texts : List (Li
   listed : IsAmong text (take n texts)
 
 found_at : (listing : List Item) (n : ℕ) (qs : List (ℕ × Item)) (texts : List (List ℕ)) (id : List ℕ)
-    → AllByRecursion (IsFirstAt listing) qs → n ≤ length texts → has_id (ids_wanted (take n qs)) id ≡ true
-    → FoundIn listing qs texts n id
+    → AllByRecursion (IsFirstAt listing) qs → n ≤ length texts → has_id (ids_wanted (take n qs)) id ≡ true → FoundIn listing qs texts n id
 found_at listing (suc n) (q ∷ qs) (t ∷ ts) id first less is = elim (or_cases _ _ is) [
   | inl same ↦ record {
     message = q;
     text = t;
     first = first.0;
     among = ([], _, refl);
-    id_is =
-        sym (bytes_same id q.1.uid same);
+    id_is = sym (bytes_same id q.1.uid same);
     taken = ([], _, refl);
     listed = ([], _, refl);
   }
@@ -125,13 +121,7 @@ among_made : {X Y : Type 0} (p : X → Bool) (f : X → Y) {x : X} (xs : List X)
 among_made p f {x} xs (front, behind, is) passes = (
   map f (filter p front),
   map f (filter p behind),
-  rw (
-    is,
-    filter-append p front (x ∷ behind),
-    passes,
-    map-append f
-        (filter p front) (x ∷ filter p behind),
-  ),
+  rw (is, filter-append p front (x ∷ behind), passes, map-append f (filter p front) (x ∷ filter p behind)),
 )
 
 module _ (effect : Effect) (qs : List (ℕ × Item)) (Known : List ℕ → Type 0) (Kept : List ℕ → List ℕ → Type 0) where
@@ -142,8 +132,7 @@ module _ (effect : Effect) (qs : List (ℕ × Item)) (Known : List ℕ → Type 
   abbrev MayBe : ℕ → List ℕ → Type 0
   MayBe number id = Known id ⊎ WasFetched qs effect.texts (Kept id) number id
 
-  sends_allowed : (n : ℕ) → AllByRecursion (IsKept n) effect.begun → {sent : List ℕ}
-      → SendsOnly (IsBegun effect.listing effect.begun) sent
+  sends_allowed : (n : ℕ) → AllByRecursion (IsKept n) effect.begun → {sent : List ℕ} → SendsOnly (IsBegun effect.listing effect.begun) sent
       → SendsOnly (DeletesAllowed effect.listing MayBe) sent
   sends_allowed n kept sends = record {
     commands = sends.commands;
@@ -152,8 +141,7 @@ module _ (effect : Effect) (qs : List (ℕ × Item)) (Known : List ℕ → Type 
     next = ⊎_map (λ none. none) (λ r. (r.0, r.1, r.2, allowed r.0 r.3)) sends.next;
   }
     where
-      allowed : (command : Command) → IsBegun effect.listing effect.begun command
-          → DeletesAllowed effect.listing MayBe command
+      allowed : (command : Command) → IsBegun effect.listing effect.begun command → DeletesAllowed effect.listing MayBe command
       allowed (Dele number) (item, at, is, counted, alone) = (
         counted,
         item,
@@ -162,8 +150,7 @@ module _ (effect : Effect) (qs : List (ℕ × Item)) (Known : List ℕ → Type 
           r.0.message,
           r.0.text,
           r.0.among,
-          one_number effect.listing r.0.message (number, item) r.0.first
-              (counted, at, (and_parts _ _ alone).0) r.0.id_is,
+          one_number effect.listing r.0.message (number, item) r.0.first (counted, at, (and_parts _ _ alone).0) r.0.id_is,
           r.0.id_is,
           r.1,
         )) (all_ids_at _ _ kept is),
@@ -186,8 +173,7 @@ module _ (settings : Settings) (account : List ℕ) (before : AccountMail) (effe
 
   kept_ids : Below → {after : AccountMail} {report : Report} {commands : List Command} {part : List ℕ}
       (s : StoresTexts settings account before effect after report commands part) (id : List ℕ)
-      → is_delivered after.rows id ≡ true
-      → IsKept effect qs IsKnown (IsAdded s.stored) s.stored id
+      → is_delivered after.rows id ≡ true → IsKept effect qs IsKnown (IsAdded s.stored) s.stored id
   kept_ids laws s id is = elim s.rows [
     | inl old ↦ inl (inl (rw old.0 at is))
     | inr marks ↦ elim (delivered_marked laws (merged_rows account before effect) _ id (rw marks at is)) [
@@ -220,17 +206,14 @@ module _ (settings : Settings) (before : MboxMail) (effect : Effect) (after : Mb
   tail_of s = ⊎_elim (λ closed. ([], rw append-nil closed.1, inl refl))
       (λ broken. (
         broken.opened.front,
-        broken.opened.file
-            ∙ append_assoc old (entries (take s.stored effect.texts)) broken.opened.front,
-        inr
-            (broken, broken.opened.entry),
+        broken.opened.file ∙ append_assoc old (entries (take s.stored effect.texts)) broken.opened.front,
+        inr (broken, broken.opened.entry),
       )) s.ending
 
   abbrev IsRecorded : List ℕ → Type 0
   IsRecorded id = is_delivered (settled effect.listing before).rows id ≡ true
 
-  entered : Below → (s : MboxStores settings before effect after report) (id : List ℕ)
-      → is_delivered after.rows id ≡ true
+  entered : Below → (s : MboxStores settings before effect after report) (id : List ℕ) → is_delivered after.rows id ≡ true
       → IsKept effect (mbox_wanted settings before effect) IsRecorded
       (λ id. StandsAfter effect.listing before after) s.stored id
   entered laws s id e = elim (delivered_marked laws (mbox_rows before effect) _ id (rw s.rows at e)) [
@@ -245,8 +228,7 @@ module _ (settings : Settings) (before : MboxMail) (effect : Effect) (after : Mb
           (
             entries t.listed.0,
             entries t.listed.1 ++ tail.0,
-            tail.1
-                ∙ rw (t.listed.2, flat_map-append entry_of t.listed.0 (t.text ∷ t.listed.1)) (simp append_assoc),
+            tail.1 ∙ rw (t.listed.2, flat_map-append entry_of t.listed.0 (t.text ∷ t.listed.1)) (simp append_assoc),
           ),
         )
   ]
@@ -264,8 +246,7 @@ none_true {X} xs place e = grind (arith, slice_get-map (λ (x : X). false) xs pl
 
 -- the number was marked before, or a DELE of it is among the commands
 abbrev IsAsked : List Command → ℕ → Type 0
-IsAsked commands place = (front behind : List Command) × (number : ℕ)
-    × (commands ≡ front ++ Dele number ∷ behind) × (number - 1 ≡ place)
+IsAsked commands place = (front behind : List Command) × (number : ℕ) × (commands ≡ front ++ Dele number ∷ behind) × (number - 1 ≡ place)
 
 one_mark : (drop : List Message) (marks : List Bool) (command : Command) (commands : List Command) (bytes : List ℕ)
     (next : List Bool) (place : ℕ)
@@ -289,8 +270,7 @@ marks_from drop marks last (command ∷ commands) bytes place said e =
 
 -- a message that is marked at the end was asked for
 marks_are_asked : (drop : List Message) (sent got : List ℕ) (marks : List Bool) → (honest : Honest drop sent got marks)
-    → (place : ℕ) → slice_get marks place ≡ Some true
-    → IsAsked honest.commands place
+    → (place : ℕ) → slice_get marks place ≡ Some true → IsAsked honest.commands place
 marks_are_asked drop sent got marks honest place e =
     ⊎_elim (λ old. absurd (none_true drop place old)) (λ asked. asked)
     (marks_from drop (no_marks drop) marks honest.commands honest.replies place honest.replied e)
@@ -313,8 +293,7 @@ messages_of drop (w ∷ wanted) (text ∷ texts) ((m, there, is), are) =
 
 -- the text at a place is that of a message
 text_at : (drop : List Message) (wanted : List (ℕ × Item)) (texts : List (List ℕ)) (n : ℕ) (text : List ℕ)
-    → AreTexts drop wanted texts → slice_get texts n ≡ Some text
-    → (m : Message) × IsIn drop m × (text ≡ m.text)
+    → AreTexts drop wanted texts → slice_get texts n ≡ Some text → (m : Message) × IsIn drop m × (text ≡ m.text)
 text_at drop wanted [] n text are e = absurd cc
 text_at drop [] (t ∷ texts) n text are e = absurd are
 text_at drop (w ∷ wanted) (t ∷ texts) zero text ((m, there, is), are) e =
@@ -346,8 +325,7 @@ module _ (laws : Below) {sent got : List ℕ} (effect : Effect) {drop : List Mes
   same = laws.commands sends.commands served.honest.commands sent sends.asked served.honest.asked
 
   -- if the listing is the maildrop's, or nothing was begun
-  vanished_begun : (effect.begun ≡ []) ⊎ (effect.listing ≡ listing_of drop)
-      → AllByRecursion (λ id. has_id effect.begun id ≡ true) vanished
+  vanished_begun : (effect.begun ≡ []) ⊎ (effect.listing ≡ listing_of drop) → AllByRecursion (λ id. has_id effect.begun id ≡ true) vanished
   vanished_begun listing_is = all_map _ served.marked (λ id m.
       let asked = marks_are_asked drop sent got served.marks served.honest m.0 m.2 in
       let begun = (all_back _ asked.0 _ (rw (same, asked.3) at sends.each)).0 in
@@ -359,8 +337,7 @@ module _ (laws : Below) {sent got : List ℕ} (effect : Effect) {drop : List Mes
             rw (item, m.4) at begun.2
       ])
 
-  session_honest : (wanted : List (ℕ × Item)) → ReadsReplies wanted sends.commands sent got effect
-      → IsHonest wanted drop effect
+  session_honest : (wanted : List (ℕ × Item)) → ReadsReplies wanted sends.commands sent got effect → IsHonest wanted drop effect
   session_honest wanted r =
       let asked = User r.name ∷ Pass r.word ∷ Stat ∷ UidlAll ∷ ListAll ∷ r.more in
       let replies = r.user ∷ r.pass ∷ r.stat ∷ r.uidl ∷ r.list ∷ r.replies in
@@ -394,25 +371,21 @@ module _ (laws : Below) {sent got : List ℕ} (effect : Effect) {drop : List Mes
 
 -- what a session did over an honest link is what it read of the maildrop, and a DELE was begun for each message that
 -- its QUIT removed
-pub served_session : Below
-    → (settings : Settings) (account : List ℕ) (before : AccountMail) {sent got : List ℕ} {report : Report}
+pub served_session : Below → (settings : Settings) (account : List ℕ) (before : AccountMail) {sent got : List ℕ} {report : Report}
     (effect : Effect) {after : AccountMail} {drop : List Message} {vanished : List (List ℕ)}
     → (session : SessionOverLink settings account before sent got report effect after) → Served drop sent got vanished
     → (Leaves before effect after
     ⊎ (StoresTexts settings account before effect after report session.sends.commands session.sends.asked.part
-    × IsHonest (wanted_at settings account before effect) drop effect))
-    × AllByRecursion (λ id. has_id effect.begun id ≡ true) vanished
+    × IsHonest (wanted_at settings account before effect) drop effect)) × AllByRecursion (λ id. has_id effect.begun id ≡ true) vanished
 served_session laws settings account before effect session served =
     one_visit laws effect session.sends served (wanted_at settings account before effect) session.step
     (λ left. left.0) (λ left. left.0.begun)
 
-pub mbox_served_session : Below
-    → (settings : Settings) (before : MboxMail) {sent got : List ℕ} {report : Report} (effect : Effect)
+pub mbox_served_session : Below → (settings : Settings) (before : MboxMail) {sent got : List ℕ} {report : Report} (effect : Effect)
     {after : MboxMail} {drop : List Message} {vanished : List (List ℕ)}
     → MboxSessionOverLink settings before sent got report effect after → Served drop sent got vanished
     → (MboxLeaves before effect after ⊎ (MboxStores settings before effect after report
-    × IsHonest (mbox_wanted settings before effect) drop effect))
-    × AllByRecursion (λ id. has_id effect.begun id ≡ true) vanished
+    × IsHonest (mbox_wanted settings before effect) drop effect)) × AllByRecursion (λ id. has_id effect.begun id ≡ true) vanished
 mbox_served_session laws settings before effect session served =
     one_visit laws effect session.sends served (mbox_wanted settings before effect) session.step
     (λ left. left.0) (λ left. left.0.begun)
@@ -426,8 +399,7 @@ Holds settings account before sent got effect after = (safe : IsSafeSession sett
 
 pub session_holds : Below → (settings : Settings) (account : List ℕ) (before : AccountMail) {sent got : List ℕ}
     {report : Report} (effect : Effect) {after : AccountMail}
-    → SessionOverLink settings account before sent got report effect after
-    → Holds settings account before sent got effect after
+    → SessionOverLink settings account before sent got report effect after → Holds settings account before sent got effect after
 session_holds laws settings account before {sent} {got} {report} effect {after} session = by session.step
   where
     by : (Leaves before effect after × (report.retrieved ≡ 0))
@@ -498,11 +470,9 @@ MboxHolds settings before sent got report effect after = MboxIsSafe settings bef
     × ((drop : List Message) (marks : List Bool) → Honest drop sent got marks → MboxLeaves before effect after
     ⊎ AppendsMessages drop before effect after)
 
-pub mbox_session_holds : Below
-    → (settings : Settings) (before : MboxMail) {sent got : List ℕ} {report : Report}
+pub mbox_session_holds : Below → (settings : Settings) (before : MboxMail) {sent got : List ℕ} {report : Report}
     (effect : Effect) {after : MboxMail}
-    → MboxSessionOverLink settings before sent got report effect after
-    → MboxHolds settings before sent got report effect after
+    → MboxSessionOverLink settings before sent got report effect after → MboxHolds settings before sent got report effect after
 mbox_session_holds laws settings before {sent} {got} {report} effect {after} session = by session.step
   where
     by : (MboxLeaves before effect after × AsksForNone session.sends.commands session.sends.asked.part

@@ -50,8 +50,7 @@ use Rattle.fetch_runs.proofs.Tasks.{part_all, tally_all, part_done, tally_no_lin
 -- ---- of a session
 
 -- the account is as it was, or as a course leads to
-abbrev pub CourseLeads : (Course → Type 0) → Result (Unit {0}) Cut → Keeping → Keeping → List ReportLine
-    → SessionCourse → Type 0
+abbrev pub CourseLeads : (Course → Type 0) → Result (Unit {0}) Cut → Keeping → Keeping → List ReportLine → SessionCourse → Type 0
 CourseLeads Leads result before after lines Idle = (is_ended result ≡ false) × (after ≡ before) × (lines ≡ [])
 CourseLeads Leads result before after lines (Deals c) = Leads c
 
@@ -103,16 +102,14 @@ inputs settings account now maildir rows items = record {
   settings = settings;
   account = account;
   items = items;
-  now =
-      now;
+  now = now;
   maildir = maildir;
   rows = rows;
 }
 
 -- only the files of these tasks were added
 abbrev AddsFiles : List ℕ → Maildir → List Done → Maildir → Type 0
-AddsFiles account maildir dones maildir' = without_flags maildir'.files ≡ without_flags maildir.files
-    ++ files_of account dones
+AddsFiles account maildir dones maildir' = without_flags maildir'.files ≡ without_flags maildir.files ++ files_of account dones
 
 -- of files that are durable only names and bytes are known
 made_files : (account : List ℕ) (dones : List Done) → without_flags (files_of account dones) ≡ files_of account dones
@@ -120,15 +117,12 @@ made_files account [] = refl
 made_files account (d ∷ dones) = map-append _ (files_in account d.task d.replies) (files_of account dones)
     ∙ rw (by d.task d.replies, made_files account dones) refl
   where
-    by : (task : Task) (replies : List WholeReply)
-        → without_flags (files_in account task replies) ≡ files_in account task replies
+    by : (task : Task) (replies : List WholeReply) → without_flags (files_in account task replies) ≡ files_in account task replies
     by (stores number uid) [] = refl
-    by (stores number uid) (reply ∷ replies) = ap (λ (fs : List File). file_from account uid reply ∷ fs)
-        (by (stores number uid) replies)
+    by (stores number uid) (reply ∷ replies) = ap (λ (fs : List File). file_from account uid reply ∷ fs) (by (stores number uid) replies)
     by other replies = refl
 
-pub came_too : (old new added : List File) → new ≡ old ++ added
-    → without_flags new ≡ without_flags old ++ without_flags added
+pub came_too : (old new added : List File) → new ≡ old ++ added → without_flags new ≡ without_flags old ++ without_flags added
 came_too old new added came = ap without_flags came ∙ map-append _ old added
 
 -- the account that a session left, and what it found; the record is the old one only if no task was begun
@@ -160,16 +154,14 @@ module _ (laws : Below) (settings : Settings) (account : List ℕ) (now : ℕ) (
       (l : Leading result c maildir' content') where
     -- what the session stored, and the report counts
     abbrev pub figures : (report : Report) (commands : List Command) (part : List ℕ) → report.retrieved ≡ count c.taken
-        → report.outcome ≡ outcome_of result
-        → (begun_of c ≡ [] → StopsAtList report.outcome commands part)
+        → report.outcome ≡ outcome_of result → (begun_of c ≡ [] → StopsAtList report.outcome commands part)
         → Did settings account (holds rows maildir) (effect_of now (is_ended result) c)
         (holds l.rows' maildir') report commands part
     figures report commands part retrieved outcome stops = record {
       stored = count l.full;
       recorded = count l.noted;
       number = rw (retrieved, outcome, tally_number laws (p c.items) l.tally) l.tally.number;
-      kept = rw (retrieved, tally_number laws (p c.items) l.tally)
-          (⊎_map (λ same. sym same) (λ less. (sym less.0, refl)) l.tally.number);
+      kept = rw (retrieved, tally_number laws (p c.items) l.tally) (⊎_map (λ same. sym same) (λ less. (sym less.0, refl)) l.tally.number);
       marks = rw (retrieved, outcome) l.tally.mark;
       came = rw (l.files, l.tally.found, files_part laws (p c.items) l.full l.tally.whole) refl;
       rows = ⊎_elim (λ is. inr (is ∙ records_part laws (p c.items) l.noted l.tally.part))
@@ -185,21 +177,18 @@ module _ (laws : Below) (settings : Settings) (account : List ℕ) (now : ℕ) (
     lead : {result : Result (Unit {0}) Cut} {taken full noted : List Done} {spare : List WholeReply} {under : List Task}
         → Tally (p items) result (course items taken spare under) full noted (RefusedIn result)
         → (maildir' : Maildir) (content' : Option (List ℕ)) → AddsFiles account maildir full maildir'
-        → KeepsRows content' (rows_after (p items) noted)
-        → Leading result (course items taken spare under) maildir' content'
+        → KeepsRows content' (rows_after (p items) noted) → Leading result (course items taken spare under) maildir' content'
     lead t maildir' content' files keeps = record {
       full = _;
       noted = _;
       tally = t;
       files = files;
       rows' = _;
-      keeps =
-          keeps;
+      keeps = keeps;
       recorded = inl refl;
     }
 
-    module _ {tasks : List Task} {old : Scene} (starts : Starts (p items) tasks old)
-        (same_maildir : old.store.maildir ≡ maildir) where
+    module _ {tasks : List Task} {old : Scene} (starts : Starts (p items) tasks old) (same_maildir : old.store.maildir ≡ maildir) where
       -- what there was after the tasks that were done
       mid_files : (dones : List Done) (mid : Scene) → Went (AsFiles account) dones old mid
           → AddsFiles account maildir dones mid.store.maildir
@@ -223,8 +212,7 @@ module _ (laws : Below) (settings : Settings) (account : List ℕ) (now : ℕ) (
 
         -- the file of the next task's text is there
         files : (number : ℕ) (uid : List ℕ) (reply : WholeReply)
-            → without_flags new.store.maildir.files ≡ without_flags fell.mid.store.maildir.files
-            ++ file_from account uid reply ∷ []
+            → without_flags new.store.maildir.files ≡ without_flags fell.mid.store.maildir.files ++ file_from account uid reply ∷ []
             → AddsFiles account maildir (fell.dones ++ stored_done number uid reply ∷ []) new.store.maildir
         files number uid reply came =
             simp (came, mid_files fell.dones fell.mid fell.went, append_assoc, flat_map-append)
@@ -306,8 +294,7 @@ module _ (laws : Below) (settings : Settings) (account : List ℕ) (now : ℕ) (
           files = same;
           rows' = rows;
           keeps = keeps';
-          recorded =
-              inr (refl, refl, refl, refl);
+          recorded = inr (refl, refl, refl, refl);
         } in
         elim is.unready.content [
           | inl content ↦ stays (rw content keeps)
@@ -321,16 +308,10 @@ module _ (laws : Below) (settings : Settings) (account : List ℕ) (now : ℕ) (
         let rows_are : is.mid.rows ≡ rows_on (p items) =
         rw (
           is.prepared.rows,
-          same_rows laws.one file.content is.prepared.was.rows rows
-              (is.prepared.was.intent, is.prepared.stood) keeps,
+          same_rows laws.one file.content is.prepared.was.rows rows (is.prepared.was.intent, is.prepared.stood) keeps,
         ) refl in
         let starts : Starts (p items) (tasks_ahead settings account items now maildir is.mid.rows) is.mid =
-        record {
-          tasks_are = ap (tasks_ahead settings account items now maildir) rows_are;
-          rows =
-              rows_are;
-          steady = is.prepared.saved;
-        } in
+        record { tasks_are = ap (tasks_ahead settings account items now maildir) rows_are; rows = rows_are; steady = is.prepared.saved } in
         does_leads items starts (ap (λ (s : Stores). s.maildir) is.prepared.settles) result new is.does) old result new
         (keeps_files after) notes is
 
@@ -354,8 +335,7 @@ texts_same items (d ∷ dones) right =
 
 -- ---- the next message
 
-front_texts : (texts more : List (List ℕ)) (dones : List Done) → texts ≡ texts_by dones ++ more
-    → take (count dones) texts ≡ texts_by dones
+front_texts : (texts more : List (List ℕ)) (dones : List Done) → texts ≡ texts_by dones ++ more → take (count dones) texts ≡ texts_by dones
 front_texts texts more dones are =
     rw are (take_at (texts_by dones) more (count dones) (length-map (found_by dones) text_found))
 
@@ -374,21 +354,13 @@ module _ (steadies : SteadyFilesKeep) (unsaved : UnsavedFilesKeep) (was : List �
     (uid text : List ℕ) (mbox' file' : Stored) (there : mbox.content ≡ Some was)
     (steady : Steady file.content (none_open rows)) where
   -- what is known of the bytes before the entry is known of these
-  open_for : (other : List ℕ) → mbox.content ≡ Some other
-      → Keeps file'.content (with_open rows (intent_of other uid text))
+  open_for : (other : List ℕ) → mbox.content ≡ Some other → Keeps file'.content (with_open rows (intent_of other uid text))
       → Keeps file'.content (with_open rows (intent_of was uid text))
   open_for other is keeps = rw (← same_Some other was (sym is ∙ there)) keeps
 
   with_nothing : (other : List ℕ) → mbox.content ≡ Some other → mbox'.content ≡ mbox.content
       → Keeps file'.content (with_open rows (intent_of other uid text)) → LeavesEntry was rows uid text mbox' file'
-  with_nothing other is same keeps = inr (
-    [],
-    entry_of text,
-    refl,
-    same ∙ there
-        ∙ ap Some (sym (append-nil was)),
-    open_for other is keeps,
-  )
+  with_nothing other is same keeps = inr ([], entry_of text, refl, same ∙ there ∙ ap Some (sym (append-nil was)), open_for other is keeps)
 
   -- no intent was saved; or it was closed again, unless that was refused
   unopened : (file' ≡ file) ⊎ IsTakenBack mbox file rows uid text file' → mbox'.content ≡ mbox.content
@@ -401,8 +373,7 @@ module _ (steadies : SteadyFilesKeep) (unsaved : UnsavedFilesKeep) (was : List �
       (unsaved opened (with_open rows (intent_of other uid text)) (none_open rows) SeenRefused file'
       closes (saves.1 steady))
 
-  leaves_entry : (fault : Fault) → RefusesEntry mbox file rows uid text fault mbox' file'
-      → LeavesEntry was rows uid text mbox' file'
+  leaves_entry : (fault : Fault) → RefusesEntry mbox file rows uid text fault mbox' file' → LeavesEntry was rows uid text mbox' file'
   leaves_entry (StoreRefused why.Missing) (none, same, is) = unopened (inl is) (same_content same)
   leaves_entry (StoreRefused why.Refused) (inl (same, how)) = unopened how (same_content same)
   leaves_entry (StoreRefused why.Refused) (inr ((other, is, saves), (bytes, front, behind, goes_on, entry, now))) =
@@ -431,8 +402,7 @@ mbox_inputs settings now held mbox items = record {
   settings = settings;
   account = [];
   items = items;
-  now =
-      now;
+  now = now;
   maildir = no_maildir;
   rows = (settled items (mbox_holds held mbox)).rows;
 }
@@ -502,8 +472,7 @@ module _ (laws : Below) (settings : Settings) (now : ℕ) (held : RecordState) (
     lead_closed : {result : Result (Unit {0}) Cut} {taken full : List Done}
         {spare : List WholeReply} {under : List Task}
         → Tally (q items) result (course items taken spare under) full taken (Unit {0})
-        → (mbox' : Stored) (content' : Option (List ℕ)) (more : List (List ℕ))
-        → texts_by full ≡ texts_by taken ++ more
+        → (mbox' : Stored) (content' : Option (List ℕ)) (more : List (List ℕ)) → texts_by full ≡ texts_by taken ++ more
         → Keeps content' (none_open (rows_after (q items) taken)) → mail_in mbox'.content ≡ bytes_after taken
         → MboxLeading result (course items taken spare under) mbox' content'
     lead_closed t mbox' content' more texts keeps file = record {
@@ -532,8 +501,7 @@ module _ (laws : Below) (settings : Settings) (now : ℕ) (held : RecordState) (
         mid_content : fell.mid.store.mbox.content ≡ Some (bytes_after fell.dones)
         mid_content = content_after fell.dones fell.mid fell.went (part_done laws (q items) starts fell)
 
-        same_held : (content : Option (List ℕ)) (intent : Option Intent)
-            → Keeps content (record_state fell.mid.rows intent)
+        same_held : (content : Option (List ℕ)) (intent : Option Intent) → Keeps content (record_state fell.mid.rows intent)
             → Keeps content (record_state (rows_after (q items) fell.dones) intent)
         same_held content intent keeps = rw (← mid_rows laws (q items) starts fell.dones fell.mid fell.went) keeps
 
@@ -561,8 +529,7 @@ module _ (laws : Below) (settings : Settings) (now : ℕ) (held : RecordState) (
           -- its intent is open after the entries of the tasks that were done
           opens : (taken : List Done) (spare : List WholeReply) (under : List Task)
               → map text_found (found_of (course items taken spare under)) ≡ texts_by with_next
-              → (front behind : List ℕ) → entry_of text ≡ front ++ behind
-              → mail_in new.store.mbox.content ≡ bytes_after fell.dones ++ front
+              → (front behind : List ℕ) → entry_of text ≡ front ++ behind → mail_in new.store.mbox.content ≡ bytes_after fell.dones ++ front
               → IsBroken settings (mbox_holds held mbox) (effect_of now false (course items taken spare under))
               (count fell.dones) (mbox_holds
               (record_state (rows_after (q items) fell.dones) (Some (intent_of (bytes_after fell.dones) uid text)))
@@ -628,8 +595,7 @@ module _ (laws : Below) (settings : Settings) (now : ℕ) (held : RecordState) (
               full_texts u.number u.uid u.reply u.is u.talked.good,
               flat_map-append
                   entry_of (texts_by fell.dones) (body_text u.reply.body ∷ []),
-              append_assoc
-                  (bytes_settled items held mbox) (entries (texts_by fell.dones)) (entries (body_text u.reply.body ∷ [])),
+              append_assoc (bytes_settled items held mbox) (entries (texts_by fell.dones)) (entries (body_text u.reply.body ∷ [])),
             )
             refl in
             elim (laws.unsaved between (with_open fell.mid.rows (intent_of was u.uid (body_text u.reply.body)))
@@ -643,8 +609,7 @@ module _ (laws : Below) (settings : Settings) (now : ℕ) (held : RecordState) (
                     noted = fell.dones;
                     tally = t;
                     intent' = _;
-                    keeps = rw (← same_Some was (bytes_after fell.dones) (sym there ∙ mid_content))
-                        (same_held _ _ old_one);
+                    keeps = rw (← same_Some was (bytes_after fell.dones) (sym there ∙ mid_content)) (same_held _ _ old_one);
                     ending = inr (opens u.number u.uid u.reply u.is u.talked.good all [] []
                         (ap (map text_found) t.found) (entry_of (body_text u.reply.body)) [] (sym (append-nil _))
                         (ap mail_in content ∙ rw (
@@ -694,8 +659,7 @@ module _ (laws : Below) (settings : Settings) (now : ℕ) (held : RecordState) (
 module _ (laws : Below) (settings : Settings) (now : ℕ) (before : Keeping) (held : RecordState)
     (keeps : Keeps before.file.content held) where
   closed_is : (was : RecordState) (bytes : List ℕ) (items : List Item) → Keeps before.file.content was
-      → before.store.mbox.content ≡ Some bytes
-      → closed_file was.intent items bytes ≡ bytes_settled items held before.store.mbox
+      → before.store.mbox.content ≡ Some bytes → closed_file was.intent items bytes ≡ bytes_settled items held before.store.mbox
   closed_is was bytes items stood is = rw (same_record laws.one before.file.content was held stood keeps, is) refl
 
   rows_are : (was : RecordState) (items : List Item) → Keeps before.file.content was
@@ -703,8 +667,7 @@ module _ (laws : Below) (settings : Settings) (now : ℕ) (before : Keeping) (he
   rows_are was items stood = rw (same_record laws.one before.file.content was held stood keeps) refl
 
   settled_content : (was : RecordState) (items : List Item) (new : Stores) → Keeps before.file.content was
-      → SettlesStore AsEntries was items before.store new
-      → new.mbox.content ≡ Some (bytes_settled items held before.store.mbox)
+      → SettlesStore AsEntries was items before.store new → new.mbox.content ≡ Some (bytes_settled items held before.store.mbox)
   settled_content was items new stood (bytes, is, settled, goes_on) =
       rw (settled, closed_is was bytes items stood is) refl
 
@@ -751,12 +714,7 @@ module _ (laws : Below) (settings : Settings) (now : ℕ) (before : Keeping) (he
       rw (is.prepared.rows, rows_are is.prepared.was items is.prepared.stood) refl in
       let starts : Starts (mbox_inputs settings now held before.store.mbox items)
       (tasks_for settings AsEntries items now before.store is.mid.rows) is.mid =
-      record {
-        tasks_are = ap (tasks_for settings AsEntries items now before.store) rows;
-        rows =
-            rows;
-        steady = is.prepared.saved;
-      } in
+      record { tasks_are = ap (tasks_for settings AsEntries items now before.store) rows; rows = rows; steady = is.prepared.saved } in
       inr (mbox_does_leads laws settings now held before.store.mbox items starts
       (settled_content is.prepared.was items is.mid.store is.prepared.stood is.prepared.settles) result new
       is.does)) old result new after notes is

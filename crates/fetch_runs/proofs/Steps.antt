@@ -47,8 +47,7 @@ begun_one account maildir items tasks right (Dele number) (front, behind, is) =
     rw (
       is,
       flat_map-append (deleted_in items) front (deletes number ∷ behind),
-      list_any-append (bytes_eq at.0.uid)
-          (deleted_by items front) _,
+      list_any-append (bytes_eq at.0.uid) (deleted_by items front) _,
       at.1,
       bytes_self at.0.uid,
     ) (or_right _ _ refl) in
@@ -82,8 +81,7 @@ module _ {settings : Settings} {target : Target} {now : ℕ} {link : Link} {befo
   retrieved_is = is.reports.retrieved_is ∙ ap retrieved_in said.by.told ∙ (found_all c.taken said.by.took.each).1
 
   -- if it ended, each RETR is in the report
-  retrieves_all : is_ended is.result ≡ true
-      → report.retrieved ≡ count_by is_retr
+  retrieves_all : is_ended is.result ≡ true → report.retrieved ≡ count_by is_retr
       (User (name_of settings) ∷ Pass (word_of settings) ∷ Stat ∷ UidlAll ∷ ListAll ∷ said.speaks.more)
   retrieves_all ended =
       let outcome = (ended_if is.result refl).0 ended in
@@ -117,8 +115,7 @@ session_is_a_step laws settings account now link before rows report link' after 
       effect = _;
       rows' = _;
       sent_is = sent_is;
-      got_is =
-          got_is;
+      got_is = got_is;
       now_is = refl;
       keeps = stays;
       session = session;
@@ -157,8 +154,7 @@ session_is_a_step laws settings account now link before rows report link' after 
                 (λ none. record {
                   name = name_of settings;
                   word = word_of settings;
-                  more =
-                      said.speaks.more;
+                  more = said.speaks.more;
                   commands_are = refl;
                   only = rw is.reports.outcome_is (said.speaks.stops none);
                 }),
@@ -200,8 +196,7 @@ mbox_session_is_a_step laws settings now link before held report link' after val
       effect = _;
       held' = _;
       sent_is = sent_is;
-      got_is =
-          got_is;
+      got_is = got_is;
       now_is = refl;
       keeps = stays;
       session = session;
@@ -211,8 +206,7 @@ mbox_session_is_a_step laws settings now link before held report link' after val
     quiet : (c : Course) → Rests now is.result c held before.mbox after.mbox after.file.content → report.retrieved ≡ 0
         → (sent got : List ℕ) → link'.sent ≡ link.sent ++ sent → link'.got ≡ link.got ++ got
         → (commands : List Command) (asked : HasSent commands sent) → AllByRecursion (IsOfTask (begun_of c)) commands
-        → BeginsOne (IsOfTask (begun_of c)) asked.part
-        → IsMboxStep settings now link before held report link' after
+        → BeginsOne (IsOfTask (begun_of c)) asked.part → IsMboxStep settings now link before held report link' after
     quiet c rests retrieved sent got sent_is got_is commands asked all next = made c sent_is got_is rests.keeps
         (record {
           sends = sends_of [] no_maildir c.items (begun_of c) (rw rests.none tt) asked all next;
@@ -220,11 +214,7 @@ mbox_session_is_a_step laws settings now link before held report link' after val
           retrieves = λ ended. absurd (both_ways _ rests.leaves.ended ended);
           step = inl (
             rests.leaves,
-            (
-              all_map commands (rw rests.none at all) no_message,
-              begins_of no_message asked.part
-                  (rw rests.none at next),
-            ),
+            (all_map commands (rw rests.none at all) no_message, begins_of no_message asked.part (rw rests.none at next)),
             retrieved,
           );
         })
@@ -245,8 +235,7 @@ mbox_session_is_a_step laws settings now link before held report link' after val
           leaves = record {
             rows = refl;
             intent = refl;
-            file =
-                inl (ap (λ (k : Keeping). mail_in k.store.mbox.content) left.1);
+            file = inl (ap (λ (k : Keeping). mail_in k.store.mbox.content) left.1);
             begun = refl;
             ended = left.0;
           };

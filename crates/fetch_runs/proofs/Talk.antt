@@ -147,8 +147,7 @@ of_tail : (tasks : List Task) {turns : List Turn} → IsTail turns → AllByRecu
 of_tail tasks silent = (tt, refl, tt)
 of_tail tasks kind = (search rules, refl, search rules)
 
-module _ (tasks : List Task) {done begun turns : List Turn} {sent : List ℕ} (kind : IsTail turns)
-    (c : Commanded done begun turns sent)
+module _ (tasks : List Task) {done begun turns : List Turn} {sent : List ℕ} (kind : IsTail turns) (c : Commanded done begun turns sent)
     (all : AllByRecursion (IsOfTask tasks) (commands_in done ++ commands_in begun)) where
   begun_of_tasks : AllByRecursion (IsOfTask tasks) (c.ahead ++ c.unsaid)
   begun_of_tasks = rw c.of_begun at (all_back (IsOfTask tasks) (commands_in done) (commands_in begun) all)
@@ -158,8 +157,7 @@ module _ (tasks : List Task) {done begun turns : List Turn} {sent : List ℕ} (k
 
   -- a RETR or DELE that was sent is a task's: a tail has none
   pub said_of_tasks : AllByRecursion (IsOfTask tasks) (commands_in done ++ (c.ahead ++ c.ends))
-  said_of_tasks =
-      all_append (IsOfTask tasks) (commands_in done) (c.ahead ++ c.ends)
+  said_of_tasks = all_append (IsOfTask tasks) (commands_in done) (c.ahead ++ c.ends)
       (all_front (IsOfTask tasks) (commands_in done) (commands_in begun) all)
       (all_append (IsOfTask tasks) c.ahead c.ends (all_front (IsOfTask tasks) c.ahead c.unsaid begun_of_tasks)
       (all_front (IsOfTask tasks) c.ends c.unended ends_of_tasks))
@@ -185,8 +183,7 @@ pub record Said (c : Course) {name word : List ℕ} {start mid : Place} {count :
 pub spoken : Below → {name word : List ℕ} {count : ℕ} {uids : List UidRow} {sizes : List ScanRow} {start mid : Place}
     {turns : List Turn} {link : Link} → is_credential name ≡ true → is_credential word ≡ true
     → (c : Course) → IsTail turns → start.waiting ≡ [] → (opened : SessionOpened name word start mid count uids sizes)
-    → Joins count uids sizes c.items → AllByRecursion IsPlain (begun_of c)
-    → (took : Took c mid turns link) → Said c opened took
+    → Joins count uids sizes c.items → AllByRecursion IsPlain (begun_of c) → (took : Took c mid turns link) → Said c opened took
 spoken laws {name} {word} {start = start} {mid} {turns} {link} named' worded c kind none opened joins plain took =
     let speaks : Speaks c name word turns is.0 is.1 = record {
       more = commands_in took.done ++ (whole.ahead ++ whole.ends);
@@ -347,8 +344,7 @@ pub record Dealing (settings : Settings) (target : Target) (items : List Item) (
 module _ (laws : Below) where
   ahead_does : (target : Target) (items : List Item) (tasks : List Task) (old new : Scene)
       (result : Result (Unit {0}) Cut) (link : Link) → (does : Does target tasks old result new)
-      → AllByRecursion IsPlain tasks → LeavesLink result new.place link
-      → Ahead target items tasks old.lines new.lines result
+      → AllByRecursion IsPlain tasks → LeavesLink result new.place link → Ahead target items tasks old.lines new.lines result
       (course_does target items tasks old new result does) old.place link
   ahead_does target items tasks old new (Ok done) link went plain leaves = record {
     took = rw leaves (all_done laws items went.dones went.went.talked (rw went.all at plain) went.went.each
@@ -356,8 +352,7 @@ module _ (laws : Below) where
           gained = [];
           got = sym (append-nil new.place.link.got);
           behind = [];
-          sent =
-              sym (append-nil new.place.link.sent);
+          sent = sym (append-nil new.place.link.sent);
           sent_behind = inl ([], refl);
         }));
     later = [];
@@ -377,8 +372,7 @@ module _ (laws : Below) where
   module _ (settings : Settings) (target : Target) (items : List Item) (now : ℕ) (place : Place) (store : Stores)
       (file : Stored) (lines : List ReportLine) (few : length items ≤ 100000) where
     dealing_carried : (result : Result (Unit {0}) Cut) (new : Scene) (skipped : Skips) (link : Link)
-        → (is : Carried settings target items now place store file lines result new skipped)
-        → LeavesLink result new.place link
+        → (is : Carried settings target items now place store file lines result new skipped) → LeavesLink result new.place link
         → Dealing settings target items now store file lines new.lines
         (course_carried settings target items now place store file lines result new skipped is) place result link
     dealing_carried result new skipped link is leaves = record {
@@ -395,8 +389,7 @@ module _ (laws : Below) where
     pub dealing : (result : Result (Unit {0}) Cut) (place' : Place) (store' : Stores) (file' : Stored)
         (lines' : List ReportLine) (skipped : Skips) (link : Link)
         → (is : Carries settings target items now place store file lines result place' store' file' lines' skipped)
-        → LeavesLink result place' link
-        → Dealing settings target items now store file lines lines'
+        → LeavesLink result place' link → Dealing settings target items now store file lines lines'
         (course_carries settings target items now place store file lines result place' store' file' lines'
         skipped is) place result link
     dealing (Ok done) place' store' file' lines' skipped link is leaves =
@@ -489,8 +482,7 @@ pub session_spoke : Below → (settings : Settings) → IsValid settings
 session_spoke laws settings valid target now link before report link' after session = spoke session.result session.proceeds session.leaves
   where
     planned_talk : (result : Result (Unit {0}) Cut)
-        → (is : Dealt settings target now (at link []) before result session.mid after session.notes)
-        → LeavesLink result session.mid link'
+        → (is : Dealt settings target now (at link []) before result session.mid after session.notes) → LeavesLink result session.mid link'
         → Planned settings target now before link link' result session.notes.lines
         (course_dealt settings target now (at link []) before result session.mid after session.notes is)
     planned_talk result is leaves =
@@ -526,8 +518,7 @@ session_spoke laws settings valid target now link before report link' after sess
 
     spoke : (result : Result (Unit {0}) Cut)
         → (is : Proceeds settings target now (at link []) before result session.mid after session.notes)
-        → LeavesLink result session.mid link'
-        → Spoke settings target now before link link' result session.notes.lines
+        → LeavesLink result session.mid link' → Spoke settings target now before link link' result session.notes.lines
         (course_proceeded settings target now (at link []) before result session.mid after session.notes is)
     spoke (Ok done) is leaves = planned_talk (Ok done) is leaves
     spoke (Err cut) (inl is) leaves =
@@ -599,15 +590,8 @@ sessions_are_conversations laws settings account now link before report link' af
         listed p.enters.3 p.enters.4,
       );
       counts = ⊎_map (λ same. ap retrieved_by same ∙ number) (λ (n, same, none, (reply, more)). (
-        session.reports.outcome_is
-            ∙ p.by.ahead.spare account reply refl more,
-        (
-          opening_of settings ++ turns_of c.taken,
-          n,
-          rw same,
-          number,
-          none,
-        ),
+        session.reports.outcome_is ∙ p.by.ahead.spare account reply refl more,
+        (opening_of settings ++ turns_of c.taken, n, rw same, number, none),
       )) p.by.took.asks;
       ended = λ is.
           let whole = p.by.ahead.whole (sym session.reports.outcome_is ∙ is) in
@@ -616,11 +600,9 @@ sessions_are_conversations laws settings account now link before report link' af
       where
         number : retrieved_by (turns_of c.taken) ≡ report.retrieved
         number = sym (taken_same c.taken (all_front IsPlain (tasks_of c.taken) c.under p.plain) p.by.took.each)
-            ∙ ap (λ (l : List ReportLine). count_by is_text_taken l) (sym p.by.ahead.told)
-            ∙ sym session.reports.retrieved_is
+            ∙ ap (λ (l : List ReportLine). count_by is_text_taken l) (sym p.by.ahead.told) ∙ sym session.reports.retrieved_is
 
-    by : (session_course : SessionCourse)
-        → Spoke settings (AsFiles account) now (keeps_files before) link link' session.result
+    by : (session_course : SessionCourse) → Spoke settings (AsFiles account) now (keeps_files before) link link' session.result
         session.notes.lines session_course
         → (sent got : List ℕ) × (link'.sent ≡ link.sent ++ sent) × (link'.got ≡ link.got ++ got)
         × (EndsInOpening settings report sent got ⊎ SpeaksByPlan settings account now before report sent got)
@@ -630,7 +612,6 @@ sessions_are_conversations laws settings account now link before report link' af
           it.got,
           it.sent_is,
           it.got_is,
-          inl
-              (record { said = said; follows = follows_none laws settings valid (is_tail_for session.result) it }),
+          inl (record { said = said; follows = follows_none laws settings valid (is_tail_for session.result) it }),
         )
     by (Deals c) p = (p.sent, p.got, p.sent_is, p.got_is, inr (by_plan c p))

@@ -44,8 +44,7 @@ use Rattle.fetch_runs.proofs.Core.{IsNumbered, are_numbered}
 
 -- the tasks of an account with a Maildir
 abbrev pub tasks_ahead : Settings → List ℕ → List Item → ℕ → Maildir → List Row → List Task
-tasks_ahead settings account items now maildir rows = Session.tasks_ahead settings (AsFiles account) items now
-    (in_maildir maildir) rows
+tasks_ahead settings account items now maildir rows = Session.tasks_ahead settings (AsFiles account) items now (in_maildir maildir) rows
 
 -- the number and the id of a message
 abbrev pub key : ℕ × Item → ℕ × List ℕ
@@ -111,25 +110,18 @@ abbrev steps_on : Inputs → ℕ × Item → Step
 steps_on p = step_of p.settings (rows_on p) p.items p.now
 
 -- the tasks of a plan are those of its messages, and QUIT
-tasks_are : (p : Inputs) → tasks_on p ≡ flat_map (tasks_at (steps_on p) (is_held p.account p.maildir))
-    (numbered p.items) ++ says quit ∷ []
+tasks_are : (p : Inputs) → tasks_on p ≡ flat_map (tasks_at (steps_on p) (is_held p.account p.maildir)) (numbered p.items) ++ says quit ∷ []
 tasks_are p = rw (by_message (steps_on p) (is_held p.account p.maildir) 1 p.items) refl
 
 -- ---- what is fetched
 
-fetched_plan : (f : ℕ × Item → Step) (held : List ℕ → Bool) → ((q : ℕ × Item) → (f q).number ≡ q.0)
-    → (qs : List (ℕ × Item))
+fetched_plan : (f : ℕ × Item → Step) (held : List ℕ → Bool) → ((q : ℕ × Item) → (f q).number ≡ q.0) → (qs : List (ℕ × Item))
     → fetched (flat_map (tasks_at f held) qs)
     ≡ map key (map (λ (p : Step × (ℕ × Item)). p.1)
     (filter (λ (p : Step × (ℕ × Item)). p.0.retrieve) (zip (map f qs) qs)))
 fetched_plan f held same [] = refl
 fetched_plan f held same (q ∷ qs) =
-    grind (
-      arith,
-      same q,
-      flat_map-append fetched_in (tasks_at f held q) (flat_map (tasks_at f held) qs),
-      fetched_plan f held same qs,
-    )
+    grind (arith, same q, flat_map-append fetched_in (tasks_at f held q) (flat_map (tasks_at f held) qs), fetched_plan f held same qs)
 
 -- ---- what is listed
 
@@ -205,8 +197,7 @@ found_all (d ∷ dones) answered =
     let more = found_all dones answered.1 in
     let sum = sum_by-append (λ line. cond (is_text_taken line) 1 0) (lines_in d.task d.replies) (report_lines dones) in (
       simp (map-append, first.0, more.0),
-      omega
-          (arith, first.1, more.1, sum, length-append (found_in d.task d.replies) (found_by dones)),
+      omega (arith, first.1, more.1, sum, length-append (found_in d.task d.replies) (found_by dones)),
     )
 
 -- ---- files
@@ -224,8 +215,7 @@ files_by account maildir items (d ∷ dones) messages answered right are =
   where
     by : (task : Task) (replies : List WholeReply) (ms : List (ℕ × Item)) → AllZip IsGood (turns_in task) replies
         → IsRight account maildir items task → fetched_in task ++ fetched (tasks_of dones) ≡ map key ms
-        → ((more : List (ℕ × Item)) → fetched (tasks_of dones) ≡ map key more
-        → files_of account dones ≡ map (file_for account)
+        → ((more : List (ℕ × Item)) → fetched (tasks_of dones) ≡ map key more → files_of account dones ≡ map (file_for account)
         (filter (is_unheld account maildir) (zip more (texts_by dones))))
         → files_in account task replies ++ files_of account dones ≡ map (file_for account)
         (filter (is_unheld account maildir) (zip ms (map text_found (found_in task replies ++ found_by dones))))
@@ -235,8 +225,7 @@ files_by account maildir items (d ∷ dones) messages answered right are =
 
 -- ---- a plan that fetches what is wanted, as far as it was done
 
-pub same_length : (dones : List Done) → AllByRecursion IsAnswered dones
-    → length (fetched (tasks_of dones)) ≡ count dones
+pub same_length : (dones : List Done) → AllByRecursion IsAnswered dones → length (fetched (tasks_of dones)) ≡ count dones
 same_length dones answered =
     omega (arith, simp length-map at (ap (λ (l : List ℕ). length l) (found_all dones answered).0))
 
@@ -256,8 +245,7 @@ pub record Part (tasks : List Task) (dones : List Done) : Type 0 where
 
 -- ---- marks that change nothing
 
-all_mapped : {X Y : Type 0} (P : Y → Type 0) (f : X → Y) → ((x : X) → P (f x)) → (xs : List X)
-    → AllByRecursion P (map f xs)
+all_mapped : {X Y : Type 0} (P : Y → Type 0) (f : X → Y) → ((x : X) → P (f x)) → (xs : List X) → AllByRecursion P (map f xs)
 all_mapped P f each [] = tt
 all_mapped P f each (x ∷ xs) = (each x, all_mapped P f each xs)
 
@@ -291,8 +279,7 @@ held_settled laws p uid listed held =
 -- so marking what was stored is marking all that was fetched
 marks_by : (p : Inputs) (tasks : List Task) (rows : List Row)
     → ((uid : List ℕ) → has_item p.items uid ≡ true → is_held p.account p.maildir uid ≡ true
-    → AllByRecursion (IsSettled uid) rows)
-    → AllByRecursion (IsRightOn p) tasks
+    → AllByRecursion (IsSettled uid) rows) → AllByRecursion (IsRightOn p) tasks
     → marked_all rows (ids_ahead tasks) ≡ marked_all rows (map (λ (found : ℕ × List ℕ). found.1) (fetched tasks))
 marks_by p [] rows settled right = refl
 marks_by p (stores number uid ∷ tasks) rows settled right = marks_by p tasks (marked rows uid)
@@ -303,8 +290,7 @@ marks_by p (other ∷ tasks) rows settled right = marks_by p tasks rows settled 
 
 -- ---- what is recorded as delivered
 
-marked_delivered : Below → (rows : List Row) (ids : List (List ℕ))
-    → AllByRecursion (λ (uid : List ℕ). has_row rows uid ≡ true) ids
+marked_delivered : Below → (rows : List Row) (ids : List (List ℕ)) → AllByRecursion (λ (uid : List ℕ). has_row rows uid ≡ true) ids
     → AllByRecursion (λ (uid : List ℕ). is_delivered (marked_all rows ids) uid ≡ true) ids
 marked_delivered laws rows [] all = tt
 marked_delivered laws rows (id ∷ ids) all = (
@@ -318,8 +304,7 @@ stored_has_row : Below → (p : Inputs) (tasks : List Task) → AllByRecursion (
     → AllByRecursion (λ (uid : List ℕ). has_row (rows_on p) uid ≡ true) (ids_ahead tasks)
 stored_has_row laws p [] right = tt
 stored_has_row laws p (stores number uid ∷ tasks) right = (
-  rw (laws.listed p.rows p.items (flags_of p.account p.maildir p.items) p.now uid, right.0.1)
-      (or_right (has_row p.rows uid) _ refl),
+  rw (laws.listed p.rows p.items (flags_of p.account p.maildir p.items) p.now uid, right.0.1) (or_right (has_row p.rows uid) _ refl),
   stored_has_row laws p tasks right.1,
 )
 stored_has_row laws p (task ∷ tasks) right = stored_has_row laws p tasks right.1
@@ -382,8 +367,7 @@ module _ (laws : Below) (p : Inputs) where
       )
 
   -- the tasks so far fetched the first of the wanted messages
-  pub fetched_part : (dones : List Done) → Part (tasks_on p) dones
-      → fetched (tasks_of dones) ≡ map key (take (count dones) (messages_on p))
+  pub fetched_part : (dones : List Done) → Part (tasks_on p) dones → fetched (tasks_of dones) ≡ map key (take (count dones) (messages_on p))
   fetched_part dones part =
       let all : fetched (tasks_of dones) ++ fetched part.rest ≡ map key (messages_on p) =
       simp (← flat_map-append, ← part.split, wanted_are) in
@@ -397,11 +381,9 @@ module _ (laws : Below) (p : Inputs) where
       marks_by p (tasks_of dones) (rows_on p) (held_settled laws p) (right_part dones part)
       ∙ simp (fetched_part dones part, map-map)
 
-  pub files_part : (dones : List Done) → Part (tasks_on p) dones
-      → files_of p.account dones ≡ map (file_for p.account)
+  pub files_part : (dones : List Done) → Part (tasks_on p) dones → files_of p.account dones ≡ map (file_for p.account)
       (filter (is_unheld p.account p.maildir) (zip (take (count dones) (messages_on p)) (texts_by dones)))
-  files_part dones part = files_by p.account p.maildir p.items dones _ part.answered (right_part dones part)
-      (fetched_part dones part)
+  files_part dones part = files_by p.account p.maildir p.items dones _ part.answered (right_part dones part) (fetched_part dones part)
 
 -- ---- what a session leaves
 
@@ -424,8 +406,7 @@ or_less = ⊎_map (λ same. same) (λ less. less.0)
 
 -- of a course: `full` was retrieved, `taken` is in the report, and `noted` was recorded; at most one more task was
 -- begun
-pub record Tally (p : Inputs) (result : Result (Unit {0}) Cut) (c : Course) (full noted : List Done)
-    (refused : Type 0) : Type 0 where
+pub record Tally (p : Inputs) (result : Result (Unit {0}) Cut) (c : Course) (full noted : List Done) (refused : Type 0) : Type 0 where
   pub found : found_of c ≡ found_by full
   pub whole : Part (tasks_on p) full
   pub part : Part (tasks_on p) noted
@@ -458,8 +439,7 @@ module _ (laws : Below) (p : Inputs) where
 
   -- what was begun was done and recorded
   pub tally_recorded : {result : Result (Unit {0}) Cut} {refused : Type 0} (dones : List Done) → Part (tasks_on p) dones
-      → (is_ended result ≡ true → count dones ≡ length (messages_on p))
-      → Tally p result (course p.items dones [] []) dones dones refused
+      → (is_ended result ≡ true → count dones ≡ length (messages_on p)) → Tally p result (course p.items dones [] []) dones dones refused
   tally_recorded dones part ends = record {
     found = append-nil (found_by dones);
     whole = part;
@@ -482,18 +462,15 @@ module _ (laws : Below) (p : Inputs) where
     mid_rows dones mid went = rw (flat_map-map ids_in task_in dones) (went.rows
         ∙ ap (λ (r : List Row). marked_all r (marked_ids dones)) starts.rows)
 
-    pub mid_keeps : (dones : List Done) (mid : Scene) → Went target dones old mid
-        → Keeps mid.file.content (none_open (rows_after p dones))
+    pub mid_keeps : (dones : List Done) (mid : Scene) → Went target dones old mid → Keeps mid.file.content (none_open (rows_after p dones))
     mid_keeps dones mid went =
         rw (← mid_rows dones mid went) (laws.steady mid.file.content (none_open mid.rows) (went.saved starts.steady))
 
     -- all went well
-    abbrev pub part_all : (dones : List Done) (new : Scene) → tasks ≡ tasks_of dones → Went target dones old new
-        → Part (tasks_on p) dones
+    abbrev pub part_all : (dones : List Done) (new : Scene) → tasks ≡ tasks_of dones → Went target dones old new → Part (tasks_on p) dones
     part_all dones new all went = record {
       rest = [];
-      split = sym starts.tasks_are ∙ all
-          ∙ sym (append-nil (tasks_of dones));
+      split = sym starts.tasks_are ∙ all ∙ sym (append-nil (tasks_of dones));
       answered = went.each;
     }
 
@@ -507,12 +484,7 @@ module _ (laws : Below) (p : Inputs) where
 
     module _ {cut : Cut} {new : Scene} (fell : Fell target tasks old cut new) where
       abbrev pub part_done : Part (tasks_on p) fell.dones
-      part_done = record {
-        rest = fell.next ∷ fell.later;
-        split = sym starts.tasks_are
-            ∙ fell.split;
-        answered = fell.went.each;
-      }
+      part_done = record { rest = fell.next ∷ fell.later; split = sym starts.tasks_are ∙ fell.split; answered = fell.went.each }
 
       -- the next task was begun, and not recorded
       tally_fell : {refused : Type 0} (c : Course) (full : List Done) → found_of c ≡ found_by full
@@ -557,8 +529,7 @@ module _ (laws : Below) (p : Inputs) where
         }
 
         pub full_found : found_by full ≡ found_by fell.dones ++ (number, body_text reply.body) ∷ []
-        full_found = flat_map-append (λ (d : Done). found_in d.task d.replies) fell.dones
-            (stored_done number uid reply ∷ [])
+        full_found = flat_map-append (λ (d : Done). found_in d.task d.replies) fell.dones (stored_done number uid reply ∷ [])
 
         pub one_found : count fell.dones + 1 ≡ count full
         one_found = simp (full_found, length-append)
@@ -566,8 +537,7 @@ module _ (laws : Below) (p : Inputs) where
         -- its text isn't in the report
         pub tally_spare : {refused : Type 0} → refused
             → Tally p (Err cut) (course p.items fell.dones (reply ∷ []) (fell.next ∷ [])) full fell.dones refused
-        tally_spare refuses = tally_fell _ full (rw is (sym full_found)) part_full
-            (inr (one_found, refuses)) (inl refl) refl
+        tally_spare refuses = tally_fell _ full (rw is (sym full_found)) part_full (inr (one_found, refuses)) (inl refl) refl
 
         -- its text is in the report, and the record is one of two
         pub tally_old : {refused : Type 0} → IsUnsaved (WasCut cut.fault)
@@ -578,8 +548,7 @@ module _ (laws : Below) (p : Inputs) where
         pub tally_new : {refused : Type 0} → Tally p (Err cut) (course p.items full [] []) full full refused
         tally_new = tally_recorded full part_full not_ended
 
-        last_mark : (r : List Row) (ids : List (List ℕ))
-            → marked (marked_all r ids) uid ≡ marked_all r (ids ++ uid ∷ [])
+        last_mark : (r : List Row) (ids : List (List ℕ)) → marked (marked_all r ids) uid ≡ marked_all r (ids ++ uid ∷ [])
         last_mark r [] = refl
         last_mark r (id ∷ ids) = last_mark (marked r id) ids
 

@@ -215,8 +215,7 @@ octets_same (Some command ∷ turns) = ap (λ (l : List ℕ). ended (line_of com
 
 -- they can be sent, and their numbers fit
 pub can_in : (turns : List Turn) → AllByRecursion CanBeSaid turns
-    → AllByRecursion (λ command. can_be_sent command ≡ true) (commands_in turns)
-    × AllByRecursion HasNumbers (commands_in turns)
+    → AllByRecursion (λ command. can_be_sent command ≡ true) (commands_in turns) × AllByRecursion HasNumbers (commands_in turns)
 can_in [] all = (tt, tt)
 can_in (None ∷ turns) all = can_in turns all.1
 can_in (Some command ∷ turns) all = let later = can_in turns all.1 in ((all.0.0, later.0), (all.0.1, later.1))
@@ -258,8 +257,7 @@ spoken_behind turns more next octets can (asked, begins) =
       asked.no_line,
       all_append (λ (command : Command). can_be_sent command ≡ true) (commands_in turns)
           more (can_in turns can).0 asked.sendable,
-      all_append HasNumbers (commands_in turns) more
-          (can_in turns can).1 asked.numbers,
+      all_append HasNumbers (commands_in turns) more (can_in turns can).1 asked.numbers,
     ) in
     (now, begins)
 
@@ -279,8 +277,7 @@ commanded laws {done} {begun} {tail} d b t said = rw said.said (by said.sent_beh
           ends = [];
           unended = commands_in tail;
           of_begun = some.2;
-          of_tail =
-              refl;
+          of_tail = refl;
           asked = all.0;
           begins = inl all.1;
         }
@@ -293,8 +290,7 @@ commanded laws {done} {begun} {tail} d b t said = rw said.said (by said.sent_beh
           unsaid = [];
           ends = some.0;
           unended = some.1;
-          of_begun =
-              sym (append-nil _);
+          of_begun = sym (append-nil _);
           of_tail = some.2;
           asked = all.0;
           begins = inr all.1;
@@ -317,13 +313,7 @@ pub replies_read : (turns : List Turn) (replies : List WholeReply) (more : List 
     → AllByRecursion IsCommand turns → AllZip IsGood turns replies → AreGood (commands_in turns ++ more) replies
 replies_read [] [] more all good = tt
 replies_read (Some command ∷ turns) (reply ∷ replies) more all good = (
-  record {
-    rest = good.0.rest;
-    line = good.0.line;
-    positive = good.0.positive;
-    body =
-        body_read command reply.body good.0.body;
-  },
+  record { rest = good.0.rest; line = good.0.line; positive = good.0.positive; body = body_read command reply.body good.0.body },
   replies_read turns replies more all.1 good.1,
 )
 replies_read turns replies more all good = search rules
@@ -356,8 +346,7 @@ IsPlain (deletes number) = number < 2 ^ 32
 
 -- what one task's replies retrieve, before others
 read_first : (task : Task) (replies others : List WholeReply) (commands : List Command) (found : List (ℕ × List ℕ))
-    → IsPlain task → AllZip IsGood (turns_in task) replies
-    → Retrieves commands others found
+    → IsPlain task → AllZip IsGood (turns_in task) replies → Retrieves commands others found
     → Retrieves (commands_in (turns_in task) ++ commands) (replies ++ others) (found_in task replies ++ found)
 read_first (says turn) (r ∷ []) others commands found is good later = rw is later
 read_first (skips number size) [] others commands found is good later = later
@@ -370,8 +359,7 @@ read_first task replies others commands found is good later = search rules
 
 -- what the replies to done tasks retrieve, before others
 pub dones_read : (dones : List Done) (others : List WholeReply) (commands : List Command) (found : List (ℕ × List ℕ))
-    → AllByRecursion IsPlain (tasks_of dones) → AllByRecursion IsAnswered dones
-    → Retrieves commands others found
+    → AllByRecursion IsPlain (tasks_of dones) → AllByRecursion IsAnswered dones → Retrieves commands others found
     → Retrieves (commands_in (turns_of dones) ++ commands) (replies_of dones ++ others) (found_by dones ++ found)
 dones_read [] others commands found plain answered later = later
 dones_read (d ∷ dones) others commands found plain answered later =
@@ -481,8 +469,7 @@ goes_part {turn} front rest split sent got f = record {
 
 -- a turn that broke, and the tail for its fault
 pub goes_broke : (turn : Turn) (old mid new : Place) (why : ClientFault) → Broke turn old mid why
-    → WentOn (tail_turns (tail (fault_of why))) mid new
-    → Goes (turn ∷ []) (tail_turns (tail (fault_of why))) old.link new.link
+    → WentOn (tail_turns (tail (fault_of why))) mid new → Goes (turn ∷ []) (tail_turns (tail (fault_of why))) old.link new.link
 goes_broke turn old mid new why (inl (is, said)) f = goes_part said.front said.rest said.split said.sent said.got (rw is at f)
 goes_broke turn old mid new why (inr (inl bad)) f = goes_whole bad.gained bad.sent bad.got f
 goes_broke turn old mid new why (inr (inr (is, may, same))) f =
@@ -516,11 +503,9 @@ conversation {done} {there = there} none talked goes = (
   record {
     good = talked.good;
     rest = there.waiting ++ goes.gained;
-    heard =
-        rw (rw none at talked.heard) (simp append_assoc);
+    heard = rw (rw none at talked.heard) (simp append_assoc);
     behind = goes.behind;
-    said =
-        refl;
+    said = refl;
     sent_behind = goes.sent_behind;
   },
 )
@@ -575,8 +560,7 @@ ahead_cut later took split told spare = record {
   later = later;
   same_items = refl;
   split = split;
-  told =
-      told;
+  told = told;
   spare = spare;
   whole = λ ended. absurd cc;
 }
@@ -588,12 +572,10 @@ module _ (laws : Below) (items : List Item) where
 
   -- the turns of these tasks were completed, and perhaps that of one more was begun
   after_dones : (dones : List Done) (under : List Task) {begun tail : List Turn} {first there : Place} {link : Link}
-      → flat_map turns_in under ≡ begun
-      → (begun ≡ []) ⊎ ((turn : Turn) × (begun ≡ turn ∷ [])) → (under ≡ [] → begun ≡ [])
+      → flat_map turns_in under ≡ begun → (begun ≡ []) ⊎ ((turn : Turn) × (begun ≡ turn ∷ [])) → (under ≡ [] → begun ≡ [])
       → flat_map (λ (task : Task). found_in task []) under ≡ []
       → Talked (turns_of dones) (replies_of dones) first there → AllByRecursion IsPlain (tasks_of dones)
-      → AllByRecursion IsAnswered dones → Goes begun tail there.link link
-      → Took (course items dones [] under) first tail link
+      → AllByRecursion IsAnswered dones → Goes begun tail there.link link → Took (course items dones [] under) first tail link
   after_dones dones under {begun} takes one whole none talked plain each goes =
       let all : flat_map turns_in (tasks_of dones ++ under) ≡ turns_of dones ++ begun = simp (flat_map-append, flat_map-map, takes) in
       let read : (more : List Command)
