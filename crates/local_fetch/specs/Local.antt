@@ -1,5 +1,5 @@
 -- One session over a server in memory.
-use Rattle.std.specs.Prelude.{◌≡◌, ◌⊎◌, ℕ, false, List, [], ◌∷◌, ◌++◌}
+use Rattle.std.specs.Prelude.{◌≡◌, ◌⊎◌, ℕ, true, false, List, [], ◌∷◌, ◌++◌}
 use Rattle.std.specs.List.{AllByRecursion}
 use Rattle.pop3_wire.specs.declared.command.Command.{Command}
 use Rattle.pop3_wire.specs.declared.command.Command.TheVariants.{Quit}
@@ -55,6 +55,9 @@ pub record WasFetchedLocally {M D F : Type 0} (link : WireGhosts (Loop M)) (disk
     (wire : Loop M) : Type 0 where
   pub made : WasMade link disk file now old (loop_to server) report new wire
   pub link_sound : link.sound wire
+  -- while it is up none of its calls was refused, and once it has ended nothing is left
+  pub up : wire.down ≡ false → wire.link.failures ≡ 0
+  pub over : wire.link.ended ≡ true → wire.left ≡ []
   pub served : is_sound disk file new.store → file.sound new.file → drop.sound wire.machine.drop
       → AllByRecursion IsMessage (there (drop.mail server.drop).slots)
       → IsServedByHonest drop.mail server wire.machine wire.link

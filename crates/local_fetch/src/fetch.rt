@@ -37,5 +37,6 @@ pub fn fetch_local<D: MaildirDisk, F: FlatFile, H: BuildHasher, M: Maildrop>(
     let _ = account.settings();
     let mut wire = LoopWire::new(alloc, server);
     let report = session(account, &mut wire, now);
+    let _ = wire.failures();
     (report, wire)
 }

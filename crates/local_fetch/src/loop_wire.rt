@@ -19,7 +19,9 @@ const GREETING: &[u8] = b"+OK popd ready\r\n";
 /// A link to a server in the same process: it gives the greeting, and then an answer to each line that
 /// is sent while the server is open. It keeps all octets that were sent and all answers.
 ///
-/// A call fails only when out of memory, and so does every call after that.
+/// A `recv` that finds nothing left ends the link: the server, which waits too, hangs up, and then a `send` is refused,
+/// as over a socket whose other end is closed. Else a call is refused only when out of memory, and after a refused call
+/// all are.
 #[derive(Drop)]
 pub struct LoopWire<D: Maildrop> {
     server: Server<D>,
@@ -35,7 +37,7 @@ pub struct LoopWire<D: Maildrop> {
 }
 
 impl<D: Maildrop> Model for LoopWire<D> {
-    ghost use Rattle.std.specs.Prelude.{◌≡◌, ◌≤◌, ◌<◌, ◌++◌, length, take, drop, false};
+    ghost use Rattle.std.specs.Prelude.{◌≡◌, ◌≤◌, ◌<◌, ◌++◌, [], length, take, drop, false, true};
     ghost use Rattle.pop3_server.specs.ServerMachine.{greeting_line};
     ghost use Rattle.pop3_server.specs.LoopLink.{Loop};
 
@@ -56,7 +58,8 @@ impl<D: Maildrop> Model for LoopWire<D> {
     } };
 
     ghost invariant = { λ w. (w.used ≤ length w.sent.items) × (w.given ≤ length (greeting_line ++ w.answers.items))
-        × (w.down ≡ false → w.failures ≡ 0) };
+        × (w.down ≡ false → w.failures ≡ 0)
+        × (w.ended ≡ true → drop w.given (greeting_line ++ w.answers.items) ≡ []) };
 }
 
 impl<D: Maildrop> LoopWire<D> {
@@ -107,6 +110,7 @@ impl<D: Maildrop> LoopWire<D> {
     /// Answers the first line that waits, which has `octets` octets without its CR LF.
     fn answer_line(&mut self, octets: usize) -> Result<(), WireDown>
         requires up { self.old.down ≡ false }
+        requires goes_on { self.old.link.ended ≡ false }
         requires opened { is_open self.old.machine.state ≡ true }
         requires line { HasLine (length self.old.waiting) self.old.waiting octets }
         ensures link { self.new.link ≡ self.old.link }
@@ -133,6 +137,7 @@ impl<D: Maildrop> LoopWire<D> {
     #[tactic(auto, using(crate::specs::LoopLaws::serves_same, crate::specs::LoopLaws::serves_on))]
     fn answer_lines(&mut self) -> Result<(), WireDown>
         requires up { self.old.down ≡ false }
+        requires goes_on { self.old.link.ended ≡ false }
         ensures link { self.new.link ≡ self.old.link }
         ensures up { IfOk result (λ _. (self.new.down ≡ false) × AnswersWholeLines self.new) }
         ensures down { IfErr result (λ _. self.new.down ≡ true) }
@@ -189,7 +194,7 @@ impl<D: Maildrop> Wire for LoopWire<D> {
             × AnswersWholeLines self.new) }
         ensures down { IfErr result (λ _. self.new.down ≡ true) }
     {
-        if self.down {
+        if self.down | self.ended {
             return Err(self.refuse());
         }
         if self.sent.extend_from_slice(bytes).is_err() {
@@ -225,7 +230,12 @@ impl<D: Maildrop> Wire for LoopWire<D> {
         Ok(n)
     }
 
-    fn failures(&self) -> u64 {
+    fn failures(&self) -> u64
+        ensures value { result ≡ self.now.link.failures }
+        // None is refused while the link is up, and nothing is left once it has ended.
+        ensures up { self.now.down ≡ false → self.now.link.failures ≡ 0 }
+        ensures over { self.now.link.ended ≡ true → self.now.left ≡ [] }
+    {
         self.failures.count()
     }
 

@@ -21,6 +21,8 @@ returns-clause-fetched g c =
     record {
       made = (valid, same, ran);
       link_sound = small;
+      up = c.failures.ensures.up;
+      over = c.failures.ensures.over;
       served = λ store_sound file_sound drop_sound messages.
           by_kind disk file new.store
           (λ d. let went = c.sessions_by_store.ensures.maildir _ _ _ _ _ _ same ran small d file_sound in

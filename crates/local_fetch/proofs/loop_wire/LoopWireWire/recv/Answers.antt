@@ -1,4 +1,6 @@
-use Rattle.std.proofs.Common.{◌≤◌, ◌+◌, ◌++◌, [], length, drop, refl, arith, take-append-drop}
+use Rattle.std.proofs.Common.{◌≡◌, ◌≤◌, ◌+◌, ◌++◌, [], length, length-drop, drop, eqb-true, inl, inr, ap, refl, arith, take-append-drop}
+use Rattle.std.proofs.lemmas.Bool.{or_cases}
+use Rattle.std.proofs.lemmas.List.{nil_from_length}
 use Rattle.pop3_server.specs.ServerMachine.{greeting_line}
 use Rattle.local_fetch.specs.LoopLaws.{same_refl, serves_none}
 use Rattle.local_fetch.proofs.LoopLemmas.{nothing_sent, Gives, gives, refused}
@@ -20,7 +22,21 @@ given g c =
     (rw (← c.self.view_is) at c.piece-piece.ensures.begins.1) few c.copy_from_slice.ensures.after
 
 pub invariant_of-self : goal.invariant_of-self
-invariant_of-self g c = (c.self.invariant.0, (given g (goal.at.invariant_of-self g c).After-copy_from_slice).0, c.self.invariant.2)
+invariant_of-self g c =
+    let r = c.self.inside in
+    let n = c.min-n.result in
+    let all = greeting_line ++ r.answers.items in (
+      c.self.invariant.0,
+      (given g (goal.at.invariant_of-self g c).After-copy_from_slice).0,
+      c.self.invariant.2,
+      λ over.
+          let none : drop r.given all ≡ [] = elim (or_cases _ _ over) [
+            | inl was ↦ c.self.invariant.3 was
+            | inr zero ↦ rw (← c.self.view_is) at
+                (c.piece-piece.ensures.some (nil_from_length _ (omega (arith, eqb-true _ 0 zero, c.min-n.ensures, c.requires))))
+          ] in
+          nil_from_length (drop (r.given + n) all) (omega (arith, ap length none, length-drop r.given all, length-drop (r.given + n) all)),
+    )
 
 pub returns-clause-got : goal.returns-clause-got
 returns-clause-got g c =
