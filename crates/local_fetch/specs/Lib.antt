@@ -1,3 +1,4 @@
 pub mod Fetches
+pub mod Good
 pub mod Local
 pub mod LoopLaws

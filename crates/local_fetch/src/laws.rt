@@ -1,11 +1,13 @@
 //! Laws over what sessions over a server in memory did.
 ghost use Rattle.local_fetch.specs.Fetches.{FetchesFromNothing, FetchesKeepPromises, FirstFetchesKeepMail};
 ghost use Rattle.local_fetch.specs.Fetches.{MboxFetchesFromNothing, MboxFetchesKeepPromises};
+ghost use Rattle.local_fetch.specs.Good.{GoodFetchesStoreAll};
 
 use crate::loop_wire::LoopWire;
 use fetch_runs::{
     calls_keep_promises, empty_accounts_are_kept, mbox_calls_keep_promises, mbox_starts,
 };
+use fetch_session::served_sessions_store_all;
 use folder_store::{FolderMaildir, HostFile};
 use mail_store::{FlatFile, MaildirDisk, MemoryFile, MemoryMaildir};
 use pop3_server::{Maildrop, MemoryDrop};
@@ -80,4 +82,19 @@ pub fn mbox_fetch_in_folders<'a>()
         HostFile<'a, MemoryFolder>,
     >();
     mbox_starts();
+}
+
+/// A law: a call of [`fetch_local`](crate::fetch_local) in which nothing fails ends, and has stored what it wants.
+pub fn good_fetches_store_all<M: Maildrop, D: MaildirDisk, F: FlatFile>()
+    ensures { GoodFetchesStoreAll ⟦<LoopWire<M> as Wire>⟧ D.MaildirDisk F.FlatFile M.Maildrop }
+{
+    served_sessions_store_all();
+}
+
+/// The same in memory.
+pub fn good_fetch_in_memory()
+    ensures { GoodFetchesStoreAll ⟦<LoopWire<MemoryDrop> as Wire>⟧ ⟦<MemoryMaildir as MaildirDisk>⟧
+        ⟦<MemoryFile as FlatFile>⟧ ⟦<MemoryDrop as Maildrop>⟧ }
+{
+    good_fetches_store_all::<MemoryDrop, MemoryMaildir, MemoryFile>();
 }

@@ -8,6 +8,7 @@ mod loop_wire;
 pub use fetch::fetch_local;
 pub use laws::{
     fetch_in_folders, fetch_in_memory, fetches_keep_promises, first_fetches_keep_mail,
-    mbox_fetch_in_folders, mbox_fetch_in_memory, mbox_fetches_keep_promises,
+    good_fetch_in_memory, good_fetches_store_all, mbox_fetch_in_folders, mbox_fetch_in_memory,
+    mbox_fetches_keep_promises,
 };
 pub use loop_wire::LoopWire;

@@ -154,7 +154,7 @@ fresh : (n : ℕ) (ms : List Message) → unmarked_from n ms (no_marks ms) ≡ e
 fresh n [] = refl
 fresh n (m ∷ ms) = ap (λ (l : List (ℕ × Message)). (n, m) ∷ l) (fresh (n + 1) ms)
 
-fresh_count : (ms : List Message) → count_by not (no_marks ms) ≡ length ms
+pub fresh_count : (ms : List Message) → count_by not (no_marks ms) ≡ length ms
 fresh_count [] = refl
 fresh_count (m ∷ ms) = sum_by-cons (λ b. cond (not b) 1 0) false (no_marks ms) ∙ ap (λ (n : ℕ). 1 + n) (fresh_count ms) ∙ omega arith
 
@@ -404,7 +404,7 @@ module _ {D : Type 0} (sound : D → Type 0) (mail : D → DropMail) where
   did_sound (Give rows i line top) old answer next new (state, inr (text, is, known)) s = (known s).0
   did_sound (Leave rows) old answer next new (state, (all, is, known)) s = (known s).0
 
-  run_sound : (old new : Machine D) (lines : List (List ℕ)) (answers : List ℕ)
+  pub run_sound : (old new : Machine D) (lines : List (List ℕ)) (answers : List ℕ)
       → AnswersLines sound mail old lines answers new → sound new.drop → sound old.drop
   run_sound old new [] answers (none, same) s = rw same at s
   run_sound old new (line ∷ lines) answers (first, rest, next, is, turn, run) s =

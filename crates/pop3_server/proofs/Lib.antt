@@ -1,8 +1,8 @@
 mod EventLemmas
-mod HonestLemmas
+pub mod HonestLemmas
 mod QuitLemmas
-mod RemovalLemmas
-mod RowLemmas
+pub mod RemovalLemmas
+pub mod RowLemmas
 mod ServeLemmas
 mod SizeLemmas
 mod SlotLemmas

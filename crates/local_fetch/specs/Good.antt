@@ -1,0 +1,67 @@
+-- A call of `fetch_local` in which nothing fails: the session ends, and has stored what it wants.
+use Rattle.std.specs.Prelude.{◌≡◌, ◌≢◌, ◌≤◌, ℕ, false, length}
+use Rattle.std.specs.List.{AllByRecursion}
+use Rattle.std.specs.String.{string_bytes}
+use Rattle.mail_terms.specs.Text.{lines_of_text}
+use Rattle.mail_store.specs.declared.maildir.disk.MaildirDisk.{Ghosts as DiskGhosts}
+use Rattle.mail_store.specs.declared.file.flat_file.FlatFile.{Ghosts as FileGhosts}
+use Rattle.pop3_wire.specs.Stuffed.{stuffed_lines}
+use Rattle.pop3_wire.specs.World.{Message, IsMessage}
+use Rattle.pop3_wire.specs.declared.wire.Wire.{Ghosts as WireGhosts}
+use Rattle.pop3_client.specs.Turns.{text_limit}
+use Rattle.pop3_server.specs.declared.maildrop.Maildrop.{Ghosts as DropGhosts}
+use Rattle.pop3_server.specs.HonestLoop.{IsUnused}
+use Rattle.pop3_server.specs.LoopLink.{Loop}
+use Rattle.pop3_server.specs.Maildrop.{there}
+use Rattle.pop3_server.specs.ServerMachine.{Machine}
+use Rattle.fetch_rules.specs.Record.{Loaded}
+use Rattle.fetch_session.specs.declared.fault.Fault.TheVariants.{NoMemory}
+use Rattle.fetch_session.specs.declared.report.Outcome.TheVariants.{Ended, Cut as WasCut}
+use Rattle.fetch_session.specs.declared.report.Report.{Report}
+use Rattle.fetch_session.specs.Account.{Holding, digits_of}
+use Rattle.fetch_session.specs.Record.{FileReadAs}
+use Rattle.fetch_session.specs.Served.{IsUsable, StoresAll, refused_in}
+use Rattle.fetch_session.specs.Session.{Keeping, keeping}
+use Rattle.fetch_session.specs.Target.{AfterTakingIn, Target, is_sound, stores_of, target_of}
+use Rattle.local_fetch.specs.Local.{WasFetchedLocally, loop_to, unused}
+
+-- the message's body, as it is sent, is within the client's limit
+abbrev pub IsWithin : Message → Type 0
+IsWithin message = length (stuffed_lines (lines_of_text message.text)) ≤ text_limit
+
+-- where the texts of an account go
+abbrev pub target_in : {D F : Type 0} → Holding D F → Target
+target_in old = target_of old.store (digits_of old.settings)
+
+-- a new server has the account's user and password, and messages within the limit; the store can be used, and the
+-- record can be read; no call of the devices, of the maildrop or of the link was refused; and memory didn't run out
+pub record IsUnhindered {M D F : Type 0} (disk : DiskGhosts D) (file : FileGhosts F) (drop : DropGhosts M)
+    (old : Holding D F) (server : Machine M) (report : Report) (new : Holding D F) (wire : Loop M) : Type 0 where
+  pub fresh : IsUnused (loop_to server)
+  pub user : server.user ≡ string_bytes old.settings.username
+  pub pass : server.pass ≡ string_bytes old.settings.password
+  pub messages : AllByRecursion IsMessage (there (drop.mail server.drop).slots)
+  pub within : AllByRecursion IsWithin (there (drop.mail server.drop).slots)
+  pub usable : IsUsable (target_in old) (stores_of disk file new.store)
+  pub read : (loaded : Loaded) × FileReadAs (file.stored old.file).content loaded
+  pub store_refused : refused_in (target_in old) (stores_of disk file new.store)
+      ≡ refused_in (target_in old) (stores_of disk file old.store)
+  pub file_refused : (file.stored new.file).failures ≡ (file.stored old.file).failures
+  pub drop_refused : (drop.mail wire.machine.drop).failures ≡ (drop.mail server.drop).failures
+  pub up : wire.down ≡ false
+  pub memory : report.outcome ≢ WasCut NoMemory
+
+-- what the devices of an account hold
+abbrev pub kept_in : {D F : Type 0} → DiskGhosts D → FileGhosts F → Holding D F → Keeping
+kept_in disk file account = keeping (stores_of disk file account.store) (file.stored account.file)
+
+-- a law: the session ends, and each message that it wants is stored
+abbrev pub GoodFetchesStoreAll : {M D F : Type 0} → WireGhosts (Loop M) → DiskGhosts D → FileGhosts F → DropGhosts M
+    → Type 0
+GoodFetchesStoreAll {M} {D} {F} link disk file drop = (now : ℕ) (old : Holding D F) (server : Machine M)
+    (report : Report) (new : Holding D F) (wire : Loop M)
+    → WasFetchedLocally link disk file drop now old server report new wire
+    → is_sound disk file new.store → file.sound new.file → drop.sound wire.machine.drop
+    → IsUnhindered disk file drop old server report new wire
+    → (report.outcome ≡ Ended) × AfterTakingIn (stores_of disk file old.store) (λ left. StoresAll old.settings
+    (target_in old) now unused (keeping left (file.stored old.file)) wire.link (kept_in disk file new))
