@@ -2,7 +2,8 @@
 use Rattle.std.proofs.Common.{◌≡◌, ℕ, ◌+◌, ◌<◌, zero, suc, length, refl, arith, List, [], ◌∷◌, ◌++◌, take, drop, sym}
 use Rattle.std.proofs.Common.{ap, subst, ◌∙◌, Option, Some, None, option_map, Result, Ok, Err, inl, inr, ⊎_elim}
 use Rattle.std.proofs.Common.{append_assoc, append-nil, take-append-drop, ◌⊎◌, ◌-◌, ◌≤◌, min, length-append}
-use Rattle.std.proofs.Common.{slice_index, true, false, ◌==◌, ◌%◌, ◌/◌, OnOk, if◌then◌else◌}
+use Rattle.std.proofs.Common.{slice_index, true, false, ◌==◌, ◌%◌, ◌/◌, OnOk, if◌then◌else◌, true≢false}
+use Rattle.std.proofs.Math.Logic.{⊎_map}
 use Rattle.std.proofs.lemmas.Option.{same_Some}
 use Rattle.std.proofs.lemmas.Bool.{cases_Bool, cases_lt, eq-eqb}
 use Rattle.std.proofs.lemmas.List.{take-append-le, take-take, length-take, get_or-take, get_or_append_left, get_or-append-add}
@@ -19,7 +20,7 @@ use Rattle.mail_store.specs.DiskCalls.{ReplacesForGood, FlushesLast, AppendsLast
 use Rattle.mail_store.specs.Durable.{Blob, Disk, IsByteLeft, IsDurable, IsFlushed, IsLeft, IsLeftOf, IsLeftOfOne}
 use Rattle.mail_store.specs.Durable.{IsSure, IsTorn, MayLeave, all_durable, content_in, secured, seen_on}
 use Rattle.mail_store.specs.FlatFile.{Stored, Appends, Cuts, Replaces}
-use Rattle.mail_store.specs.Power.{IsLonger, LeavesNoMore}
+use Rattle.mail_store.specs.Power.{IsLonger, LeavesNoMore, LeavesPart}
 use Rattle.mail_store.specs.Settling.{block_size, MayBeLeft}
 use Rattle.mail_store.proofs.DurableLemmas.{durable_is_left, left_flushed, no_rest, left_of}
 use Rattle.mail_store.proofs.SettlingLemmas.{part_left}
@@ -266,6 +267,27 @@ pub flushes_for_good : {T : Type 0} (old new : Disk) (result : Result T StoreFau
 flushes_for_good old new (Ok done) e = record { no_more = all_no_more old new e; durable = all_sure old new e }
 flushes_for_good old new (Err fault) t = record { no_more = denied_no_more old new fault t; durable = λ sure. tt }
 
+may_durable : (old new : Disk) → MayFlush old new → IsDurable old → IsSure new.now → IsDurable new
+may_durable old new (inl e) is sure = subst (λ (disk : Disk). IsDurable disk) (sym e) is
+may_durable old new (inr (inl e)) is sure = subst (λ (disk : Disk). IsDurable disk) (sym e)
+    (record { named = is.named; flushed = flushed_now old.now (durable_sure old is) })
+may_durable old new (inr (inr (inl e))) is sure = subst (λ (disk : Disk). IsDurable disk) (sym e)
+    (record { named = is.named; flushed = by old.now is.flushed (subst (λ (disk : Disk). IsSure disk.now) e sure) })
+  where
+    by : (o : Option Blob) → IsFlushed o → IsSure (option_map doubted o) → IsFlushed (option_map doubted o)
+    by None flushed sure = tt
+    by (Some b) flushed sure = absurd (true≢false sure)
+may_durable old new (inr (inr (inr e))) is sure = all_sure old new e (durable_sure old is)
+
+-- a durable file stays so, unless a flush of it was refused
+pub flush_durable : {T : Type 0} (old new : Disk) (result : Result T StoreFault) → FlushesDisk old result new → IsDurable old
+    → IsSure new.now → IsDurable new
+flush_durable old new (Ok done) e is sure = all_sure old new e (durable_sure old is)
+flush_durable old new (Err Missing) e is sure = subst (λ (disk : Disk). IsDurable disk) (sym e) is
+flush_durable old new (Err NotMbox) e is sure = all_sure old new e (durable_sure old is)
+flush_durable old new (Err Refused) t is sure = may_durable old new t is sure
+flush_durable old new (Err NoMemory) t is sure = may_durable old new t is sure
+
 -- ---- a write
 
 -- the bytes of the file that is there
@@ -414,26 +436,34 @@ appends_for_good old new bytes r t =
 
 -- ---- `cut_to`
 
-loose_cut : (was left : List ℕ) (len : ℕ) → IsTorn (take len was) was (min len (length was)) left → (left ≡ was) ⊎ (left ≡ take len was)
-loose_cut was left len t =
-    let size : length (take len was) ≡ min len (length was) = length-take len was in
-    let front : take (min len (length was)) (take len was) ≡ take len was =
-    subst (λ (n : ℕ). take n (take len was) ≡ take len was) size (take-length (take len was)) in
-    let parts : left ≡ take len was ++ t.behind = t.kept ∙ ap (λ (xs : List ℕ). xs ++ t.behind) front in
+-- what is left of a file that was cut to bytes that it had when it was last flushed: those that it had then, or these
+loose_cut : (kept flushed left : List ℕ) → take (length kept) flushed ≡ kept → IsTorn kept flushed (length kept) left
+    → (left ≡ flushed) ⊎ (left ≡ kept)
+loose_cut kept flushed left front t =
+    let parts : left ≡ kept ++ t.behind = t.kept ∙ ap (λ (xs : List ℕ). xs ++ t.behind) (take-length kept) in
     ⊎_elim
-    (λ le. inr (parts ∙ no_rest (take len was) t.behind (subst (λ (xs : List ℕ). length xs ≤ length (take len was)) parts le)))
-    (λ same. inl (same_number_lists left was same (λ i below. ⊎_elim
-    (λ before. ap (λ (xs : List ℕ). slice_index xs i) parts ∙ get_or_append_left (take len was) t.behind 0 i before
-    ∙ get_or-take len was i 0 (omega (arith, before, length-take len was)))
+    (λ le. inr (parts ∙ no_rest kept t.behind (subst (λ (xs : List ℕ). length xs ≤ length kept) parts le)))
+    (λ same. inl (same_number_lists left flushed same (λ i below. ⊎_elim
+    (λ before. ap (λ (xs : List ℕ). slice_index xs i) parts ∙ get_or_append_left kept t.behind 0 i before
+    ∙ ap (λ (xs : List ℕ). slice_index xs i) (sym front) ∙ get_or-take (length kept) flushed i 0 before)
     (λ after. ⊎_elim (λ p. absurd (omega (arith, after, p.0))) (⊎_elim (λ p. p.1) (λ p. absurd (omega (arith, after, p.0))))
-    (t.each i (subst (λ (n : ℕ). n ≤ i) size after) below)) (cases_lt i (length (take len was)))))) t.most
+    (t.each i after below)) (cases_lt i (length kept))))) t.most
+
+-- the same of a file whose bytes, flushed or not, begin with these, which weren't cut off since
+left_back : (b : Blob) (len : ℕ) (kept xs ys : List ℕ) (left : Option (List ℕ)) → b.content ≡ kept ++ xs
+    → b.flushed ≡ kept ++ ys → length kept ≡ min len b.uncut → take len b.content ≡ kept → IsLeftOf (Some (cut b len)) left
+    → (left ≡ Some b.flushed) ⊎ (left ≡ Some kept)
+left_back b len kept xs ys None content flushed size front h = absurd h
+left_back b len kept xs ys (Some left) content flushed size front (inl e) = inl (ap Some e)
+left_back b len kept xs ys (Some left) content flushed size front (inr (inl e)) = inr (ap Some (e ∙ front))
+left_back b len kept xs ys (Some left) content flushed size front (inr (inr t)) =
+    ⊎_elim (λ e. inl (ap Some e)) (λ e. inr (ap Some e)) (loose_cut kept b.flushed left
+    (ap (take (length kept)) flushed ∙ take-append_seam kept ys) (rw (front, ← size) at t))
 
 left_cut : (was : List ℕ) (len : ℕ) (left : Option (List ℕ)) → IsLeftOf (Some (cut (secured was) len)) left
     → (left ≡ Some was) ⊎ (left ≡ Some (take len was))
-left_cut was len None h = absurd h
-left_cut was len (Some left) (inl e) = inl (ap Some e)
-left_cut was len (Some left) (inr (inl e)) = inr (ap Some e)
-left_cut was len (Some left) (inr (inr t)) = ⊎_elim (λ e. inl (ap Some e)) (λ e. inr (ap Some e)) (loose_cut was left len t)
+left_cut was len left h = left_back (secured was) len (take len was) (drop len was) (drop len was) left
+    (sym (take-append-drop len was)) (sym (take-append-drop len was)) (length-take len was) refl h
 
 front_left : (old new : Disk) (was : List ℕ) (len : ℕ) (left : Option (List ℕ)) → seen_on old ≡ Some was
     → Becomes (λ b c. MayBeFlushed (cut b len) c) old new → MayLeave new left
@@ -458,6 +488,113 @@ cuts_for_good old new len r t =
       durable = now_durable (λ b. flushed (cut b len)) (λ was. refl) (λ b c. MayBeFlushed (cut b len) c) old new r t;
     }
 
+-- the bytes of a file stay, whether it is flushed or not
+may_content : (b c : Blob) → MayBeFlushed b c → c.content ≡ b.content
+may_content b c is = ⊎_elim (ap content_in) (⊎_elim (ap content_in) (ap content_in)) is
+
+so_far_content : (b c : Blob) (bytes : List ℕ) → IsSoFar bytes b c → c.content ≡ b.content ++ bytes
+so_far_content b c bytes (inl (none, e)) = rw (e, none, append-nil b.content) refl
+so_far_content b c bytes (inr e) = ap content_in e
+
+part_content : (b c : Blob) (first front : List ℕ) → IsPartAppended first front b c → c.content ≡ b.content ++ (first ++ front)
+part_content b c first front is =
+    may_content (appended is.so_far front) c is.is
+    ∙ ap (λ (xs : List ℕ). xs ++ front) (so_far_content b is.so_far first is.is_flushed)
+    ∙ append_assoc b.content first front
+
+-- ---- `append`, and then `cut_to` back to the bytes before
+
+same_blob : (b c : Blob) → Some b ≡ Some c → b ≡ c
+same_blob b c e = cc
+
+-- a part of some bytes was appended to a durable file: what calls see of it, and what was flushed
+part_of : (was bytes first front rest : List ℕ) (c : Blob) → bytes ≡ first ++ (front ++ rest)
+    → IsPartAppended first front (secured was) c
+    → (ys : List ℕ) × (c.content ≡ was ++ (first ++ front)) × (c.flushed ≡ was ++ ys) × (length was ≤ c.uncut)
+part_of was bytes first front rest c parts is = by is.is
+  where
+    so_far : is.so_far ≡ secured (was ++ first)
+    so_far = ⊎_elim (λ none. none.1 ∙ rw (none.0, append-nil was) refl) (λ e. e) is.is_flushed
+
+    seen : c.content ≡ was ++ (first ++ front)
+    seen = part_content (secured was) c first front is
+
+    by : MayBeFlushed (appended is.so_far front) c
+        → (ys : List ℕ) × (c.content ≡ was ++ (first ++ front)) × (c.flushed ≡ was ++ ys) × (length was ≤ c.uncut)
+    by (inl e) = (
+      first,
+      seen,
+      ap (λ (x : Blob). x.flushed) e ∙ ap (λ (x : Blob). x.flushed) so_far,
+      let size = ap (λ (x : Blob). x.uncut) e ∙ ap (λ (x : Blob). x.uncut) so_far in omega (arith, size, length-append was first),
+    )
+    by (inr (inl e)) =
+        let same : c ≡ secured (is.so_far.content ++ front) =
+        e ∙ flushed_sure (appended is.so_far front) (ap (λ (x : Blob). x.is_doubted) so_far) in
+        let all = ap (λ (x : Blob). x.content ++ front) so_far ∙ append_assoc was first front in
+        let size = ap (λ (x : Blob). x.uncut) same ∙ ap length all in
+        (first ++ front, seen, ap (λ (x : Blob). x.flushed) same ∙ all, omega (arith, size, length-append was (first ++ front)))
+    by (inr (inr e)) = (
+      first,
+      seen,
+      ap (λ (x : Blob). x.flushed) e ∙ ap (λ (x : Blob). x.flushed) so_far,
+      let size = ap (λ (x : Blob). x.uncut) e ∙ ap (λ (x : Blob). x.uncut) so_far in omega (arith, size, length-append was first),
+    )
+
+-- the names were durable: then the file is after Ok, unless a flush of it was refused
+cut_durable : {T : Type 0} (mid new : Disk) (len : ℕ) (r : Result T StoreFault) → CutsDisk mid len r new → mid.older ≡ []
+    → OnOk r (IsSure new.now → IsDurable new)
+cut_durable mid new len (Err fault) t named = tt
+cut_durable mid new len (Ok done) (b, c, at, is, e) named = λ sure.
+    let same = is ∙ flushed_sure (cut b len)
+    (sym (ap (λ (x : Blob). x.is_doubted) is) ∙ subst (λ (disk : Disk). IsSure disk.now) e sure) in
+    subst (λ (disk : Disk). IsDurable disk) (sym e)
+    (record { named = named; flushed = subst (λ (x : Blob). x ≡ secured x.content) (sym same) refl })
+
+-- of a durable file its bytes are left, and what may be left of those that were appended
+pub cut_back : {T : Type 0} (old mid new : Disk) (was bytes : List ℕ) (r : Result T StoreFault)
+    → IsDurable old → seen_on old ≡ Some was → AppendsDisk {T = Unit {0}} old bytes (Err Refused) mid
+    → CutsDisk mid (length was) r new
+    → LeavesPart (Some was) bytes (MayLeave new) × OnOk r (IsSure new.now → IsDurable new)
+cut_back old mid new was bytes r on has appends cuts = (
+  λ some same left may. subst (λ (xs : List ℕ). LeavesBehind xs bytes left) (same_Some was some same)
+      (⊎_elim (λ e. before left (same_leaves e left may)) (λ t. back left t may) (in_part (λ b c is. inr (inl is)) mid new r cuts)),
+  cut_durable mid new (length was) r cuts (⊎_elim (λ e. ap (λ (d : Disk). d.older) e ∙ on.named)
+      (λ t. ap (λ (d : Disk). d.older) t.4 ∙ on.named) appends),
+)
+  where
+    before : (left : Option (List ℕ)) → MayLeave mid left → LeavesBehind was bytes left
+    before = (appends_for_good {T = Unit {0}} old mid bytes (Err Refused) appends).leaves on was has
+
+    nothing : (left : Option (List ℕ)) → left ≡ Some was → LeavesBehind was bytes left
+    nothing left e = ([], e ∙ ap Some (sym (append-nil was)), tt)
+
+    of_part : (left : Option (List ℕ)) (b c d : Blob) → mid.now ≡ Some c → mid.now ≡ Some b → IsFrontAppended bytes (secured was) c
+        → MayBeFlushed (cut b (length was)) d → IsLeftOf (Some d) left → LeavesBehind was bytes left
+    of_part left b c d at there (first, front, rest, parts, part) is now =
+        let same : b ≡ c = same_blob b c (sym there ∙ at) in
+        let (ys, content, flushed, uncut) = part_of was bytes first front rest c parts part in
+        ⊎_elim (λ e. pieces_behind was bytes first front rest c left parts part
+        (subst (λ (o : Option (List ℕ)). IsLeftOf (Some c) o) (sym e) (inl refl)))
+        (nothing left)
+        (left_back c (length was) was (first ++ front) ys left content flushed (omega (arith, uncut))
+        (ap (take (length was)) content ∙ take-append_seam was (first ++ front))
+        (subst (λ (x : Blob). IsLeftOf (Some (cut x (length was))) left) same (no_more (cut b (length was)) d is left now)))
+
+    back : (left : Option (List ℕ)) → Becomes (λ b c. MayBeFlushed (cut b (length was)) c) mid new → MayLeave new left
+        → LeavesBehind was bytes left
+    back left (b, d, there, is, e) may = elim (may_of (record mid { now = Some d }) new left e may) [
+      | inr once ↦ before left (may_once mid left once)
+      | inl now ↦ ⊎_elim (λ same. ⊎_elim (before left) (nothing left) (kept same))
+          (λ (x, c, at, part, f). of_part left b c d (ap (λ (disk : Disk). disk.now) f) there
+          (subst (λ (y : Blob). IsFrontAppended bytes y c)
+          (was_secured old x at on ∙ ap secured (content_is old was x at has)) part) is now) appends
+    ]
+      where
+        kept : mid ≡ old → MayLeave mid left ⊎ (left ≡ Some was)
+        kept same = ⊎_map (λ m. m) (λ all. all ∙ ap Some (take-length was))
+            ((cuts_for_good {T = Unit {0}} mid new (length was) (Err Refused) (inr (b, d, there, is, e))).leaves
+            (subst (λ (x : Disk). IsDurable x) (sym same) on) was (ap seen_on same ∙ has) left may)
+
 -- ---- `replace`
 
 of_new : {P : Type 0} (new : Disk) (bytes : List ℕ) (older : List (Option Blob))
@@ -480,20 +617,6 @@ replaces_for_good old new bytes (Err fault) (inr (inr e)) =
     record { leaves = λ left. of_new new bytes [] e left (λ was. absurd was); durable = tt }
 
 -- ---- what calls see
-
--- the bytes of a file stay, whether it is flushed or not
-may_content : (b c : Blob) → MayBeFlushed b c → c.content ≡ b.content
-may_content b c is = ⊎_elim (ap content_in) (⊎_elim (ap content_in) (ap content_in)) is
-
-so_far_content : (b c : Blob) (bytes : List ℕ) → IsSoFar bytes b c → c.content ≡ b.content ++ bytes
-so_far_content b c bytes (inl (none, e)) = rw (e, none, append-nil b.content) refl
-so_far_content b c bytes (inr e) = ap content_in e
-
-part_content : (b c : Blob) (first front : List ℕ) → IsPartAppended first front b c → c.content ≡ b.content ++ (first ++ front)
-part_content b c first front is =
-    may_content (appended is.so_far front) c is.is
-    ∙ ap (λ (xs : List ℕ). xs ++ front) (so_far_content b is.so_far first is.is_flushed)
-    ∙ append_assoc b.content first front
 
 -- the file that calls see
 abbrev pub stored_on : Disk → ℕ → Stored

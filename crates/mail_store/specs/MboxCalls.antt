@@ -3,6 +3,7 @@ use Rattle.std.specs.Prelude.{◌≡◌, ℕ, List, ◌++◌, map, take, Some, N
 use Rattle.mail_terms.specs.FailureCount.{Tallies, counted_up}
 use Rattle.mail_store.specs.declared.fault.EntryFault.{EntryFault}
 use Rattle.mail_store.specs.declared.fault.EntryFault.TheVariants.{Nothing, Front}
+use Rattle.mail_store.specs.Durable.{Disk, IsDurable, IsSure}
 use Rattle.mail_store.specs.Fault.{is_refusal}
 use Rattle.mail_store.specs.declared.fault.StoreFault.{StoreFault}
 use Rattle.mail_store.specs.declared.fault.StoreFault.TheVariants.{Missing, Refused, NotMbox, NoMemory}
@@ -53,6 +54,11 @@ AppendsEntry old text (Err (Nothing NoMemory)) new = new ≡ old
 AppendsEntry old text (Err Front) new = (was front rest : List ℕ) × EntryMayFollow old was
     × (entry_of text ≡ front ++ rest)
     × (new ≡ file_refused (file_refused (holding old (was ++ front))))
+
+-- if nothing of the entry is there, a durable file still is so, unless a flush of it was refused
+abbrev pub IsStillDurable : Disk → EntryFault → Type 0
+IsStillDurable disk (Nothing fault) = IsSure disk.now → IsDurable disk
+IsStillDurable disk Front = Unit {0}
 
 -- the count rises if a call was refused, and once more if the cut that follows was refused too
 abbrev pub TalliesEntry : {T : Type 0} → Result T EntryFault → ℕ → ℕ → Type 0

@@ -9,8 +9,9 @@ ghost use Rattle.mail_store.specs.Fault.{is_refusal};
 ghost use Rattle.mail_store.specs.FlatFile.{HasBytes, edges_of};
 ghost use Rattle.mail_terms.specs.Text.{IsWhole};
 ghost use Rattle.mail_store.specs.Mboxrd.{MayGoOn, entry_of, separator, EntryAddsText, OneListOfTexts, TextsMayGoOn};
-ghost use Rattle.mail_store.specs.Power.{KeepsWhole};
-ghost use Rattle.mail_store.specs.MboxCalls.{Looks, ChecksMbox, ChecksFront, AppendsEntry, TalliesEntry};
+ghost use Rattle.mail_store.specs.Power.{KeepsWhole, LeavesPart};
+ghost use Rattle.mail_store.specs.MboxCalls.{Looks, ChecksMbox, ChecksFront, AppendsEntry, IsStillDurable};
+ghost use Rattle.mail_store.specs.MboxCalls.{TalliesEntry};
 
 use crate::fault::{EntryFault, StoreFault};
 use crate::file::flat_file::{Edges, FlatFile};
@@ -180,6 +181,9 @@ pub fn append_entry<F: FlatFile>(file: &mut F, text: Vec<u8>) -> Result<(), Entr
     ensures keeps { F.sound file.new
         → KeepsWhole (F.stored file.old).content (MayLeave (F.disk file.old)) (MayLeave (F.disk file.new)) }
     ensures lasts { F.sound file.new → IsSure (F.disk file.old).now → OnOk result (IsDurable (F.disk file.new)) }
+    ensures leaves { F.sound file.new → IsDurable (F.disk file.old)
+        → LeavesPart (F.stored file.old).content (entry_of text.items) (MayLeave (F.disk file.new))
+        × IfErr result (IsStillDurable (F.disk file.new)) }
     ensures count { TalliesEntry result (F.stored file.old).failures (F.stored file.new).failures }
 {
     let edges = look_at(file)?;

@@ -1,12 +1,21 @@
 use Rattle.std.proofs.Common.{◌≡◌, ◌++◌, ℕ, Some, List, [], inl, inr, length, sym, refl, ap, ◌∙◌, arith, length-append}
-use Rattle.std.proofs.Common.{append-nil, take_at, Ok}
+use Rattle.std.proofs.Common.{append-nil, take_at, Ok, Err, Result, Option, subst}
+use Rattle.std.specs.Prelude.{IfErr, OnOk}
 use Rattle.std.proofs.lemmas.Option.{same_Some}
 use Rattle.mail_store.specs.declared.file.flat_file.Edges.{Edges}
-use Rattle.mail_store.specs.Durable.{MayLeave, seen_on}
+use Rattle.mail_store.specs.declared.fault.EntryFault.{EntryFault}
+use Rattle.mail_store.specs.declared.fault.EntryFault.TheVariants.{Nothing, Front}
+use Rattle.mail_store.specs.declared.fault.StoreFault.{StoreFault}
+use Rattle.mail_store.specs.DiskCalls.{CutsDisk, FlushesDisk}
+use Rattle.mail_store.specs.Durable.{Disk, IsDurable, IsSure, MayLeave, seen_on}
 use Rattle.mail_store.specs.FlatFile.{Stored}
 use Rattle.mail_store.specs.Mboxrd.{entry_of}
-use Rattle.mail_store.specs.Power.{KeepsWhole}
-use Rattle.mail_store.proofs.DiskLemmas.{all_no_more, all_sure, appends_for_good, cuts_for_good, flushes_for_good}
+use Rattle.mail_store.specs.MboxCalls.{IsStillDurable}
+use Rattle.mail_store.specs.Power.{KeepsWhole, LeavesPart}
+use Rattle.mail_store.specs.Settling.{MayBeLeft}
+use Rattle.mail_store.proofs.DiskLemmas.{all_no_more, all_sure, appends_for_good, cut_back, cuts_for_good, durable_sure}
+use Rattle.mail_store.proofs.DiskLemmas.{flush_durable, flushes_for_good}
+use Rattle.mail_store.proofs.DurableLemmas.{durable_is_left}
 use Rattle.mail_store.proofs.SettlingLemmas.{cut_keeps, longer_keeps}
 use Rattle.mail_store.proofs.mboxrd.entry.append_entry.Given.{Over}
 use Rattle.mail_store.proofs.mboxrd.entry.append_entry.Goals.{After-cut_to}
@@ -106,3 +115,85 @@ pub returns-in_err-make_entry-clause-keeps : goal.returns-in_err-make_entry-clau
 returns-in_err-make_entry-clause-keeps g c = λ sound bytes is outlives left may.
     outlives left ((flushes_for_good (g.F.FlatFile.disk c.args.file.now) (g.F.FlatFile.disk c.look_at.new.file)
     c.look_at.result (c.look_at.ensures.durable sound)).no_more left may)
+
+-- ---- what a loss of power leaves of a durable file
+
+-- it was only looked at
+looked : {T : Type 0} {F : Type 0} (disk : F → Disk) (old new : F) (bytes : List ℕ) (content : Option (List ℕ))
+    (r : Result T StoreFault) (result : Result (Unit {0}) EntryFault) → seen_on (disk old) ≡ content
+    → FlushesDisk (disk old) r (disk new) → IsDurable (disk old)
+    → LeavesPart content bytes (MayLeave (disk new)) × IfErr result (IsStillDurable (disk new))
+looked disk old new bytes content r result shown flushes on = (
+  λ was has left may. (
+    [],
+    durable_is_left (disk old) left on ((flushes_for_good (disk old) (disk new) r flushes).no_more left may) ∙ shown ∙ has
+        ∙ ap Some (sym (append-nil was)),
+    tt,
+  ),
+  still result,
+)
+  where
+    still : (r : Result (Unit {0}) EntryFault) → IfErr r (IsStillDurable (disk new))
+    still (Ok done) = tt
+    still (Err (Nothing fault)) = flush_durable (disk old) (disk new) r flushes on
+    still (Err Front) = tt
+
+pub returns-in_err-edges-clause-leaves : goal.returns-in_err-edges-clause-leaves
+returns-in_err-edges-clause-leaves g c = λ sound. looked g.F.FlatFile.disk c.args.file.now c.look_at.new.file
+    (entry_of c.args.text.items) (g.F.FlatFile.stored c.args.file.now).content c.look_at.result c.from_residual.result
+    (g.met.F.FlatFile.shown c.args.file.now) (c.look_at.ensures.durable sound)
+
+pub returns-in_err-make_entry-clause-leaves : goal.returns-in_err-make_entry-clause-leaves
+returns-in_err-make_entry-clause-leaves g c = λ sound. looked g.F.FlatFile.disk c.args.file.now c.look_at.new.file
+    (entry_of c.args.text.items) (g.F.FlatFile.stored c.args.file.now).content c.look_at.result
+    c.from_residual-in_err-make_entry.result (g.met.F.FlatFile.shown c.args.file.now) (c.look_at.ensures.durable sound)
+
+pub returns-in-Ok-clause-leaves : goal.returns-in-Ok-clause-leaves
+returns-in-Ok-clause-leaves g c = λ sound on. (
+  λ was has left may.
+      let before = (c.in-Ok.ensures.appends sound).0 in
+      let looks = c.in_ok-edges.ensures.looks before in
+      let firm = all_sure (g.F.FlatFile.disk c.args.file.now) (g.F.FlatFile.disk c.look_at.new.file)
+      (c.in_ok-edges.ensures.durable before) (durable_sure (g.F.FlatFile.disk c.args.file.now) on) in
+      subst (λ (bytes : List ℕ). (behind : List ℕ) × (left ≡ Some (was ++ behind)) × MayBeLeft (length was) bytes behind)
+      (c.deref.ensures.value ∙ c.in_ok-make_entry.ensures.entry)
+      ((appends_for_good (g.F.FlatFile.disk c.look_at.new.file) (g.F.FlatFile.disk c.append.new.self) c.deref.result.now
+      (Ok (tt {0})) (c.in-Ok.ensures.durable sound)).leaves firm was
+      (g.met.F.FlatFile.shown c.look_at.new.file ∙ ap (λ (s : Stored). s.content) looks.1.1 ∙ has) left may),
+  tt,
+)
+
+-- after the cut
+cut : (g : Over) (c : After-cut_to g) (r : Result (Unit {0}) StoreFault) → g.F.FlatFile.sound c.append.new.self
+    → CutsDisk (g.F.FlatFile.disk c.append.new.self) c.in_ok-edges.edges.size r (g.F.FlatFile.disk c.cut_to.new.self)
+    → IsDurable (g.F.FlatFile.disk c.args.file.now)
+    → LeavesPart (g.F.FlatFile.stored c.args.file.now).content (entry_of c.args.text.items)
+    (MayLeave (g.F.FlatFile.disk c.cut_to.new.self))
+    × OnOk r (IsSure (g.F.FlatFile.disk c.cut_to.new.self).now → IsDurable (g.F.FlatFile.disk c.cut_to.new.self))
+cut g c r mid cuts on =
+    let before = (c.in-Err.ensures.appends mid).0 in
+    let looks = c.in_ok-edges.ensures.looks before in
+    let was = looks.1.0.0 in
+    let firm = all_sure (g.F.FlatFile.disk c.args.file.now) (g.F.FlatFile.disk c.look_at.new.file)
+    (c.in_ok-edges.ensures.durable before) (durable_sure (g.F.FlatFile.disk c.args.file.now) on) in
+    let back = cut_back (g.F.FlatFile.disk c.look_at.new.file) (g.F.FlatFile.disk c.append.new.self)
+    (g.F.FlatFile.disk c.cut_to.new.self) was c.deref.result.now r firm
+    (g.met.F.FlatFile.shown c.look_at.new.file ∙ ap (λ (s : Stored). s.content) looks.1.1 ∙ looks.1.0.1.0)
+    (c.in-Err.ensures.durable mid) (subst (λ (n : ℕ). CutsDisk (g.F.FlatFile.disk c.append.new.self) n r
+    (g.F.FlatFile.disk c.cut_to.new.self)) (ap (λ (e : Edges). e.size) looks.1.0.2) cuts) in (
+      λ some has left may. subst (λ (bytes : List ℕ). (behind : List ℕ) × (left ≡ Some (some ++ behind))
+          × MayBeLeft (length some) bytes behind) (c.deref.ensures.value ∙ c.in_ok-make_entry.ensures.entry)
+          (back.0 some (sym looks.1.0.1.0 ∙ has) left may),
+      back.1,
+    )
+
+pub returns-in-Ok-cut_to-clause-leaves : goal.returns-in-Ok-cut_to-clause-leaves
+returns-in-Ok-cut_to-clause-leaves g c = λ sound. cut g (goal.at.returns-in-Ok-cut_to-clause-leaves g c).After-cut_to
+    (Ok (tt {0})) (c.in-Ok-cut_to.ensures.cuts sound).0 (c.in-Ok-cut_to.ensures.durable sound)
+
+pub returns-clause-leaves : goal.returns-clause-leaves
+returns-clause-leaves g c = λ sound on. (
+  (cut g (goal.at.returns-clause-leaves g c).After-cut_to c.cut_to.result (c.cut_to.ensures.cuts sound).0
+      (c.cut_to.ensures.durable sound) on).0,
+  tt,
+)
