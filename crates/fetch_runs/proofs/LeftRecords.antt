@@ -393,7 +393,7 @@ module _ (laws : Below) {D F : Type 0} (files : FileGhosts F) (device device' : 
           by (inl (quiet, inl kept)) un = untouched un
           by (inl (quiet, inr is_anew)) safe = anew c.mid.rows c.mid.file safe.0 is_anew safe.1
           by (inr durable) lasts = shown_by (marked_all c.mid.rows (marked_ids c.does.dones))
-              (marked_all c.mid.rows (marked_ids c.does.dones)) lasts.left within
+              (marked_all c.mid.rows (marked_ids c.does.dones)) lasts.0.left within
               (λ could id d. by_rows could id (within id d))
 
       -- it was cut

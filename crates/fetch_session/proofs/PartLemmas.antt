@@ -10,7 +10,7 @@ use Rattle.mail_store.specs.declared.file.flat_file.FlatFile.{Ghosts as FileGhos
 use Rattle.mail_store.specs.declared.maildir.disk.MaildirDisk.{Ghosts as DiskGhosts}
 use Rattle.mail_store.specs.FileName.{stem_of}
 use Rattle.mail_store.specs.Maildir.{AllNamed, Maildir}
-use Rattle.fetch_rules.specs.Record.{Row, has_row, none_open, marked, marked_all}
+use Rattle.fetch_rules.specs.Record.{Intent, Row, has_row, none_open, marked, marked_all}
 use Rattle.fetch_rules.specs.declared.steps.Step.{Step}
 use Rattle.mail_terms.specs.FailureCount.{Tallies}
 use Rattle.pop3_client.specs.Client.{HasSameLink, link_of, place_of}
@@ -29,21 +29,22 @@ use Rattle.fetch_session.specs.declared.work.Work.{Work}
 use Rattle.fetch_session.specs.Fault.{cut_of, fault_of}
 use Rattle.fetch_session.specs.Refusal.{Took, TookTillCut, TookWithTail, step_limit, tail_limit}
 use Rattle.fetch_session.specs.Lasting.{AreLeft, CutLasts, DoesAndLasts, IsSafeFile, IsSafeStore, IsSafeWork}
-use Rattle.fetch_session.specs.Lasting.{KeepsMboxIn, KeepsWork, LeavesFile}
+use Rattle.fetch_session.specs.Lasting.{IsGrownAtMost, KeepsWork, LeavesFile, may_leave_in}
+use Rattle.mail_store.specs.Power.{LeavesNoMore}
 use Rattle.fetch_session.specs.Parts.{DoesTasks, RunsTasks, IsReadyFor, KeepsLedger, KeepsLink, KeepsStore}
 use Rattle.fetch_session.specs.Parts.{IsReadyForNext, IsWritten, WhereWorkSound, scene_of}
-use Rattle.fetch_session.specs.Record.{Steady}
+use Rattle.fetch_session.specs.Record.{Steady, record_state}
 use Rattle.fetch_session.specs.Report.{AddsLines}
 use Rattle.fetch_session.specs.Scene.{TakesTask, scene, Stops}
 use Rattle.fetch_session.specs.Store.{MayGain}
 use Rattle.fetch_session.specs.Tail.{tail}
-use Rattle.fetch_session.specs.Target.{Target, is_sound, kind_of, stores_of, target_of, Kind, Files, Entries, Stores, target}
+use Rattle.fetch_session.specs.Target.{Target, is_sound, kind_of, mbox_of, stores_of, target_of, Kind, Files, Entries, Stores, target}
 use Rattle.fetch_session.specs.Task.{Task, stores, ids_in, ids_ahead, turns_in, turns_ahead, AreFresh, fetching}
 use Rattle.fetch_session.specs.Task.{deleting, tasks_in, tasks_planned, says}
 use Rattle.fetch_session.proofs.ReadyLemmas.{fetched_all, OneMore, ahead, fresh_grows}
 use Rattle.fetch_session.proofs.TalkLemmas.{most_tail, takes_on, took_broke, took_less, took_nothing, with_tail_on, cut_by, till_cut}
-use Rattle.fetch_session.proofs.SessionLemmas.{good_before, good_more, in_kind, keeps_same, none_lasts, nothing_cut}
-use Rattle.fetch_session.proofs.SessionLemmas.{rows_last, same_left, scene_at, texts_ok}
+use Rattle.fetch_session.proofs.SessionLemmas.{good_before, good_more, in_kind, keeps_same, no_more_keeps, none_lasts, nothing_cut}
+use Rattle.fetch_session.proofs.SessionLemmas.{grown_left, rows_last, same_left, scene_at, texts_ok}
 use Rattle.mail_terms.proofs.ListLemmas.{all_append}
 use Rattle.fetch_session.proofs.SceneLemmas.{did_then, all_sound, all_none, all_weaker, fell_first, on_any}
 use Rattle.mail_store.specs.FlatFile.{Stored}
@@ -78,17 +79,19 @@ same_ledger {file = file} uid ledger cut written = record {
 
 -- the line of a text was noted, and its id marked, unless that was refused
 pub marked_ledger : {F H Z : Type 0} {file : FileGhosts F} {uid : List ℕ} {old new : Ledger F H Z} {rows : List Row}
-    (r : Result (Unit {0}) Cut)
+    {intent : Option Intent} (r : Result (Unit {0}) Cut)
     → ((rows : List Row) (uid other : List ℕ) → has_row (marked rows uid) other ≡ has_row rows other)
     → rows ≡ old.seen.rows → AddsLines old.lines 1 new.lines → (file.sound new.file → file.sound old.file)
     → OnOk r ((new.seen.rows ≡ marked rows uid) × IsWritten file new) → (file.sound new.file → IsSafeFile file old.file
-    → LeavesFile file new.file (AreLeft rows (marked rows uid))) → KeepsLedger file uid old r new
-marked_ledger r law same lines sound marks left = record {
+    → LeavesFile file new.file (IsGrownAtMost (record_state rows intent) (none_open (marked rows uid))))
+    → KeepsLedger file uid old r new
+marked_ledger {file = file} {uid} {old} {new} {rows} {intent} r law same lines sound marks left = record {
   lines = lines;
   sound = sound;
   written = on_ok_weaker r (λ is. is.1) marks;
   rows = on_ok_weaker r (λ is other has. rw (is.0, law, same) has) marks;
-  left = λ f safe. rw same at (left f safe);
+  left = λ f safe. rw same at
+      (grown_left file new.file rows (marked rows uid) (marked rows uid) intent None (inr refl) (left f safe));
 }
 
 -- ---- bounds of tasks
@@ -268,8 +271,12 @@ module _ {W D F H Z : Type 0} {link : WireGhosts W} {disk : DiskGhosts D} {file 
       same _,
       record {
         does = all_none (target_of w.store account) _;
-        lasts = λ safe. let steady = ready.written.steady f in none_lasts disk file (target_of w.store account)
-            (place_of link c) w w [] safe (keeps_same file w) steady (same_left file w.ledger.file safe.0 steady);
+        lasts = λ safe. let steady = ready.written.steady f in (
+          none_lasts disk file (target_of w.store account)
+              (place_of link c) w w [] safe (keeps_same file w) steady (same_left file w.ledger.file safe.0 steady),
+          safe.0,
+          safe.1,
+        );
       },
     ),
   )
@@ -325,18 +332,23 @@ pub good_task : {D F H Z : Type 0} (disk : DiskGhosts D) {file : FileGhosts F} (
     → OnOk r (Steady (file.stored new.ledger.file).content (none_open new.ledger.seen.rows))
     → (IsSafeWork file old → OnOk r (IsSafeWork file new))
     → (IsSafeWork file old → LeavesFile file new.ledger.file (AreLeft old.ledger.seen.rows (marked_all old.ledger.seen.rows (ids_in task))))
-    → (IsSafeWork file old → OnErr r (CutLasts file target (scene_at disk file a old) (scene_at disk file b new) new.ledger.file))
+    → (IsSafeWork file old → OnErr r (CutLasts file target task (scene_at disk file a old) (scene_at disk file b new) new.store
+    new.ledger.file))
     → DoesAndLasts file (IsSafeWork file old) target (task ∷ []) (scene_at disk file a old) r (scene_at disk file b new)
     new.store new.ledger.file
 unfolding fell_first
 good_task disk {file} target task a b old new (Ok done) took keeps steady written lasts left next = record {
   does = record { dones = record { task = task; replies = took.0 } ∷ []; all = refl; went = took.1 };
-  lasts = λ safe. record {
-    texts = texts_ok disk file target (record { task = task; replies = took.0 } ∷ []) old.store new.store took.1.stored (lasts safe).1;
-    rows = rw took.1.rows at (rows_last file new.ledger.file new.ledger.seen.rows (lasts safe).0 written);
-    left = subst (λ rows. LeavesFile file new.ledger.file (AreLeft rows rows)) took.1.rows
-        (same_left file new.ledger.file (lasts safe).0 written);
-  };
+  lasts = λ safe. (
+    record {
+      texts = texts_ok disk file target (record { task = task; replies = took.0 } ∷ []) old.store new.store took.1.stored (lasts safe).1;
+      rows = rw took.1.rows at (rows_last file new.ledger.file new.ledger.seen.rows (lasts safe).0 written);
+      left = subst (λ rows. LeavesFile file new.ledger.file (AreLeft rows rows)) took.1.rows
+          (same_left file new.ledger.file (lasts safe).0 written);
+    },
+    (lasts safe).0,
+    (lasts safe).1,
+  );
 }
 good_task disk {file} target task a b old new (Err cut) took keeps steady written lasts left next = record {
   does = fell_first target task [] _ _ cut took;
@@ -354,7 +366,8 @@ module _ {D F H Z : Type 0} {disk : DiskGhosts D} {file : FileGhosts F} where
       × OnOk r (AllNamed (stores_of disk file w'.store).maildir.files))
       → WhereWorkSound link disk file c w c' w' (λ old new. TakesTask (target_of w.store account) (stores number uid) old r new)
       → (is_sound disk file w'.store → file.sound w'.ledger.file → KeepsWork file w w' × (IsSafeWork file w → OnOk r (IsSafeWork file w')
-      × OnErr r (CutLasts file (target_of w.store account) (scene_of link disk file c w) (scene_of link disk file c' w') w'.ledger.file)))
+      × (link.sound c'.wire.now → OnErr r (CutLasts file (target_of w.store account) (stores number uid)
+      (scene_of link disk file c w) (scene_of link disk file c' w') w'.store w'.ledger.file))))
       → RunsTasks link disk file account (stores number uid ∷ []) c w r c' w'
   runs_taking {link = link} {account} law number uid {c} {c'} {w} {w'} r written talk ledger kind grows takes lasts = (
     record {
@@ -381,7 +394,7 @@ module _ {D F H Z : Type 0} {disk : DiskGhosts D} {file : FileGhosts F} where
     λ s d f. did_then (takes s d f) (λ took. good_task disk (target_of w.store account) (stores number uid)
         (place_of link c) (place_of link c') w w' r took (lasts d f).0
         (written.steady (ledger.sound f)) (on_ok_weaker r (λ is. is.steady f) ledger.written)
-        (λ safe. ((lasts d f).1 safe).0) (λ safe. ledger.left f safe.0) (λ safe. ((lasts d f).1 safe).1)),
+        (λ safe. ((lasts d f).1 safe).0) (λ safe. ledger.left f safe.0) (λ safe. ((lasts d f).1 safe).1 s)),
   )
 
   -- a task that stores nothing
@@ -398,8 +411,8 @@ module _ {D F H Z : Type 0} {disk : DiskGhosts D} {file : FileGhosts F} where
       good_task disk (target_of work.store account) task (place_of link client) (place_of link client') work
       (record work { ledger = record work.ledger { lines = lines } }) r took
       (keeps_same file work) steady (on_any r steady) (λ safe. on_any r safe) (λ safe. same_left file work.ledger.file safe.0 steady)
-      (λ safe. on_err r (nothing_cut file (target_of work.store account) _ _ work.ledger.file
-      (same_left file work.ledger.file safe.0 steady))))
+      (λ safe. on_err r (nothing_cut disk file (target_of work.store account) task (place_of link client) _ _ _ work.store work.store
+      work.ledger.file safe.1 (λ left may. may) safe.0 steady)))
 
 -- ---- what the look left
 
@@ -433,7 +446,7 @@ pub record Looked {D F H Z : Type 0} (disk : DiskGhosts D) (file : FileGhosts F)
   pub kind : kind_of store ≡ kind_of work.store
   pub same : is_sound disk file store → is_sound disk file work.store
       × ((stores_of disk file store).maildir ≡ (stores_of disk file work.store).maildir)
-  pub keeps : is_sound disk file store → KeepsMboxIn file work.store store
+  pub keeps : is_sound disk file store → LeavesNoMore (may_leave_in file work.store) (may_leave_in file store)
 
 module _ {D F H Z : Type 0} {disk : DiskGhosts D} {file : FileGhosts F} {work : Work D F H Z} {store : Store D F}
     (is : Looked disk file work store) where
@@ -454,7 +467,7 @@ module _ {D F H Z : Type 0} {disk : DiskGhosts D} {file : FileGhosts F} {work : 
       (TakesTask (target_of work.store account) (says quit) (scene_at disk file (place_of link c) work) r
       (scene_at disk file (place_of link c') left)))
       → RunsTasks link disk file account (says quit ∷ []) c work r c' left
-  runs_quitting {r = r} account talk safe took = (
+  runs_quitting {link = link} {c = c} {r = r} account talk safe took = (
     record {
       talk = talk;
       store = store_less (omega arith) quitting_store;
@@ -477,11 +490,12 @@ module _ {D F H Z : Type 0} {disk : DiskGhosts D} {file : FileGhosts F} {work : 
           (is.same d).0,
           f,
           all.1,
-          good_task disk (target_of work.store account) (says quit) _ _ work left r all.2 (is.keeps d, λ last. last)
+          good_task disk (target_of work.store account) (says quit) _ _ work left r all.2
+              (no_more_keeps (mbox_of file work.store).content (is.keeps d), λ last. last)
               steady (on_any r steady)
               (λ sure. on_ok_weaker r (λ s. (sure.0, s)) (safe d sure.1))
               (λ sure. same_left file work.ledger.file sure.0 steady)
-              (λ sure. on_err r (nothing_cut file (target_of work.store account) _ _ work.ledger.file
-              (same_left file work.ledger.file sure.0 steady))),
+              (λ sure. on_err r (nothing_cut disk file (target_of work.store account) (says quit) (place_of link c) _ _ _ work.store
+              store work.ledger.file sure.1 (is.keeps d) sure.0 steady)),
         ),
   )

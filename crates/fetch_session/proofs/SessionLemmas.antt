@@ -19,7 +19,7 @@ use Rattle.mail_store.specs.declared.maildir.disk.MaildirDisk.{Ghosts as DiskGho
 use Rattle.mail_store.specs.declared.file.flat_file.FlatFile.{Ghosts as FileGhosts}
 use Rattle.mail_store.specs.Maildir.{Maildir, File, IsWithout, WereTaken}
 use Rattle.mail_store.specs.Mboxrd.{entry_of}
-use Rattle.mail_store.specs.Power.{IsLonger, KeepsWhole, LastsWhole, LeavesEither, LeavesLonger, LeavesNoMore, LeavesPart, Outlives}
+use Rattle.mail_store.specs.Power.{IsLonger, KeepsWhole, LeavesCut, LeavesEither, LeavesLonger, LeavesNoMore, LeavesPart, Outlives}
 use Rattle.pop3_client.specs.Conversation.{TurnsJoin, Talks}
 use Rattle.fetch_session.specs.declared.account.Store.{Store}
 use Rattle.fetch_session.specs.declared.account.Store.TheVariants.{Maildir as InMaildir, Mboxrd as InMbox}
@@ -29,9 +29,10 @@ use Rattle.fetch_session.specs.Record.{StandsTill, Steady, bytes_in, record_stat
 use Rattle.fetch_session.specs.Scene.{Scene, scene, Went, AllWent}
 use Rattle.fetch_session.specs.Store.{Brings}
 use Rattle.fetch_session.specs.Lasting.{AreLeft, AreSure, CarriedLasts, CarriesLast, CutLasts, DoesAndLasts, DonesLast}
-use Rattle.fetch_session.specs.Lasting.{IsRecordLeft, IsSafeFile, IsSafeStore, IsSafeWork, IsRecordUntouched, KeepsWork}
-use Rattle.fetch_session.specs.Lasting.{KeptLasts, Lasts, LeavesFile, LeavesLeft, LeavesMerged, ProceedsLast, RowsLast}
-use Rattle.fetch_session.specs.Lasting.{RowsStillLast, SessionLasts, ShowsRows, TextsLast, UnlessQuiet, may_leave_in}
+use Rattle.fetch_session.specs.Lasting.{IsGrownAtMost, IsRecordLeft, IsSafeFile, IsSafeStore, IsSafeWork, IsRecordUntouched, KeepsWork}
+use Rattle.fetch_session.specs.Lasting.{IsCutLeft, KeptLasts, Lasts, LeavesBoth, LeavesFile, LeavesLeft, LeavesMerged}
+use Rattle.fetch_session.specs.Lasting.{ProceedsLast, RowsLast, RowsStillLast, SessionLasts, ShowsRows, TextsLast, UnlessQuiet}
+use Rattle.fetch_session.specs.Lasting.{may_leave_in}
 use Rattle.fetch_session.specs.Target.{Target, AsFiles, AsEntries, Stores, kind_of, stores_of, target_of, AfterTakingIn}
 use Rattle.fetch_session.specs.Target.{IsSoundMaildir, IsSoundMbox, in_maildir, in_mbox, is_sound, no_maildir}
 use Rattle.fetch_session.specs.Target.{with_maildir, maildir_of, mbox_of, held_flags, closed_file, none_held}
@@ -109,10 +110,6 @@ grown_safe file f f' bytes done shown shown' (b, c, at, is, e) safe = durable_sa
     ((appends_for_good (file.disk f) (file.disk f') bytes (Ok done) (b, c, at, is, e)).durable
     (safe.1 b.content (sym shown ∙ ap (option_map content_in) at)).0)
 
-pub safe_store : {F : Type 0} (files : FileGhosts F) (f : F) → IsSafeFile files f → IsSure (files.disk f).now
-    × LastsWhole (files.stored f).content (Unit {0}) (MayLeave (files.disk f))
-safe_store files f safe = (safe.0, λ bytes is. (tt, (safe.1 bytes is).1))
-
 pub no_more_left : {F : Type 0} (file : FileGhosts F) (f f' : F) → (file.stored f').content ≡ (file.stored f).content
     → LeavesNoMore (MayLeave (file.disk f)) (MayLeave (file.disk f'))
     → (Is : Option (List ℕ) → Type 0) → LeavesFile file f Is → LeavesFile file f' Is
@@ -141,27 +138,74 @@ module _ {F : Type 0} (file : FileGhosts F) (f : F) where
       let behind = part (bytes_in old.content) (is_there old.content some) left may in
       record { bytes = bytes_in old.content; behind = behind.0; is = behind.1; stands = stood; part = behind.2; begun = inr some }
 
-  pub rows_left : (rows others next : List Row) (before after : Option Intent) (added : List ℕ)
-      → Grows rows before added next after → (next ≡ rows) ⊎ (next ≡ others)
-      → LeavesFile file f (IsRecordLeft (record_state rows before) added) → LeavesFile file f (AreLeft rows others)
-  rows_left rows others next before after added grows next_is leaves bytes is left may =
-      record {
-        before = before;
-        added = added;
-        next = next;
-        after = after;
-        grows = grows;
-        next_is = next_is;
-        file =
-            leaves bytes is left may;
-      }
+  -- bytes of the record
+  pub still_grown : (was now : RecordState) (bytes : List ℕ) (left : Option (List ℕ)) → Steady (Some bytes) was
+      → left ≡ Some bytes → IsGrownAtMost was now left
+  still_grown was now bytes left stands all = record {
+    added = [];
+    file = record {
+      bytes = bytes;
+      behind = [];
+      is = all ∙ ap (λ (l : List ℕ). Some l) (sym (append-nil bytes));
+      stands = stands;
+      part = tt;
+      begun = inl refl;
+    };
+    grows = inl refl;
+  }
+
+  -- the file is safe and stands for the record
+  pub same_grown : (was now : RecordState) → IsSafeFile file f → Steady (file.stored f).content was
+      → LeavesFile file f (IsGrownAtMost was now)
+  same_grown was now safe stood bytes is left may =
+      still_grown was now bytes left (subst (λ (c : Option (List ℕ)). Steady c was) is stood) ((safe.1 bytes is).1 left may)
+
+  -- what makes it another was appended, or a part of it
+  pub part_grown : (was now : RecordState) (added : List ℕ) → Grows was.rows was.intent added now.rows now.intent
+      → LeavesFile file f (IsRecordLeft was added) → LeavesFile file f (IsGrownAtMost was now)
+  part_grown was now added grows leaves bytes is left may =
+      record { added = added; file = leaves bytes is left may; grows = inr grows }
+
+  -- so no rows are left but these, and those that they were to be made
+  pub grown_left : (rows others next : List Row) (before after : Option Intent) → (next ≡ rows) ⊎ (next ≡ others)
+      → LeavesFile file f (IsGrownAtMost (record_state rows before) (record_state next after))
+      → LeavesFile file f (AreLeft rows others)
+  grown_left rows others next before after next_is leaves bytes is left may = by (leaves bytes is left may)
+    where
+      by : IsGrownAtMost (record_state rows before) (record_state next after) left → AreLeft rows others left
+      by g = elim g.grows [
+        | inr grows ↦ record {
+          before = before;
+          added = g.added;
+          next = next;
+          after = after;
+          grows = grows;
+          next_is = next_is;
+          file = g.file;
+        }
+        | inl none ↦ record {
+          before = before;
+          added = [];
+          next = rows;
+          after = before;
+          grows = inl (inl (refl, refl, refl));
+          next_is = inl refl;
+          file = record {
+            bytes = g.file.bytes;
+            behind = [];
+            is = g.file.is ∙ ap (λ (l : List ℕ). Some (g.file.bytes ++ l)) none;
+            stands = g.file.stands;
+            part = tt;
+            begun = inl refl;
+          };
+        }
+      ]
 
   -- the file is safe and stands for the rows
   pub same_left : {rows others : List Row} {intent : Option Intent} → IsSafeFile file f
       → Steady (file.stored f).content (record_state rows intent) → LeavesFile file f (AreLeft rows others)
-  same_left {rows} {others} {intent} safe stood =
-      rows_left rows others rows intent intent [] (inl (inl (refl, refl, refl))) (inl refl)
-      (safe_left (record_state rows intent) [] safe stood)
+  same_left {rows} {others} {intent} safe stood = grown_left rows others rows intent intent (inl refl)
+      (same_grown (record_state rows intent) (record_state rows intent) safe stood)
 
 -- ---- texts
 
@@ -201,7 +245,8 @@ module _ {D F : Type 0} {file : FileGhosts F} {safe : Type 0} {target : Target} 
   unfolding all_on fell_on
   good_more joining {xs} {ys} {a} {b} {c} (Ok done) {new} {f} went then = record {
     does = all_on joining target xs ys a b c went then.does;
-    lasts = λ s. dones_on file target went.dones then.does.dones [] a b new f went.went (then.lasts s);
+    lasts = λ s. let l = then.lasts s in
+        (dones_on file target went.dones then.does.dones [] a b new f went.went l.0, l.1, l.2);
   }
   good_more joining {xs} {ys} {a} {b} {c} (Err cut) {new} {f} went then = record {
     does = fell_on joining target xs ys a b c cut went then.does;
@@ -289,12 +334,15 @@ module _ {F T : Type 0} (file : FileGhosts F) (f f' : F) (rows : List Row) (size
     | inr (behind, is) ↦ (take size till.0.0, behind, inr is, stands)
   ]
 
-  pub cut_left : IsSafeFile file f → (others : List Row) → LeavesFile file f (AreLeft rows others)
-      → LeavesFile file f' (AreLeft rows others)
-  cut_left safe others leaves now is_now left may = elim (law.leaves (safe.1 till.0.0 till.0.1).0 till.0.0 (shown ∙ till.0.1) left may) [
-    | inl before ↦ leaves till.0.0 till.0.1 left before
-    | inr all ↦ whole_left rows others (take size till.0.0) left stands all
-  ]
+-- what holds of each that could be left before, and of bytes that stand for the rows, holds after the file was cut to such
+pub cut_back : {F : Type 0} (file : FileGhosts F) (f f' : F) (rows : List Row) (size : ℕ) → StandsTill (file.stored f) size rows
+    → LeavesCut (file.stored f).content size (MayLeave (file.disk f)) (MayLeave (file.disk f')) → (now : RecordState)
+    → LeavesFile file f (IsGrownAtMost (none_open rows) now) → LeavesFile file f' (IsGrownAtMost (none_open rows) now)
+cut_back file f f' rows size till cuts now leaves bytes is left may = elim (cuts till.0.0 till.0.1 left may) [
+  | inl before ↦ leaves till.0.0 till.0.1 left before
+  | inr all ↦ still_grown file f (none_open rows) now (take size till.0.0) left
+      (till_front (file.stored f) size rows till.0.0 till till.0.1) all
+]
 
 -- ---- a record that is merged
 
@@ -338,10 +386,14 @@ no_texts disk file old new whole AsEntries = λ was is.
     subst (λ (bytes : List ℕ). Outlives (may_leave_in file new) bytes) (sym (append-nil was)) (whole was (same_mbox disk file old ∙ is))
 
 -- a safe mboxrd file
+only_in : {D F : Type 0} (file : FileGhosts F) (store : Store D F) → IsSafeStore file store → (bytes : List ℕ)
+    → (mbox_of file store).content ≡ Some bytes → (left : Option (List ℕ)) → may_leave_in file store left → left ≡ Some bytes
+only_in file (InMaildir device) safe bytes is left may = absurd (none-some bytes is)
+only_in file (InMbox device) safe bytes is left may = (safe.1 bytes is).1 left may
+
 pub whole_in : {D F : Type 0} (file : FileGhosts F) (store : Store D F) → IsSafeStore file store
     → (bytes : List ℕ) → (mbox_of file store).content ≡ Some bytes → Outlives (may_leave_in file store) bytes
-whole_in file (InMaildir device) safe bytes is = absurd (none-some bytes is)
-whole_in file (InMbox device) safe bytes is = λ left may. ([], rw append-nil ((safe.1 bytes is).1 left may))
+whole_in file store safe bytes is = λ left may. ([], rw append-nil (only_in file store safe bytes is left may))
 
 -- what came into the store is safe
 pub texts_ok : {D F : Type 0} (disk : DiskGhosts D) (file : FileGhosts F) (target : Target) (dones : List Done) (old new : Store D F)
@@ -365,11 +417,26 @@ abbrev pub scene_at : {D F H Z : Type 0} → DiskGhosts D → FileGhosts F → P
 scene_at disk file place work = scene place (stores_of disk file work.store) (file.stored work.ledger.file)
     work.ledger.seen.rows work.ledger.lines.items
 
--- nothing was marked
-pub nothing_cut : {F : Type 0} (file : FileGhosts F) (target : Target) (old new : Scene) (f : F)
-    → LeavesFile file f (AreLeft old.rows old.rows) → CutLasts file target old new f
-nothing_cut file (AsFiles account) old new f left = inl left
-nothing_cut file AsEntries old new f left = tt
+-- nothing was stored or marked
+pub none_left_of : {F : Type 0} (file : FileGhosts F) (mbox f : F) (rows : List Row) (next : Task) (old new : Place)
+    → IsSafeFile file f → Steady (file.stored f).content (none_open rows) → IsSafeFile file mbox
+    → LeavesBoth file (file.stored mbox).content mbox f (IsCutLeft rows next old new)
+none_left_of file mbox f rows next old new safe steady whole sure bytes has left may now is seen there =
+    inl (same_grown file f (none_open rows) (none_open rows) safe steady now is seen there, (whole.1 bytes has).1 left may)
+
+pub nothing_cut : {D F : Type 0} (disk : DiskGhosts D) (file : FileGhosts F) (target : Target) (task : Task) (a : Place)
+    (rows : List Row) (lines : List ReportLine) (new : Scene) (was store : Store D F) (f : F) → IsSafeStore file was
+    → LeavesNoMore (may_leave_in file was) (may_leave_in file store) → IsSafeFile file f
+    → Steady (file.stored f).content (none_open rows)
+    → CutLasts file target task (scene a (stores_of disk file was) (file.stored f) rows lines) new store f
+nothing_cut disk file (AsFiles account) task a rows lines new was store f whole no_more safe steady =
+    inl (same_left file f safe steady)
+nothing_cut disk file AsEntries task a rows lines new was (InMaildir device) f whole no_more safe steady = tt
+nothing_cut disk file AsEntries task a rows lines new was (InMbox device) f whole no_more safe steady =
+    λ sure bytes is left may now has seen there. inl (
+      same_grown file f (none_open rows) (none_open rows) safe steady now has seen there,
+      only_in file was whole bytes (same_mbox disk file was ∙ is) left (no_more left may),
+    )
 
 -- what was safe and written down before still is
 pub none_lasts : {D F H Z : Type 0} (disk : DiskGhosts D) (file : FileGhosts F) (target : Target) (place : Place)

@@ -330,6 +330,14 @@ pub body_whole : (body : Option (List (List ℕ))) → IsWhole (body_text body)
 body_whole None = inl refl
 body_whole (Some lines) = text_whole lines
 
+-- nothing of the entry is there
+pub entry_none : (old new : Stored) (text : List ℕ) (fault : StoreFault)
+    → AppendsEntry {T = Unit {0}} old text (Err (Nothing fault)) new → new.content ≡ old.content
+entry_none old new text refused.Missing is = ap (λ (s : Stored). s.content) is.1
+entry_none old new text refused.Refused is = ap (λ (s : Stored). s.content) is
+entry_none old new text refused.NotMbox is = ap (λ (s : Stored). s.content) is.1
+entry_none old new text refused.NoMemory is = ap (λ (s : Stored). s.content) is
+
 -- the text wasn't read whole
 pub not_held : {n : ℕ} {uid : List ℕ} {a b : Place} {store : Stores} {file : Stored} {rows : List Row}
     {lines : List ReportLine} {cut : Cut} → TakesText n a (Err cut) b

@@ -12,11 +12,13 @@ use Rattle.mail_store.specs.Mboxrd.{entry_of}
 use Rattle.mail_store.specs.Settling.{MayBeLeft}
 use Rattle.mail_store.specs.Power.{KeepsWhole, LastsWhole, LeavesNoMore, Outlives}
 use Rattle.mail_terms.specs.Listing.{Item}
+use Rattle.pop3_client.specs.Texts.{Fetched}
+use Rattle.pop3_client.specs.Turns.{retr}
 use Rattle.pop3_wire.specs.Link.{Link}
 use Rattle.pop3_wire.specs.declared.wire.Wire.{Ghosts as WireGhosts}
 use Rattle.pop3_wire.specs.Place.{Place}
 use Rattle.rc_file.specs.declared.settings.Settings.{Settings}
-use Rattle.fetch_rules.specs.Record.{Row, RecordState, Intent, none_open, marked_all}
+use Rattle.fetch_rules.specs.Record.{Row, RecordState, Intent, none_open, marked, marked_all}
 use Rattle.fetch_rules.specs.RecordGrowth.{Grows}
 use Rattle.fetch_session.specs.declared.account.Store.{Store}
 use Rattle.fetch_session.specs.declared.account.Store.TheVariants.{Maildir as InMaildir, Mboxrd as InMbox}
@@ -30,12 +32,13 @@ use Rattle.fetch_session.specs.declared.work.Work.{Work}
 use Rattle.fetch_session.specs.Account.{Holding, digits_of}
 use Rattle.fetch_session.specs.Plan.{Carried, Carries, tasks_ahead}
 use Rattle.fetch_session.specs.Readiness.{IsFileKept, IsMergedAtMost, Readies, merged_in}
-use Rattle.fetch_session.specs.Record.{Steady, record_state}
+use Rattle.fetch_session.specs.Mbox.{intent_of}
+use Rattle.fetch_session.specs.Record.{Steady, record_state, with_open}
 use Rattle.fetch_session.specs.Scene.{Scene, Does, WhereAllSound}
 use Rattle.fetch_session.specs.Session.{Keeping, Noted, Proceeds, SessionIn, keeping}
 use Rattle.fetch_session.specs.Target.{Target, AsFiles, AsEntries, AfterTakingIn, Stores, is_sound, mbox_of, stores_of}
 use Rattle.fetch_session.specs.Target.{target_of}
-use Rattle.fetch_session.specs.Task.{Task, Done, ids_in, marked_ids, done_texts}
+use Rattle.fetch_session.specs.Task.{Task, Done, stores, ids_in, marked_ids, done_texts}
 
 -- ---- what the devices say
 
@@ -54,12 +57,10 @@ abbrev pub IsSafeFile : {F : Type 0} → FileGhosts F → F → Type 0
 IsSafeFile file f = IsSure (file.disk f).now
     × LastsWhole (file.stored f).content (IsFileDurable (file.disk f)) (MayLeave (file.disk f))
 
--- the same for an mboxrd file, which is flushed again before an entry is appended: so it needn't be known to be on the
--- disk
+-- the same for an mboxrd file
 abbrev pub IsSafeStore : {D F : Type 0} → FileGhosts F → Store D F → Type 0
 IsSafeStore file (InMaildir device) = Unit {0}
-IsSafeStore file (InMbox device) = IsSure (file.disk device).now
-    × LastsWhole (file.stored device).content (Unit {0}) (MayLeave (file.disk device))
+IsSafeStore file (InMbox device) = IsSafeFile file device
 
 abbrev pub IsSafeWork : {D F H Z : Type 0} → FileGhosts F → Work D F H Z → Type 0
 IsSafeWork file work = IsSafeFile file work.ledger.file × IsSafeStore file work.store
@@ -112,6 +113,12 @@ pub record IsRecordLeft (was : RecordState) (added : List ℕ) (left : Option (L
   pub part : MayBeLeft (length bytes) added behind
   pub begun : (behind ≡ []) ⊎ (bytes ≢ [])
 
+-- this record is left, or it is and a part of what was appended to make it that one, or all of that
+pub record IsGrownAtMost (was now : RecordState) (left : Option (List ℕ)) : Type 0 where
+  pub added : List ℕ
+  pub file : IsRecordLeft was added left
+  pub grows : (file.behind ≡ []) ⊎ Grows was.rows was.intent added now.rows now.intent
+
 -- these rows are left, and what there may be of one group or intent behind them makes no others of them than those
 pub record AreLeft (rows others : List Row) (left : Option (List ℕ)) : Type 0 where
   pub before : Option Intent
@@ -135,18 +142,48 @@ pub record DonesLast {D F : Type 0} (file : FileGhosts F) (target : Target) (don
 abbrev pub OneDurable : Maildir → Maildir → Type 0
 OneDurable old new = (f : File) × (new.files ≡ old.files ++ f ∷ []) × IsDurableFile f
 
--- no mark of the task that was cut may be left; or its file came and is durable
-abbrev pub CutLasts : {F : Type 0} → FileGhosts F → Target → Scene → Scene → F → Type 0
-CutLasts file (AsFiles account) old new f = LeavesFile file f (AreLeft old.rows old.rows)
-    ⊎ OneDurable old.store.maildir new.store.maildir
-CutLasts file AsEntries old new f = Unit {0}
+-- what is left of a record and of an mboxrd file of these bytes, once a text's entry was to be appended and marked:
+-- nothing of the entry, and its intent may be open; its intent is, and what may be left of the entry is there; or all
+-- of the entry, and its id may be marked
+abbrev pub IsEntryLeft : List Row → List ℕ → List ℕ → List ℕ → Option (List ℕ) → Option (List ℕ) → Type 0
+IsEntryLeft rows bytes uid text left mbox =
+    let opened = with_open rows (intent_of bytes uid text) in
+    (IsGrownAtMost (none_open rows) opened left × (mbox ≡ Some bytes))
+    ⊎ ((IsGrownAtMost opened opened left × ((part : List ℕ) × (mbox ≡ Some (bytes ++ part))
+    × MayBeLeft (length bytes) (entry_of text) part))
+    ⊎ (IsGrownAtMost opened (none_open (marked rows uid)) left × (mbox ≡ Some (bytes ++ entry_of text))))
 
--- the same for the tasks of a list that were done, and for the one that was cut
+-- this holds of each pair that a loss of power may leave of the record's file and of an mboxrd file that had these
+-- bytes, if no flush of the latter was refused
+abbrev pub LeavesBoth : {F : Type 0} → FileGhosts F → Option (List ℕ) → F → F
+    → (List ℕ → Option (List ℕ) → Option (List ℕ) → Type 0) → Type 0
+LeavesBoth file content mbox f Are = IsSure (file.disk mbox).now → (bytes : List ℕ) → content ≡ Some bytes
+    → (left : Option (List ℕ)) → MayLeave (file.disk mbox) left → LeavesFile file f (λ seen. Are bytes seen left)
+
+-- both files are left as they were before the task that was cut; or its text was fetched between these places, and of
+-- its entry that is left
+abbrev pub IsCutLeft : List Row → Task → Place → Place → List ℕ → Option (List ℕ) → Option (List ℕ) → Type 0
+IsCutLeft rows next old new bytes left mbox =
+    (IsGrownAtMost (none_open rows) (none_open rows) left × (mbox ≡ Some bytes))
+    ⊎ ((number : ℕ) × (uid text : List ℕ) × (next ≡ stores number uid) × Fetched (retr number) old text new
+    × IsEntryLeft rows bytes uid text left mbox)
+
+-- no mark of the task that was cut may be left; or its file came and is durable. Of both files of an account with an
+-- mboxrd file that is left
+abbrev pub CutLasts : {D F : Type 0} → FileGhosts F → Target → Task → Scene → Scene → Store D F → F → Type 0
+CutLasts file (AsFiles account) next old new store f = LeavesFile file f (AreLeft old.rows old.rows)
+    ⊎ OneDurable old.store.maildir new.store.maildir
+CutLasts file AsEntries next old new (InMaildir device) f = Unit {0}
+CutLasts file AsEntries next old new (InMbox mbox) f = LeavesBoth file old.store.mbox.content mbox f
+    (IsCutLeft old.rows next old.place new.place)
+
+-- the same for the tasks of a list that were done, and for the one that was cut; if none was, the files are safe
 abbrev pub Lasts : {D F : Type 0} → FileGhosts F → (target : Target) (tasks : List Task) (old : Scene)
     (result : Result (Unit {0}) Cut) (new : Scene) → Does target tasks old result new → Store D F → F → Type 0
 Lasts file target tasks old (Ok done) new does store f = DonesLast file target does.dones [] old store f
+    × IsSafeFile file f × IsSafeStore file store
 Lasts file target tasks old (Err cut) new does store f = DonesLast file target does.dones (ids_in does.next) old store f
-    × CutLasts file target does.mid new f
+    × CutLasts file target does.next does.mid new store f
 
 -- a list of tasks was done, or as far as went well; and if this premise holds, what was done outlives a loss of power
 pub record DoesAndLasts {D F : Type 0} (file : FileGhosts F) (safe : Type 0) (target : Target) (tasks : List Task)

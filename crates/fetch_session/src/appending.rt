@@ -1,6 +1,6 @@
 //! How a text is appended to an mboxrd file: it is read whole, its intent is written to the record,
 //! and then the entry is appended at once. If nothing of it came, its intent is closed again.
-ghost use Rattle.std.specs.Prelude.{◌≡◌, ◌≢◌, ℕ, List, [], None, true, OnOk};
+ghost use Rattle.std.specs.Prelude.{◌≡◌, ◌≢◌, ℕ, List, [], None, true, OnErr, OnOk};
 ghost use Rattle.fetch_rules.specs.Record.{has_row, none_open};
 ghost use Rattle.mail_terms.specs.Text.{IsWhole};
 ghost use Rattle.mail_terms.specs.UniqueId.{IsLegalId};
@@ -14,7 +14,7 @@ ghost use Rattle.pop3_wire.specs.declared.unstuffer.Spot.TheVariants.{Done};
 ghost use Rattle.fetch_session.specs.Mbox.{AppendsText, TakesText, IsStoreFault};
 ghost use Rattle.mail_store.specs.Durable.{IsSure, MayLeave};
 ghost use Rattle.mail_store.specs.Power.{KeepsWhole};
-ghost use Rattle.fetch_session.specs.Lasting.{IsSafeFile, RowsStillLast};
+ghost use Rattle.fetch_session.specs.Lasting.{IsCutLeft, IsEntryLeft, IsSafeFile, LeavesBoth, RowsStillLast};
 ghost use Rattle.fetch_session.specs.Parts.{KeepsLedger, KeepsLink, KeepsRecord, IsWritten};
 ghost use Rattle.fetch_session.specs.Record.{Steady};
 ghost use Rattle.fetch_session.specs.Refusal.{RefusesTillCut, TookTillCut};
@@ -84,7 +84,9 @@ fn append_text<F: FlatFile, H: BuildHasher>(
         × RowsStillLast F.FlatFile ledger.old.seen.rows ledger.old.file ledger.new.file }
     ensures lasts { F.sound mbox.new → F.sound ledger.new.file → IsSure (F.disk mbox.old).now
         → IsSafeFile F.FlatFile ledger.old.file
-        → OnOk result (IsSafeFile F.FlatFile mbox.new × IsSafeFile F.FlatFile ledger.new.file) }
+        → OnOk result (IsSafeFile F.FlatFile mbox.new × IsSafeFile F.FlatFile ledger.new.file)
+        × (IsSafeFile F.FlatFile mbox.old → OnErr result (LeavesBoth F.FlatFile (F.stored mbox.old).content mbox.new
+        ledger.new.file (λ bytes. IsEntryLeft ledger.old.seen.rows bytes uid.now text.items))) }
 {
     let edges = mbox.edges()?;
     let len = entry_len(&text);
@@ -128,7 +130,10 @@ pub(crate) fn take_into_mbox<W: Wire, F: FlatFile, H: BuildHasher>(
         × RowsStillLast F.FlatFile ledger.old.seen.rows ledger.old.file ledger.new.file }
     ensures lasts { F.sound mbox.new → F.sound ledger.new.file → IsSure (F.disk mbox.old).now
         → IsSafeFile F.FlatFile ledger.old.file
-        → OnOk result (IsSafeFile F.FlatFile mbox.new × IsSafeFile F.FlatFile ledger.new.file) }
+        → OnOk result (IsSafeFile F.FlatFile mbox.new × IsSafeFile F.FlatFile ledger.new.file)
+        × (IsSafeFile F.FlatFile mbox.old → W.sound client.new.wire.now → OnErr result (LeavesBoth F.FlatFile
+        (F.stored mbox.old).content mbox.new ledger.new.file (IsCutLeft ledger.old.seen.rows (stores number uid.now)
+        (place_of W.Wire client.old) (place_of W.Wire client.new)))) }
 {
     conversations_are_paced();
     marked_keeps_rows();

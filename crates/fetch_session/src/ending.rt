@@ -3,7 +3,8 @@ ghost use Rattle.std.specs.Prelude.{◌≡◌, ◌∷◌, ℕ, List, [], IfOk, O
 ghost use Rattle.pop3_client.specs.Turns.{quit};
 ghost use Rattle.fetch_session.specs.Mbox.{IsToldOfMbox, LooksAgain, went};
 ghost use Rattle.fetch_session.specs.Refusal.{TookWithTail, tail_limit};
-ghost use Rattle.fetch_session.specs.Lasting.{IsSafeStore, KeepsMboxIn};
+ghost use Rattle.fetch_session.specs.Lasting.{IsSafeStore, may_leave_in};
+ghost use Rattle.mail_store.specs.Power.{LeavesNoMore};
 ghost use Rattle.fetch_session.specs.Parts.{RunsTasks, KeepsLink, KeepsStore, IsReadyForNext};
 ghost use Rattle.fetch_session.specs.Target.{is_sound, kind_of, stores_of};
 ghost use Rattle.fetch_session.specs.Task.{says};
@@ -27,7 +28,8 @@ fn look_again<D: MaildirDisk, F: FlatFile>(
     ensures looks { is_sound D.MaildirDisk F.FlatFile store.new → is_sound D.MaildirDisk F.FlatFile store.old
         × LooksAgain (kind_of store.old) lines.now (stores_of D.MaildirDisk F.FlatFile store.old) result
         (stores_of D.MaildirDisk F.FlatFile store.new) }
-    ensures keeps { is_sound D.MaildirDisk F.FlatFile store.new → KeepsMboxIn F.FlatFile store.old store.new }
+    ensures keeps { is_sound D.MaildirDisk F.FlatFile store.new
+        → LeavesNoMore (may_leave_in F.FlatFile store.old) (may_leave_in F.FlatFile store.new) }
     ensures safe { is_sound D.MaildirDisk F.FlatFile store.new → IsSafeStore F.FlatFile store.old
         → OnOk result (IsSafeStore F.FlatFile store.new) }
 {

@@ -9,10 +9,11 @@ ghost use Rattle.fetch_rules.specs.RecordGrowth.{Grows};
 ghost use Rattle.fetch_session.specs.Record.{WritesRecord, Saves, StandsTill, Steady, TakesBack, TellsSize, bytes_in};
 ghost use Rattle.fetch_session.specs.Record.{intent_at, record_state_in, with_open};
 ghost use Rattle.fetch_session.specs.Mbox.{went};
-ghost use Rattle.fetch_session.specs.Lasting.{AreLeft, IsRecordLeft, IsSafeFile, RowsStillLast, LeavesFile, LeavesLeft};
+ghost use Rattle.fetch_session.specs.Lasting.{IsGrownAtMost, IsRecordLeft, IsSafeFile, LeavesFile, LeavesLeft};
+ghost use Rattle.fetch_session.specs.Lasting.{RowsStillLast};
 ghost use Rattle.mail_store.specs.Durable.{IsSure, MayLeave};
 ghost use Rattle.mail_store.specs.FlatFile.{HasBytes};
-ghost use Rattle.mail_store.specs.Power.{LeavesEither, LeavesNoMore};
+ghost use Rattle.mail_store.specs.Power.{LeavesCut, LeavesEither, LeavesNoMore};
 
 use crate::fault::Fault;
 use fetch_rules::{Seen, appended_counts, bytes_stand, cut_is_ignored};
@@ -101,8 +102,8 @@ pub(crate) fn intend<F: FlatFile, H: BuildHasher>(
         (with_open seen.old.rows (intent_at uid.now start len)) (went result)
         (F.stored file.new) }
     ensures keeps { F.sound file.new → ((rows : List Row) → RowsStillLast F.FlatFile rows file.old file.new)
-        × (IsSafeFile F.FlatFile file.old
-        → ((others : List Row) → LeavesFile F.FlatFile file.new (AreLeft seen.old.rows others))) }
+        × (IsSafeFile F.FlatFile file.old → LeavesFile F.FlatFile file.new (IsGrownAtMost (none_open seen.old.rows)
+        (with_open seen.old.rows (intent_at uid.now start len)))) }
     ensures lasts { F.sound file.new → IsSafeFile F.FlatFile file.old → OnOk result (IsSafeFile F.FlatFile file.new) }
 {
     let line = seen.intend(uid, start, len)?;
@@ -121,8 +122,7 @@ pub(crate) fn take_back<F: FlatFile>(file: &mut F, size: u64)
     ensures keeps { F.sound file.new → ((rows : List Row) → StandsTill (F.stored file.old) size rows
         → RowsStillLast F.FlatFile rows file.old file.new) }
     ensures leaves { F.sound file.new → IsSafeFile F.FlatFile file.old
-        → ((rows others : List Row) → StandsTill (F.stored file.old) size rows
-        → LeavesFile F.FlatFile file.old (AreLeft rows others) → LeavesFile F.FlatFile file.new (AreLeft rows others)) }
+        → LeavesCut (F.stored file.old).content size (MayLeave (F.disk file.old)) (MayLeave (F.disk file.new)) }
 {
     let _ = file.cut_to(size);
 }
@@ -145,7 +145,8 @@ pub(crate) fn remember<F: FlatFile, H: BuildHasher>(
         (F.stored file.new) }
     ensures keeps { F.sound file.new → ((rows : List Row) → RowsStillLast F.FlatFile rows file.old file.new)
         × (IsSafeFile F.FlatFile file.old
-        → LeavesFile F.FlatFile file.new (AreLeft seen.old.rows (marked seen.old.rows uid.now))) }
+        → LeavesFile F.FlatFile file.new (IsGrownAtMost (record_state_in seen.old)
+        (none_open (marked seen.old.rows uid.now)))) }
     ensures lasts { F.sound file.new → IsSafeFile F.FlatFile file.old → OnOk result (IsSafeFile F.FlatFile file.new) }
 {
     let group = seen.mark_rows(uid)?;

@@ -1,20 +1,44 @@
-use Rattle.std.proofs.Common.{inr, ◌≡◌, List, ℕ, length, refl, ap, ◌∙◌}
+use Rattle.std.proofs.Common.{inl, inr, ◌≡◌, List, ℕ, length, refl, ap, ◌∙◌, sym, subst, Option, None, Some}
+use Rattle.std.specs.Prelude.{IfErr}
+use Rattle.std.proofs.lemmas.Option.{same_Some}
+use Rattle.fetch_rules.specs.Record.{Intent, RecordState, Row, none_open}
+use Rattle.mail_store.specs.declared.file.flat_file.Edges.{Edges}
 use Rattle.std.proofs.lemmas.Result.{err_from_is_err_and}
-use Rattle.mail_store.specs.Durable.{MayLeave}
+use Rattle.mail_store.specs.Durable.{IsSure, MayLeave}
 use Rattle.mail_store.specs.FlatFile.{Stored}
 use Rattle.mail_store.specs.Mboxrd.{entry_of}
-use Rattle.mail_store.specs.Power.{KeepsWhole}
+use Rattle.mail_store.specs.MboxCalls.{IsStillDurable}
+use Rattle.mail_store.specs.Power.{KeepsWhole, LeavesPart}
+use Rattle.mail_store.proofs.DurableLemmas.{durable_is_left}
+use Rattle.fetch_session.specs.Lasting.{IsGrownAtMost, IsSafeFile, LeavesFile}
 use Rattle.mail_store.proofs.DiskLemmas.{all_sure, durable_sure, flushes_for_good}
 use Rattle.fetch_session.proofs.TalkLemmas.{err_is}
-use Rattle.fetch_session.specs.Mbox.{IsIntended}
-use Rattle.fetch_session.specs.Record.{with_open}
-use Rattle.fetch_session.proofs.SessionLemmas.{durable_safe, no_more_keeps, same_left}
-use Rattle.fetch_session.proofs.TextLemmas.{entry_refused, not_intended, not_measured}
+use Rattle.fetch_session.specs.Mbox.{IsIntended, intent_of}
+use Rattle.fetch_session.specs.Record.{intent_at, with_open}
+use Rattle.fetch_session.proofs.SessionLemmas.{cut_back, durable_safe, grown_left, no_more_keeps, same_grown, same_left}
+use Rattle.fetch_session.proofs.TextLemmas.{entry_none, entry_refused, not_intended, not_measured}
 use Rattle.fetch_session.proofs.appending.append_text.Goals as goal
-use Rattle.fetch_session.proofs.appending.append_text.Goals.{After-append_entry, After-entry_len-len, In_ok-size}
+use Rattle.fetch_session.proofs.appending.append_text.Goals.{After-append_entry, After-edges, After-entry_len-len}
+use Rattle.fetch_session.proofs.appending.append_text.Goals.{After-take_back, In_ok-size}
 
 long : (g : _) (c : After-entry_len-len g) → c.entry_len-len.result ≡ length (entry_of c.args.text.items)
 long g c = c.entry_len-len.ensures ∙ ap (λ (l : List ℕ). length (entry_of l)) c.deref.ensures.value
+
+-- the intent that is saved, and the record with it
+abbrev intent : (g : _) → After-entry_len-len g → Intent
+intent g c = intent_at c.args.uid.now c.in_ok-edges.edges.size c.entry_len-len.result
+
+abbrev opened : (g : _) → After-entry_len-len g → RecordState
+opened g c = with_open c.args.ledger.now.seen.rows (intent g c)
+
+same_intent : (g : _) (c : After-entry_len-len g) → g.F.FlatFile.sound c.edges.new.self → (bytes : List ℕ)
+    → (g.F.FlatFile.stored c.args.mbox.now).content ≡ Some bytes
+    → intent g c ≡ intent_of bytes c.args.uid.now c.args.text.items
+same_intent g c m bytes has =
+    let measures = (c.in_ok-edges.ensures.measures m).1.0 in
+    ap (λ (n : ℕ). intent_at c.args.uid.now n c.entry_len-len.result) (ap (λ (e : Edges). e.size) measures.2
+    ∙ ap length (same_Some measures.0 bytes (sym measures.1 ∙ has)))
+    ∙ ap (intent_at c.args.uid.now (length bytes)) (long g c)
 
 pub returns-in_err-edges-clause-appends : goal.returns-in_err-edges-clause-appends
 returns-in_err-edges-clause-appends g c = λ m f.
@@ -115,7 +139,13 @@ returns-in_err-size-clause-ledger g c = rw (err_is c.from_residual-in_err-size.e
       opened = tt;
       steady =
           λ f. ((c.intend.ensures.steady f).0, tt);
-      lasts = λ f safe. (tt, (c.intend.ensures.keeps f).1 safe);
+      lasts = λ f safe. (
+        tt,
+        λ others. grown_left g.F.FlatFile c.intend.new.file c.args.ledger.now.seen.rows others
+            c.args.ledger.now.seen.rows None
+            (Some (intent g (goal.at.returns-in_err-size-clause-ledger g c).After-entry_len-len)) (inl refl)
+            ((c.intend.ensures.keeps f).1 safe),
+      );
     })
 
 pub returns-in-Err-Front-clause-ledger : goal.returns-in-Err-Front-clause-ledger
@@ -125,22 +155,40 @@ returns-in-Err-Front-clause-ledger g c = record {
   opened = tt;
   steady =
       λ f. ((c.in_ok-size.ensures.steady f).0, tt);
-  lasts = λ f safe. (tt, (c.intend.ensures.keeps f).1 safe);
+  lasts = λ f safe. (
+    tt,
+    λ others. grown_left g.F.FlatFile c.intend.new.file c.args.ledger.now.seen.rows others
+        c.args.ledger.now.seen.rows None
+        (Some (intent g (goal.at.returns-in-Err-Front-clause-ledger g c).After-entry_len-len)) (inl refl)
+        ((c.intend.ensures.keeps f).1 safe),
+  );
 }
 
 -- the intent was closed, or that was refused
+taken_back : (g : _) (c : After-take_back g) → g.F.FlatFile.sound c.take_back.new.file
+    → IsSafeFile g.F.FlatFile c.args.ledger.now.file
+    → LeavesFile g.F.FlatFile c.take_back.new.file (IsGrownAtMost (none_open c.args.ledger.now.seen.rows)
+    (with_open c.args.ledger.now.seen.rows (intent_at c.args.uid.now c.in_ok-edges.edges.size c.entry_len-len.result)))
+taken_back g c f safe =
+    let before = (c.take_back.ensures.closes f).0 in
+    let rows = c.args.ledger.now.seen.rows in
+    cut_back g.F.FlatFile c.intend.new.file c.take_back.new.file rows c.in_ok-size.size
+    (c.in_ok-size.ensures.steady before).1.1 (c.take_back.ensures.leaves f (c.in_ok-size.ensures.lasts before safe))
+    (with_open rows (intent_at c.args.uid.now c.in_ok-edges.edges.size c.entry_len-len.result))
+    ((c.intend.ensures.keeps before).1 safe)
+
 pub returns-in-Err-Nothing-clause-ledger : goal.returns-in-Err-Nothing-clause-ledger
 returns-in-Err-Nothing-clause-ledger g c = record {
   lines = refl;
   rows = c.intend.ensures.rows;
   opened = tt;
   steady = λ f. ((c.in_ok-size.ensures.steady (c.take_back.ensures.closes f).0).0, tt);
-  lasts = λ f safe.
-      let before = (c.take_back.ensures.closes f).0 in (
-        tt,
-        λ others. c.take_back.ensures.leaves f (c.in_ok-size.ensures.lasts before safe) c.args.ledger.now.seen.rows
-            others (c.in_ok-size.ensures.steady before).1.1 ((c.intend.ensures.keeps before).1 safe others),
-      );
+  lasts = λ f safe. (
+    tt,
+    λ others. grown_left g.F.FlatFile c.take_back.new.file c.args.ledger.now.seen.rows others c.args.ledger.now.seen.rows None
+        (Some (intent g (goal.at.returns-in-Err-Nothing-clause-ledger g c).After-entry_len-len)) (inl refl)
+        (taken_back g (goal.at.returns-in-Err-Nothing-clause-ledger g c).After-take_back f safe),
+  );
 }
 
 pub returns-in-Ok-clause-ledger : goal.returns-in-Ok-clause-ledger
@@ -151,7 +199,12 @@ returns-in-Ok-clause-ledger g c = record {
   steady = λ f.
       let steady = c.in_ok-size.ensures.steady f in
       (steady.0, rw (c.intend.ensures.rows, c.in_ok-size.ensures.opened) steady.1.0);
-  lasts = λ f safe. (c.in_ok-size.ensures.lasts f safe, (c.intend.ensures.keeps f).1 safe);
+  lasts = λ f safe. (
+    c.in_ok-size.ensures.lasts f safe,
+    λ others. grown_left g.F.FlatFile c.intend.new.file c.args.ledger.now.seen.rows others c.args.ledger.now.seen.rows None
+        (Some (intent g (goal.at.returns-in-Ok-clause-ledger g c).After-entry_len-len)) (inl refl)
+        ((c.intend.ensures.keeps f).1 safe),
+  );
 }
 
 -- ---- what outlives a loss of power
@@ -206,6 +259,92 @@ returns-in-Ok-clause-lasts g c = λ m f sure safe.
     let firm = all_sure (g.F.FlatFile.disk c.args.mbox.now) (g.F.FlatFile.disk c.edges.new.self)
     (c.in_ok-edges.ensures.durable (c.in-Ok.ensures.appends m).0) sure in
     let durable = c.in-Ok.ensures.lasts m (durable_sure (g.F.FlatFile.disk c.edges.new.self) firm) in (
-      durable_safe g.F.FlatFile c.append_entry.new.file (g.met.F.FlatFile.shown c.append_entry.new.file) durable,
-      c.in_ok-size.ensures.lasts f safe,
+      (
+        durable_safe g.F.FlatFile c.append_entry.new.file (g.met.F.FlatFile.shown c.append_entry.new.file) durable,
+        c.in_ok-size.ensures.lasts f safe,
+      ),
+      λ whole. tt,
     )
+
+-- the mboxrd file was only looked at
+looked : (g : _) (c : After-edges g) → g.F.FlatFile.sound c.edges.new.self → IsSafeFile g.F.FlatFile c.args.mbox.now
+    → (bytes : List ℕ) → (g.F.FlatFile.stored c.args.mbox.now).content ≡ Some bytes → (left : Option (List ℕ))
+    → MayLeave (g.F.FlatFile.disk c.edges.new.self) left → left ≡ Some bytes
+looked g c m whole bytes has left may = (whole.1 bytes has).1 left ((flushes_for_good (g.F.FlatFile.disk c.args.mbox.now)
+    (g.F.FlatFile.disk c.edges.new.self) c.edges.result (c.edges.ensures.durable m)).no_more left may)
+
+pub returns-in_err-edges-clause-lasts : goal.returns-in_err-edges-clause-lasts
+returns-in_err-edges-clause-lasts g c =
+    let p = err_from_is_err_and c.from_residual.result c.from_residual.ensures.1 in
+    let rows = c.args.ledger.now.seen.rows in
+    rw p.1 (λ m f sure safe. (
+      tt,
+      λ whole firm bytes has left may now is seen there. inl (
+        same_grown g.F.FlatFile c.args.ledger.now.file (none_open rows)
+            (with_open rows (intent_of bytes c.args.uid.now c.args.text.items)) safe (c.requires.steady f) now is seen there,
+        looked g (goal.at.returns-in_err-edges-clause-lasts g c).After-edges m whole bytes has left may,
+      ),
+    ))
+
+-- the intent with the bytes that the mboxrd file had
+grown_from : {a b : Intent} {rows : List Row} {left : Option (List ℕ)} → a ≡ b
+    → IsGrownAtMost (none_open rows) (with_open rows a) left → IsGrownAtMost (none_open rows) (with_open rows b) left
+grown_from {rows = rows} {left} same grown =
+    subst (λ (i : Intent). IsGrownAtMost (none_open rows) (with_open rows i) left) same grown
+
+pub returns-in_err-size-clause-lasts : goal.returns-in_err-size-clause-lasts
+returns-in_err-size-clause-lasts g c =
+    let here = goal.at.returns-in_err-size-clause-lasts g c in
+    rw (err_is c.from_residual-in_err-size.ensures.1)
+    (λ m f sure safe. (
+      tt,
+      λ whole firm bytes has left may now is seen there. inl (
+        grown_from (same_intent g here.After-entry_len-len m bytes has) ((c.intend.ensures.keeps f).1 safe now is seen there),
+        looked g here.After-edges m whole bytes has left may,
+      ),
+    ))
+
+-- what may be left of the entry
+entry_left : (g : _) (c : After-append_entry g) → g.F.FlatFile.sound c.append_entry.new.file
+    → g.F.FlatFile.sound c.edges.new.self → IsSure (g.F.FlatFile.disk c.args.mbox.now).now
+    → LeavesPart (g.F.FlatFile.stored c.edges.new.self).content (entry_of c.args.text.items)
+    (MayLeave (g.F.FlatFile.disk c.append_entry.new.file))
+    × IfErr c.append_entry.result (IsStillDurable (g.F.FlatFile.disk c.append_entry.new.file))
+entry_left g c m before sure = c.append_entry.ensures.leaves m (all_sure (g.F.FlatFile.disk c.args.mbox.now)
+    (g.F.FlatFile.disk c.edges.new.self) (c.in_ok-edges.ensures.durable before) sure)
+
+pub returns-in-Err-Front-clause-lasts : goal.returns-in-Err-Front-clause-lasts
+returns-in-Err-Front-clause-lasts g c = λ m f sure safe. (
+  tt,
+  λ whole firm bytes has left may now is seen there.
+      let here = goal.at.returns-in-Err-Front-clause-lasts g c in
+      let before = (c.in-Err-Front.ensures.appends m).0 in
+      let rows = c.args.ledger.now.seen.rows in
+      let same = same_intent g here.After-entry_len-len before bytes has in
+      inr (inl (
+        subst (λ (i : Intent). IsGrownAtMost (with_open rows i) (with_open rows i) seen) same
+            (same_grown g.F.FlatFile c.intend.new.file (opened g here.After-entry_len-len) (opened g here.After-entry_len-len)
+            (c.in_ok-size.ensures.lasts f safe) (c.in_ok-size.ensures.steady f).1.0 now is seen there),
+        (entry_left g here.After-append_entry m before sure).0 bytes
+            (ap (λ (s : Stored). s.content) (c.in_ok-edges.ensures.measures before).1.1 ∙ has) left may,
+      )),
+)
+
+pub returns-in-Err-Nothing-clause-lasts : goal.returns-in-Err-Nothing-clause-lasts
+returns-in-Err-Nothing-clause-lasts g c = λ m f sure safe. (
+  tt,
+  λ whole firm bytes has left may now is seen there.
+      let here = goal.at.returns-in-Err-Nothing-clause-lasts g c in
+      let appends = c.in-Err-Nothing.ensures.appends m in
+      let same = ap (λ (s : Stored). s.content) (c.in_ok-edges.ensures.measures appends.0).1.1 in
+      let still = rw c.in-Err-Nothing.field-0-is at (c.in-Err-Nothing.ensures.leaves m (all_sure (g.F.FlatFile.disk c.args.mbox.now)
+      (g.F.FlatFile.disk c.edges.new.self) (c.in_ok-edges.ensures.durable appends.0) sure)).1 in
+      inl (
+        grown_from (same_intent g here.After-entry_len-len appends.0 bytes has)
+            (taken_back g here.After-take_back f safe now is seen there),
+        durable_is_left (g.F.FlatFile.disk c.append_entry.new.file) left (still firm) may
+            ∙ g.met.F.FlatFile.shown c.append_entry.new.file
+            ∙ entry_none (g.F.FlatFile.stored c.edges.new.self) (g.F.FlatFile.stored c.append_entry.new.file) c.args.text.items
+            c.in-Err-Nothing.fault (rw c.in-Err-Nothing.field-0-is at appends.1) ∙ same ∙ has,
+      ),
+)

@@ -1,4 +1,4 @@
-use Rattle.std.proofs.Common.{rules, ◌≡◌, [], ◌∷◌, ◌++◌, Vec, Ok, Err, length, arith, sym, ap, subst, ◌∙◌, refl, true≢false}
+use Rattle.std.proofs.Common.{rules, ◌≡◌, ℕ, List, [], ◌∷◌, inr, ◌++◌, Vec, Ok, Err, length, arith, sym, ap, subst, ◌∙◌, refl, true≢false}
 use Rattle.fetch_rules.specs.Record.{marked}
 use Rattle.pop3_wire.specs.Link.{WhereSound}
 use Rattle.pop3_client.specs.Client.{link_of, place_of}
@@ -13,9 +13,16 @@ use Rattle.pop3_wire.proofs.LinkLemmas.{and_then, in_words}
 use Rattle.fetch_session.proofs.TalkLemmas.{took_talked, takes_held, before_cut, err_is, did_both, did_so}
 use Rattle.fetch_session.proofs.PartLemmas.{link_broke, link_then_cut, marked_ledger, same_ledger}
 use Rattle.fetch_session.specs.Parts.{KeepsLink}
+use Rattle.fetch_session.specs.Lasting.{IsCutLeft, IsSafeFile, LeavesBoth}
 use Rattle.fetch_session.specs.Report.{AddsLines}
+use Rattle.fetch_session.specs.Task.{stores}
+use Rattle.mail_store.specs.Durable.{IsSure}
+use Rattle.mail_store.specs.FlatFile.{Stored}
+use Rattle.mail_store.specs.Mboxrd.{entry_of}
+use Rattle.std.proofs.lemmas.Option.{same_Some}
+use Rattle.fetch_session.proofs.SessionLemmas.{none_left_of}
 use Rattle.fetch_session.proofs.SceneLemmas.{both_sound, link_alone}
-use Rattle.fetch_session.proofs.appending.take_into_mbox.Goals.{After-len-length, After-note, In_ok-text}
+use Rattle.fetch_session.proofs.appending.take_into_mbox.Goals.{After-len-length, After-note, After-remember, In_ok-text}
 use Rattle.fetch_session.proofs.appending.take_into_mbox.Goals as goal
 
 long : (g : _) (c : After-len-length g) → c.len-length.result ≡ length c.in_ok-text.text.items
@@ -56,7 +63,12 @@ returns-in_err-body g c = rw (err_is c.from_residual.ensures.1) (record {
   before = λ m. m;
   takes = link_alone (in_words g.W.Wire c.in_err-body.ensures.opens (text_broken AsEntries c.in_err-body.field-0.0 refl));
   keeps = search rules;
-  lasts = search rules;
+  lasts = λ m f sure safe. (
+    tt,
+    λ whole w. none_left_of g.F.FlatFile c.args.mbox.now c.args.ledger.now.file
+        c.args.ledger.now.seen.rows (stores c.args.number c.args.uid.now) (place_of g.W.Wire c.args.client.now) _ safe
+        (c.requires.ready.steady f) whole,
+  );
 })
 
 pub returns-in_err-text : goal.returns-in_err-text
@@ -75,7 +87,12 @@ returns-in_err-text g c = rw (err_is c.from_residual-in_err-text.ensures.1) (rec
   takes = link_alone (and_then g.W.Wire g.met.W.Wire.leads_on c.in_ok-body.ensures.opens c.in_err-text.ensures.holds
       (λ opened held. not_held (held c.args.number (place_of g.W.Wire c.args.client.now) opened)));
   keeps = search rules;
-  lasts = search rules;
+  lasts = λ m f sure safe. (
+    tt,
+    λ whole w. none_left_of g.F.FlatFile c.args.mbox.now c.args.ledger.now.file
+        c.args.ledger.now.seen.rows (stores c.args.number c.args.uid.now) (place_of g.W.Wire c.args.client.now) _ safe
+        (c.requires.ready.steady f) whole,
+  );
 })
 
 pub returns-then-not-is_whole : goal.returns-then-not-is_whole
@@ -90,7 +107,12 @@ returns-then-not-is_whole g c =
           absurd (true≢false (sym (c.is_whole.ensures.1
           (rw (c.deref.ensures.value, fetched.2) (body_whole fetched.0.body))) ∙ c.if-not-is_whole.true));
       keeps = search rules;
-      lasts = search rules;
+      lasts = λ m f sure safe. (
+        tt,
+        λ whole w. none_left_of g.F.FlatFile c.args.mbox.now c.args.ledger.now.file
+            c.args.ledger.now.seen.rows (stores c.args.number c.args.uid.now) (place_of g.W.Wire c.args.client.now) _ safe
+            (c.requires.ready.steady f) whole,
+      );
     }
 
 pub returns-in_err-append_text : goal.returns-in_err-append_text
@@ -111,7 +133,17 @@ returns-in_err-append_text g c =
           text_refused c.in_ok-text.text.items c.in_err-append_text.field-0.0 text refuses kept.ledger.rows
           (ap (λ (v : Vec ReportLine _). v.items) kept.ledger.lines));
       keeps = kept.keeps;
-      lasts = search rules;
+      lasts = λ m f sure safe. (
+        tt,
+        λ whole w firm bytes has left may now is seen there. inr (
+          c.args.number,
+          c.args.uid.now,
+          c.in_ok-text.text.items,
+          refl,
+          (read g here w).2,
+          (c.in_err-append_text.ensures.lasts m f sure safe).1 whole firm bytes has left may now is seen there,
+        ),
+      );
     })
 
 pub returns : goal.returns
@@ -132,8 +164,36 @@ returns g c =
           c.args.ledger.now.seen c.append_text.new.ledger.seen text
           (long g here.After-len-length) appends kept.ledger.rows marks.rows (marks.saves f).1 (told g here.After-note));
       keeps = λ m f. let keeps = kept.keeps m (marks.saves f).0 in (keeps.0, λ last. (c.remember.ensures.keeps f).0 _ (keeps.1 last));
-      lasts = λ m f sure safe. let all = c.in_ok-append_text.ensures.lasts m (marks.saves f).0 sure safe in (all.0, marks.lasts f all.1);
+      lasts = λ m f sure safe. let all = (c.in_ok-append_text.ensures.lasts m (marks.saves f).0 sure safe).0 in
+          ((all.0, marks.lasts f all.1), λ whole w. tt);
     }
+
+-- the entry is whole, and its id may be marked
+unmarked : (g : _) (c : After-remember g) → g.F.FlatFile.sound c.append_text.new.mbox → g.F.FlatFile.sound c.remember.new.file
+    → Fetched (retr c.args.number) (place_of g.W.Wire c.args.client.now) c.in_ok-text.text.items
+    (place_of g.W.Wire c.read_text.new.client) → IsSure (g.F.FlatFile.disk c.args.mbox.now).now
+    → IsSafeFile g.F.FlatFile c.args.ledger.now.file
+    → LeavesBoth g.F.FlatFile (g.F.FlatFile.stored c.args.mbox.now).content c.append_text.new.mbox c.remember.new.file
+    (IsCutLeft c.args.ledger.now.seen.rows (stores c.args.number c.args.uid.now) (place_of g.W.Wire c.args.client.now)
+    (place_of g.W.Wire c.read_text.new.client))
+unmarked g c m f fetched sure safe firm bytes has left may now is seen there =
+    let before = (c.remember.ensures.saves f).0 in
+    let all = (c.in_ok-append_text.ensures.lasts m before sure safe).0 in
+    let (mbox_sound, file_sound, (was, follows, holds, opened, saves)) = c.in_ok-append_text.ensures.appends m before in
+    let text = c.in_ok-text.text.items in
+    subst (λ (b : List ℕ). IsCutLeft c.args.ledger.now.seen.rows (stores c.args.number c.args.uid.now)
+    (place_of g.W.Wire c.args.client.now) (place_of g.W.Wire c.read_text.new.client) b seen left)
+    (same_Some was bytes (sym follows.0 ∙ has)) (inr (
+      c.args.number,
+      c.args.uid.now,
+      text,
+      refl,
+      fetched,
+      inr (inr (
+        rw (c.append_text.ensures.ledger.rows, opened) at ((c.remember.ensures.keeps f).1 all.1 now is seen there),
+        (all.0.1 (was ++ entry_of text) (ap (λ (s : Stored). s.content) holds)).1 left may,
+      )),
+    ))
 
 pub returns-in_err-remember : goal.returns-in_err-remember
 returns-in_err-remember g c =
@@ -152,5 +212,5 @@ returns-in_err-remember g c =
           c.in_err-remember.field-0.0 text
           (long g here.After-len-length) appends kept.ledger.rows (marks.saves f).1 (told g here.After-note));
       keeps = λ m f. let keeps = kept.keeps m (marks.saves f).0 in (keeps.0, λ last. (c.remember.ensures.keeps f).0 _ (keeps.1 last));
-      lasts = λ m f sure safe. tt;
+      lasts = λ m f sure safe. (tt, λ whole w. unmarked g here.After-remember m f (read g here.In_ok-text w).2 sure safe);
     })

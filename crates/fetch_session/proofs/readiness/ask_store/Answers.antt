@@ -2,14 +2,10 @@ use Rattle.std.proofs.Common.{subst}
 use Rattle.fetch_session.specs.Lasting.{is_sure}
 use Rattle.fetch_session.specs.Target.{no_maildir}
 use Rattle.mail_store.proofs.MaildirLemmas.{none_taken}
-use Rattle.fetch_session.proofs.SessionLemmas.{safe_store}
-use Rattle.std.proofs.lemmas.Result.{on_ok_weaker}
 use Rattle.fetch_session.proofs.readiness.ask_store.Goals as goal
 
 pub returns-in-Mboxrd-clause-lasts : goal.returns-in-Mboxrd-clause-lasts
-returns-in-Mboxrd-clause-lasts g c = λ d sure. on_ok_weaker c.ask_mbox.result
-    (safe_store g.F.FlatFile c.ask_mbox.new.mbox)
-    (c.ask_mbox.ensures.lasts d (subst (λ store. is_sure g.F.FlatFile store) c.in-Mboxrd.is sure))
+returns-in-Mboxrd-clause-lasts g c = λ d sure. c.ask_mbox.ensures.lasts d (subst (λ store. is_sure g.F.FlatFile store) c.in-Mboxrd.is sure)
 
 pub returns-in-Mboxrd-clause-finds : goal.returns-in-Mboxrd-clause-finds
 returns-in-Mboxrd-clause-finds g c = λ d. let asks = c.ask_mbox.ensures.asks d in

@@ -1,12 +1,12 @@
-use Rattle.std.proofs.Common.{◌≡◌, List, ◌++◌, None, Some, Result, Ok, Err, inl, refl, subst, ◌∙◌}
+use Rattle.std.proofs.Common.{◌≡◌, List, ◌++◌, None, Some, Result, Ok, Err, subst, ◌∙◌}
 use Rattle.fetch_rules.specs.Record.{Row, none_open}
 use Rattle.fetch_rules.specs.RecordGrowth.{Grows}
-use Rattle.fetch_session.specs.Lasting.{AreLeft, IsSafeFile, LeavesFile, RowsStillLast}
+use Rattle.fetch_session.specs.Lasting.{IsGrownAtMost, IsSafeFile, LeavesFile, RowsStillLast}
 use Rattle.mail_store.specs.FlatFile.{Stored}
 use Rattle.fetch_session.specs.Record.{Saves, bytes_in, intent_at, with_open}
 use Rattle.fetch_session.specs.declared.fault.Fault.{Fault}
 use Rattle.fetch_session.proofs.TalkLemmas.{err_is}
-use Rattle.fetch_session.proofs.SessionLemmas.{no_more_left, rows_left, same_left}
+use Rattle.fetch_session.proofs.SessionLemmas.{no_more_left, part_grown, same_grown}
 use Rattle.fetch_session.proofs.SceneLemmas.{row_begun, opens, same_bytes, size_untold, stands_till}
 use Rattle.fetch_session.proofs.record.intend.Goals.{After-grow}
 use Rattle.fetch_session.proofs.record.intend.Goals as goal
@@ -107,29 +107,36 @@ returns-clause-steady g c = λ kept.
 
 pub returns-in_err-line-clause-keeps : goal.returns-in_err-line-clause-keeps
 returns-in_err-line-clause-keeps g c =
-    λ kept. (λ rows last. last, λ safe others. same_left g.F.FlatFile c.args.file.now safe (c.requires.steady kept))
+    λ kept. (
+      λ rows last. last,
+      λ safe. same_grown g.F.FlatFile c.args.file.now (none_open c.args.seen.now.rows)
+          (with_open c.args.seen.now.rows (intent_at c.args.uid.now c.args.start c.args.len)) safe (c.requires.steady kept),
+    )
 
 pub returns-in_err-size-clause-keeps : goal.returns-in_err-size-clause-keeps
 returns-in_err-size-clause-keeps g c = λ kept.
     let told = c.in_err-size.ensures.size kept in
     let no_more = c.measure.ensures.keeps kept in (
       λ rows last left may. last left (no_more left may),
-      λ safe others. no_more_left g.F.FlatFile c.args.file.now c.measure.new.file
+      λ safe. no_more_left g.F.FlatFile c.args.file.now c.measure.new.file
           (same_bytes (g.F.FlatFile.stored c.args.file.now) (g.F.FlatFile.stored c.measure.new.file)
-          (Err c.in_err-size.field-0.0) told.1) no_more (AreLeft c.args.seen.now.rows others)
-          (same_left g.F.FlatFile c.args.file.now safe (c.requires.steady told.0)),
+          (Err c.in_err-size.field-0.0) told.1) no_more (IsGrownAtMost (none_open c.args.seen.now.rows)
+          (with_open c.args.seen.now.rows (intent_at c.args.uid.now c.args.start c.args.len)))
+          (same_grown g.F.FlatFile c.args.file.now (none_open c.args.seen.now.rows)
+          (with_open c.args.seen.now.rows (intent_at c.args.uid.now c.args.start c.args.len)) safe (c.requires.steady told.0)),
     )
 
 -- whether the line was appended or not
 kept : (g : _) (c : After-grow g) → g.F.FlatFile.sound c.grow.new.file
     → ((rows : List Row) → RowsStillLast g.F.FlatFile rows c.args.file.now c.grow.new.file)
-    × (IsSafeFile g.F.FlatFile c.args.file.now → (others : List Row)
-    → LeavesFile g.F.FlatFile c.grow.new.file (AreLeft c.args.seen.now.rows others))
+    × (IsSafeFile g.F.FlatFile c.args.file.now → LeavesFile g.F.FlatFile c.grow.new.file (IsGrownAtMost
+    (none_open c.args.seen.now.rows) (with_open c.args.seen.now.rows (intent_at c.args.uid.now c.args.start c.args.len))))
 kept g c sound =
     let before = (c.grow.ensures.saves sound).0 in
     let told = c.in_ok-size.ensures.size before in (
       λ rows last. c.grow.ensures.keeps sound rows (λ left may. last left (c.measure.ensures.keeps before left may)),
-      λ safe others. rows_left g.F.FlatFile c.grow.new.file _ others _ None _ c.deref.result.now (grows g c) (inl refl)
+      λ safe. part_grown g.F.FlatFile c.grow.new.file (none_open c.args.seen.now.rows)
+          (with_open c.args.seen.now.rows (intent_at c.args.uid.now c.args.start c.args.len)) c.deref.result.now (grows g c)
           (c.grow.ensures.leaves sound (c.in_ok-size.ensures.lasts before safe.0) (none_open c.args.seen.now.rows)
           (rw told.1.1 (c.requires.steady told.0))).0,
     )

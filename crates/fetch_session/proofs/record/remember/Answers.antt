@@ -1,9 +1,9 @@
-use Rattle.std.proofs.Common.{List, None, inl, inr, refl, sym, ap, subst}
+use Rattle.std.proofs.Common.{List, None, inl, sym, ap, subst}
 use Rattle.std.specs.Prelude.{OnOk}
 use Rattle.fetch_rules.specs.Record.{Row, Loaded, marked, none_open}
 use Rattle.fetch_rules.specs.RecordGrowth.{Updates}
 use Rattle.fetch_session.specs.Record.{Steady, record_state_in}
-use Rattle.fetch_session.proofs.SessionLemmas.{rows_left, same_left}
+use Rattle.fetch_session.proofs.SessionLemmas.{part_grown, same_grown}
 use Rattle.fetch_session.proofs.SceneLemmas.{saves_steady, mark_begun, and_so}
 use Rattle.fetch_session.proofs.record.remember.Goals.{After-grow}
 use Rattle.fetch_session.proofs.record.remember.Goals as goal
@@ -41,14 +41,17 @@ returns-clause-steady g c = λ kept. and_so (returns-clause-saves g c kept) (λ 
 
 pub returns-in_err-group-clause-keeps : goal.returns-in_err-group-clause-keeps
 returns-in_err-group-clause-keeps g c =
-    λ kept. (λ rows last. last, λ safe. same_left g.F.FlatFile c.args.file.now safe (c.requires.steady kept))
+    λ kept. (
+      λ rows last. last,
+      λ safe. same_grown g.F.FlatFile c.args.file.now (record_state_in c.args.seen.now)
+          (none_open (marked c.args.seen.now.rows c.args.uid.now)) safe (c.requires.steady kept),
+    )
 
 pub returns-clause-keeps : goal.returns-clause-keeps
-returns-clause-keeps g c = λ kept.
-    let was = c.args.seen.now.rows in
-    let rows = marked was c.args.uid.now in (
-      c.grow.ensures.keeps kept,
-      λ safe. rows_left g.F.FlatFile c.grow.new.file was rows rows c.args.seen.now.intent None c.deref.result.now
-          (inl (updates g (goal.at.returns-clause-keeps g c).After-grow)) (inr refl)
-          (c.grow.ensures.leaves kept safe (record_state_in c.args.seen.now) (c.requires.steady (c.grow.ensures.saves kept).0)).0,
-    )
+returns-clause-keeps g c = λ kept. (
+  c.grow.ensures.keeps kept,
+  λ safe. part_grown g.F.FlatFile c.grow.new.file (record_state_in c.args.seen.now)
+      (none_open (marked c.args.seen.now.rows c.args.uid.now)) c.deref.result.now
+      (inl (updates g (goal.at.returns-clause-keeps g c).After-grow))
+      (c.grow.ensures.leaves kept safe (record_state_in c.args.seen.now) (c.requires.steady (c.grow.ensures.saves kept).0)).0,
+)

@@ -1,4 +1,6 @@
-use Rattle.fetch_session.proofs.SessionLemmas.{cut_left, front_rows}
+use Rattle.std.proofs.Common.{◌∙◌}
+use Rattle.mail_store.proofs.DiskLemmas.{cuts_for_good}
+use Rattle.fetch_session.proofs.SessionLemmas.{front_rows}
 use Rattle.fetch_session.proofs.SceneLemmas.{taken_back, and_so}
 use Rattle.fetch_session.proofs.record.take_back.Goals as goal
 
@@ -11,6 +13,6 @@ returns-clause-keeps g c = λ kept rows till. front_rows g.F.FlatFile c.args.fil
     till c.cut_to.result (g.met.F.FlatFile.shown c.args.file.now) (c.cut_to.ensures.durable kept)
 
 pub returns-clause-leaves : goal.returns-clause-leaves
-returns-clause-leaves g c = λ kept safe rows others till.
-    cut_left g.F.FlatFile c.args.file.now c.cut_to.new.self rows c.args.size till c.cut_to.result
-    (g.met.F.FlatFile.shown c.args.file.now) (c.cut_to.ensures.durable kept) safe others
+returns-clause-leaves g c = λ kept safe was has left may. (cuts_for_good (g.F.FlatFile.disk c.args.file.now)
+    (g.F.FlatFile.disk c.cut_to.new.self) c.args.size c.cut_to.result (c.cut_to.ensures.durable kept)).leaves
+    (safe.1 was has).0 was (g.met.F.FlatFile.shown c.args.file.now ∙ has) left may

@@ -3,8 +3,7 @@ use Rattle.fetch_session.specs.declared.account.Store.TheVariants.{Maildir, Mbox
 use Rattle.fetch_session.specs.declared.account.Store.{Store}
 use Rattle.fetch_session.specs.Parts.{RunsTasks}
 use Rattle.fetch_session.specs.Task.{stores}
-use Rattle.fetch_session.proofs.SessionLemmas.{safe_store}
-use Rattle.fetch_session.proofs.PartLemmas.{on_err, runs_taking}
+use Rattle.fetch_session.proofs.PartLemmas.{runs_taking}
 use Rattle.fetch_session.proofs.SceneLemmas.{on_any}
 use Rattle.std.proofs.lemmas.Result.{on_ok_weaker}
 use Rattle.fetch_session.proofs.step.take.Goals as goal
@@ -21,7 +20,7 @@ returns-in-Maildir g c =
       (λ bytes has is. is, took.ensures.keeps f c.args.work.now.ledger.seen.rows),
       λ safe.
           let lasts = took.ensures.lasts d f safe.0 in
-          (on_ok_weaker took.result (λ all. (all, tt)) lasts.0, lasts.1),
+          (on_ok_weaker took.result (λ all. (all, tt)) lasts.0, λ s. lasts.1),
     )))
 
 pub returns-in-Mboxrd : goal.returns-in-Mboxrd
@@ -35,8 +34,7 @@ returns-in-Mboxrd g c =
     took.ensures.link took.ensures.ledger refl
     (λ d. (took.ensures.before d, record { none_begun = refl; came = inl refl }, on_any took.result tt)) took.ensures.takes (λ d f. (
       took.ensures.keeps d f,
-      λ safe. (
-        on_ok_weaker took.result (λ all. (all.1, safe_store g.F.FlatFile took.new.mbox all.0)) (took.ensures.lasts d f safe.1.0 safe.0),
-        on_err took.result tt,
-      ),
+      λ safe.
+          let lasts = took.ensures.lasts d f safe.1.0 safe.0 in
+          (on_ok_weaker took.result (λ all. (all.1, all.0)) lasts.0, lasts.1 safe.1),
     )))
