@@ -2,4 +2,5 @@ mod LineLemmas
 mod MeaningLemmas
 mod MergeLemmas
 mod PlanLemmas
+mod ReadLemmas
 mod RowLemmas

@@ -2,7 +2,8 @@ use Rattle.std.proofs.lemmas.Result.{err_from_is_err_and}
 use Rattle.fetch_rules.specs.RecordFile.{RowLine, IntentLine}
 use Rattle.fetch_rules.specs.Rows.{row_from}
 use Rattle.fetch_rules.specs.Lines.{open_seen, intent_seen}
-use Rattle.fetch_rules.proofs.MeaningLemmas.{seen_behind, Reads-none, Reads-row, Reads-group, Reads-intent, Reads-fails, Reads-group_fails}
+use Rattle.fetch_rules.proofs.ReadLemmas.{seen_behind, Reads-none, Reads-row, Reads-group, Reads-intent, Reads-fails}
+use Rattle.fetch_rules.proofs.ReadLemmas.{Reads-group_fails}
 use Rattle.fetch_rules.proofs.seen.row_map.RowMap.read_lines.Goals as goal
 use Rattle.fetch_rules.proofs.seen.row_map.RowMap.read_lines.Goals.{in-Row+in_ok-part-in-Row}
 use Rattle.fetch_rules.proofs.seen.row_map.RowMap.read_lines.Goals.{in-Group+in_ok-part-in-Group}

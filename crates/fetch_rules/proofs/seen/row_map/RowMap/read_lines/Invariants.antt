@@ -1,6 +1,6 @@
 use Rattle.std.proofs.Common.{length}
 use Rattle.fetch_rules.specs.Lines.{open_seen}
-use Rattle.fetch_rules.proofs.MeaningLemmas.{Reads}
+use Rattle.fetch_rules.proofs.ReadLemmas.{Reads}
 use Rattle.fetch_rules.proofs.seen.row_map.RowMap.read_lines.Given as goal
 
 abbrev pub invariant-loop-line : goal.invariant-loop-line
