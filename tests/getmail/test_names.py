@@ -201,9 +201,9 @@ class OldNames(Names):
         self.assertEqual(self.account.held(), sorted(MESSAGES))
 
     def test_other_fields_after_the_stem(self):
-        """A server may add fields of its own, and take a size away."""
+        """A server or a mail reader may add fields of its own, as mbsync does."""
         self.fetch()
-        self.rename(lambda part, name: ("cur", name.replace(",S=", ",W=9999,S=") + ":2,S"))
+        self.rename(lambda part, name: ("cur", name.replace(",S=", ",W=9999,S=") + ",U=5:2,S"))
         names = self.names()
         self.account.record.unlink()
         self.assertEqual(self.fetch(), ["QUIT"])
