@@ -120,6 +120,13 @@ impl<'a, R: Files + Clock + RandomSource + AllocGlobal + Clone + Drop> MaildirDr
         self.not_removed.as_slice()
     }
 
+    /// How many removals it was asked for.
+    pub fn removals(&self) -> u64
+        ensures { result ≡ self.now.removals }
+    {
+        self.removals
+    }
+
     /// The path of what was refused last, unless memory ran out.
     fn unread_at(&self, error: &io::Error) -> Option<String> {
         match self.system.refusals.take() {

@@ -4,3 +4,4 @@ pub mod Failures
 pub mod Password
 pub mod Rehearsal
 pub mod Start
+pub mod Visits

@@ -1,6 +1,7 @@
 //! Serves standard input and output, or TCP connections one after the other.
-ghost use Rattle.std.specs.Prelude.{◌≡◌, ◌⊎◌, true, None, IfOk, IfErr};
+ghost use Rattle.std.specs.Prelude.{◌≡◌, ◌⊎◌, true, IfOk, IfErr};
 ghost use Rattle.pop3_server.specs.ServerMachine.{is_open};
+ghost use Rattle.popd_program.specs.Visits.{removals_by};
 
 use crate::account::Account;
 use crate::failure::{Failure, failure_of, tell};
@@ -84,7 +85,7 @@ where
     R: Files + Clock + RandomSource + AllocGlobal + Eprint + Clone + Drop,
     I: Read + Drop,
     O: Write + Drop,
-    ensures { result.quit ≡ None → result.maildir.removals ≡ maildir.entry.removals }
+    ensures { result.maildir.removals ≡ removals_by result.quit maildir.entry.removals }
 {
     let mut telling = Telling {
         rt: system.rt,
@@ -124,7 +125,7 @@ fn serve_connection<'a, R>(
 ) -> Visit<'a, R>
 where
     R: Files + Clock + RandomSource + AllocGlobal + Eprint + Clone + Drop,
-    ensures { result.quit ≡ None → result.maildir.removals ≡ maildir.entry.removals }
+    ensures { result.maildir.removals ≡ removals_by result.quit maildir.entry.removals }
 {
     let (account, bounded, name) = match begin(system, stream, telling.peer, account) {
         Ok(connection) => connection,
@@ -163,7 +164,7 @@ fn serve_next<'a, R>(
 ) -> Visit<'a, R>
 where
     R: Files + Clock + RandomSource + AllocGlobal + Eprint + Clone + Drop,
-    ensures { result.quit ≡ None → result.maildir.removals ≡ maildir.entry.removals }
+    ensures { result.maildir.removals ≡ removals_by result.quit maildir.entry.removals }
 {
     let rt = system.rt;
     let (listener, address) = listener;
@@ -190,8 +191,8 @@ where
 }
 
 /// Serves connections to an address over the account's Maildir, one after the other, as many as the words say.
-/// A fault of one of them, or in accepting it, is reported, and the next one is served. Returns whether one
-/// came to QUIT, and the Maildir after all of them; nothing is removed unless one did.
+/// A fault of one of them, or in accepting it, is reported, and the next one is served. Returns the last one that
+/// came to QUIT, and the Maildir after all of them; nothing is removed unless one did, nor after it.
 pub fn listen<'a, 'b, R>(
     system: &System<'_, R>,
     address: &'a str,
@@ -204,7 +205,7 @@ where
     R: RandomSource + AllocGlobal + Eprint + Copy + Drop,
     ensures err { IfErr result (λ f. (f ≡ Failure.CannotListen address.entry)
         ⊎ (f ≡ Failure.Fault ServerFault.NoMemory)) }
-    ensures removals { IfOk result (λ left. left.0 ≡ None → left.1.removals ≡ maildir.entry.removals) }
+    ensures removals { IfOk result (λ left. left.1.removals ≡ removals_by left.0 maildir.entry.removals) }
 {
     let bound = TcpListener::bind(system.rt, address);
     let listener = match system.refusals.noted("bind", address, bound) {
@@ -219,7 +220,7 @@ where
     for _ in 0..words.connections {
         let next = (&listener, address);
         let visit = serve_next(system, next, words.verbose, account, left);
-        quit = quit.or(visit.quit);
+        quit = visit.quit.or(quit);
         left = visit.maildir;
     }
     Ok((quit, left))

@@ -1,7 +1,8 @@
 //! One session over an account's Maildir.
-ghost use Rattle.std.specs.Prelude.{◌≡◌, false, true, None, IsSome};
+ghost use Rattle.std.specs.Prelude.{◌≡◌, false, true, None, IfSome, IsSome};
 ghost use Rattle.pop3_server.specs.Quitting.{ReadsQuit};
 ghost use Rattle.pop3_wire.specs.Link.{WhereSound};
+ghost use Rattle.popd_program.specs.Visits.{removals_by};
 
 use crate::account::Account;
 use crate::warning::{Warning, warn};
@@ -12,10 +13,11 @@ use std::random::RandomSource;
 use std::rt::{Clock, Files};
 use trace::System;
 
-/// That a session came to QUIT. Nothing but `serve_account` makes one, and only after a line QUIT.
+/// That a session came to QUIT, and how many removals its Maildir was asked for by its end. Nothing but
+/// `serve_account` makes one, and only after a line QUIT.
 #[derive(Clone, Copy)]
 pub struct Quit {
-    made: (),
+    removals: u64,
 }
 
 /// What was served over a Maildir.
@@ -44,14 +46,15 @@ where
 }
 
 /// Whether a session came to QUIT, if its server is open or not after it.
-fn quit_of(is_open: bool) -> Option<Quit>
+fn quit_of(is_open: bool, removals: u64) -> Option<Quit>
     ensures some { IsSome result → is_open ≡ false }
+    ensures count { IfSome result (λ quit. quit.removals ≡ removals) }
     ensures none { result ≡ None → is_open ≡ true }
 {
     if is_open {
         return None;
     }
-    Some(Quit { made: () })
+    Some(Quit { removals })
 }
 
 /// Serves the account's Maildir over a link, and warns of what couldn't be read or removed. Nothing is removed
@@ -67,15 +70,16 @@ where
     R: Files + Clock + RandomSource + AllocGlobal + Eprint + Clone + Drop,
     J: Journal,
     W: Wire,
-    ensures removals { result.quit ≡ None → result.maildir.removals ≡ maildir.entry.removals }
+    ensures removals { result.maildir.removals ≡ removals_by result.quit maildir.entry.removals }
     ensures quit { WhereSound W.sound W.leads_to wire.old wire.new
         (IsSome result.quit → ReadsQuit (W.history wire.old) (W.history wire.new)) }
 {
     only_quit_closes::<MaildirDrop<'a, R>>();
     let mut server = account.into_server(system.alloc(), maildir);
     let served = serve_and_note(&mut server, wire, journal);
-    let quit = quit_of(server.is_open());
+    let is_open = server.is_open();
     let maildir = server.into_drop();
+    let quit = quit_of(is_open, maildir.removals());
     warn_of_maildir(system.rt, &maildir);
     Visit {
         served,
