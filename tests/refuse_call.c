@@ -5,7 +5,8 @@
 
    The kinds: `read-timeout` and `write-timeout`, a bound on the waits of a socket; `random`, random octets; `look`, a
    look at a file of a folder `new`, which fails by a fault of the device; `folder-flush`, the flush of a folder, as on a
-   file system that has none; `lock-none-left` and `lock-unsupported`, the lock of a file. */
+   file system that has none; `lock-none-left` and `lock-unsupported`, the lock of a file. With REFUSED_WHEN none is
+   refused before the file of that path is there. */
 
 #define _GNU_SOURCE
 #include <dlfcn.h>
@@ -20,8 +21,9 @@
 static int refuses(const char *kind)
 {
     const char *refused = getenv("REFUSED_CALL");
+    const char *when = getenv("REFUSED_WHEN");
 
-    return refused && !strcmp(refused, kind);
+    return refused && !strcmp(refused, kind) && (!when || access(when, F_OK) == 0);
 }
 
 static int is_in_new(const char *path)

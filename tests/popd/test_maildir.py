@@ -479,6 +479,22 @@ class Listings(unittest.TestCase):
                     self.assertEqual(client.log_in(), b"-ERR maildrop unavailable\r\n")
             self.assertEqual(service.finish(), (0, f'popd: warning: cannot read {path}\n'.encode() * 2))
 
+    def test_a_file_that_was_refused_earlier_is_not_named(self):
+        """The second listing is refused for want of random octets, which is no fault of any file."""
+        libraries = [self.enterContext(preload.library(name)) for name in ("meddle", "refuse_call")]
+        when = Path(self.maildir.holder.name) / "when"
+        meddling = variables({"refused": os.fsdecode(self.path), "when": when})
+        with Service(self.maildir, "--connections", "2", LD_PRELOAD=":".join(map(str, libraries)), REFUSED_CALL="random",
+                     REFUSED_WHEN=str(when), **meddling) as service:
+            with service.client() as client:
+                self.assertEqual(client.log_in(), b"+OK 2 messages\r\n")
+                when.touch()
+                self.assertEqual(client.ask(b"RETR 1"), b"-ERR message unavailable\r\n")
+                self.assertEqual(client.ask(b"QUIT"), b"+OK bye\r\n")
+            self.maildir.add("new", "c", b"")
+            with service.client() as client:
+                self.assertEqual(client.log_in(), b"-ERR maildrop unavailable\r\n")
+            self.assertEqual(service.finish(), (0, b""))
 
     def test_names_that_are_no_text_end_no_listing(self):
         for number in range(20):
