@@ -8,7 +8,8 @@ from getmail import terminal
 from getmail.account import Account
 from getmail.mbox_account import MboxAccount
 from getmail.server import Server
-from harness import preload, programs
+from getmail.shared_server import SharedServer
+from harness import growths, preload, programs
 from harness.kernel import LOOPBACK
 
 TWO = [(b"a", b"one\n"), (b"b", b"two\n")]
@@ -337,6 +338,23 @@ class Table(unittest.TestCase):
                 self.answers[command] = reply
                 self.check_told(fault, told)
                 del self.answers[command]
+
+    def test_a_message_without_an_end(self):
+        """What may help follows."""
+        self.answers["RETR 1"] = b"+OK\r\n" + b"a line\r\n" * ((1 << 25) + 1)
+        self.check_told("message too long", "268435456 octets hold no whole message, in the reply to RETR 1",
+                        "max_message_size passes such a message over")
+
+    def test_memory_that_runs_out(self):
+        """The first growth of memory that is refused to a session."""
+        with SharedServer(TWO) as server, Account(server.port) as account:
+            for refusal in growths.refusals():
+                run = account.run("-q", "--why", **refusal.environment())
+                server.wait_for_end()
+                if run.status == 1 and run.err.startswith(b"getmail: out of memory\n"):
+                    break
+        told = f"getmail: u@{LOOPBACK}:{server.port}: it ran out (before the greeting|in the reply to .+)"
+        self.assertRegex(run.err.decode(), f"^getmail: out of memory\n{told}\n$")
 
     def test_a_row_that_tells_of_the_password(self):
         """It is hidden like an answer."""
