@@ -8,7 +8,8 @@ reached: at most 1.5 of the plain program's processor time, and 8 MiB of memory 
 file 1.3 times the largest message in addition.
 
 Then polls of 20,000 known messages, none of them new: known by the record alone, or also held in the Maildir. To be
-reached: 30 ms of processor time, and no faster growth than n log n from 5,000 on.
+reached: 30 ms of processor time, and no faster growth than n log n from 5,000 on. And with 1,000,000 rows of other days in
+the record: 60 MiB.
 """
 
 import filecmp
@@ -41,6 +42,8 @@ MOST_TIMES_MESSAGE = 1.3
 FEW, MANY = 5_000, 20_000
 MANY_MESSAGES = 1_000
 MOST_POLL = 0.030
+OLD_ROWS = 1_000_000
+MOST_OLD_MEMORY = 60 * measure.MEBIBYTE
 SHAPES = (("2,000 of 2 KB", 2000, 2_000), ("20 of 5 MB", 20, 5_000_000), ("one of 100 MB", 1, 100_000_000))
 
 
@@ -218,6 +221,19 @@ def measure_polls(folder, name, is_held):
     return many <= MOST_POLL and many / few <= allowed
 
 
+def measure_old_rows(folder):
+    """A poll whose record has many rows of other days; prints the row, and answers whether it reached its mark."""
+    words = account_knowing(folder, Listings(MANY), MANY, False)
+    record, = (folder / "account").glob("seen-*")
+    with record.open("ab") as file:
+        file.writelines(b"old-%032d 1700000000 1\n" % number for number in range(OLD_ROWS))
+    costs = [measure.cost_of(words, wait=measure.watch) for _ in range(TURNS)]
+    memory = max(cost.memory for cost in costs)
+    measure.print_row(f"and {OLD_ROWS:,} rows of other days", f"{min(cost.processor for cost in costs) * 1000:.0f} ms", "",
+                      f"{memory / measure.MEBIBYTE:.1f} MiB")
+    return memory <= MOST_OLD_MEMORY
+
+
 def main():
     print(f"getmail from popd, best of {TURNS}; to be reached: processor time {MOST_RATIO} of the plain program's, memory "
           f"{MOST_MEMORY // measure.MEBIBYTE} MiB, into an mboxrd file and {MOST_TIMES_MESSAGE} of a message, "
@@ -232,6 +248,7 @@ def main():
         measure.print_head("known", "processor time", f"growth from {FEW:,}", "peak of memory")
         reached = [measure_polls(folder, known, is_held)
                    for known, is_held in (("by the record alone", False), ("and held in the Maildir", True))]
+        reached.append(measure_old_rows(folder))
         print(f"polls: {', '.join(map(measure.verdict, reached))}")
 
 

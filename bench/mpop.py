@@ -11,16 +11,16 @@ of others. To be reached: at most 1.3 times mpop's processor time and 6 MiB, and
 Then what both remember of 20,000 messages with ids of 16 octets, once `getmail` has fetched them and looked once more. To be
 reached: at most 36 octets a message.
 
-Then fetches of 2,000, 20,000 and 100,000 messages of 400 octets from `popd` into a Maildir in memory (the tmpfs at
-/dev/shm), where no disk's waits count. To be reached: at most 1.17 times mpop's processor time for 20,000
-and 1.24 times for 100,000. And the first poll after a fetch of 20,000 and of 100,000: at most 1.1 times.
+Then fetches of 2,000, 20,000 and 100,000 messages of 400 octets and of one of 100 MB from `popd` into a Maildir in memory
+(the tmpfs at /dev/shm), where no disk's waits count. To be reached: at most 1.1, 1.17, 1.24 and 0.37 times mpop's processor
+time, and for 100,000 1.2 times its memory. And the first poll after a fetch of 20,000 and of 100,000: at most 1.1 times.
 
 Each time is the least of its turns, and the first turn's stands beside it. Words choose parts: polls new record fetches
 first slow.
 
 Then a fetch where each flush takes 5 ms, as on a slow disk: a library made here and preloaded waits in `fsync` and
-`fdatasync`. To be reached: at most twice mpop's time by the clock. Last, if strace is installed, the calls of the system of a
-poll of 200 held messages and of one message more that is fetched, and how many of them are flushes.
+`fdatasync`. It has no mark: three flushes a message are the price of the promise. Last, if strace is installed, the calls of
+the system of a poll of 200 held messages and of one message more that is fetched, and how many of them are flushes.
 """
 
 import contextlib
@@ -46,18 +46,20 @@ TURNS = 5
 TURNS_OF_MANY = 3
 MANY = 100_000
 POLLS = (20_000, 100_000)
-FETCHES = {2_000: 1.1, 20_000: 1.17, 100_000: 1.24}
+OCTETS = 400
+GREAT = 100_000_000
+# So many messages of so many octets, and the mark of the processor time.
+FETCHES = {(2_000, OCTETS): 1.1, (20_000, OCTETS): 1.17, (MANY, OCTETS): 1.24, (1, GREAT): 0.37}
+MOST_FETCH_MEMORY = 1.2
 MOST_FIRST = 1.1
 MOST_NEW = 1.3
 # For so many messages known and so many files of others.
 MOST_NEW_MEMORY = {(20_000, 0): 6 * measure.MEBIBYTE, (20, 500_000): 4 * measure.MEBIBYTE}
-OCTETS = 400
 REMEMBERED = 20_000
 MOST_REMEMBERED = 36
 MOST_MEMORY = 1.0
 MOST_GROWTH = 1.1
 SLOWED = 200
-MOST_SLOWED = 2.0
 SLOW_FLUSHES = """\
 #include <unistd.h>
 int fsync(int descriptor) { (void)descriptor; return usleep(5000); }
@@ -223,9 +225,9 @@ def fresh_mpop(folder, port):
 
 
 @contextlib.contextmanager
-def fetchers(folder, count):
+def fetchers(folder, count, octets=OCTETS):
     """Serves `count` messages; for each program what gives the words of its first run."""
-    ours.make_served(folder, count, OCTETS)
+    ours.make_served(folder, count, octets)
     with ours.Service(folder) as service:
         yield lambda: ours.account_at(folder, service.port), lambda: fresh_mpop(folder, service.port)
 
@@ -233,13 +235,13 @@ def fetchers(folder, count):
 def measure_fetches(folder):
     """Fetches into a Maildir in memory; answers whether all marks were reached."""
     reached = []
-    for count, most in FETCHES.items():
-        with fetchers(folder, count) as both:
+    for (count, octets), most in FETCHES.items():
+        with fetchers(folder, count, octets) as both:
             costs = in_turns(*both, TURNS if count < MANY else TURNS_OF_MANY)
         if any(len(os.listdir(maildir / "new")) != count for maildir in (folder / "account" / "mail", folder / "mpop")):
             sys.exit(f"{count}: not all was fetched")
-        ratio, _ = print_costs(f"{count:,}", *costs)
-        reached.append(ratio <= most)
+        ratio, memory = print_costs(f"{count:,}" if octets < GREAT else f"{count} of {octets // 1_000_000} MB", *costs)
+        reached.append(ratio <= most and (count < MANY or memory <= MOST_FETCH_MEMORY))
     return all(reached)
 
 
@@ -267,12 +269,11 @@ def slow_flushes(folder):
 
 
 def measure_slow_flushes(folder):
-    """A fetch with slow flushes; answers whether the mark was reached."""
+    """A fetch with slow flushes, which has no mark."""
     with fetchers(folder, SLOWED) as both, slow_flushes(folder):
         costs = in_turns(*both, TURNS_OF_MANY)
     seconds, theirs = (min(cost.seconds for cost in each) for each in costs)
     measure.print_row(f"{SLOWED}", f"{seconds:.2f} s", f"{theirs:.2f} s", f"{seconds / theirs:.2f}")
-    return seconds <= MOST_SLOWED * theirs
 
 
 def calls_of(folder, words):
@@ -318,7 +319,9 @@ def main():
         for part in sys.argv[1:] or known:
             names, measured = known[part]
             measure.print_head(*names)
-            print(f"{part}: {measure.verdict(measured())}")
+            reached = measured()
+            if reached is not None:
+                print(f"{part}: {measure.verdict(reached)}")
         if not sys.argv[1:] and shutil.which("strace"):
             measure.print_head("session", "calls of the system", "flushes", "mpop's calls", "flushes")
             count_calls(Path(fast).resolve())
