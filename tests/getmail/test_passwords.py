@@ -100,6 +100,14 @@ class Passwords(unittest.TestCase):
         self.check_reason(b"STAT", b"-ERR words", b"-ERR words")
         self.check_reason(b"STAT", b"-ERR the " + PASSWORD, b"-ERR")
 
+    def test_a_row_of_a_listing(self):
+        """All of it is searched, though only its front would be shown."""
+        for count in (0, 300, 505, 600):
+            with self.subTest(count):
+                run = self.session(b"UIDL", b"+OK\r\n1 " + b"x" * count + PASSWORD + b"\r\n.", "--why")
+                told = b"getmail: listing not understood\ngetmail: u@%s:%d: the reply to UIDL has the row: *\n"
+                self.assertEqual(run.err, told % (LOOPBACK.encode(), self.server.port))
+
     def test_short_passwords(self):
         for password in (b"x", b"ab", b"Q-z"):
             self.give(password)

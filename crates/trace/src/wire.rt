@@ -5,7 +5,7 @@ ghost use Rattle.trace.specs.Line.{count_text, most_shown};
 ghost use Rattle.trace.specs.Masking.{is_login};
 ghost use Rattle.trace.specs.Wire.{AddsTraceLine, Counts, Hides, ShowsAnswer, ShowsPart};
 
-use crate::command::shown_command;
+use crate::command::{is_word, shown_command};
 use crate::line::{count_text, cut, write_line};
 use crate::masking::{Shown, is_login};
 use crate::talk::Talk;
@@ -27,6 +27,8 @@ struct Trace<'a, E> {
     password: Option<Vec<u8>>,
     /// Whether the last command was one for whose answer the password is searched row by row.
     to_login: bool,
+    /// Whether the last command was one whose answer has rows that are kept.
+    to_list: bool,
     /// How much has come of the body under way.
     lines: u64,
     octets: u64,
@@ -80,10 +82,13 @@ impl<'a, E: Write> Trace<'a, E> {
         self.octets = self.octets.saturating_add(octets as u64);
     }
 
-    /// Keeps a part of a body, if it is a row of a listing and there is a place for it.
+    /// Keeps a part of a body, if it is a row of a listing and there is a place for it. The password is searched in
+    /// all of a row, and in no part of a message.
     fn keep_row(&self, text: &[u8]) -> io::Result<()> {
         if let Some(talk) = self.talk {
-            talk.list(Shown::new(self.alloc, false, cut(text), self.password.as_deref())?);
+            if self.to_list {
+                talk.list(Shown::new(self.alloc, false, text, self.password.as_deref())?);
+            }
         }
         Ok(())
     }
@@ -96,6 +101,7 @@ impl<'a, E: Write> Trace<'a, E> {
         ensures same { self.new.password ≡ self.old.password }
     {
         self.to_login = is_login(command);
+        self.to_list = is_word(command, b"UIDL") || is_word(command, b"LIST");
         let command = cut(shown_command(command));
         if let Some(talk) = self.talk {
             talk.ask(command);
@@ -158,6 +164,7 @@ impl<'a, W: Wire, E: Write + Drop> TracedWire<'a, W, E> {
             talk,
             password,
             to_login: false,
+            to_list: false,
             lines: 0,
             octets: 0,
         });
