@@ -6,7 +6,7 @@ use Rattle.fetch_session.specs.Report.{is_deletion}
 use Rattle.fetch_session.specs.declared.report.ReportLine.{ReportLine}
 use Rattle.fetch_session.specs.declared.report.ReportLine.TheVariants.{Delivered, Held, Skipped, Deleted}
 use Rattle.getmail_program.specs.declared.teller.Teller.{Teller}
-use Rattle.getmail_program.specs.Teller.{EarlyLine, TellsEarly, Wrote, WroteMore, WroteText, early_text, wrote_then}
+use Rattle.getmail_program.specs.Teller.{EarlyLine, StaysClosed, TellsEarly, Wrote, WroteMore, WroteText, early_text, wrote_then}
 
 -- a first line, and then lines; nothing was kept before
 early_after : {O : Type 0} (contents : O → Option (List ℕ)) (settings : Settings) (first : List ℕ) (a b c : Teller O)
@@ -31,12 +31,13 @@ early contents settings a b c same none begun more = elim begun [
 
 -- a line, or nothing
 pub one_line : {O : Type 0} (contents : O → Option (List ℕ)) (a b : Teller O) (told : EarlyLine)
-    → WroteText contents (early_text a.verbose told) a b → WroteMore contents a b
-one_line contents a b told wrote = elim wrote [
-  | inl nothing ↦ record { lines = []; wrote = nothing }
+    → WroteText contents (early_text a.verbose told) a b → StaysClosed contents a b → WroteMore contents a b
+one_line contents a b told wrote closed = elim wrote [
+  | inl nothing ↦ record { lines = []; wrote = nothing; closed = closed }
   | inr whole ↦ record {
     lines = told ∷ [];
     wrote = subst (λ (text : List ℕ). Wrote contents text a b) (sym (append-nil (early_text a.verbose told))) whole;
+    closed = closed;
   }
 ]
 

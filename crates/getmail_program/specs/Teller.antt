@@ -1,5 +1,5 @@
 -- What is written of a report while its session runs: its first line, and lines of messages, but no line of a deletion.
-use Rattle.std.specs.Prelude.{◌≡◌, ◌⊎◌, ℕ, List, [], ◌∷◌, ◌++◌, Option, flat_map, if◌then◌else◌}
+use Rattle.std.specs.Prelude.{◌≡◌, ◌⊎◌, ℕ, false, List, [], ◌∷◌, ◌++◌, Option, flat_map, if◌then◌else◌}
 use Rattle.std.proofs.Common.{refl, sym, ap, ◌∙◌, append_assoc, append-nil, subst}
 use Rattle.std.proofs.KnownBytes.{Appends-nil, Appends-trans}
 use Rattle.std.proofs.lemmas.Grind.{flat_map-append}
@@ -47,10 +47,15 @@ pub record Wrote {O : Type 0} (contents : O → Option (List ℕ)) (more : List 
 abbrev pub WroteText : {O : Type 0} → (O → Option (List ℕ)) → List ℕ → Teller O → Teller O → Type 0
 WroteText contents text old new = Wrote contents [] old new ⊎ Wrote contents text old new
 
+-- if nothing more was to be written, nothing was, and nothing is
+abbrev pub StaysClosed : {O : Type 0} → (O → Option (List ℕ)) → Teller O → Teller O → Type 0
+StaysClosed contents old new = old.is_open ≡ false → (new.is_open ≡ false) × Wrote contents [] old new
+
 -- lines were written, none of which tells a deletion
 pub record WroteMore {O : Type 0} (contents : O → Option (List ℕ)) (old new : Teller O) : Type 0 where
   pub lines : List EarlyLine
   pub wrote : Wrote contents (flat_map (early_text old.verbose) lines) old new
+  pub closed : StaysClosed contents old new
 
 -- of a report that was written before its session's end: its first line, and lines of messages
 pub record TellsEarly {O : Type 0} (contents : O → Option (List ℕ)) (settings : Settings) (out : Output O)
@@ -95,7 +100,11 @@ wrote_then contents first second a b c p q = record {
 }
 
 pub wrote_nothing : {O : Type 0} (contents : O → Option (List ℕ)) (a : Teller O) → WroteMore contents a a
-wrote_nothing contents a = record { lines = []; wrote = wrote_none contents a }
+wrote_nothing contents a = record {
+  lines = [];
+  wrote = wrote_none contents a;
+  closed = λ closed. (closed, wrote_none contents a);
+}
 
 pub wrote_both : {O : Type 0} (contents : O → Option (List ℕ)) (a b c : Teller O) → b.verbose ≡ a.verbose
     → WroteMore contents a b
@@ -106,4 +115,8 @@ wrote_both contents a b c same p q = record {
       (sym (flat_map-append (early_text a.verbose) p.lines q.lines))
       (wrote_then contents _ _ a b c p.wrote
       (subst (λ (verbose : ℕ). Wrote contents (flat_map (early_text verbose) q.lines) b c) same q.wrote));
+  closed = λ closed.
+      let first = p.closed closed in
+      let second = q.closed first.0 in
+      (second.0, wrote_then contents [] [] a b c first.1 second.1);
 }

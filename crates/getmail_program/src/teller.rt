@@ -1,8 +1,9 @@
 //! The lines of a report that are written while its session runs.
-ghost use Rattle.std.specs.Prelude.{◌≡◌, ℕ, List, [], IfOk};
+ghost use Rattle.std.specs.Prelude.{◌≡◌, ℕ, false, true, List, [], IfOk};
+ghost use Rattle.fetch_session.specs.Report.{is_deletion};
 ghost use Rattle.std.specs.String.{string_bytes};
 ghost use Rattle.std.proofs.Common.{refl, ◌∙◌};
-ghost use Rattle.getmail_program.specs.Teller.{HasLast, HasSameLinks, WroteMore, WroteText, has_last, early_text};
+ghost use Rattle.getmail_program.specs.Teller.{HasLast, HasSameLinks, StaysClosed, WroteMore, WroteText, has_last, early_text};
 ghost use Rattle.getmail_program.specs.Teller.{wrote_both, wrote_nothing};
 
 use fetch_session::{Listener, MessagePreview, ReportLine, explained_line};
@@ -77,6 +78,7 @@ impl<'a, O: Write> Teller<'a, O> {
         ensures plan { HasLast [] self.old self.new }
         ensures wrote { (words : List ℕ) → IfOk text (λ made. string_bytes made ≡ words)
             → WroteText O.contents words self.old self.new }
+        ensures closed { StaysClosed O.contents self.old self.new }
     {
         if !self.is_open {
             return;
@@ -98,6 +100,8 @@ impl<'a, O: Write> Teller<'a, O> {
           plan = self.old.notes.now.plan.items;
           line = line.now;
         })) self.old self.new }
+        ensures closed { StaysClosed O.contents self.old self.new }
+        ensures ends { is_deletion line.now ≡ true → self.new.is_open ≡ false }
     {
         if let ReportLine::Deleted { .. } = line {
             self.is_open = false;
