@@ -1,10 +1,10 @@
 //! The lines of a report that are written while its session runs.
 ghost use Rattle.std.specs.Prelude.{◌≡◌, ℕ, false, true, List, [], IfOk};
-ghost use Rattle.fetch_session.specs.Report.{is_deletion};
 ghost use Rattle.std.specs.String.{string_bytes};
 ghost use Rattle.std.proofs.Common.{refl, ◌∙◌};
-ghost use Rattle.getmail_program.specs.Teller.{HasLast, HasSameLinks, StaysClosed, WroteMore, WroteText, has_last, early_text};
-ghost use Rattle.getmail_program.specs.Teller.{wrote_both, wrote_nothing};
+ghost use Rattle.fetch_session.specs.Report.{is_deletion};
+ghost use Rattle.getmail_program.specs.Teller.{HasLast, HasSameLinks, StaysClosed, WroteMore, WroteText};
+ghost use Rattle.getmail_program.specs.Teller.{early_text, has_last, wrote_both, wrote_nothing};
 
 use fetch_session::{Listener, MessagePreview, ReportLine, explained_line};
 use getmail_setup::Output;
