@@ -3,11 +3,11 @@
        cc -O1 -shared -fPIC -o refuse_step.so refuse_step.c -ldl
        STEP_BELOW=/home/fred STEP_NOTE=note STEP_REFUSED=7 STEP_EFFECT=half LD_PRELOAD=./refuse_step.so PROGRAM ..
 
-   The steps are open, openat, statx, lseek, read, write, fsync, ftruncate, rename and unlink of a file or a folder below
-   that one, and connect, send and recv. Each adds a line to the file `note`: its word and what it is for. The seventh,
-   here, is answered -1 with EIO, and its line begins with `refused`. Its effect is `none`, `whole`, `half`, the first
-   half of the bytes for a write or a send and nothing for any other step, or `zero`: a write is answered 0. With STEP_LATER set all later steps
-   are refused too, with no effect. Without STEP_REFUSED none is refused. */
+   The steps are open, openat, stat, lstat, fstat, lseek, read, write, fsync, ftruncate, rename and unlink of a file or a
+   folder below that one, and connect, send and recv. Each adds a line to the file `note`: its word and what it is for.
+   The seventh, here, is answered -1 with EIO, and its line begins with `refused`. Its effect is `none`, `whole`, `half`,
+   the first half of the bytes for a write or a send and nothing for any other step, or `zero`: a write is answered 0.
+   With STEP_LATER set all later steps are refused too, with no effect. Without STEP_REFUSED none is refused. */
 
 #include "note.h"
 #include <stdarg.h>
@@ -113,7 +113,8 @@ int openat(int folder, const char *path, int flags, ...)
 int statx(int folder, const char *path, int flags, unsigned int mask, struct statx *found)
 {
     NEXT(statx);
-    enum effect effect = *path ? (is_below(path) ? taken("statx", path) : DONE) : taken_of("statx", folder);
+    const char *word = flags & AT_SYMLINK_NOFOLLOW ? "lstat" : "stat";
+    enum effect effect = *path ? (is_below(path) ? taken(word, path) : DONE) : taken_of("fstat", folder);
 
     return effect == DONE ? next(folder, path, flags, mask, found) : refused();
 }

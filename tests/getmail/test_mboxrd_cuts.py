@@ -152,7 +152,7 @@ class RefusedSteps(Shared):
 
     def test_the_steps_are_seen(self):
         words = collections.Counter(line.split("\t")[0] for line in self.steps("-d"))
-        for word in ("open", "read", "write", "fsync", "rename", "lseek", "statx", "send", "recv", "connect"):
+        for word in ("open", "read", "write", "fsync", "rename", "lseek", "stat", "lstat", "fstat", "send", "recv", "connect"):
             self.assertIn(word, words)
 
     def check_each_step(self, effect, later, *words, begun=b"", messages=THREE):

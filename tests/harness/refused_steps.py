@@ -7,7 +7,7 @@ from pathlib import Path
 from harness import preload
 
 # What a trace calls a step that has another name there; a rename is told by the old name and then the new one.
-NAMES = {"openat": "open", "statx": "[fl]?stat", "recv": "read", "send": "write", "rename": "rename /.*/tmp/[^/ ]+ to"}
+NAMES = {"openat": "open", "recv": "read", "send": "write", "rename": "rename /.*/tmp/[^/ ]+ to"}
 
 
 def check_each_is_traced(test, run, first=1, link=""):
