@@ -4,9 +4,9 @@
        REFUSED_CALL=read-timeout LD_PRELOAD=./refuse_call.so PROGRAM ..
 
    The kinds: `read-timeout` and `write-timeout`, a bound on the waits of a socket; `random`, random octets; `look`, a
-   look at a file of a folder `new`, which fails by a fault of the device; `folder-flush`, the flush of a folder, as on a
-   file system that has none; `lock-none-left` and `lock-unsupported`, the lock of a file. With REFUSED_WHEN none is
-   refused before the file of that path is there. */
+   look at a file of a folder `new`, which fails by a fault of the device; `told`, a look at a file `told-..`, for want of
+   memory; `folder-flush`, the flush of a folder, as on a file system that has none; `lock-none-left` and
+   `lock-unsupported`, the lock of a file. With REFUSED_WHEN none is refused before the file of that path is there. */
 
 #define _GNU_SOURCE
 #include <dlfcn.h>
@@ -83,8 +83,8 @@ int statx(int folder, const char *path, int flags, unsigned int mask, struct sta
 {
     int (*next)(int, const char *, int, unsigned int, struct statx *) = dlsym(RTLD_NEXT, "statx");
 
-    if (refuses("look") && is_in_new(path)) {
-        errno = EIO;
+    if ((refuses("look") && is_in_new(path)) || (refuses("told") && strstr(path, "/told-"))) {
+        errno = refuses("look") ? EIO : ENOMEM;
         return -1;
     }
     return next(folder, path, flags, mask, found);

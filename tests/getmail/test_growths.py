@@ -120,6 +120,20 @@ class FetchedTexts(unittest.TestCase):
             self.assertLessEqual(abs(short[end] - long[end]), 2, end)
 
 
+class LeftOut(unittest.TestCase):
+    def test_each_refused_growth(self):
+        """With reasons a run says what it leaves out, or that memory ran out."""
+        with Server([(b"a", b"a long message\n")]) as server, Account(server.port, "max_message_size = 5\n") as account:
+            thread = server.begin_session()
+            for refusal in growths.refusals():
+                if not thread.is_alive():
+                    thread = server.begin_session()
+                run = account.run("-q", "--why", **refusal.environment())
+                self.assertNotEqual(run.err, b"", f"growth {refusal.number} refused")
+                if run.status != 2:
+                    thread.join(programs.SECONDS)
+
+
 class CompletedSessions(unittest.TestCase):
     """After a run with a refused growth the next one, with nothing refused, leaves each message once."""
 
