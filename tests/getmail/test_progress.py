@@ -95,6 +95,8 @@ class Progress(unittest.TestCase):
         self.assertEqual([row for row in rows if row],
                          [b"listed %d of 2500 messages" % number for number in (0, 500, 1000, 1500, 2000, 2500)])
         self.assertEqual((status, screen_of(shown)), (0, [b""]))
+        status, _, shown = self.run_on_terminal("--pretend", octets=20_000, both=True)
+        self.assertEqual((status, screen_of(shown)[0][:20]), (1, b"SimplePOP3Retriever:"))
 
     def test_the_line_stays_if_the_run_is_killed(self):
         """It says how far the run was."""

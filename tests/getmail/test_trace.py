@@ -139,9 +139,11 @@ class Session(unittest.TestCase):
 
     def test_a_missing_folder(self):
         shutil.rmtree(self.account.maildir / "new")
-        run = self.session("--trace")
-        self.assertEqual((run.status, lines_of(run)[-1]), (1, "getmail: destination missing"))
-        self.assertIn(f"trace: open {self.account.maildir}/new: {NO_MEMBER}", lines_of(run))
+        run = self.session("--trace", "--why")
+        *lines, fault, reason = lines_of(run)
+        self.assertEqual((run.status, fault), (1, "getmail: destination missing"))
+        self.assertRegex(reason, f"{self.account.maildir}/new.*: {NO_MEMBER}$")
+        self.assertIn(f"trace: open {self.account.maildir}/new: {NO_MEMBER}", lines)
 
     def test_an_rc_file_that_is_not_there(self):
         os.remove(self.account.rcfile)

@@ -160,8 +160,15 @@ class BeforeSessions(unittest.TestCase):
     def test_a_connection_that_is_refused(self):
         self.check_told(1, f"cannot connect to {LOOPBACK}:1", f"u@{LOOPBACK}:1: {LOOPBACK}:1: Connection refused")
 
+    def test_a_name_that_has_no_address(self):
+        with Account(110, server="a..b") as self.account:
+            first, second = self.account.run("--why").err.decode().splitlines()
+        self.assertEqual(first, "getmail: cannot connect to a..b:110")
+        self.assertRegex(second, r"^getmail: u@a\.\.b:110: a\.\.b: .")
+
     def test_an_rc_file_that_is_not_there(self):
-        self.check_told(2, "cannot read rc file", f"{self.account.folder}/none: {NO_MEMBER}", words=("-r", "none"))
+        for name, shown in ("none", "none"), ("\x1b[2J", "\\x1b[2J"):
+            self.check_told(2, "cannot read rc file", f"{self.account.folder}/{shown}: {NO_MEMBER}", words=("-r", name))
 
     def test_a_rehearsal_whose_output_cannot_be_written(self):
         with open("/dev/full", "wb") as full:
@@ -239,6 +246,9 @@ class BeforeSessions(unittest.TestCase):
         self.account.rcfile.rename(self.account.folder / "rc\nfile")
         run = self.account.run("--why", "-r", "rc\nfile")
         self.assertIn(b"/rc\\x0afile\n", run.err)
+        (self.account.folder / "rc\nfile").chmod(0o600)
+        self.account.rcfile.symlink_to("rc\nfile")
+        self.assertNotIn(b"warning", self.account.run("--why").err)
 
 
 class Table(unittest.TestCase):
