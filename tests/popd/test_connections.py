@@ -230,6 +230,25 @@ class Waits(OverLoopback):
                 self.check_next_client(service, b"popd: read failed\n", b"popd: write failed\n")
                 self.check_asked()
 
+    def test_a_client_that_never_pauses_and_does_not_log_in(self):
+        """It has a minute too, which isn't enough for all that it says."""
+        lines, answers = 1_000_000, 0
+
+        def talk():
+            with contextlib.suppress(ConnectionError):
+                client.give(b"NOOP\r\n" * lines)
+
+        with self.service() as service:
+            with service.client() as client:
+                talker = threading.Thread(target=talk)
+                talker.start()
+                with contextlib.suppress(ConnectionError):
+                    while piece := client.socket.recv(65_536):
+                        answers += piece.count(b"\n")
+                talker.join(programs.SECONDS)
+            self.assertLess(answers, lines)
+            self.check_next_client(service, b"popd: read failed\n", b"popd: write failed\n")
+
     def test_a_client_that_is_logged_in_has_its_time(self):
         """It stays for longer than a minute, and waits for four each time."""
         with self.service() as service:

@@ -107,6 +107,12 @@ class Words(unittest.TestCase):
         (self.maildir.folder / "cur").rmdir()
         self.check_warning([f"{folder} has no folder new", f"{folder} has no folder cur"])
 
+    def test_links_to_a_folder_and_to_the_password_file(self):
+        for path in self.maildir.folder / "cur", self.maildir.passfile:
+            path.rename(f"{path}-elsewhere")
+            path.symlink_to(f"{path}-elsewhere")
+        self.check_warning([])
+
     def test_a_path_with_control_characters(self):
         """A warning shows them escaped, so that it stays one line and no terminal obeys it."""
         self.served[2] = str(self.maildir.folder) + "/no\n\x1b[2J"
@@ -145,8 +151,9 @@ class Words(unittest.TestCase):
                                      told(f"cannot listen on {address}"))
 
     def test_no_connection_at_all(self):
-        run = self.run_popd("--listen", f"{LOOPBACK}:0", "--connections", "0", *self.served)
-        self.assertEqual(run, programs.SILENT)
+        words = ("--listen", f"{LOOPBACK}:0", "--connections", "0", *self.served)
+        self.assertEqual(self.run_popd(*words), programs.SILENT)
+        self.assertRegex(self.run_popd("--verbose", *words).err.decode(), rf"^popd: listening on {LOOPBACK}:[1-9]\d*\n$")
 
     def test_words_without_effect(self):
         for words in (["--rehearse"], ["--rehearse", "--rehearse"], ["--rehearse", "--listen", "nonsense"],
