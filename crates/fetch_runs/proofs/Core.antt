@@ -337,6 +337,9 @@ module _ {settings : Settings} {rows : List Row} {drop' : List Message} {effect 
   pub wanted_ids : (n : ℕ) → ids_wanted (take n (wanted settings rows effect.listing)) ≡ message_ids (take n ws)
   wanted_ids n = rw (wanted_is, ← wants_snd settings rows drop') (simp (take-map, map-map))
 
+  pub length_is : length (wanted settings rows effect.listing) ≡ length ws
+  length_is = rw (wanted_is, length-map, ← wants_snd settings rows drop', length-map) refl
+
   -- ---- what an uncut session leaves out
 
   -- each message is among what was fetched, or is recorded, or too large, or past the limit on the number
@@ -347,9 +350,6 @@ module _ {settings : Settings} {rows : List Row} {drop' : List Message} {effect 
     abbrev Out : Message → Type 0
     Out m = (has_id (message_ids (take n ws)) m.uid ≡ true) ⊎ (is_delivered rows m.uid ≡ true)
         ⊎ (is_within settings.max_size m.size ≡ false) ⊎ IsPastCount settings is_known drop' retrieved m
-
-    length_is : length (wanted settings rows effect.listing) ≡ length ws
-    length_is = rw (wanted_is, length-map, ← wants_snd settings rows drop', length-map) refl
 
     all_fetched : take n ws ≡ ws
     all_fetched = take_all n ws (omega (arith, l, length_is))

@@ -4,7 +4,7 @@ use Rattle.std.proofs.Common.{[], ◌∷◌, ◌++◌, true, false, refl, sym, �
 use Rattle.std.specs.Prelude.{bytes_eq, ◌↔◌}
 use Rattle.std.specs.List.{AllByRecursion, count_by, filter}
 use Rattle.std.proofs.lemmas.Bool.{both_ways, false_from_ne_true, or_left, or_right, or_parts}
-use Rattle.std.proofs.lemmas.List.{append-nil, map-append}
+use Rattle.std.proofs.lemmas.List.{append-nil, map-append, take_all}
 use Rattle.std.proofs.Math.Bool.{or-false, or_assoc}
 use Rattle.std.proofs.Math.Logic.{⊎_elim, ⊎_map}
 use Rattle.mail_terms.specs.UniqueId.{has_id}
@@ -26,7 +26,7 @@ use Rattle.fetch_runs.specs.Promises.{HoldsEntries, IsMboxFront, MboxPromises, M
 use Rattle.fetch_runs.proofs.Promised.{sends_such}
 use Rattle.fetch_runs.proofs.Core.{BeginsWith, next_in, added, added_begins, prefix_after, all_added, parts_apart, IsNumbered, num_item}
 use Rattle.fetch_runs.proofs.Core.{Fetch, all_wanted, distinct_wanted, wanted_is, taken_is, texts_are, wanted_ids, none_recorded, left_out}
-use Rattle.fetch_runs.proofs.Core.{qs, wants, wants_placed, has_listed, mbox_fetched}
+use Rattle.fetch_runs.proofs.Core.{qs, wants, wants_placed, has_listed, length_is, mbox_fetched}
 use Rattle.fetch_runs.proofs.Lists.{all_ids_at, distinct_filter, filter_all, other_id, bytes_self, Distinct}
 use Rattle.fetch_runs.proofs.Lists.{distinct_is, are_distinct, all_map, all_take, all_append, all_back, all_mapped}
 use Rattle.fetch_runs.proofs.Lists.{members, ids_both, bytes_swap, delivered_unheld, delivered_one, delivered_all}
@@ -294,9 +294,6 @@ module _ (base : Base) where
       pub known : (id : List ℕ) → is_delivered rows id ≡ is_entered base was id
       known id = delivered_unheld laws account.rows did.listing did.now id ∙ origin.1.recorded id
 
-      entered_known : (id : List ℕ) → is_entered base done id ≡ true → is_delivered rows id ≡ true
-      entered_known id entered = known id ∙ in_more done origin.0 id ∙ or_left _ _ entered
-
       fresh : (n : ℕ) → AllByRecursion (λ (m : Message). is_entered base was m.uid ≡ false) (new n)
       fresh n = all_take _ n _ (all_map _ (none_recorded fetch only_new) (λ m k. sym (known m.uid) ∙ k))
 
@@ -400,8 +397,15 @@ module _ (base : Base) where
       promises_after ended sends retrieves vanished = record {
         closed = λ uncut. (s.ended (ended.1 uncut)).1;
         whole = λ uncut. ends_whole (was ++ new s.stored) now holds_after (s.ended (ended.1 uncut)).1;
+        found = origin.0;
+        fetched = λ uncut. let all = (s.ended (ended.1 uncut)).0 in (
+          new s.stored,
+          refl,
+          ap length (take_all s.stored (wants v.settings rows v.maildrop) (omega (arith, all, length_is fetch)))
+              ∙ sym (length_is fetch) ∙ sym (all_retrieved (ended.1 uncut) uncut),
+        );
         left_out = λ uncut. all_map _
-            (left_out fetch (is_entered base done) (all_map _ (members v.maildrop) (λ m _. entered_known m.uid))
+            (left_out fetch (is_entered base was) (all_map _ (members v.maildrop) (λ m _ entered. known m.uid ∙ entered))
             s.stored v.report.retrieved (let all = (s.ended (ended.1 uncut)).0 in omega (arith, all))
             (all_retrieved (ended.1 uncut) uncut)) (λ m out. elim out [
               | inl got ↦ inl (in_more was (new s.stored) m.uid ∙ or_right _ _ got)
@@ -506,6 +510,8 @@ module _ (base : Base) where
               record {
                 closed = λ uncut. absurd (both_ways effect.ended left.ended (session.ended.1 uncut));
                 whole = λ uncut. absurd (both_ways effect.ended left.ended (session.ended.1 uncut));
+                found = [];
+                fetched = λ uncut. absurd (both_ways effect.ended left.ended (session.ended.1 uncut));
                 left_out = λ uncut. absurd (both_ways effect.ended left.ended (session.ended.1 uncut));
                 deletes = sends_such (λ id. is_entered base done id ≡ true) v.maildrop effect (inr left.begun)
                     (rw left.begun tt) session.sends;

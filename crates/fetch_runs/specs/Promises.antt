@@ -208,13 +208,17 @@ pub record IsMboxFront (base : Base) {done : List Message} {account : MboxMail} 
   pub next : (o : IsOpenFor base (base.start ++ entries_of done) account) → holds.stands ≡ inr o
       → (more : List Message) × (rest ≡ o.next ∷ more)
 
--- after an uncut session no intent is open, and the file ends after a whole entry. Each DELE, the last perhaps in part,
--- and what QUIT removes is of a message that has its whole entry at the end, or was recorded before the first session
+-- after an uncut session no intent is open, and the file ends after a whole entry; of its new entries those that it
+-- found whole come first. Each DELE, the last perhaps in part, and what QUIT removes is of a message that has its whole
+-- entry at the end, or was recorded before the first session
 pub record MboxPromises {W S F : Type 0} (base : Base) (before done : List Message) (call : Call W S F)
     (sent : List ℕ) (after : MboxMail) : Type 0 where
   pub closed : call.report.outcome ≡ Ended → after.intent ≡ None
   pub whole : call.report.outcome ≡ Ended → after.file ≡ base.start ++ entries_of done
-  pub left_out : LeavesOut call (is_entered base before) (λ id. is_entered base done id ≡ true)
+  pub found : List Message
+  pub fetched : call.report.outcome ≡ Ended → (texts : List Message) × (done ≡ (before ++ found) ++ texts)
+      × (length texts ≡ call.report.retrieved)
+  pub left_out : LeavesOut call (is_entered base (before ++ found)) (λ id. is_entered base done id ≡ true)
   pub deletes : SendsOnly (DeletesOneOf call.maildrop (λ id. is_entered base done id ≡ true)) sent
   pub retrieved : call.report.outcome ≡ Ended → call.report.retrieved ≡ count_by is_retr deletes.commands
   pub vanished : AllByRecursion (λ id. is_entered base done id ≡ true) call.vanished
