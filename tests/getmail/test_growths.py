@@ -11,6 +11,9 @@ from harness import growths, programs
 # If there is no memory for the command line's words, the program has not begun to rehearse.
 NO_WORDS = programs.Run(2, b"", b"getmail: out of memory\n")
 
+# Nobody listens there.
+CLOSED_PORT = 1
+
 # The faults of a session whose store or record refused a call, since its own growth was refused.
 STORE_REFUSED, RECORD_REFUSED = 11, 12
 
@@ -118,6 +121,15 @@ class FetchedTexts(unittest.TestCase):
         # doubling would have ten more.
         for end in short:
             self.assertLessEqual(abs(short[end] - long[end]), 2, end)
+
+
+class Unattended(unittest.TestCase):
+    def test_each_refused_growth(self):
+        """A first run that fails says why, or that memory ran out."""
+        for refusal in growths.refusals():
+            with Account(CLOSED_PORT) as account:
+                run = account.run("--unattended", **refusal.environment())
+                self.assertNotEqual(run.err, b"", f"growth {refusal.number} refused")
 
 
 class LeftOut(unittest.TestCase):

@@ -2,7 +2,7 @@
 use crate::devices::seconds_now;
 use crate::news_file::{keep_at, memory_at};
 use folder_store::ProcessMark;
-use getmail_setup::{Journal, Output, Part, Subject, Words, home, told_path};
+use getmail_setup::{Journal, OUT_OF_MEMORY, Output, Part, Subject, Words, home, told_path};
 use httpdate::{HttpDate, fmt_http_date};
 use mail_store::account_id;
 use run_memory::{
@@ -161,6 +161,14 @@ fn tell_all(journal: &Journal, err: &mut Output<impl Write>) {
     for part in &journal.take() {
         err.put(&part.text);
     }
+    tell_lack(journal, err);
+}
+
+/// Tells that memory ran out for what a run said, if it did.
+fn tell_lack(journal: &Journal, err: &mut Output<impl Write>) {
+    if journal.lacks_memory() {
+        err.put(OUT_OF_MEMORY.as_bytes());
+    }
 }
 
 /// Tells what is new of what a run said. What there is no memory for is told.
@@ -177,6 +185,7 @@ fn news_of(journal: &Journal, news: &mut News, err: &mut Output<impl Write>) {
         let _ = news.end();
     }
     err.put(&news.text);
+    tell_lack(journal, err);
 }
 
 /// Tells what no earlier run told of what this one said, and keeps that in a file, unless it couldn't be written:

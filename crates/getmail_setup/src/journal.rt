@@ -32,6 +32,7 @@ pub struct Journal {
     place: Cell<Vec<u8>>,
     parts: Cell<Vec<Part>>,
     has_ended: Cell<bool>,
+    lacks_memory: Cell<bool>,
 }
 
 impl Journal {
@@ -43,6 +44,7 @@ impl Journal {
             place: Cell::new(Vec::new(alloc)),
             parts: Cell::new(Vec::new(alloc)),
             has_ended: Cell::new(false),
+            lacks_memory: Cell::new(false),
         }
     }
 
@@ -51,6 +53,9 @@ impl Journal {
         let mut begun = self.begun.replace(Vec::new(self.alloc));
         let added = begun.extend_from_slice(octets);
         self.begun.set(begun);
+        if added.is_err() {
+            self.lacks_memory.set(true);
+        }
         added
     }
 
@@ -69,11 +74,14 @@ impl Journal {
             return;
         }
         let mut parts = self.parts.replace(Vec::new(self.alloc));
-        let _ = parts.push(Part {
+        let kept = parts.push(Part {
             subject,
             text,
             place,
         });
+        if kept.is_err() {
+            self.lacks_memory.set(true);
+        }
         self.parts.set(parts);
     }
 
@@ -85,6 +93,11 @@ impl Journal {
     /// Whether the run came to its end.
     pub fn has_ended(&self) -> bool {
         self.has_ended.get()
+    }
+
+    /// Whether there was no memory for a part of what was said.
+    pub fn lacks_memory(&self) -> bool {
+        self.lacks_memory.get()
     }
 
     /// What was said. It is taken out.
