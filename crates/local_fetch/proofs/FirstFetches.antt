@@ -13,10 +13,14 @@ use Rattle.pop3_wire.specs.declared.wire.Wire.{Ghosts as WireGhosts}
 use Rattle.pop3_server.specs.declared.maildrop.Maildrop.{Ghosts as DropGhosts}
 use Rattle.pop3_server.specs.LoopLink.{Loop}
 use Rattle.fetch_runs.specs.Accounts.{AccountMail, copies}
-use Rattle.fetch_runs.specs.Promises.{IsSafe, Mail, state_with}
+use Rattle.fetch_runs.specs.Promises.{DeletesOneOf, IsSafe, Mail, MboxStarts, state_with}
+use Rattle.fetch_runs.proofs.Lists.{all_back}
+use Rattle.pop3_wire.specs.declared.command.Command.{Command}
+use Rattle.pop3_wire.specs.declared.command.Command.TheVariants.{Dele}
 use Rattle.fetch_runs.specs.Calls.{Called, EmptyAccountsAreKept, with_left}
 use Rattle.local_fetch.specs.Fetches.{FetchesKeepPromises, FirstFetchesKeepMail, nothing_yet, shown_by}
-use Rattle.local_fetch.proofs.FetchLemmas.{from_nothing}
+use Rattle.local_fetch.specs.Fetches.{MboxFetchesKeepPromises, MboxFirstFetchesKeepMail}
+use Rattle.local_fetch.proofs.FetchLemmas.{from_nothing, mbox_from_nothing}
 
 -- of no files none is left
 none_left : (gone left : List File) → IsWithout [] gone left → left ≡ []
@@ -54,6 +58,13 @@ all_by : {P Q : List ℕ → Type 0} → ((id : List ℕ) → P id → Q id) →
 all_by by [] more ps = tt
 all_by by (id ∷ ids) more (p, ps) = (by id p, all_by by ids more ps)
 
+-- what a DELE that was sent asks for
+its_message : (messages : List Message) (Is : List ℕ → Type 0) (commands front behind : List Command) (number : ℕ)
+    → commands ≡ front ++ Dele number ∷ behind → AllByRecursion (DeletesOneOf messages Is) commands
+    → DeletesOneOf messages Is (Dele number)
+its_message messages Is commands front behind number is all =
+    (all_back (DeletesOneOf messages Is) front (Dele number ∷ behind) (rw is at all)).0
+
 no_longer : (p : Message → Bool) {n : ℕ} (ms : List Message) → n ≤ length (filter p ms) → n ≤ length ms
 no_longer p ms most = omega (arith, most, length-filter p ms, count_by-le-length p ms)
 
@@ -71,27 +82,59 @@ keep_mail link disk file drop empty law mail devices fetch no_file no_record acc
       vanished,
       removed,
       rw (← shows'.maildir) (all_by safe_held vanished [] kept'.gone),
+      promised.sent,
+      promised.sent_is,
+      record {
+        commands = promised.promises.deletes.commands;
+        asked = promised.promises.deletes.asked;
+        deletes = λ front behind number is.
+            let (_, m, at, safe) = its_message _ _ _ front behind number is promised.promises.deletes.each in
+            (m, at, rw (← shows'.maildir) (safe_held m.uid safe));
+        retrieved = promised.promises.retrieved;
+      },
+      λ ended no_size. each (λ m of p. elim p [
+        | inl safe ↦
+            let is_there = safe_held m.uid safe in
+            elim (kept'.holds m.uid of.legal) [
+              | inl none ↦ absurd (true≢false (sym is_there
+                  ∙ no_copies (stem_of mail.account m.uid) promised.after.maildir.files none))
+              | inr one ↦ inl (rw (← shows'.maildir, of.text) one)
+            ]
+        | inr (inl large) ↦ absurd (true≢false (rw no_size at large))
+        | inr (inr past) ↦ inr (past.front, past.behind, past.place, past.limit, no_longer _ past.front past.before, past.full)
+      ]) (shown_by drop fetch.server) is.maildrop.each (promised.promises.left_out ended),
+    )
+
+-- ---- with an mboxrd file
+
+pub keep_entries : {M D F : Type 0} (link : WireGhosts (Loop M)) (disk : DiskGhosts D) (file : FileGhosts F) (drop : DropGhosts M)
+    → MboxStarts → MboxFetchesKeepPromises link disk file drop → MboxFirstFetchesKeepMail link disk file drop
+keep_entries link disk file drop starts law text_of devices fetch no_record only_new is =
+    let (_, _, then) = mbox_from_nothing link disk file drop starts law text_of devices (Called fetch ∷ []) no_record in
+    let (vanished, removed, _, sent, after, sent_is, shows, appends, _) = then only_new is in
+    let done : List Message = appends.more in
+    let kept = appends.promises in (
+      vanished,
+      removed,
+      done,
+      kept.vanished,
+      sent,
+      sent_is,
+      record {
+        commands = kept.deletes.commands;
+        asked = kept.deletes.asked;
+        deletes = λ front behind number is.
+            let (_, m, at, entered) = its_message _ _ _ front behind number is kept.deletes.each in
+            (m, at, entered);
+        retrieved = kept.retrieved;
+      },
       λ ended. (
-        (
-          promised.sent,
-          promised.sent_is,
-          (
-            promised.promises.deletes.commands,
-            promised.promises.deletes.asked,
-            promised.promises.retrieved ended,
-          ),
-        ),
-        λ no_size.
-            each (λ m of p. elim p [
-              | inl safe ↦
-                  let is_there = safe_held m.uid safe in
-                  elim (kept'.holds m.uid of.legal) [
-                    | inl none ↦ absurd (true≢false (sym is_there
-                        ∙ no_copies (stem_of mail.account m.uid) promised.after.maildir.files none))
-                    | inr one ↦ inl (rw (← shows'.maildir, of.text) one)
-                  ]
-              | inr (inl large) ↦ absurd (true≢false (rw no_size at large))
-              | inr (inr past) ↦ inr (past.front, past.behind, past.place, past.limit, no_longer _ past.front past.before, past.full)
-            ]) (shown_by drop fetch.server) is.maildrop.each (promised.promises.left_out ended),
+        sym shows.bytes ∙ kept.whole ended,
+        (after.rows, rw (kept.closed ended) at shows.record_is),
+        λ no_size. each (λ m of p. elim p [
+          | inl entered ↦ inl entered
+          | inr (inl large) ↦ absurd (true≢false (rw no_size at large))
+          | inr (inr past) ↦ inr (past.front, past.behind, past.place, past.limit, no_longer _ past.front past.before, past.full)
+        ]) (shown_by drop fetch.server) is.maildrop.each (kept.left_out ended),
       ),
     )

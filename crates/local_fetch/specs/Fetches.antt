@@ -1,6 +1,7 @@
 -- Calls of `fetch_local`, and what others do between them: what is promised of any list of these. Here the server's
 -- honesty is no premise: it follows from the contract of `fetch_local`.
-use Rattle.std.specs.Prelude.{◌≡◌, ◌⊎◌, ◌<◌, ◌≤◌, ℕ, true, false, length, List, [], ◌∷◌, ◌++◌, None}
+use Rattle.std.specs.Prelude.{◌≡◌, ◌⊎◌, ◌<◌, ◌≤◌, ◌-◌, ℕ, true, false, length, List, [], ◌∷◌, ◌++◌, None, Some}
+use Rattle.std.specs.Prelude.{slice_get}
 use Rattle.std.specs.List.{AllByRecursion, count_by}
 use Rattle.mail_store.specs.declared.maildir.disk.MaildirDisk.{Ghosts as DiskGhosts}
 use Rattle.mail_store.specs.declared.file.flat_file.FlatFile.{Ghosts as FileGhosts}
@@ -9,6 +10,10 @@ use Rattle.mail_store.specs.Maildir.{Maildir}
 use Rattle.pop3_wire.specs.World.{Message}
 use Rattle.pop3_wire.specs.Honest.{HasSent}
 use Rattle.pop3_wire.specs.declared.command.Command.{Command}
+use Rattle.pop3_wire.specs.declared.command.Command.TheVariants.{Dele}
+use Rattle.mail_terms.specs.UniqueId.{has_id}
+use Rattle.fetch_rules.specs.Record.{Row}
+use Rattle.fetch_rules.specs.RecordMeaning.{FileStandsFor}
 use Rattle.pop3_wire.specs.declared.wire.Wire.{Ghosts as WireGhosts}
 use Rattle.pop3_server.specs.declared.maildrop.Maildrop.{Ghosts as DropGhosts}
 use Rattle.pop3_server.specs.Maildrop.{there}
@@ -21,9 +26,9 @@ use Rattle.fetch_session.specs.declared.report.Outcome.TheVariants.{Ended}
 use Rattle.fetch_session.specs.declared.report.Report.{Report}
 use Rattle.fetch_session.specs.Account.{digits_of}
 use Rattle.fetch_session.specs.Target.{is_sound, mail_in}
-use Rattle.fetch_runs.specs.Accounts.{AccountMail, copies}
+use Rattle.fetch_runs.specs.Accounts.{AccountMail, copies, message_ids}
 use Rattle.fetch_runs.specs.Promises.{Call, Devices, IsBetween, IsMaildrop, Kept, Mail, State, state_with}
-use Rattle.fetch_runs.specs.Sessions.{MboxMail, is_retr}
+use Rattle.fetch_runs.specs.Sessions.{MboxMail, entries_of, is_retr}
 use Rattle.fetch_runs.specs.Promises.{AppendsMail, Base, HoldsEntries}
 use Rattle.fetch_runs.specs.Calls.{Called, Happening, HoldsNoMore, IsLeftByLoss, IsPromised, Left, Shows}
 use Rattle.fetch_runs.specs.Calls.{account_over, with_left}
@@ -118,14 +123,24 @@ FetchesFromNothing {M} {D} {F} link disk file drop = (mail : Mail) (devices : De
     → (file.stored devices.file).content ≡ None
     → KeepPromises link disk file drop mail (nothing_yet (disk.maildir devices.store)) devices list
 
--- as many RETRs as this were sent, among whole commands
-abbrev pub SendsRetrs : List ℕ → ℕ → Type 0
-SendsRetrs sent count = (commands : List Command) × HasSent commands sent × (count ≡ count_by is_retr commands)
+-- each DELE that was sent whole is for one of these messages, whose id is of this kind; and an uncut call reports as
+-- many texts as it sent RETRs
+pub record SendsFor (messages : List Message) (Is : List ℕ → Type 0) (report : Report) (sent : List ℕ) : Type 0 where
+  pub commands : List Command
+  pub asked : HasSent commands sent
+  pub deletes : (front behind : List Command) (number : ℕ) → commands ≡ front ++ Dele number ∷ behind
+      → (message : Message) × (slice_get messages (number - 1) ≡ Some message) × Is message.uid
+  pub retrieved : report.outcome ≡ Ended → report.retrieved ≡ count_by is_retr commands
 
--- a law: from a Maildir without files and no record on, each message that a call removed from its server is held; and
--- if the call is uncut, it reports as many texts as it sent RETRs, and if it has no limit on sizes, each message that
--- the server had is in one file, with its text, unless as many come before it, and were retrieved, as the limit on
--- their number says
+-- as many messages come before this one, and were retrieved, as the limit on their number says
+abbrev pub IsPast : {M S F : Type 0} → DropGhosts M → Fetch M S F → Message → Type 0
+IsPast drop fetch m = (front behind : List Message) × (shown_by drop fetch.server ≡ front ++ m ∷ behind)
+    × (0 < fetch.settings.max_count) × (fetch.settings.max_count ≤ length front)
+    × (fetch.report.retrieved ≡ fetch.settings.max_count)
+
+-- a law: from a Maildir without files and no record on, each message that a call removed from its server, or that it
+-- sent DELE for, is held; and if the call is uncut and has no limit on sizes, each message that the server had is in
+-- one file, with its text, unless it is past the limit on their number
 abbrev pub FirstFetchesKeepMail : {M D F : Type 0} → WireGhosts (Loop M) → DiskGhosts D → FileGhosts F → DropGhosts M
     → Type 0
 FirstFetchesKeepMail {M} {D} {F} link disk file drop = (mail : Mail) (devices : Devices D F)
@@ -133,13 +148,12 @@ FirstFetchesKeepMail {M} {D} {F} link disk file drop = (mail : Mail) (devices : 
     → digits_of fetch.settings ≡ mail.account → IsFetch link disk file drop InMaildir mail.text devices fetch
     → (vanished : List (List ℕ)) × ServerRemoves drop fetch vanished
     × AllByRecursion (λ id. is_held mail.account (disk.maildir fetch.after.store) id ≡ true) vanished
-    × (fetch.report.outcome ≡ Ended
-    → ((sent : List ℕ) × ((link.history fetch.wire).sent ≡ (link.history (loop_to fetch.server)).sent ++ sent)
-    × SendsRetrs sent fetch.report.retrieved) × (fetch.settings.max_size ≡ 0 → AllByRecursion (λ (m : Message).
+    × (sent : List ℕ) × ((link.history fetch.wire).sent ≡ (link.history (loop_to fetch.server)).sent ++ sent)
+    × SendsFor (shown_by drop fetch.server) (λ id. is_held mail.account (disk.maildir fetch.after.store) id ≡ true)
+    fetch.report sent
+    × (fetch.report.outcome ≡ Ended → fetch.settings.max_size ≡ 0 → AllByRecursion (λ (m : Message).
     (copies (disk.maildir fetch.after.store).files (stem_of mail.account m.uid) ≡ m.text ∷ [])
-    ⊎ ((front behind : List Message) × (shown_by drop fetch.server ≡ front ++ m ∷ behind)
-    × (0 < fetch.settings.max_count) × (fetch.settings.max_count ≤ length front)
-    × (fetch.report.retrieved ≡ fetch.settings.max_count))) (shown_by drop fetch.server)))
+    ⊎ IsPast drop fetch m) (shown_by drop fetch.server))
 
 -- ---- with an mboxrd file
 
@@ -183,3 +197,21 @@ MboxFetchesFromNothing {M} {D} {F} link disk file drop = (text_of : List ℕ →
     → let bytes = mail_in (file.stored devices.store).content in
     KeepMboxPromises link disk file drop (no_entries text_of bytes) []
     (record { rows = []; intent = None; file = bytes }) devices list
+
+-- a law: from any mboxrd file and no record on, each message that a call removed from its server, or that it sent DELE
+-- for, has an entry; and if the call is uncut, the file is what it was and then entries, no intent is open, and if it
+-- has no limit on sizes, each message that the server had has one, unless it is past the limit on their number
+abbrev pub MboxFirstFetchesKeepMail : {M D F : Type 0} → WireGhosts (Loop M) → DiskGhosts D → FileGhosts F
+    → DropGhosts M → Type 0
+MboxFirstFetchesKeepMail {M} {D} {F} link disk file drop = (text_of : List ℕ → List ℕ) (devices : Devices F F)
+    (fetch : Fetch M F F) → (file.stored devices.file).content ≡ None → fetch.settings.read_all ≡ false
+    → IsFetch link disk file drop InMbox text_of devices fetch
+    → (vanished : List (List ℕ)) × ServerRemoves drop fetch vanished × (done : List Message)
+    × AllByRecursion (λ id. has_id (message_ids done) id ≡ true) vanished
+    × (sent : List ℕ) × ((link.history fetch.wire).sent ≡ (link.history (loop_to fetch.server)).sent ++ sent)
+    × SendsFor (shown_by drop fetch.server) (λ id. has_id (message_ids done) id ≡ true) fetch.report sent
+    × (fetch.report.outcome ≡ Ended
+    → (mail_in (file.stored fetch.after.store).content ≡ mail_in (file.stored devices.store).content ++ entries_of done)
+    × ((rows : List Row) × FileStandsFor (file.stored fetch.after.file).content rows None)
+    × (fetch.settings.max_size ≡ 0 → AllByRecursion (λ (m : Message). (has_id (message_ids done) m.uid ≡ true)
+    ⊎ IsPast drop fetch m) (shown_by drop fetch.server)))

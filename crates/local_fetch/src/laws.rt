@@ -1,6 +1,6 @@
 //! Laws over what sessions over a server in memory did.
 ghost use Rattle.local_fetch.specs.Fetches.{FetchesFromNothing, FetchesKeepPromises, FirstFetchesKeepMail};
-ghost use Rattle.local_fetch.specs.Fetches.{MboxFetchesFromNothing, MboxFetchesKeepPromises};
+ghost use Rattle.local_fetch.specs.Fetches.{MboxFetchesFromNothing, MboxFetchesKeepPromises, MboxFirstFetchesKeepMail};
 ghost use Rattle.local_fetch.specs.Good.{GoodFetchesStoreAll};
 
 use crate::loop_wire::LoopWire;
@@ -23,9 +23,9 @@ pub fn fetches_keep_promises<M: Maildrop, D: MaildirDisk, F: FlatFile>()
 }
 
 /// What the promises come to, for the first call of an account with a Maildir: each message that is no longer on
-/// the server is held; and if the call is uncut, it reports as many texts as it sent RETRs, and if it has no limit
-/// on sizes, each message that the server had is in one file, with its text, unless as many come before it, and
-/// were retrieved, as the limit on their number says.
+/// the server, or that DELE was sent for, is held; and if the call is uncut, it reports as many texts as it sent
+/// RETRs, and if it has no limit on sizes, each message that the server had is in one file, with its text, unless
+/// as many come before it, and were retrieved, as the limit on their number says.
 pub fn first_fetches_keep_mail<M: Maildrop, D: MaildirDisk, F: FlatFile>()
     ensures { FirstFetchesKeepMail ⟦<LoopWire<M> as Wire>⟧ D.MaildirDisk F.FlatFile M.Maildrop }
 {
@@ -39,6 +39,15 @@ pub fn mbox_fetches_keep_promises<M: Maildrop, D: MaildirDisk, F: FlatFile>()
     ensures { MboxFetchesKeepPromises ⟦<LoopWire<M> as Wire>⟧ D.MaildirDisk F.FlatFile M.Maildrop }
 {
     mbox_calls_keep_promises::<LoopWire<M>, D, F>();
+}
+
+/// What these come to for a first call: as `first_fetches_keep_mail`, with entries; and if the call is uncut, the
+/// file is what it was, then these entries, and no intent is open.
+pub fn mbox_first_fetches_keep_mail<M: Maildrop, D: MaildirDisk, F: FlatFile>()
+    ensures { MboxFirstFetchesKeepMail ⟦<LoopWire<M> as Wire>⟧ D.MaildirDisk F.FlatFile M.Maildrop }
+{
+    mbox_fetches_keep_promises::<M, D, F>();
+    mbox_starts();
 }
 
 /// The statement can hold: in memory, from a Maildir without files and no record on, all that it promises holds
