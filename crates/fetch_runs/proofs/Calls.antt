@@ -210,7 +210,7 @@ mbox_calls_append laws link disk file sessions base done account devices call sh
     let s = (mbox_session_is_a_step laws call.settings call.now (link.history call.wire)
     (mbox_account_files (file.stored devices.store) (file.stored devices.file))
     (record { rows = account.rows; intent = account.intent }) call.report (link.history call.wire')
-    (mbox_account_files (file.stored call.after.store) (file.stored call.after.file)) is.made.0 shows.record_is met.4).0
+    (mbox_account_files (file.stored call.after.store) (file.stored call.after.file)) is.made.0 shows.record_is met.4.0).0
     in (
       s.sent,
       _,

@@ -6,8 +6,8 @@ use Rattle.std.proofs.Common.{None, Some, ◌⊎◌, false, length, subst, bytes
 use Rattle.std.proofs.Common.{length-append, Result, Ok, Err, refl, All, ◌-◌, ◌%◌, ◌==◌, take, ◌&&◌}
 use Rattle.std.specs.List.{AllByRecursion, list_all, list_any}
 use Rattle.std.proofs.lemmas.Bool.{cond_both, both_ways, cases_Bool, and_parts, or_cases}
-use Rattle.fetch_rules.specs.Record.{Row, is_delivered, Intent, has_row, marked, marked_all, merged, none_open}
-use Rattle.fetch_session.specs.Record.{KeepsRows}
+use Rattle.fetch_rules.specs.Record.{Row, RecordState, is_delivered, Intent, has_row, marked, marked_all, merged, none_open}
+use Rattle.fetch_session.specs.Record.{Keeps, KeepsRows, record_state}
 use Rattle.mail_terms.specs.UniqueId.{is_legal_id}
 use Rattle.std.proofs.lemmas.List.Elements.{recursion_from_All, Contains-push}
 use Rattle.fetch_rules.specs.RecordFile.{Version, Two, Line, RowLine, IsRecordLine, GroupLine, file_of}
@@ -26,7 +26,7 @@ use Rattle.fetch_rules.specs.RecordTorn.{IsPartOf, TornIsIgnoredOrSeen, ends_at_
 use Rattle.fetch_rules.specs.declared.steps.Step.{Step}
 use Rattle.fetch_rules.specs.declared.seen.SeenFault.TheVariants.{BadRow}
 use Rattle.fetch_session.specs.Lasting.{AreLeft, CarriedLasts, CarriesLast, IsRecordUntouched, Lasts, LeavesFile}
-use Rattle.fetch_session.specs.Lasting.{LeavesMerged, ProceedsLast, SessionLasts, UnlessQuiet, UnreadyLasts, IsSafeFile}
+use Rattle.fetch_session.specs.Lasting.{IsGrownAtMost, LeavesMerged, ProceedsLast, SessionLasts, UnlessQuiet, UnreadyLasts, IsSafeFile}
 use Rattle.fetch_session.specs.Laws.{LeavesDurable}
 use Rattle.fetch_session.specs.Plan.{Carried, Carries, tasks_ahead}
 use Rattle.fetch_session.specs.Readiness.{AreDurable, IsMerged, IsMergedAtMost, IsAnew, IsFileKept}
@@ -55,7 +55,7 @@ use Rattle.fetch_runs.specs.Losses.{RecordIsSure}
 use Rattle.fetch_runs.specs.Steps.{holds}
 use Rattle.fetch_runs.proofs.State.{unready_files}
 use Rattle.fetch_runs.proofs.Turns.{both_none}
-use Rattle.fetch_runs.proofs.Lists.{bytes_same, all_append, same_rows}
+use Rattle.fetch_runs.proofs.Lists.{bytes_same, all_append, same_held, same_rows}
 use Rattle.fetch_runs.specs.Below.{Below}
 
 abbrev AreLegal : List Row → Type 0
@@ -157,33 +157,49 @@ part_of place (word ∷ words) (byte ∷ left) (is, more) =
 
 -- ---- the rows that are left
 
-pub left_stands : OneRecord → OneMeaning → AppendedCounts → TornIsIgnoredOrSeen
-    → (rows others now : List Row) (left : Option (List ℕ)) → AreLeft rows others left → KeepsRows left now → (now ≡ rows) ⊎ (now ≡ others)
-left_stands one meaning counts torn rows others now left is (intent, stands) = elim is.file.begun [
-  | inl none ↦ inl (same_rows one (Some is.file.bytes) now rows (intent, rw (none, append-nil) at there)
-      (is.before, (Two, false, is.file.stands)))
-  | inr some ↦ elim (cases_Bool (bytes_eq is.file.behind is.added)) [
-    | inl same ↦ rw (same_rows one (Some (is.file.bytes ++ is.added)) now is.next
-        (intent, rw ((bytes_eq-Decides is.file.behind is.added).0 same) at there) (
-          is.after,
-          (Two, false, counts is.file.bytes is.added rows is.next is.before is.after some is.file.stands is.grows),
-        )) is.next_is
-    | inr apart ↦
-        let ignored = torn is.file.bytes is.added is.file.behind rows is.next is.before is.after some
-        is.file.stands is.grows
-        (part_of (length is.file.bytes) is.added is.file.behind is.file.part)
-        (λ same. both_ways _ apart ((bytes_eq-Decides is.file.behind is.added).1 same)) in
-        elim (cases_Bool (ends_at_zero is.file.behind)) [
-          | inl zeros ↦ inl (same_rows one (Some (is.file.bytes ++ is.file.behind)) now rows (intent, there)
-              (is.before, (Two, _, ignored.0 zeros)))
-          | inr line ↦ absurd (cc (meaning (is.file.bytes ++ is.file.behind) (Fault (BadRow (ignored.1 line).0))
-              (Rows there.0 now intent there.1) (ignored.1 line).1 there.2))
-        ]
+-- what is left of an append is read as the record before it, or as the one after it
+pub grown_reads : OneRecord → OneMeaning → AppendedCounts → TornIsIgnoredOrSeen → (was now then : RecordState)
+    (left : Option (List ℕ)) → IsGrownAtMost was now left → Keeps left then → (then ≡ was) ⊎ (then ≡ now)
+grown_reads one meaning counts torn was now then left is stands = elim is.file.begun [
+  | inl none ↦ inl (unread none)
+  | inr some ↦ elim is.grows [
+    | inl none ↦ inl (unread none)
+    | inr grows ↦ elim (cases_Bool (bytes_eq is.file.behind is.added)) [
+      | inl same ↦ inr (same_held one (Some (is.file.bytes ++ is.added)) then now
+          (rw ((bytes_eq-Decides is.file.behind is.added).0 same) at there) (
+            Two,
+            false,
+            counts is.file.bytes is.added was.rows now.rows was.intent now.intent some is.file.stands grows,
+          ))
+      | inr apart ↦
+          let ignored = torn is.file.bytes is.added is.file.behind was.rows now.rows was.intent now.intent some
+          is.file.stands grows
+          (part_of (length is.file.bytes) is.added is.file.behind is.file.part)
+          (λ same. both_ways _ apart ((bytes_eq-Decides is.file.behind is.added).1 same)) in
+          elim (cases_Bool (ends_at_zero is.file.behind)) [
+            | inl zeros ↦ inl (same_held one (Some (is.file.bytes ++ is.file.behind)) then was there (Two, _, ignored.0 zeros))
+            | inr line ↦ absurd (cc (meaning (is.file.bytes ++ is.file.behind) (Fault (BadRow (ignored.1 line).0))
+                (Rows there.0 then.rows then.intent there.1) (ignored.1 line).1 there.2))
+          ]
+    ]
   ]
 ]
   where
-    there : FileStandsFor (Some (is.file.bytes ++ is.file.behind)) now intent
+    there : Keeps (Some (is.file.bytes ++ is.file.behind)) then
     there = rw is.file.is at stands
+
+    unread : is.file.behind ≡ [] → then ≡ was
+    unread none = same_held one (Some is.file.bytes) then was (rw (none, append-nil) at there) (Two, false, is.file.stands)
+
+abbrev rows_in : {a b : RecordState} → a ≡ b → a.rows ≡ b.rows
+rows_in same = ap (λ (r : RecordState). r.rows) same
+
+pub left_stands : OneRecord → OneMeaning → AppendedCounts → TornIsIgnoredOrSeen
+    → (rows others now : List Row) (left : Option (List ℕ)) → AreLeft rows others left → KeepsRows left now → (now ≡ rows) ⊎ (now ≡ others)
+left_stands one meaning counts torn rows others now left is (intent, stands) =
+    ⊎_elim (λ same. inl (rows_in same)) (λ same. ⊎_map (λ e. rows_in same ∙ e) (λ e. rows_in same ∙ e) is.next_is)
+    (grown_reads one meaning counts torn (record_state rows is.before) (record_state is.next is.after)
+    (record_state now intent) left (record { added = is.added; file = is.file; grows = inr is.grows }) stands)
 
 -- ---- names of files
 
@@ -332,12 +348,13 @@ module _ (laws : Below) {D F : Type 0} (files : FileGhosts F) (device device' : 
         abbrev here : List Row
         here = merged m.was.rows items (flags_of account left items) now
 
-        stands : (could : Option (List ℕ)) (then : List Row) → KeepsRows could then → AreLeft m.was.rows here could
-            ⊎ AreLeft here here could → (then ≡ m.was.rows) ⊎ (then ≡ here)
-        stands could then k (inl are) = left_stands laws.one laws.meaning laws.counts laws.torn
-            m.was.rows here then could are k
-        stands could then k (inr are) =
-            ⊎_elim inr inr (left_stands laws.one laws.meaning laws.counts laws.torn here here then could are k)
+        stands : (could : Option (List ℕ)) (then : List Row) → KeepsRows could then
+            → IsGrownAtMost m.was (none_open here) could ⊎ IsGrownAtMost (none_open here) (none_open here) could
+            → (then ≡ m.was.rows) ⊎ (then ≡ here)
+        stands could then (intent, k) (inl are) = ⊎_map rows_in rows_in
+            (grown_reads laws.one laws.meaning laws.counts laws.torn m.was (none_open here) (record_state then intent) could are k)
+        stands could then (intent, k) (inr are) = inr (⊎_elim rows_in rows_in (grown_reads laws.one laws.meaning laws.counts
+            laws.torn (none_open here) (none_open here) (record_state then intent) could are k))
 
         of_was : (could : Option (List ℕ)) (id : List ℕ) → is_delivered m.was.rows id ≡ true → Said could id
         of_was could id = by_was could id m.was.rows (m.was.intent, m.stood)
@@ -351,16 +368,21 @@ module _ (laws : Below) {D F : Type 0} (files : FileGhosts F) (device device' : 
               (or_cases _ _ (sym (laws.merges m.was.rows items (flags_of account left items) now id) ∙ delivered))
         ]
 
-        merged_left : LeavesMerged files m.was.rows here from f → Answered
-        merged_left leaves could then may k id d = elim (leaves could may) [
-          | inl before ↦ inr (inr before)
+        merged_left : (Before : Option (List ℕ) → Type 0) → ((could : Option (List ℕ)) (then : List Row) → Before could
+            → KeepsRows could then → (id : List ℕ) → is_delivered then id ≡ true → Said could id)
+            → LeavesMerged Before m.was here (MayLeave (files.disk f)) → Answered
+        merged_left Before of_before leaves could then may k id d = elim (leaves could may) [
+          | inl before ↦ of_before could then before k id d
           | inr are ↦ ⊎_elim (λ is. of_was could id (rw is at d)) (λ is. of_merged could id (rw is at d)) (stands could then k are)
         ]
 
       unready : (content : IsMergedAtMost (AsFiles account) items now (in_maildir left) (files.stored from)
-          (in_maildir maildir) (files.stored f)) → UnreadyLasts files from content f → Answered
-      unready (inl same_content) no_more could then may k id d = inr (inr (no_more could may))
-      unready (inr m) leaves could then may k id d = merged_left m leaves could then may k id d
+          (in_maildir maildir) (files.stored f)) → UnreadyLasts files (InMaildir device) from content (InMaildir device') f → Answered
+      unready (inl same_content) (leaves, mbox) = λ could then may k id d. inr (inr (leaves could may))
+      unready (inr m) (inl (closed, leaves, still)) =
+          merged_left m (MayLeave (files.disk from)) (λ could then before k id d. inr (inr before)) leaves
+      unready (inr m) (inr (leaves, whole)) = merged_left m (λ left. left ≡ (files.stored from).content)
+          (λ could then is k id d. by_was could id then (subst (λ (c : Option (List ℕ)). KeepsRows c then) is k) d) leaves
 
     -- ---- its tasks were begun
 
@@ -387,11 +409,11 @@ module _ (laws : Below) {D F : Type 0} (files : FileGhosts F) (device device' : 
           by : (durable : (All IsQuiet (planned settings c.mid.rows items now)
               × IsFileKept c.mid.rows (files.stored from) c.mid.file)
               ⊎ AreDurable (AsFiles account) c.prepared.was.rows items (in_maildir left))
-              → UnlessQuiet files from c.mid.rows (files.stored from) c.mid.file durable
+              → UnlessQuiet files (InMaildir device) from c.mid.rows (files.stored from) c.mid.file durable
               (Lasts files (AsFiles account) (tasks_ahead settings (AsFiles account) items now (in_maildir left)
-              c.mid.rows) c.mid (Ok tt) end_with c.does (InMaildir device') f) f → Answered
-          by (inl (quiet, inl kept)) un = untouched un
-          by (inl (quiet, inr is_anew)) safe = anew c.mid.rows c.mid.file safe.0 is_anew safe.1
+              c.mid.rows) c.mid (Ok tt) end_with c.does (InMaildir device') f) (InMaildir device') f → Answered
+          by (inl (quiet, inl kept)) (un, mbox) = untouched un
+          by (inl (quiet, inr is_anew)) (safe, mbox) = anew c.mid.rows c.mid.file safe.0 is_anew safe.1
           by (inr durable) lasts = shown_by (marked_all c.mid.rows (marked_ids c.does.dones))
               (marked_all c.mid.rows (marked_ids c.does.dones)) lasts.0.left within
               (λ could id d. by_rows could id (within id d))
@@ -493,8 +515,8 @@ module _ (laws : Below) {D F : Type 0} (files : FileGhosts F) (device device' : 
             (keeps_files (account_files maildir (files.stored f))) session.notes)
             → ProceedsLast files (InMaildir device) from _ _ _ _ _ _ _ _ _ proceeds (InMaildir device') f → Answered
         by (Ok done) dealt lasts = answer_ok dealt.items dealt.mid dealt.carries.0 dealt.carries.1 lasts
-        by (Err cut) (inl stopped) un = untouched un
-        by (Err cut) (inr (inl wanting)) un = untouched un
+        by (Err cut) (inl stopped) (un, mbox) = untouched un
+        by (Err cut) (inr (inl wanting)) (un, mbox) = untouched un
         by (Err cut) (inr (inr dealt)) lasts = of dealt.carries lasts
           where
             of : (carries : Carries settings (AsFiles account) dealt.items now dealt.mid (in_maildir left)
@@ -511,12 +533,12 @@ module _ (laws : Below) {D F : Type 0} (files : FileGhosts F) (device device' : 
                 by_plan : (durable : (All IsQuiet (planned settings c.mid.rows dealt.items now)
                     × IsFileKept c.mid.rows (files.stored from) c.mid.file)
                     ⊎ AreDurable (AsFiles account) c.prepared.was.rows dealt.items (in_maildir left))
-                    → UnlessQuiet files from c.mid.rows (files.stored from) c.mid.file durable
+                    → UnlessQuiet files (InMaildir device) from c.mid.rows (files.stored from) c.mid.file durable
                     (Lasts files (AsFiles account) (tasks_ahead settings (AsFiles account) dealt.items now
                     (in_maildir left) c.mid.rows) c.mid (Err cut) (end_with dealt.items dealt.mid rows') c.does
-                    (InMaildir device') f) f → Answered
-                by_plan (inl (quiet, inl kept)) un = untouched un
-                by_plan (inl (quiet, inr is_anew)) safe = anew c.mid.rows c.mid.file safe.0 is_anew safe.1
+                    (InMaildir device') f) (InMaildir device') f → Answered
+                by_plan (inl (quiet, inl kept)) (un, mbox) = untouched un
+                by_plan (inl (quiet, inr is_anew)) (safe, mbox) = anew c.mid.rows c.mid.file safe.0 is_anew safe.1
                 by_plan (inr is) lasts = answer_cut dealt.items dealt.mid rows' c lasts
 
   -- no file came, or each name was durable

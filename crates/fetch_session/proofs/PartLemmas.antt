@@ -1,6 +1,6 @@
 -- What parts of a session keep and do, one after the other, and QUIT at their end.
 use Rattle.std.proofs.Common.{rules, ◌≡◌, ◌≤◌, ◌+◌, ◌*◌, ℕ, Bool, true, false, List, [], ◌∷◌, ◌++◌, length, None}
-use Rattle.std.proofs.Common.{Result, Ok, Err, OnErr, OnOk, refl, sym, ap, subst, ◌∙◌, inl, arith, append_assoc}
+use Rattle.std.proofs.Common.{Result, Ok, Err, IfErr, OnErr, OnOk, refl, sym, ap, subst, ◌∙◌, inl, arith, append_assoc}
 use Rattle.std.proofs.Common.{length-append, Vec, Global, Option, inr}
 use Rattle.std.proofs.lemmas.Grind.{flat_map-append}
 use Rattle.std.proofs.lemmas.Result.{on_ok_weaker}
@@ -62,9 +62,13 @@ on_under : {T E P : Type 0} (Q : Type 0) (result : Result T E) → (P → OnOk r
 on_under Q (Ok done) to = to
 on_under Q (Err fault) to = tt
 
-pub on_err : {T E P : Type 0} (result : Result T E) → P → OnErr result P
-on_err (Ok done) p = tt
-on_err (Err fault) p = p
+pub if_err : {T E : Type 0} {P : E → Type 0} (result : Result T E) → ((fault : E) → P fault) → IfErr result P
+if_err (Ok done) all = tt
+if_err (Err fault) all = all fault
+
+pub err_if : {T E : Type 0} (P : Type 0) (result : Result T E) → OnErr result P → IfErr result (λ fault. P)
+err_if P (Ok done) p = tt
+err_if P (Err fault) p = p
 
 -- a task was cut before its id was marked
 pub same_ledger : {F H Z : Type 0} {file : FileGhosts F} (uid : List ℕ) (ledger : Ledger F H Z) (cut : Cut)
@@ -261,7 +265,7 @@ module _ {W D F H Z : Type 0} {link : WireGhosts W} {disk : DiskGhosts D} {file 
       talk = link_still;
       store = record { lines = (omega arith, omega arith); kind = refl; none_begun = λ d. (d, ready.none_begun d) };
       lasts = λ d f. (f, λ safe. safe);
-      idle = λ none. refl;
+      idle = λ none. (refl, λ d left may. may);
       next = λ later ready. ready;
     },
     λ s d f. (
@@ -294,7 +298,11 @@ module _ {W D F H Z : Type 0} {link : WireGhosts W} {disk : DiskGhosts D} {file 
           let before = first.lasts (then.store.none_begun d).0 later.0 in
           (before.0, λ safe. later.1 (before.1 safe));
       idle = λ none. let both = none_both (ids_ahead xs) (ids_ahead ys) (sym (flat_map-append ids_in xs ys) ∙ none)
-          in then.idle both.1 ∙ first.idle both.0;
+          in (
+            (then.idle both.1).0 ∙ (first.idle both.0).0,
+            λ d left may.
+                (first.idle both.0).1 (then.store.none_begun d).0 left ((then.idle both.1).1 d left may),
+          );
       next = on_ok_weaker r (λ next later ready. next later (first.next (ys ++ later) (rw append_assoc at ready))) then.next;
     },
     λ s d f.
@@ -332,8 +340,8 @@ pub good_task : {D F H Z : Type 0} (disk : DiskGhosts D) {file : FileGhosts F} (
     → OnOk r (Steady (file.stored new.ledger.file).content (none_open new.ledger.seen.rows))
     → (IsSafeWork file old → OnOk r (IsSafeWork file new))
     → (IsSafeWork file old → LeavesFile file new.ledger.file (AreLeft old.ledger.seen.rows (marked_all old.ledger.seen.rows (ids_in task))))
-    → (IsSafeWork file old → OnErr r (CutLasts file target task (scene_at disk file a old) (scene_at disk file b new) new.store
-    new.ledger.file))
+    → (IsSafeWork file old → IfErr r (λ cut. CutLasts file target task (scene_at disk file a old) cut (scene_at disk file b new)
+    new.store new.ledger.file))
     → DoesAndLasts file (IsSafeWork file old) target (task ∷ []) (scene_at disk file a old) r (scene_at disk file b new)
     new.store new.ledger.file
 unfolding fell_first
@@ -366,8 +374,8 @@ module _ {D F H Z : Type 0} {disk : DiskGhosts D} {file : FileGhosts F} where
       × OnOk r (AllNamed (stores_of disk file w'.store).maildir.files))
       → WhereWorkSound link disk file c w c' w' (λ old new. TakesTask (target_of w.store account) (stores number uid) old r new)
       → (is_sound disk file w'.store → file.sound w'.ledger.file → KeepsWork file w w' × (IsSafeWork file w → OnOk r (IsSafeWork file w')
-      × (link.sound c'.wire.now → OnErr r (CutLasts file (target_of w.store account) (stores number uid)
-      (scene_of link disk file c w) (scene_of link disk file c' w') w'.store w'.ledger.file))))
+      × (link.sound c'.wire.now → IfErr r (λ cut. CutLasts file (target_of w.store account) (stores number uid)
+      (scene_of link disk file c w) cut (scene_of link disk file c' w') w'.store w'.ledger.file))))
       → RunsTasks link disk file account (stores number uid ∷ []) c w r c' w'
   runs_taking {link = link} {account} law number uid {c} {c'} {w} {w'} r written talk ledger kind grows takes lasts = (
     record {
@@ -411,8 +419,8 @@ module _ {D F H Z : Type 0} {disk : DiskGhosts D} {file : FileGhosts F} where
       good_task disk (target_of work.store account) task (place_of link client) (place_of link client') work
       (record work { ledger = record work.ledger { lines = lines } }) r took
       (keeps_same file work) steady (on_any r steady) (λ safe. on_any r safe) (λ safe. same_left file work.ledger.file safe.0 steady)
-      (λ safe. on_err r (nothing_cut disk file (target_of work.store account) task (place_of link client) _ _ _ work.store work.store
-      work.ledger.file safe.1 (λ left may. may) safe.0 steady)))
+      (λ safe. if_err r (λ cut. nothing_cut disk file (target_of work.store account) task (place_of link client) _ _ cut _
+      work.store work.store work.ledger.file safe.1 (λ left may. may) safe.0 steady)))
 
 -- ---- what the look left
 
@@ -472,7 +480,7 @@ module _ {D F H Z : Type 0} {disk : DiskGhosts D} {file : FileGhosts F} {work : 
       talk = talk;
       store = store_less (omega arith) quitting_store;
       lasts = λ d f. (f, λ sure. on_ok_weaker r (λ s. (sure.0, s)) (safe d sure.1));
-      idle = λ none. refl;
+      idle = λ none. (refl, is.keeps);
       next = on_any r (λ later before. record {
         digits = before.digits;
         room = omega (arith, before.room);
@@ -495,7 +503,7 @@ module _ {D F H Z : Type 0} {disk : DiskGhosts D} {file : FileGhosts F} {work : 
               steady (on_any r steady)
               (λ sure. on_ok_weaker r (λ s. (sure.0, s)) (safe d sure.1))
               (λ sure. same_left file work.ledger.file sure.0 steady)
-              (λ sure. on_err r (nothing_cut disk file (target_of work.store account) (says quit) (place_of link c) _ _ _ work.store
-              store work.ledger.file sure.1 (is.keeps d) sure.0 steady)),
+              (λ sure. if_err r (λ cut. nothing_cut disk file (target_of work.store account) (says quit) (place_of link c) _ _
+              cut _ work.store store work.ledger.file sure.1 (is.keeps d) sure.0 steady)),
         ),
   )

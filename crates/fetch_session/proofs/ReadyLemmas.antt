@@ -22,7 +22,7 @@ use Rattle.fetch_session.specs.declared.account.Store.{Store}
 use Rattle.fetch_session.specs.declared.account.Store.TheVariants.{Maildir as InMaildir, Mboxrd as InMbox}
 use Rattle.fetch_session.specs.Target.{held_flags, stores_of, target_of, Stores, in_maildir, kind_of, with_maildir}
 use Rattle.fetch_session.specs.Target.{AfterTakingIn, AsFiles, Target, AsEntries, closed_file, closed_rows_in, Kind}
-use Rattle.fetch_session.specs.Target.{Files, Entries, in_mbox}
+use Rattle.fetch_session.specs.Target.{Files, Entries, in_mbox, mbox_of}
 use Rattle.mail_store.specs.Held.{flags_asked, flags_of, flags_sought}
 use Rattle.fetch_rules.specs.Laws.{FetchesAsked, FetchesFirsts}
 use Rattle.mail_terms.proofs.ListLemmas.{all_append}
@@ -30,8 +30,8 @@ use Rattle.fetch_session.proofs.SceneLemmas.{all_weaker, read_keeps, steady_keep
 use Rattle.std.proofs.lemmas.List.{map-append, take_more, length-map}
 use Rattle.fetch_rules.specs.Record.{Loaded, Row, is_delivered, Intent, RecordState, has_row, marked, none_open, merged, IsRecord}
 use Rattle.fetch_session.specs.declared.readiness.Found.{Found}
-use Rattle.fetch_session.specs.Lasting.{IsSafeFile, IsSafeStore, KeptLasts, LeavesMerged, ReadiesAndLasts, ReadyLasts}
-use Rattle.fetch_session.specs.Lasting.{UnlessQuiet, UnreadyLasts}
+use Rattle.fetch_session.specs.Lasting.{IsSafeFile, IsSafeStore, KeptLasts, LeavesMerged, LeavesSettled, LeavesStore}
+use Rattle.fetch_session.specs.Lasting.{ReadiesAndLasts, ReadyLasts, UnlessQuiet, UnreadyLasts, may_leave_in}
 use Rattle.fetch_session.specs.Readiness.{AreDurable, FindsIn, are_undelivered, flags_found, IsMergedAtMost}
 use Rattle.fetch_session.specs.Readiness.{CausesUnready, FindsRefused, MboxUnready, SettlesStore, UnreadyCause}
 use Rattle.fetch_session.specs.Readiness.{merged_in, AreAsHeld, ChecksStore, HasPlan, IsAnew, IsIdle, IsFileKept}
@@ -208,43 +208,48 @@ module _ {D F : Type 0} (disk : DiskGhosts D) (files : FileGhosts F) where
       (files.stored f) → (files.stored f).content ≡ (files.stored from).content
       → LeavesNoMore (MayLeave (files.disk from)) (MayLeave (files.disk f))
       → A × B × AfterTakingIn (stores_of disk files was)
-      (λ left. ReadiesAndLasts disk files safe from settings target items now left (Err fault) after was f)
-  unasked was from f target a b why same no_more =
-      (a, b, untaken _ (record { readies = record { cause = why; content = inl same }; lasts = λ sure. no_more }))
+      (λ left. ReadiesAndLasts disk files safe was from settings target items now left (Err fault) after was f)
+  unasked was from f target a b why same no_more = (
+    a,
+    b,
+    untaken _ (record { readies = record { cause = why; content = inl same }; lasts = λ sure. (no_more, inl (λ left may. may)) }),
+  )
 
   -- the same if the record's file was read and flushed before
-  module _ (from mid f : F) (no_more : LeavesNoMore (MayLeave (files.disk from)) (MayLeave (files.disk mid)))
+  module _ (was : Store D F) (from mid f : F) (no_more : LeavesNoMore (MayLeave (files.disk from)) (MayLeave (files.disk mid)))
       (same : files.stored mid ≡ files.stored from) where
     ready_from : (settings : Settings) (target : Target) (items : List Item) (now : ℕ) (old new : Stores)
         (file file' : Stored) (after : List Row) (store : Store D F) (r : Result Ready Fault)
         → (is : Readies settings target items now old file r after new file')
-        → ReadyLasts files mid settings target items now old file r after new file' is store f
-        → ReadyLasts files from settings target items now old file r after new file' is store f
+        → ReadyLasts files was mid settings target items now old file r after new file' is store f
+        → ReadyLasts files was from settings target items now old file r after new file' is store f
     ready_from settings target items now old new file file' after store (Ok ready) is lasts = by after file file' _ is.durable lasts
       where
         by : {Quiet Durable : Type 0} (rows : List Row) (old new : Stored) (Safe : Type 0) (either : (Quiet
-            × IsFileKept rows old new) ⊎ Durable) → UnlessQuiet files mid rows old new either Safe f
-            → UnlessQuiet files from rows old new either Safe f
-        by rows old new Safe (inl (quiet, inl kept)) un =
-            record { no_more = λ left may. no_more left (un.no_more left may); same = un.same ∙ same }
+            × IsFileKept rows old new) ⊎ Durable) → UnlessQuiet files was mid rows old new either Safe store f
+            → UnlessQuiet files was from rows old new either Safe store f
+        by rows old new Safe (inl (quiet, inl kept)) (un, still) =
+            (record { no_more = λ left may. no_more left (un.no_more left may); same = un.same ∙ same }, still)
         by rows old new Safe (inl (quiet, inr anew)) safe = safe
         by rows old new Safe (inr durable) safe = safe
     ready_from settings target items now old new file file' after store (Err fault) is lasts = by is.content lasts
       where
-        by : (content : IsMergedAtMost target items now old file new file') → UnreadyLasts files mid content f
-            → UnreadyLasts files from content f
-        by (inl is) none = λ left may. no_more left (none left may)
-        by (inr merged) leaves = λ left may. ⊎_elim (λ before. inl (no_more left before)) inr (leaves left may)
+        by : (content : IsMergedAtMost target items now old file new file') → UnreadyLasts files was mid content store f
+            → UnreadyLasts files was from content store f
+        by (inl is) (none, mbox) = (λ left may. no_more left (none left may), mbox)
+        by (inr merged) (inl (closed, leaves, still)) =
+            inl (closed, λ left may. ⊎_elim (λ before. inl (no_more left before)) inr (leaves left may), still)
+        by (inr merged) (inr both) = inr both
 
     pub readies_from : {safe sure : Type 0} {store : Store D F} {settings : Settings} {target : Target}
         {items : List Item} {now : ℕ} {old : Stores} {r : Result Ready Fault}
         {after : List Row} → (sure → safe)
-        → ReadiesAndLasts disk files safe mid settings target items now old r after store f
-        → ReadiesAndLasts disk files sure from settings target items now old r after store f
+        → ReadiesAndLasts disk files safe was mid settings target items now old r after store f
+        → ReadiesAndLasts disk files sure was from settings target items now old r after store f
     readies_from {safe} {sure} {store} {settings} {target} {items} {now} {old} {r} {after} firm is =
         let both = subst (λ (file : Stored). (readies : Readies settings target items now old file r after
         (stores_of disk files store) (files.stored f))
-        × (sure → ReadyLasts files from settings target items now old file r after (stores_of disk files store)
+        × (sure → ReadyLasts files was from settings target items now old file r after (stores_of disk files store)
         (files.stored f) readies store f))
         same (
           is.readies,
@@ -462,17 +467,50 @@ module _ {D F : Type 0} (disk : DiskGhosts D) (files : FileGhosts F) (was place 
   stands (Err NoMemory) merges = inl (rw merges kept)
   stands (Err _) never = absurd never
 
+  abbrev now_rows : List Row
+  now_rows = merged_in (target_of was account) store state items now
+
+  -- a durable record with an open intent is what was read
+  read_left : {intent : Intent} → loaded.intent ≡ Some intent → IsSafeFile files from → (left : Option (List ℕ))
+      → MayLeave (files.disk from) left → left ≡ (files.stored from).content
+  read_left {intent} opened firm left may = by (files.stored from).content refl kept
+    where
+      by : (content : Option (List ℕ)) → (files.stored from).content ≡ content → Keeps content state
+          → left ≡ (files.stored from).content
+      by None is keeps = absurd (let never = sym keeps.1 ∙ opened in cc)
+      by (Some bytes) is keeps = (firm.1 bytes is).1 left may ∙ sym is
+
+  -- no intent was open, or the record and the mboxrd file are durable
+  merging : (intent : Option Intent) → loaded.intent ≡ intent → IsSafeFile files from
+      → LeavesMerged (MayLeave (files.disk from)) state now_rows (MayLeave (files.disk f)) → IsSafeStore files place
+      → LeavesSettled loaded.intent (mbox_of files was).content (may_leave_in files was) (may_leave_in files place)
+      → ((loaded.intent ≡ None) × LeavesMerged (MayLeave (files.disk from)) state now_rows (MayLeave (files.disk f))
+      × LeavesStore files was place)
+      ⊎ (LeavesMerged (λ left. left ≡ (files.stored from).content) state now_rows (MayLeave (files.disk f))
+      × IsSafeStore files place)
+  merging None closed firm leaves whole settled = inl (
+    closed,
+    leaves,
+    subst (λ (o : Option Intent). LeavesSettled o (mbox_of files was).content (may_leave_in files was)
+        (may_leave_in files place)) closed settled,
+  )
+  merging (Some intent) opened firm leaves whole settled =
+      inr (λ left may. ⊎_elim (λ before. inl (read_left opened firm left before)) inr (leaves left may), whole)
+
   -- it wasn't saved, or memory ran out for the plan
   pub unready : {safe : Type 0} {after : List Row} (r : Result (Unit {0}) Fault)
       → Merges (files.stored from) state (none_open here) r (files.stored f)
-      → (safe → LeavesMerged files loaded.rows here from f)
-      → ReadiesAndLasts disk files safe from settings (target_of was account) items now store (Err (stop_of r)) after place f
+      → (safe → IsSafeFile files from
+      × LeavesMerged (MayLeave (files.disk from)) state here (MayLeave (files.disk f)) × IsSafeStore files place
+      × LeavesSettled loaded.intent (mbox_of files was).content (may_leave_in files was) (may_leave_in files place))
+      → ReadiesAndLasts disk files safe was from settings (target_of was account) items now store (Err (stop_of r)) after place f
   unready r merges leaves = record {
     readies = record {
       cause = reason r merges;
       content = inr (record { was = state; stood = kept; settles = is.2; durable = inr is.3; stands = stands r merges });
     };
-    lasts = λ sure. rw as_now at (leaves sure);
+    lasts = λ sure. let (firm, left, whole, settled) = leaves sure in
+        merging loaded.intent refl firm (rw as_now at left) whole settled;
   }
 
   pub ready : {safe : Type 0} (plan : Ready) {after : List Row} → HeldIsDelivered → MarkedIsDelivered
@@ -481,7 +519,7 @@ module _ {D F : Type 0} (disk : DiskGhosts D) (files : FileGhosts F) (was place 
       → after ≡ here
       → plan.held.items ≡ found.held.items → plan.steps.items ≡ planned settings after items now
       → (safe → IsSafeFile files f × IsSafeStore files place)
-      → ReadiesAndLasts disk files safe from settings (target_of was account) items now store (Ok plan) after place f
+      → ReadiesAndLasts disk files safe was from settings (target_of was account) items now store (Ok plan) after place f
   ready plan {after} delivers marks asked merges rows_are flags_are steps_are firm = record {
     readies = record {
       was = state;
@@ -587,10 +625,11 @@ module _ {D F : Type 0} (disk : DiskGhosts D) (files : FileGhosts F) (account : 
         → (kept : IsFileKept loaded.rows (files.stored from) (files.stored f))
         → Steady (files.stored f).content (none_open loaded.rows)
         → (files.stored f).failures ≡ (files.stored from).failures
-        → KeptLasts files from loaded.rows (files.stored from) (files.stored f) kept f
+        → KeptLasts files from loaded.rows (files.stored from) (files.stored f) kept f → LeavesStore files store store'
         → ready.steps.items ≡ steps → length ready.held.items ≡ length items
-        → ReadiesAndLasts disk files safe from settings (target_of store account) items now looked_at (Ok ready) loaded.rows store' f
-    rested ready rests kept saved count lasting are counted = record {
+        → ReadiesAndLasts disk files safe store from settings (target_of store account) items now looked_at (Ok ready) loaded.rows
+        store' f
+    rested ready rests kept saved count lasting still are counted = record {
       readies = record {
         was = was_read;
         stood = read_keeps (files.stored from).content loaded stood;
@@ -603,19 +642,21 @@ module _ {D F : Type 0} (disk : DiskGhosts D) (files : FileGhosts F) (account : 
         file_count = count;
         settles = settles_same store was_read items (stores_of disk files store') idle.closed rests;
       };
-      lasts = λ sure. lasting;
+      lasts = λ sure. (lasting, still);
     }
 
     -- the store refused to be looked at
     pub unrested : {safe : Type 0} (fault : Fault)
-        → Rests (kind_of store) looked_at items (Err fault) (stores_of disk files store') → f ≡ from
-        → ReadiesAndLasts disk files safe from settings (target_of store account) items now looked_at (Err fault) loaded.rows store' f
-    unrested fault finds same = record {
+        → Rests (kind_of store) looked_at items (Err fault) (stores_of disk files store') → LeavesStore files store store'
+        → f ≡ from
+        → ReadiesAndLasts disk files safe store from settings (target_of store account) items now looked_at (Err fault) loaded.rows
+        store' f
+    unrested fault finds still same = record {
       readies = record {
         cause = by store finds;
         content = inl (ap (λ (d : F). (files.stored d).content) same);
       };
-      lasts = λ sure left may. subst (λ (d : F). MayLeave (files.disk d) left) same may;
+      lasts = λ sure. (λ left may. subst (λ (d : F). MayLeave (files.disk d) left) same may, inl still);
     }
       where
         by : (store : Store D F) → Rests (kind_of store) (stores_of disk files store) items (Err fault) (stores_of disk files store')
@@ -632,9 +673,12 @@ module _ {D F : Type 0} (disk : DiskGhosts D) (files : FileGhosts F) (account : 
     -- the record's file couldn't be written anew
     pub unrenewed : {safe : Type 0} (ready : Ready) (fault : Fault)
         → Rests (kind_of store) looked_at items (Ok ready) (stores_of disk files store')
-        → Merges (files.stored from) was_read was_read (Err fault) (files.stored f) → LeavesMerged files loaded.rows loaded.rows from f
-        → ReadiesAndLasts disk files safe from settings (target_of store account) items now looked_at (Err fault) loaded.rows store' f
-    unrenewed ready fault rests merges leaves = record {
+        → Merges (files.stored from) was_read was_read (Err fault) (files.stored f)
+        → LeavesMerged (MayLeave (files.disk from)) was_read loaded.rows (MayLeave (files.disk f))
+        → LeavesStore files store store'
+        → ReadiesAndLasts disk files safe store from settings (target_of store account) items now looked_at (Err fault) loaded.rows
+        store' f
+    unrenewed ready fault rests merges leaves still = record {
       readies = record {
         cause = why fault merges store rests;
         content = inr (record {
@@ -647,7 +691,7 @@ module _ {D F : Type 0} (disk : DiskGhosts D) (files : FileGhosts F) (account : 
           stands = inl (stands fault merges);
         });
       };
-      lasts = λ sure. rw merged_same leaves;
+      lasts = λ sure. inl (idle.closed, rw merged_same leaves, still);
     }
       where
         kept : Keeps (files.stored from).content was_read

@@ -30,7 +30,7 @@ use Rattle.fetch_session.specs.Scene.{Scene, scene, Went, AllWent}
 use Rattle.fetch_session.specs.Store.{Brings}
 use Rattle.fetch_session.specs.Lasting.{AreLeft, AreSure, CarriedLasts, CarriesLast, CutLasts, DoesAndLasts, DonesLast}
 use Rattle.fetch_session.specs.Lasting.{IsGrownAtMost, IsRecordLeft, IsSafeFile, IsSafeStore, IsSafeWork, IsRecordUntouched, KeepsWork}
-use Rattle.fetch_session.specs.Lasting.{IsCutLeft, KeptLasts, Lasts, LeavesBoth, LeavesFile, LeavesLeft, LeavesMerged}
+use Rattle.fetch_session.specs.Lasting.{IsCutLeft, KeptLasts, Lasts, LeavesBoth, LeavesFile, LeavesLeft, LeavesMerged, LeavesStore}
 use Rattle.fetch_session.specs.Lasting.{ProceedsLast, RowsLast, RowsStillLast, SessionLasts, ShowsRows, TextsLast, UnlessQuiet}
 use Rattle.fetch_session.specs.Lasting.{may_leave_in}
 use Rattle.fetch_session.specs.Target.{Target, AsFiles, AsEntries, Stores, kind_of, stores_of, target_of, AfterTakingIn}
@@ -115,6 +115,38 @@ pub no_more_left : {F : Type 0} (file : FileGhosts F) (f f' : F) → (file.store
     → (Is : Option (List ℕ) → Type 0) → LeavesFile file f Is → LeavesFile file f' Is
 no_more_left file f f' same no_more Is leaves bytes is left may = leaves bytes (sym same ∙ is) left (no_more left may)
 
+-- no rows are left but these, and those that they were to be made
+pub grown_rows : (rows others next : List Row) (before after : Option Intent) (left : Option (List ℕ))
+    → (next ≡ rows) ⊎ (next ≡ others)
+    → IsGrownAtMost (record_state rows before) (record_state next after) left → AreLeft rows others left
+grown_rows rows others next before after left next_is g = elim g.grows [
+  | inr grows ↦ record {
+    before = before;
+    added = g.added;
+    next = next;
+    after = after;
+    grows = grows;
+    next_is = next_is;
+    file = g.file;
+  }
+  | inl none ↦ record {
+    before = before;
+    added = [];
+    next = rows;
+    after = before;
+    grows = inl (inl (refl, refl, refl));
+    next_is = inl refl;
+    file = record {
+      bytes = g.file.bytes;
+      behind = [];
+      is = g.file.is ∙ ap (λ (l : List ℕ). Some (g.file.bytes ++ l)) none;
+      stands = g.file.stands;
+      part = tt;
+      begun = inl refl;
+    };
+  }
+]
+
 -- ---- what it may leave of the record's file
 
 module _ {F : Type 0} (file : FileGhosts F) (f : F) where
@@ -170,36 +202,8 @@ module _ {F : Type 0} (file : FileGhosts F) (f : F) where
   pub grown_left : (rows others next : List Row) (before after : Option Intent) → (next ≡ rows) ⊎ (next ≡ others)
       → LeavesFile file f (IsGrownAtMost (record_state rows before) (record_state next after))
       → LeavesFile file f (AreLeft rows others)
-  grown_left rows others next before after next_is leaves bytes is left may = by (leaves bytes is left may)
-    where
-      by : IsGrownAtMost (record_state rows before) (record_state next after) left → AreLeft rows others left
-      by g = elim g.grows [
-        | inr grows ↦ record {
-          before = before;
-          added = g.added;
-          next = next;
-          after = after;
-          grows = grows;
-          next_is = next_is;
-          file = g.file;
-        }
-        | inl none ↦ record {
-          before = before;
-          added = [];
-          next = rows;
-          after = before;
-          grows = inl (inl (refl, refl, refl));
-          next_is = inl refl;
-          file = record {
-            bytes = g.file.bytes;
-            behind = [];
-            is = g.file.is ∙ ap (λ (l : List ℕ). Some (g.file.bytes ++ l)) none;
-            stands = g.file.stands;
-            part = tt;
-            begun = inl refl;
-          };
-        }
-      ]
+  grown_left rows others next before after next_is leaves bytes is left may =
+      grown_rows rows others next before after left next_is (leaves bytes is left may)
 
   -- the file is safe and stands for the rows
   pub same_left : {rows others : List Row} {intent : Option Intent} → IsSafeFile file f
@@ -297,27 +301,6 @@ pub longer_rows : {F : Type 0} (file : FileGhosts F) (f f' : F)
 longer_rows file f f' longer rows last left may =
     let was = longer left may in shown_longer rows was.0 left (last was.0 was.1) was.2
 
--- bytes that stand for these rows
-whole_left : (rows others : List Row) (bytes : List ℕ) (left : Option (List ℕ)) → Steady (Some bytes) (none_open rows)
-    → left ≡ Some bytes → AreLeft rows others left
-whole_left rows others bytes left stands all = record {
-  before = None;
-  added = [];
-  next = rows;
-  after = None;
-  grows = inl (inl (refl, refl, refl));
-  next_is = inl refl;
-  file = record {
-    bytes = bytes;
-    behind = [];
-    is = all ∙ ap (λ (l : List ℕ). Some l) (sym (append-nil bytes));
-    stands =
-        stands;
-    part = tt;
-    begun = inl refl;
-  };
-}
-
 -- the file was cut to bytes that stand for the rows, or may have been
 module _ {F T : Type 0} (file : FileGhosts F) (f f' : F) (rows : List Row) (size : ℕ)
     (till : StandsTill (file.stored f) size rows) (r : Result T StoreFault)
@@ -338,37 +321,29 @@ module _ {F T : Type 0} (file : FileGhosts F) (f f' : F) (rows : List Row) (size
 pub cut_back : {F : Type 0} (file : FileGhosts F) (f f' : F) (rows : List Row) (size : ℕ) → StandsTill (file.stored f) size rows
     → LeavesCut (file.stored f).content size (MayLeave (file.disk f)) (MayLeave (file.disk f')) → (now : RecordState)
     → LeavesFile file f (IsGrownAtMost (none_open rows) now) → LeavesFile file f' (IsGrownAtMost (none_open rows) now)
-cut_back file f f' rows size till cuts now leaves bytes is left may = elim (cuts till.0.0 till.0.1 left may) [
+cut_back file f f' rows size till cuts now leaves bytes is left may = elim (cuts left may) [
   | inl before ↦ leaves till.0.0 till.0.1 left before
-  | inr all ↦ still_grown file f (none_open rows) now (take size till.0.0) left
-      (till_front (file.stored f) size rows till.0.0 till till.0.1) all
+  | inr (was, has, all) ↦ still_grown file f (none_open rows) now (take size was) left
+      (till_front (file.stored f) size rows was till has) all
 ]
 
 -- ---- a record that is merged
 
-module _ {F : Type 0} (files : FileGhosts F) (rows others : List Row) (from f : F) where
+module _ {F : Type 0} (files : FileGhosts F) (from f : F) (was : RecordState) (rows : List Row) where
   -- it was written whole
-  pub written_merged : (bytes : List ℕ) → Steady (Some bytes) (none_open others)
+  pub written_merged : (bytes : List ℕ) → Steady (Some bytes) (none_open rows)
       → LeavesEither (MayLeave (files.disk from)) bytes (MayLeave (files.disk f))
-      → LeavesMerged files rows others from f
-  written_merged bytes stands either left may = ⊎_elim inl (λ all. inr (inr (whole_left others others bytes left stands all)))
-      (either left may)
+      → LeavesMerged (MayLeave (files.disk from)) was rows (MayLeave (files.disk f))
+  written_merged bytes stands either left may = ⊎_elim inl
+      (λ all. inr (inr (still_grown files f (none_open rows) (none_open rows) bytes left stands all))) (either left may)
 
   -- a group was appended
-  pub grown_merged : (group : List ℕ) → Updates rows None group others None
-      → LeavesLeft files (none_open rows) group from f → LeavesMerged files rows others from f
+  pub grown_merged : (group : List ℕ) → Updates was.rows was.intent group rows None
+      → LeavesLeft files was group from f
+      → LeavesMerged (MayLeave (files.disk from)) was rows (MayLeave (files.disk f))
   grown_merged group updates leaves left may = elim (leaves left may) [
     | inl before ↦ inl before
-    | inr is ↦ inr (inl (record {
-      before = None;
-      added = group;
-      next = others;
-      after = None;
-      grows =
-          inl updates;
-      next_is = inr refl;
-      file = is;
-    }))
+    | inr is ↦ inr (inl (record { added = group; file = is; grows = inr (inl updates) }))
   ]
 
 -- the mboxrd file of a store
@@ -418,21 +393,23 @@ scene_at disk file place work = scene place (stores_of disk file work.store) (fi
     work.ledger.seen.rows work.ledger.lines.items
 
 -- nothing was stored or marked
-pub none_left_of : {F : Type 0} (file : FileGhosts F) (mbox f : F) (rows : List Row) (next : Task) (old new : Place)
+pub none_left_of : {F : Type 0} (file : FileGhosts F) (mbox f : F) (next : Task) (place : Place) (rows : List Row)
+    (lines : List ReportLine) (cut : Cut) (new : Scene)
     → IsSafeFile file f → Steady (file.stored f).content (none_open rows) → IsSafeFile file mbox
-    → LeavesBoth file (file.stored mbox).content mbox f (IsCutLeft rows next old new)
-none_left_of file mbox f rows next old new safe steady whole sure bytes has left may now is seen there =
+    → LeavesBoth file (file.stored mbox).content mbox f
+    (IsCutLeft next (scene place (in_mbox (file.stored mbox)) (file.stored f) rows lines) cut new)
+none_left_of file mbox f next place rows lines cut new safe steady whole sure bytes has left may now is seen there =
     inl (same_grown file f (none_open rows) (none_open rows) safe steady now is seen there, (whole.1 bytes has).1 left may)
 
 pub nothing_cut : {D F : Type 0} (disk : DiskGhosts D) (file : FileGhosts F) (target : Target) (task : Task) (a : Place)
-    (rows : List Row) (lines : List ReportLine) (new : Scene) (was store : Store D F) (f : F) → IsSafeStore file was
-    → LeavesNoMore (may_leave_in file was) (may_leave_in file store) → IsSafeFile file f
+    (rows : List Row) (lines : List ReportLine) (cut : Cut) (new : Scene) (was store : Store D F) (f : F)
+    → IsSafeStore file was → LeavesNoMore (may_leave_in file was) (may_leave_in file store) → IsSafeFile file f
     → Steady (file.stored f).content (none_open rows)
-    → CutLasts file target task (scene a (stores_of disk file was) (file.stored f) rows lines) new store f
-nothing_cut disk file (AsFiles account) task a rows lines new was store f whole no_more safe steady =
+    → CutLasts file target task (scene a (stores_of disk file was) (file.stored f) rows lines) cut new store f
+nothing_cut disk file (AsFiles account) task a rows lines cut new was store f whole no_more safe steady =
     inl (same_left file f safe steady)
-nothing_cut disk file AsEntries task a rows lines new was (InMaildir device) f whole no_more safe steady = tt
-nothing_cut disk file AsEntries task a rows lines new was (InMbox device) f whole no_more safe steady =
+nothing_cut disk file AsEntries task a rows lines cut new was (InMaildir device) f whole no_more safe steady = tt
+nothing_cut disk file AsEntries task a rows lines cut new was (InMbox device) f whole no_more safe steady =
     λ sure bytes is left may now has seen there. inl (
       same_grown file f (none_open rows) (none_open rows) safe steady now has seen there,
       only_in file was whole bytes (same_mbox disk file was ∙ is) left (no_more left may),
@@ -549,8 +526,8 @@ pub carried : {D F : Type 0} (disk : DiskGhosts D) (files : FileGhosts F) {safe 
     → mid_lines ≡ lines → (is : IsReady settings target items now store file ready after (stores_of disk files before)
     file') → steps ≡ ready.steps.items → held ≡ ready.held.items
     → skipped ≡ skips_of settings after items now ready.steps.items
-    → (AreSure files was from → UnlessQuiet files from after file file' is.durable safe mid_file)
-    → (ids_ahead (tasks_planned steps items held ++ says quit ∷ []) ≡ [] → f ≡ mid_file)
+    → (AreSure files was from → UnlessQuiet files was from after file file' is.durable safe before mid_file)
+    → (ids_ahead (tasks_planned steps items held ++ says quit ∷ []) ≡ [] → (f ≡ mid_file) × LeavesStore files before end)
     → DoesAndLasts files safe target (tasks_planned steps items held ++ says quit ∷ [])
     (scene place (stores_of disk files before) file' after mid_lines) r new end f
     → (is : Carries settings target items now place store file lines r new.place new.store new.file new.lines skipped)
@@ -596,13 +573,15 @@ carried {D} {F} disk files {safe} {settings} {target} {items} {now} {place} {sto
     of_result (Err cut) (c, lasts) = ((new.rows, inr c), lasts)
 
     by : (P : Type 0) → (safe → P) → (durable : (All IsQuiet ready.steps.items × IsFileKept after file file')
-        ⊎ AreDurable target is.was.rows items store) → UnlessQuiet files from after file file' durable safe mid_file
-        → UnlessQuiet files from after file file' (quiet_or durable) P f
-    by P good (inl (quiet, kept)) still =
+        ⊎ AreDurable target is.was.rows items store) → UnlessQuiet files was from after file file' durable safe before mid_file
+        → UnlessQuiet files was from after file file' (quiet_or durable) P end f
+    by P good (inl (quiet, kept)) (still, mbox) =
         let same = same_file (flat_map-append ids_in (tasks_planned steps items held) (says quit ∷ []) ∙ append-nil _ ∙ quiet_ids steps
         items held (subst (λ (ss : List Step). AllByRecursion IsQuiet ss) (sym steps_are)
-        (recursion_from_All IsQuiet ready.steps.items quiet))) in
-        subst (λ (g : F). KeptLasts files from after file file' kept g) (sym same) still
+        (recursion_from_All IsQuiet ready.steps.items quiet))) in (
+          subst (λ (g : F). KeptLasts files from after file file' kept g) (sym same.0) still,
+          λ left may. mbox left (same.1 left may),
+        )
     by P good (inr durable) s = good s
 
 -- ---- what a preview says

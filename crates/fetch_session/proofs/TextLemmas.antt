@@ -22,7 +22,7 @@ use Rattle.fetch_session.specs.declared.report.ReportLine.TheVariants.{Delivered
 use Rattle.fetch_session.specs.Task.{Task, Done, IsAnswered, stores, turns_in, turns_of, texts_in, ids_in, replies_of}
 use Rattle.fetch_session.specs.Task.{report_lines, file_from, files_in}
 use Rattle.fetch_session.specs.Record.{Saves, record_state_in, intent_at, with_open}
-use Rattle.fetch_session.specs.Scene.{scene, Stops, TakesTask}
+use Rattle.fetch_session.specs.Scene.{EntryNotSaved, NoEntry, scene, Stops, TakesTask}
 use Rattle.fetch_session.proofs.SceneLemmas.{brings_same}
 use Rattle.fetch_session.specs.Target.{Target, AsFiles, Stores, in_maildir, AsEntries, closed_file, in_mbox, is_stored, none_held}
 use Rattle.std.proofs.lemmas.Option.{none-some}
@@ -366,10 +366,23 @@ module _ {n : ℕ} {uid : List ℕ} {a b : Place} {mbox mbox' file file' : Store
   pub text_refused : {rows rows' : List Row} (text : List ℕ) (fault : Fault) → Fetched (retr n) a text b
       → RefusesEntry mbox file rows uid text fault mbox' file'
       → rows' ≡ rows → lines' ≡ lines
-      → Stops AsEntries (stores n uid) (scene a (in_mbox mbox) file rows lines) (cut_of fault None)
-      (scene b (in_mbox mbox') file' rows' lines')
-  text_refused text fault (reply, talked, is) refuses rows_are told =
-      inr (inl (inr (inl (search (rules, rw is at refuses)))))
+      → (e : NoEntry (stores n uid) (scene a (in_mbox mbox) file rows lines)
+      (scene b (in_mbox mbox') file' rows' lines') (cut_of fault None)) × (e.uid ≡ uid) × (body_text e.reply.body ≡ text)
+  text_refused text fault (reply, talked, is) refuses rows_are told = (
+    record {
+      none = refl;
+      number = n;
+      uid = uid;
+      reply = reply;
+      is = refl;
+      talked = talked;
+      refuses = rw is at refuses;
+      rows = rows_are;
+      lines = told;
+    },
+    refl,
+    sym is,
+  )
 
   -- its entry was appended, and the mark wasn't saved
   pub entry_not_saved : {rows' : List Row} (octets : ℕ) (text : List ℕ) (mid : Stored) (seen seen' : Loaded)
@@ -377,28 +390,31 @@ module _ {n : ℕ} {uid : List ℕ} {a b : Place} {mbox mbox' file file' : Store
       → AppendsText mbox file seen uid text (Ok tt) mbox' mid seen' → seen'.rows ≡ seen.rows
       → Saves mid (record_state_in seen') (none_open (marked seen'.rows uid)) (Err fault) file'
       → lines' ≡ lines ++ Delivered n octets ∷ []
-      → Stops AsEntries (stores n uid) (scene a (in_mbox mbox) file seen.rows lines) (cut_of fault None)
-      (scene b (in_mbox mbox') file' rows' lines')
+      → (u : EntryNotSaved (stores n uid) (scene a (in_mbox mbox) file seen.rows lines)
+      (scene b (in_mbox mbox') file' rows' lines') (cut_of fault None)) × (u.uid ≡ uid) × (body_text u.reply.body ≡ text)
   entry_not_saved octets text mid seen seen' fault (reply, talked, is) long (was, goes_on, now, opened, saves) rows_are marks told =
-      let held_is : record_state_in seen' ≡ with_open seen.rows (intent_of was uid text) = rw (rows_are, opened) in
-      inr (inr (record {
-        none = refl;
-        number = n;
-        uid = uid;
-        reply = reply;
-        is = refl;
-        talked = talked;
-        stored = rw (← is) (appended_one mbox mbox' was text goes_on.0 now);
-        saves = subst (λ (t : List ℕ). MarksEntry mbox file seen.rows uid t fault file') is (
-          was,
-          goes_on.0,
-          mid,
-          saves,
-          subst (λ (h : RecordState). Saves mid h (none_open (marked h.rows uid))
-              (Err fault) file') held_is marks,
-        );
-        lines = simp (told, long, is);
-      }))
+      let held_is : record_state_in seen' ≡ with_open seen.rows (intent_of was uid text) = rw (rows_are, opened) in (
+        record {
+          none = refl;
+          number = n;
+          uid = uid;
+          reply = reply;
+          is = refl;
+          talked = talked;
+          stored = rw (← is) (appended_one mbox mbox' was text goes_on.0 now);
+          saves = subst (λ (t : List ℕ). MarksEntry mbox file seen.rows uid t fault file') is (
+            was,
+            goes_on.0,
+            mid,
+            saves,
+            subst (λ (h : RecordState). Saves mid h (none_open (marked h.rows uid))
+                (Err fault) file') held_is marks,
+          );
+          lines = simp (told, long, is);
+        },
+        refl,
+        sym is,
+      )
 
   -- it was appended and marked
   pub entry_stored : {rows' : List Row} (octets : ℕ) (text : List ℕ) (mid : Stored) (seen seen' : Loaded)

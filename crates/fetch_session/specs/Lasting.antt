@@ -1,6 +1,6 @@
 -- What of a session outlives a loss of power, by what the devices of its files say. What of a Maildir is durable,
 -- `SessionIn` says.
-use Rattle.std.specs.Prelude.{◌≡◌, ◌≢◌, ◌⊎◌, ℕ, List, [], ◌∷◌, ◌++◌, length, Option, Some, Result, Ok, Err}
+use Rattle.std.specs.Prelude.{◌≡◌, ◌≢◌, ◌⊎◌, ℕ, List, [], ◌∷◌, ◌++◌, length, Option, None, Some, Result, Ok, Err}
 use Rattle.std.specs.List.{flat_map}
 use Rattle.std.proofs.Common.{inl, inr}
 use Rattle.mail_store.specs.declared.maildir.disk.MaildirDisk.{Ghosts as DiskGhosts}
@@ -10,10 +10,9 @@ use Rattle.mail_store.specs.FlatFile.{Stored}
 use Rattle.mail_store.specs.Maildir.{File, IsDurableFile, Maildir}
 use Rattle.mail_store.specs.Mboxrd.{entry_of}
 use Rattle.mail_store.specs.Settling.{MayBeLeft}
-use Rattle.mail_store.specs.Power.{KeepsWhole, LastsWhole, LeavesNoMore, Outlives}
+use Rattle.mail_store.specs.Power.{KeepsWhole, LastsWhole, LeavesCut, LeavesNoMore, Outlives}
 use Rattle.mail_terms.specs.Listing.{Item}
-use Rattle.pop3_client.specs.Texts.{Fetched}
-use Rattle.pop3_client.specs.Turns.{retr}
+use Rattle.pop3_client.specs.Texts.{body_text}
 use Rattle.pop3_wire.specs.Link.{Link}
 use Rattle.pop3_wire.specs.declared.wire.Wire.{Ghosts as WireGhosts}
 use Rattle.pop3_wire.specs.Place.{Place}
@@ -33,12 +32,12 @@ use Rattle.fetch_session.specs.Account.{Holding, digits_of}
 use Rattle.fetch_session.specs.Plan.{Carried, Carries, tasks_ahead}
 use Rattle.fetch_session.specs.Readiness.{IsFileKept, IsMergedAtMost, Readies, merged_in}
 use Rattle.fetch_session.specs.Mbox.{intent_of}
-use Rattle.fetch_session.specs.Record.{Steady, record_state, with_open}
-use Rattle.fetch_session.specs.Scene.{Scene, Does, WhereAllSound}
+use Rattle.fetch_session.specs.Record.{Keeps, Steady, record_state, with_open}
+use Rattle.fetch_session.specs.Scene.{EntryNotSaved, NoEntry, Scene, Does, WhereAllSound}
 use Rattle.fetch_session.specs.Session.{Keeping, Noted, Proceeds, SessionIn, keeping}
 use Rattle.fetch_session.specs.Target.{Target, AsFiles, AsEntries, AfterTakingIn, Stores, is_sound, mbox_of, stores_of}
 use Rattle.fetch_session.specs.Target.{target_of}
-use Rattle.fetch_session.specs.Task.{Task, Done, stores, ids_in, marked_ids, done_texts}
+use Rattle.fetch_session.specs.Task.{Task, Done, ids_in, marked_ids, done_texts}
 
 -- ---- what the devices say
 
@@ -160,22 +159,22 @@ abbrev pub LeavesBoth : {F : Type 0} → FileGhosts F → Option (List ℕ) → 
 LeavesBoth file content mbox f Are = IsSure (file.disk mbox).now → (bytes : List ℕ) → content ≡ Some bytes
     → (left : Option (List ℕ)) → MayLeave (file.disk mbox) left → LeavesFile file f (λ seen. Are bytes seen left)
 
--- both files are left as they were before the task that was cut; or its text was fetched between these places, and of
--- its entry that is left
-abbrev pub IsCutLeft : List Row → Task → Place → Place → List ℕ → Option (List ℕ) → Option (List ℕ) → Type 0
-IsCutLeft rows next old new bytes left mbox =
-    (IsGrownAtMost (none_open rows) (none_open rows) left × (mbox ≡ Some bytes))
-    ⊎ ((number : ℕ) × (uid text : List ℕ) × (next ≡ stores number uid) × Fetched (retr number) old text new
-    × IsEntryLeft rows bytes uid text left mbox)
+-- both files are left as they were before the task that was cut; or its text was read and its entry not appended, or
+-- its mark not saved, and of the entry that is left
+abbrev pub IsCutLeft : Task → Scene → Cut → Scene → List ℕ → Option (List ℕ) → Option (List ℕ) → Type 0
+IsCutLeft next old cut new bytes left mbox =
+    (IsGrownAtMost (none_open old.rows) (none_open old.rows) left × (mbox ≡ Some bytes))
+    ⊎ (((n : NoEntry next old new cut) × IsEntryLeft old.rows bytes n.uid (body_text n.reply.body) left mbox)
+    ⊎ ((u : EntryNotSaved next old new cut) × IsEntryLeft old.rows bytes u.uid (body_text u.reply.body) left mbox))
 
 -- no mark of the task that was cut may be left; or its file came and is durable. Of both files of an account with an
 -- mboxrd file that is left
-abbrev pub CutLasts : {D F : Type 0} → FileGhosts F → Target → Task → Scene → Scene → Store D F → F → Type 0
-CutLasts file (AsFiles account) next old new store f = LeavesFile file f (AreLeft old.rows old.rows)
+abbrev pub CutLasts : {D F : Type 0} → FileGhosts F → Target → Task → Scene → Cut → Scene → Store D F → F → Type 0
+CutLasts file (AsFiles account) next old cut new store f = LeavesFile file f (AreLeft old.rows old.rows)
     ⊎ OneDurable old.store.maildir new.store.maildir
-CutLasts file AsEntries next old new (InMaildir device) f = Unit {0}
-CutLasts file AsEntries next old new (InMbox mbox) f = LeavesBoth file old.store.mbox.content mbox f
-    (IsCutLeft old.rows next old.place new.place)
+CutLasts file AsEntries next old cut new (InMaildir device) f = Unit {0}
+CutLasts file AsEntries next old cut new (InMbox mbox) f =
+    LeavesBoth file old.store.mbox.content mbox f (IsCutLeft next old cut new)
 
 -- the same for the tasks of a list that were done, and for the one that was cut; if none was, the files are safe
 abbrev pub Lasts : {D F : Type 0} → FileGhosts F → (target : Target) (tasks : List Task) (old : Scene)
@@ -183,7 +182,7 @@ abbrev pub Lasts : {D F : Type 0} → FileGhosts F → (target : Target) (tasks 
 Lasts file target tasks old (Ok done) new does store f = DonesLast file target does.dones [] old store f
     × IsSafeFile file f × IsSafeStore file store
 Lasts file target tasks old (Err cut) new does store f = DonesLast file target does.dones (ids_in does.next) old store f
-    × CutLasts file target does.next does.mid new store f
+    × CutLasts file target does.next does.mid cut new store f
 
 -- a list of tasks was done, or as far as went well; and if this premise holds, what was done outlives a loss of power
 pub record DoesAndLasts {D F : Type 0} (file : FileGhosts F) (safe : Type 0) (target : Target) (tasks : List Task)
@@ -202,11 +201,12 @@ pub record IsRecordUntouched {F : Type 0} (files : FileGhosts F) (from f : F) : 
   pub no_more : LeavesNoMore (MayLeave (files.disk from)) (MayLeave (files.disk f))
   pub same : files.stored f ≡ files.stored from
 
--- what may be left of the record's file could be left before, or it is these rows, perhaps with a part of what makes
--- those others of them, or it is the others
-abbrev pub LeavesMerged : {F : Type 0} → FileGhosts F → List Row → List Row → F → F → Type 0
-LeavesMerged files rows others from f = (left : Option (List ℕ)) → MayLeave (files.disk f) left
-    → MayLeave (files.disk from) left ⊎ (AreLeft rows others left ⊎ AreLeft others others left)
+-- what may be left of the record's file could be left before, or it is this record, perhaps with a part of what makes
+-- it those rows, or it is those
+abbrev pub LeavesMerged : (Option (List ℕ) → Type 0) → RecordState → List Row → (Option (List ℕ) → Type 0) → Type 0
+LeavesMerged may_leave was rows may_leave' = (left : Option (List ℕ)) → may_leave' left
+    → may_leave left ⊎ (IsGrownAtMost was (none_open rows) left
+    ⊎ IsGrownAtMost (none_open rows) (none_open rows) left)
 
 -- what may be left of the record's file could be left before, or a part of what was appended stands behind what the
 -- file had
@@ -214,14 +214,33 @@ abbrev pub LeavesLeft : {F : Type 0} → FileGhosts F → RecordState → List �
 LeavesLeft files was added from f = (left : Option (List ℕ)) → MayLeave (files.disk f) left
     → MayLeave (files.disk from) left ⊎ IsRecordLeft was added left
 
--- what a session leaves of the record's file that was cut while it prepared the record: no more than before, or what a
--- merge leaves
-abbrev pub UnreadyLasts : {F : Type 0} → FileGhosts F → F
+-- no more of an mboxrd file may be left than before
+abbrev pub LeavesStore : {D F : Type 0} → FileGhosts F → Store D F → Store D F → Type 0
+LeavesStore files was store = LeavesNoMore (may_leave_in files was) (may_leave_in files store)
+
+-- once an open intent was settled in it, or while it was, this is left of it: what could be left before, or that cut
+-- back to the intent's place
+abbrev pub LeavesSettled : Option Intent → Option (List ℕ) → (Option (List ℕ) → Type 0) → (Option (List ℕ) → Type 0)
+    → Type 0
+LeavesSettled None content may_leave may_leave' = LeavesNoMore may_leave may_leave'
+LeavesSettled (Some intent) content may_leave may_leave' = LeavesCut content intent.start may_leave may_leave'
+
+-- what a session leaves of both files that was cut while it prepared the record: no more than before, or the record
+-- that was read and a settled mboxrd file; or what a merge leaves, and the settled file. Unless no intent was open, the
+-- record was durable before the merge, and the mboxrd file is
+abbrev pub UnreadyLasts : {D F : Type 0} → FileGhosts F → Store D F → F
     → {target : Target} {items : List Item} {now : ℕ} {store : Stores} {file : Stored}
-    {store' : Stores} {file' : Stored} → IsMergedAtMost target items now store file store' file' → F → Type 0
-UnreadyLasts files from (inl same) f = LeavesNoMore (MayLeave (files.disk from)) (MayLeave (files.disk f))
-UnreadyLasts files from {target} {items} {now} {store} (inr merged) f =
-    LeavesMerged files merged.was.rows (merged_in target store merged.was items now) from f
+    {store' : Stores} {file' : Stored} → IsMergedAtMost target items now store file store' file' → Store D F → F
+    → Type 0
+UnreadyLasts files was from (inl same) store' f = LeavesNoMore (MayLeave (files.disk from)) (MayLeave (files.disk f))
+    × (LeavesStore files was store' ⊎ (IsSafeFile files f × ((state : RecordState)
+    × Keeps (files.stored f).content state × LeavesSettled state.intent (mbox_of files was).content
+    (may_leave_in files was) (may_leave_in files store'))))
+UnreadyLasts files was from {target} {items} {now} {store} {file} (inr merged) store' f =
+    let rows = merged_in target store merged.was items now in
+    ((merged.was.intent ≡ None) × LeavesMerged (MayLeave (files.disk from)) merged.was rows (MayLeave (files.disk f))
+    × LeavesStore files was store')
+    ⊎ (LeavesMerged (λ left. left ≡ file.content) merged.was rows (MayLeave (files.disk f)) × IsSafeStore files store')
 
 -- the record's file wasn't written; or it was written anew, and is safe
 abbrev pub KeptLasts : {F : Type 0} → FileGhosts F → F → (rows : List Row) (old new : Stored) → IsFileKept rows old new
@@ -231,28 +250,30 @@ KeptLasts files from rows old new (inr anew) f = (files.stored f ≡ new) × IsS
 
 -- nothing is to be fetched or deleted, and this is left of the record's file; or what was found is durable, and this
 -- holds
-abbrev pub UnlessQuiet : {F : Type 0} → FileGhosts F → F → {Quiet Durable : Type 0} → (rows : List Row)
-    (old new : Stored) → (Quiet × IsFileKept rows old new) ⊎ Durable → Type 0 → F → Type 0
-UnlessQuiet files from rows old new (inl (quiet, kept)) Safe f = KeptLasts files from rows old new kept f
-UnlessQuiet files from rows old new (inr durable) Safe f = Safe
+abbrev pub UnlessQuiet : {D F : Type 0} → FileGhosts F → Store D F → F → {Quiet Durable : Type 0} → (rows : List Row)
+    (old new : Stored) → (Quiet × IsFileKept rows old new) ⊎ Durable → Type 0 → Store D F → F → Type 0
+UnlessQuiet files was from rows old new (inl (quiet, kept)) Safe store f = KeptLasts files from rows old new kept f
+    × LeavesStore files was store
+UnlessQuiet files was from rows old new (inr durable) Safe store f = Safe
 
 -- what is ready outlives a loss of power: the record's file was kept, or the files are safe
-abbrev pub ReadyLasts : {D F : Type 0} → FileGhosts F → F
+abbrev pub ReadyLasts : {D F : Type 0} → FileGhosts F → Store D F → F
     → (settings : Settings) (target : Target) (items : List Item) (now : ℕ)
     (old : Stores) (file : Stored) (result : Result Ready Fault) (after : List Row) (new : Stores) (file' : Stored)
     → Readies settings target items now old file result after new file' → Store D F → F → Type 0
-ReadyLasts files from _ _ _ _ _ file (Ok ready) after _ file' is store f =
-    UnlessQuiet files from after file file' is.durable (IsSafeFile files f × IsSafeStore files store) f
-ReadyLasts files from _ _ _ _ _ _ (Err fault) _ _ _ unready store f = UnreadyLasts files from unready.content f
+ReadyLasts files was from _ _ _ _ _ file (Ok ready) after _ file' is store f =
+    UnlessQuiet files was from after file file' is.durable (IsSafeFile files f × IsSafeStore files store) store f
+ReadyLasts files was from _ _ _ _ _ _ (Err fault) _ _ _ unready store f =
+    UnreadyLasts files was from unready.content store f
 
 -- the record was made ready, or wasn't; and if this premise holds, this is left
-pub record ReadiesAndLasts {D F : Type 0} (disk : DiskGhosts D) (files : FileGhosts F) (safe : Type 0) (from : F)
-    (settings : Settings) (target : Target) (items : List Item) (now : ℕ) (old : Stores) (result : Result Ready Fault)
-    (after : List Row)
+pub record ReadiesAndLasts {D F : Type 0} (disk : DiskGhosts D) (files : FileGhosts F) (safe : Type 0)
+    (was : Store D F) (from : F) (settings : Settings) (target : Target) (items : List Item) (now : ℕ) (old : Stores)
+    (result : Result Ready Fault) (after : List Row)
     (store : Store D F) (f : F) : Type 0 where
   pub readies : Readies settings target items now old (files.stored from) result after (stores_of disk files store)
       (files.stored f)
-  pub lasts : safe → ReadyLasts files from _ _ _ _ _ _ _ _ _ _ readies store f
+  pub lasts : safe → ReadyLasts files was from _ _ _ _ _ _ _ _ _ _ readies store f
 
 -- what was planned was done, or as much as went well: if no flush was refused before, nothing was to be fetched or
 -- deleted and the record's file was kept, or what was done outlives a loss of power
@@ -263,9 +284,10 @@ abbrev pub CarriedLasts : {D F : Type 0} → FileGhosts F → Store D F → F �
     → Store D F → F → Type 0
 CarriedLasts files was from {settings} {target} {items} {now} {place} {old} {file} {lines} {result} {new} {skipped}
     carried store f =
-    AreSure files was from → UnlessQuiet files from carried.mid.rows file carried.mid.file carried.prepared.durable
+    AreSure files was from → UnlessQuiet files was from carried.mid.rows file carried.mid.file
+    carried.prepared.durable
     (Lasts files target (tasks_ahead settings target items now old carried.mid.rows) carried.mid result new
-    carried.does store f) f
+    carried.does store f) store f
 
 -- the same, or the record wasn't ready
 abbrev pub CarriesLast : {D F : Type 0} → FileGhosts F → Store D F → F → (settings : Settings) (target : Target)
@@ -277,7 +299,7 @@ abbrev pub CarriesLast : {D F : Type 0} → FileGhosts F → Store D F → F →
 CarriesLast files was from _ _ _ _ _ _ _ _ (Ok done) _ _ _ _ _
     (rows, carried) store f = CarriedLasts files was from carried store f
 CarriesLast files was from _ _ _ _ _ _ _ _ (Err cut) _ _ _ _ _ (rows, inl (none, unprepared)) store f =
-    AreSure files was from → UnreadyLasts files from unprepared.unready.content f
+    AreSure files was from → UnreadyLasts files was from unprepared.unready.content store f
 CarriesLast files was from _ _ _ _ _ _ _ _ (Err cut) _ _ _ _ _
     (rows, inr carried) store f = CarriedLasts files was from carried store f
 
@@ -291,7 +313,9 @@ ProceedsLast files was from settings target now old before (Ok done) new after n
     (Ok done) new after.store
     after.file notes.lines notes.skipped dealt.carries store f
 ProceedsLast files was from _ _ _ _ _ (Err cut) _ _ _ (inl stopped) store f = IsRecordUntouched files from f
+    × LeavesStore files was store
 ProceedsLast files was from _ _ _ _ _ (Err cut) _ _ _ (inr (inl wanting)) store f = IsRecordUntouched files from f
+    × LeavesStore files was store
 ProceedsLast files was from settings target now old before (Err cut) new after notes (inr (inr dealt)) store f =
     CarriesLast files was from settings target dealt.items now dealt.mid before.store before.file []
     (Err cut) new after.store

@@ -21,7 +21,7 @@ use Rattle.fetch_session.specs.Record.{Keeps, KeepsRows, Saves, Steady}
 use Rattle.fetch_session.specs.Scene.{Scene, Fell, WhereAllSound}
 use Rattle.fetch_session.specs.Target.{AsFiles, IsSoundMaildir, IsSoundMbox, maildir_of, mbox_of}
 use Rattle.fetch_session.specs.Account.{Holding, IsSameAccount, digits_of}
-use Rattle.fetch_session.specs.Lasting.{RunsSession}
+use Rattle.fetch_session.specs.Lasting.{RunsSession, SessionLasts}
 use Rattle.fetch_session.specs.Session.{AccountFiles, MboxSession, Session, account_files, mbox_account_files}
 use Rattle.fetch_session.specs.declared.report.Report.{Report}
 use Rattle.mail_store.specs.declared.file.flat_file.FlatFile.{Ghosts as FileGhosts}
@@ -79,16 +79,17 @@ MaildirSessions {W} {D} {F} link disk files = (now : ℕ) (old new : Holding D F
     (account_files left (files.stored old.file)) report (link.history wire')
     (account_files (maildir_of disk new.store) (files.stored new.file))))
 
--- a session of an account with an mboxrd file
+-- a session of an account with an mboxrd file, and what of its files is durable
 abbrev pub MboxSessions : {W D F : Type 0} → WireGhosts W → DiskGhosts D → FileGhosts F → Type 0
 MboxSessions {W} {D} {F} link disk files = (now : ℕ) (old new : Holding D F) (wire wire' : W) (report : Report)
     → IsSameAccount old new
     → RunsSession link disk files now old wire report new wire'
     → WhereAllSound link.sound link.leads_to (IsSoundMbox files) files.sound wire wire' old.store new.store
     old.file new.file
-    (MboxSession old.settings now (link.history wire)
+    ((session : MboxSession old.settings now (link.history wire)
     (mbox_account_files (mbox_of files old.store) (files.stored old.file)) report
     (link.history wire') (mbox_account_files (mbox_of files new.store) (files.stored new.file)))
+    × SessionLasts files old.store old.file session new.store new.file)
 
 -- each file that was there before a session is there after it, and others may have come; it takes none away
 abbrev pub SessionsKeepFiles : Type 0

@@ -19,7 +19,7 @@ use Rattle.fetch_session.specs.declared.step.Task.{Task as Planned}
 use Rattle.fetch_session.specs.declared.step.Task.TheVariants.{Store, Reread, Skip, Delete}
 use Rattle.fetch_session.specs.declared.work.Ledger.{Ledger}
 use Rattle.fetch_session.specs.declared.work.Work.{Work}
-use Rattle.fetch_session.specs.Lasting.{AreLeft, DoesAndLasts, IsSafeFile, IsSafeWork, LeavesFile}
+use Rattle.fetch_session.specs.Lasting.{AreLeft, DoesAndLasts, IsSafeFile, IsSafeWork, LeavesFile, LeavesStore}
 use Rattle.fetch_session.specs.Record.{Steady, record_state_in}
 use Rattle.fetch_session.specs.Refusal.{RefusesTillCut, TookTillCut}
 use Rattle.fetch_session.specs.Report.{AddsLines, HasRoom}
@@ -124,8 +124,8 @@ pub record KeepsBegun {D F H Z : Type 0} (disk : DiskGhosts D) (file : FileGhost
   pub begun : is_sound disk file new.store → is_sound disk file old.store
       × ((stores_of disk file new.store).maildir.begun ≡ (stores_of disk file old.store).maildir.begun)
 
--- a part of a session that has these tasks: it takes and notes no more than they may; without a mark the record's file
--- is as it was; and if all went well, what was safe is safe, and what was ready for these tasks and others is ready for
+-- a part of a session that has these tasks: it takes and notes no more than they may; without a mark nothing is
+-- written; and if all went well, what was safe is safe, and what was ready for these tasks and others is ready for
 -- the others
 pub record KeepsSession {W D F H Z : Type 0} (link : WireGhosts W) (disk : DiskGhosts D) (file : FileGhosts F)
     (account : List ℕ)
@@ -135,7 +135,8 @@ pub record KeepsSession {W D F H Z : Type 0} (link : WireGhosts W) (disk : DiskG
   pub store : KeepsStore disk file (length tasks) work work'
   pub lasts : is_sound disk file work'.store → file.sound work'.ledger.file → file.sound work.ledger.file
       × (IsSafeWork file work → OnOk result (IsSafeWork file work'))
-  pub idle : ids_ahead tasks ≡ [] → work'.ledger.file ≡ work.ledger.file
+  pub idle : ids_ahead tasks ≡ [] → (work'.ledger.file ≡ work.ledger.file)
+      × (is_sound disk file work'.store → LeavesStore file work.store work'.store)
   pub next : OnOk result ((later : List Task) → IsReadyFor disk file account (tasks ++ later) work
       → IsReadyFor disk file account later work')
 

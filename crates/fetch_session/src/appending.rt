@@ -1,6 +1,6 @@
 //! How a text is appended to an mboxrd file: it is read whole, its intent is written to the record,
 //! and then the entry is appended at once. If nothing of it came, its intent is closed again.
-ghost use Rattle.std.specs.Prelude.{◌≡◌, ◌≢◌, ℕ, List, [], None, true, OnErr, OnOk};
+ghost use Rattle.std.specs.Prelude.{◌≡◌, ◌≢◌, ℕ, List, [], None, true, IfErr, OnErr, OnOk};
 ghost use Rattle.fetch_rules.specs.Record.{has_row, none_open};
 ghost use Rattle.mail_terms.specs.Text.{IsWhole};
 ghost use Rattle.mail_terms.specs.UniqueId.{IsLegalId};
@@ -131,9 +131,14 @@ pub(crate) fn take_into_mbox<W: Wire, F: FlatFile, H: BuildHasher>(
     ensures lasts { F.sound mbox.new → F.sound ledger.new.file → IsSure (F.disk mbox.old).now
         → IsSafeFile F.FlatFile ledger.old.file
         → OnOk result (IsSafeFile F.FlatFile mbox.new × IsSafeFile F.FlatFile ledger.new.file)
-        × (IsSafeFile F.FlatFile mbox.old → W.sound client.new.wire.now → OnErr result (LeavesBoth F.FlatFile
-        (F.stored mbox.old).content mbox.new ledger.new.file (IsCutLeft ledger.old.seen.rows (stores number uid.now)
-        (place_of W.Wire client.old) (place_of W.Wire client.new)))) }
+        × (IsSafeFile F.FlatFile mbox.old → W.sound client.new.wire.now → IfErr result (λ cut. LeavesBoth F.FlatFile
+        (F.stored mbox.old).content mbox.new ledger.new.file (IsCutLeft (stores number uid.now)
+        (scene (place_of W.Wire client.old) (in_mbox (F.stored mbox.old))
+        (F.stored ledger.old.file) ledger.old.seen.rows
+        ledger.old.lines.items) cut
+        (scene (place_of W.Wire client.new) (in_mbox (F.stored mbox.new))
+        (F.stored ledger.new.file) ledger.new.seen.rows
+        ledger.new.lines.items)))) }
 {
     conversations_are_paced();
     marked_keeps_rows();

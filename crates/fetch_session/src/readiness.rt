@@ -10,9 +10,11 @@ ghost use Rattle.fetch_session.specs.Mbox.{AsksMbox, SettlesIntent};
 ghost use Rattle.mail_store.specs.Durable.{IsSure, MayLeave};
 ghost use Rattle.mail_store.specs.Maildir.{AfterTaking, AllNamed};
 ghost use Rattle.mail_store.specs.Power.{LeavesNoMore};
-ghost use Rattle.fetch_session.specs.Lasting.{AreSure, IsSafeFile, IsSafeStore, LeavesMerged, ReadiesAndLasts, is_sure};
+ghost use Rattle.fetch_session.specs.Lasting.{AreSure, IsSafeFile, IsSafeStore, LeavesMerged, LeavesSettled};
+ghost use Rattle.fetch_session.specs.Lasting.{LeavesStore, ReadiesAndLasts, is_sure, may_leave_in};
 ghost use Rattle.fetch_session.specs.Parts.{KeepsBegun};
-ghost use Rattle.fetch_session.specs.Target.{AfterTakingIn, held_flags, is_sound, kind_of, stores_of, target_of};
+ghost use Rattle.fetch_session.specs.Target.{AfterTakingIn, held_flags, is_sound, kind_of, mbox_of, stores_of};
+ghost use Rattle.fetch_session.specs.Target.{target_of};
 ghost use Rattle.fetch_session.specs.Readiness.{AreAsHeld, ChecksStore, FindsHeld, FindsIn, HasPlan, IsIdle, Rests};
 ghost use Rattle.fetch_session.specs.Readiness.{are_undelivered, flags_found};
 ghost use Rattle.fetch_session.specs.Record.{Gets, ReadsRecord, FileReadAs, Merges, IsLineFault, IsSecured, Steady};
@@ -159,6 +161,9 @@ fn settle<F: FlatFile, H: BuildHasher>(
     ensures settles { F.sound mbox.new → F.sound mbox.old
         × SettlesIntent seen.now.intent listing.now (F.stored mbox.old) result (F.stored mbox.new) }
     ensures lasts { F.sound mbox.new → IsSure (F.disk mbox.old).now → OnOk result (IsSure (F.disk mbox.new).now) }
+    ensures leaves { F.sound mbox.new → IsSure (F.disk mbox.old).now
+        → LeavesSettled seen.now.intent (F.stored mbox.old).content (MayLeave (F.disk mbox.old))
+        (MayLeave (F.disk mbox.new)) }
 {
     let Some(intent) = seen.intent() else {
         return Ok(false);
@@ -179,6 +184,9 @@ fn ask_mbox<F: FlatFile, H: BuildHasher>(
     ensures asks { F.sound mbox.new → F.sound mbox.old
         × AsksMbox seen.now.intent (F.stored mbox.old) listing.now result (F.stored mbox.new) }
     ensures lasts { F.sound mbox.new → IsSure (F.disk mbox.old).now → OnOk result (IsSafeFile F.FlatFile mbox.new) }
+    ensures leaves { F.sound mbox.new → IsSure (F.disk mbox.old).now
+        → LeavesSettled seen.now.intent (F.stored mbox.old).content (MayLeave (F.disk mbox.old))
+        (MayLeave (F.disk mbox.new)) }
 {
     let stored = settle(alloc, mbox, seen, listing)?;
     check_mbox(mbox)?;
@@ -211,6 +219,9 @@ fn ask_store<D: MaildirDisk, F: FlatFile, H: BuildHasher>(
         (record_state_in seen.now) left listing.now result (stores_of D.MaildirDisk F.FlatFile store.new)) }
     ensures lasts { is_sound D.MaildirDisk F.FlatFile store.new → is_sure F.FlatFile store.old
         → OnOk result (IsSafeStore F.FlatFile store.new) }
+    ensures leaves { is_sound D.MaildirDisk F.FlatFile store.new → is_sure F.FlatFile store.old
+        → LeavesSettled seen.now.intent (mbox_of F.FlatFile store.old).content (may_leave_in F.FlatFile store.old)
+        (may_leave_in F.FlatFile store.new) }
 {
     match store {
         Store::Maildir(disk) => Ok(Found {
@@ -246,9 +257,10 @@ fn take_in<F: FlatFile, H: BuildHasher>(
         (merged (closed_rows found.now.stored seen.old.rows seen.old.intent) listing.now found.now.held.items now))
         result
         (F.stored file.new) }
-    ensures lasts { F.sound file.new → IsSafeFile F.FlatFile file.old → LeavesMerged F.FlatFile seen.old.rows
+    ensures lasts { F.sound file.new → IsSafeFile F.FlatFile file.old
+        → LeavesMerged (MayLeave (F.disk file.old)) (record_state_in seen.old)
         (merged (closed_rows found.now.stored seen.old.rows seen.old.intent) listing.now found.now.held.items now)
-        file.old file.new
+        (MayLeave (F.disk file.new))
         × OnOk result (IsSafeFile F.FlatFile file.new) }
 {
     seen.close(found.stored);
@@ -290,6 +302,7 @@ fn check_store<D: MaildirDisk, F: FlatFile>(store: &mut Store<D, F>) -> Result<(
     ensures checks { is_sound D.MaildirDisk F.FlatFile store.new → is_sound D.MaildirDisk F.FlatFile store.old
         × ChecksStore (kind_of store.old) (stores_of D.MaildirDisk F.FlatFile store.old) result
         (stores_of D.MaildirDisk F.FlatFile store.new) }
+    ensures keeps { is_sound D.MaildirDisk F.FlatFile store.new → LeavesStore F.FlatFile store.old store.new }
 {
     match store {
         Store::Maildir(disk) => {
@@ -313,6 +326,7 @@ fn rest<D: MaildirDisk, F: FlatFile>(
     ensures finds { is_sound D.MaildirDisk F.FlatFile store.new → is_sound D.MaildirDisk F.FlatFile store.old
         × Rests (kind_of store.old) (stores_of D.MaildirDisk F.FlatFile store.old) listing.now result
         (stores_of D.MaildirDisk F.FlatFile store.new) }
+    ensures keeps { is_sound D.MaildirDisk F.FlatFile store.new → LeavesStore F.FlatFile store.old store.new }
 {
     check_store(store)?;
     let held = vec![in alloc; false; listing.len() as usize]?;
@@ -338,7 +352,8 @@ fn stay_idle<D: MaildirDisk, F: FlatFile, H: BuildHasher>(
         × OnOk result (Steady (F.stored work.new.ledger.file).content (none_open work.old.ledger.seen.rows)) }
     ensures readies { is_sound D.MaildirDisk F.FlatFile work.new.store → F.sound work.new.ledger.file
         → is_sound D.MaildirDisk F.FlatFile work.old.store × F.sound work.old.ledger.file
-        × ReadiesAndLasts D.MaildirDisk F.FlatFile (Unit {0}) work.old.ledger.file terms.entry.settings.now
+        × ReadiesAndLasts D.MaildirDisk F.FlatFile (Unit {0}) work.old.store work.old.ledger.file
+        terms.entry.settings.now
         (target_of work.old.store terms.entry.account.now) listing.now terms.entry.now
         (stores_of D.MaildirDisk F.FlatFile work.old.store) result work.old.ledger.seen.rows work.new.store
         work.new.ledger.file }
@@ -380,7 +395,8 @@ fn prepare_by_store<D: MaildirDisk, F: FlatFile, H: BuildHasher>(
         → is_sound D.MaildirDisk F.FlatFile work.old.store × F.sound work.old.ledger.file
         × AfterTakingIn (stores_of D.MaildirDisk F.FlatFile work.old.store)
         (λ left. ReadiesAndLasts D.MaildirDisk F.FlatFile
-        (is_sure F.FlatFile work.old.store × IsSafeFile F.FlatFile work.old.ledger.file) work.old.ledger.file
+        (is_sure F.FlatFile work.old.store × IsSafeFile F.FlatFile work.old.ledger.file) work.old.store
+        work.old.ledger.file
         terms.entry.settings.now (target_of work.old.store terms.entry.account.now) listing.now terms.entry.now
         left result
         work.new.ledger.seen.rows work.new.store work.new.ledger.file) }
@@ -427,7 +443,7 @@ pub fn prepare<D: MaildirDisk, F: FlatFile, H: BuildHasher>(
         → is_sound D.MaildirDisk F.FlatFile work.old.store × F.sound work.old.ledger.file
         × AfterTakingIn (stores_of D.MaildirDisk F.FlatFile work.old.store)
         (λ left. ReadiesAndLasts D.MaildirDisk F.FlatFile
-        (AreSure F.FlatFile work.old.store work.old.ledger.file) work.old.ledger.file
+        (AreSure F.FlatFile work.old.store work.old.ledger.file) work.old.store work.old.ledger.file
         terms.entry.settings.now (target_of work.old.store terms.entry.account.now) listing.now terms.entry.now
         left result
         work.new.ledger.seen.rows work.new.store work.new.ledger.file) }

@@ -187,7 +187,7 @@ cut_front b len (Some left) (inr (inr t)) = elim (cases_lt len b.uncut) [
 
 -- ---- the file and its name
 
-may_now : (disk : Disk) (left : Option (List ℕ)) → IsLeftOf disk.now left → MayLeave disk left
+pub may_now : (disk : Disk) (left : Option (List ℕ)) → IsLeftOf disk.now left → MayLeave disk left
 unfolding MayLeave
 may_now disk left now = inl now
 
@@ -481,10 +481,12 @@ cuts_for_good old new len r t =
     let part = in_part (λ b c is. inr (inl is)) old new r t in
     record {
       front = λ was has left may. ⊎_elim (λ e. inl (same_leaves e left may)) (λ t. front_left old new was len left has t may) part;
-      leaves = λ on was has left may. ⊎_elim (λ e. inl (same_leaves e left may))
-          (λ t. let k = left_become old new was left t on has may in
-          ⊎_elim (λ e. inl (may_now old left (subst (λ (o : Option (List ℕ)). IsLeftOf old.now o) (has ∙ sym e) (may_arrive old.now)))) inr
-          (left_cut was len left (no_more (cut (secured was) len) k.0 k.1 left k.2))) part;
+      leaves = λ on left may. ⊎_elim (λ e. inl (same_leaves e left may))
+          (λ t. let was : List ℕ = t.0.content in
+          let has : seen_on old ≡ Some was = ap (option_map content_in) t.2 in
+          let k = left_become old new was left t on has may in
+          ⊎_elim (λ e. inl (may_now old left (subst (λ (o : Option (List ℕ)). IsLeftOf old.now o) (has ∙ sym e) (may_arrive old.now))))
+          (λ all. inr (was, has, all)) (left_cut was len left (no_more (cut (secured was) len) k.0 k.1 left k.2))) part;
       durable = now_durable (λ b. flushed (cut b len)) (λ was. refl) (λ b c. MayBeFlushed (cut b len) c) old new r t;
     }
 
@@ -591,9 +593,10 @@ cut_back old mid new was bytes r on has appends cuts = (
     ]
       where
         kept : mid ≡ old → MayLeave mid left ⊎ (left ≡ Some was)
-        kept same = ⊎_map (λ m. m) (λ all. all ∙ ap Some (take-length was))
+        kept same = ⊎_map (λ m. m) (λ (some, there, all). all ∙ ap (λ (xs : List ℕ). Some (take (length was) xs))
+            (same_Some some was (sym there ∙ ap seen_on same ∙ has)) ∙ ap Some (take-length was))
             ((cuts_for_good {T = Unit {0}} mid new (length was) (Err Refused) (inr (b, d, there, is, e))).leaves
-            (subst (λ (x : Disk). IsDurable x) (sym same) on) was (ap seen_on same ∙ has) left may)
+            (subst (λ (x : Disk). IsDurable x) (sym same) on) left may)
 
 -- ---- `replace`
 

@@ -35,8 +35,8 @@ LeavesFront content len may_leave may_leave' = (was : List ℕ) → content ≡ 
 
 -- with nothing behind
 abbrev pub LeavesCut : Option (List ℕ) → ℕ → (Option (List ℕ) → Type 0) → (Option (List ℕ) → Type 0) → Type 0
-LeavesCut content len may_leave may_leave' = (was : List ℕ) → content ≡ Some was
-    → LeavesEither may_leave (take len was) may_leave'
+LeavesCut content len may_leave may_leave' = (left : Option (List ℕ)) → may_leave' left
+    → may_leave left ⊎ ((was : List ℕ) × (content ≡ Some was) × (left ≡ Some (take len was)))
 
 -- the file, if there is one, is on the disk, and a loss of power leaves exactly its bytes
 abbrev pub LastsWhole : Option (List ℕ) → Type 0 → (Option (List ℕ) → Type 0) → Type 0

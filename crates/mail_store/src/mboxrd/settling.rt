@@ -6,7 +6,7 @@ ghost use Rattle.mail_terms.specs.FailureCount.{Tallies, refuses};
 ghost use Rattle.mail_store.specs.Durable.{IsDurable, IsSure, MayLeave};
 ghost use Rattle.mail_store.specs.Fault.{is_refusal};
 ghost use Rattle.mail_store.specs.Mboxrd.{text_in};
-ghost use Rattle.mail_store.specs.Power.{LeavesFront, LeavesNoMore};
+ghost use Rattle.mail_store.specs.Power.{LeavesCut, LeavesFront, LeavesNoMore};
 ghost use Rattle.mail_store.specs.Settling.{block_size, begin_with, has_size, is_lost, is_one_entry, is_ours, is_torn};
 ghost use Rattle.mail_store.specs.Settling.{is_whole};
 ghost use Rattle.mail_store.specs.Settling.{IsBehind, LeftoversAreSettled, LooksBehind};
@@ -201,6 +201,8 @@ pub fn settle_file<F: FlatFile>(
     ensures keeps { F.sound file.new
         → LeavesFront (F.stored file.old).content start (MayLeave (F.disk file.old)) (MayLeave (F.disk file.new)) }
     ensures lasts { F.sound file.new → IsSure (F.disk file.old).now → OnOk result (IsDurable (F.disk file.new)) }
+    ensures leaves { F.sound file.new → IsSure (F.disk file.old).now
+        → LeavesCut (F.stored file.old).content start (MayLeave (F.disk file.old)) (MayLeave (F.disk file.new)) }
     ensures count { Tallies (refuses is_refusal result) (F.stored file.old).failures (F.stored file.new).failures }
 {
     match look_behind(alloc, file, start, len, listed)? {

@@ -1,4 +1,5 @@
-use Rattle.std.proofs.Common.{rules, ◌≡◌, ℕ, List, [], ◌∷◌, inr, ◌++◌, Vec, Ok, Err, length, arith, sym, ap, subst, ◌∙◌, refl, true≢false}
+use Rattle.std.proofs.Common.{rules, ◌≡◌, ℕ, List, [], ◌∷◌, inl, inr, ◌++◌, Vec, Ok, Err, length, arith, sym, ap, subst, ◌∙◌}
+use Rattle.std.proofs.Common.{refl, true≢false}
 use Rattle.fetch_rules.specs.Record.{marked}
 use Rattle.pop3_wire.specs.Link.{WhereSound}
 use Rattle.pop3_client.specs.Client.{link_of, place_of}
@@ -13,7 +14,7 @@ use Rattle.pop3_wire.proofs.LinkLemmas.{and_then, in_words}
 use Rattle.fetch_session.proofs.TalkLemmas.{took_talked, takes_held, before_cut, err_is, did_both, did_so}
 use Rattle.fetch_session.proofs.PartLemmas.{link_broke, link_then_cut, marked_ledger, same_ledger}
 use Rattle.fetch_session.specs.Parts.{KeepsLink}
-use Rattle.fetch_session.specs.Lasting.{IsCutLeft, IsSafeFile, LeavesBoth}
+use Rattle.fetch_session.specs.Lasting.{IsEntryLeft, IsSafeFile, LeavesBoth}
 use Rattle.fetch_session.specs.Report.{AddsLines}
 use Rattle.fetch_session.specs.Task.{stores}
 use Rattle.mail_store.specs.Durable.{IsSure}
@@ -65,8 +66,8 @@ returns-in_err-body g c = rw (err_is c.from_residual.ensures.1) (record {
   keeps = search rules;
   lasts = λ m f sure safe. (
     tt,
-    λ whole w. none_left_of g.F.FlatFile c.args.mbox.now c.args.ledger.now.file
-        c.args.ledger.now.seen.rows (stores c.args.number c.args.uid.now) (place_of g.W.Wire c.args.client.now) _ safe
+    λ whole w. none_left_of g.F.FlatFile c.args.mbox.now c.args.ledger.now.file (stores c.args.number c.args.uid.now)
+        (place_of g.W.Wire c.args.client.now) c.args.ledger.now.seen.rows c.args.ledger.now.lines.items _ _ safe
         (c.requires.ready.steady f) whole,
   );
 })
@@ -89,8 +90,8 @@ returns-in_err-text g c = rw (err_is c.from_residual-in_err-text.ensures.1) (rec
   keeps = search rules;
   lasts = λ m f sure safe. (
     tt,
-    λ whole w. none_left_of g.F.FlatFile c.args.mbox.now c.args.ledger.now.file
-        c.args.ledger.now.seen.rows (stores c.args.number c.args.uid.now) (place_of g.W.Wire c.args.client.now) _ safe
+    λ whole w. none_left_of g.F.FlatFile c.args.mbox.now c.args.ledger.now.file (stores c.args.number c.args.uid.now)
+        (place_of g.W.Wire c.args.client.now) c.args.ledger.now.seen.rows c.args.ledger.now.lines.items _ _ safe
         (c.requires.ready.steady f) whole,
   );
 })
@@ -109,8 +110,8 @@ returns-then-not-is_whole g c =
       keeps = search rules;
       lasts = λ m f sure safe. (
         tt,
-        λ whole w. none_left_of g.F.FlatFile c.args.mbox.now c.args.ledger.now.file
-            c.args.ledger.now.seen.rows (stores c.args.number c.args.uid.now) (place_of g.W.Wire c.args.client.now) _ safe
+        λ whole w. none_left_of g.F.FlatFile c.args.mbox.now c.args.ledger.now.file (stores c.args.number c.args.uid.now)
+            (place_of g.W.Wire c.args.client.now) c.args.ledger.now.seen.rows c.args.ledger.now.lines.items _ _ safe
             (c.requires.ready.steady f) whole,
       );
     }
@@ -130,19 +131,18 @@ returns-in_err-append_text g c =
       };
       before = kept.before;
       takes = both_sound (read g here) c.in_err-append_text.ensures.appends (λ text _ refuses.
-          text_refused c.in_ok-text.text.items c.in_err-append_text.field-0.0 text refuses kept.ledger.rows
-          (ap (λ (v : Vec ReportLine _). v.items) kept.ledger.lines));
+          inr (inl (inr (inl (text_refused c.in_ok-text.text.items c.in_err-append_text.field-0.0 text refuses kept.ledger.rows
+          (ap (λ (v : Vec ReportLine _). v.items) kept.ledger.lines)).0))));
       keeps = kept.keeps;
       lasts = λ m f sure safe. (
         tt,
-        λ whole w firm bytes has left may now is seen there. inr (
-          c.args.number,
-          c.args.uid.now,
-          c.in_ok-text.text.items,
-          refl,
-          (read g here w).2,
-          (c.in_err-append_text.ensures.lasts m f sure safe).1 whole firm bytes has left may now is seen there,
-        ),
+        λ whole w firm bytes has left may now is seen there.
+            let (e, its, text) = text_refused c.in_ok-text.text.items c.in_err-append_text.field-0.0 (read g here w).2
+            (c.in_err-append_text.ensures.appends m f).2 kept.ledger.rows (ap (λ (v : Vec ReportLine _). v.items) kept.ledger.lines) in
+            inr (inl (
+              e,
+              rw (its, text) ((c.in_err-append_text.ensures.lasts m f sure safe).1 whole firm bytes has left may now is seen there),
+            )),
       );
     })
 
@@ -169,31 +169,21 @@ returns g c =
     }
 
 -- the entry is whole, and its id may be marked
-unmarked : (g : _) (c : After-remember g) → g.F.FlatFile.sound c.append_text.new.mbox → g.F.FlatFile.sound c.remember.new.file
-    → Fetched (retr c.args.number) (place_of g.W.Wire c.args.client.now) c.in_ok-text.text.items
-    (place_of g.W.Wire c.read_text.new.client) → IsSure (g.F.FlatFile.disk c.args.mbox.now).now
+marked_left : (g : _) (c : After-remember g) → g.F.FlatFile.sound c.append_text.new.mbox
+    → g.F.FlatFile.sound c.remember.new.file → IsSure (g.F.FlatFile.disk c.args.mbox.now).now
     → IsSafeFile g.F.FlatFile c.args.ledger.now.file
     → LeavesBoth g.F.FlatFile (g.F.FlatFile.stored c.args.mbox.now).content c.append_text.new.mbox c.remember.new.file
-    (IsCutLeft c.args.ledger.now.seen.rows (stores c.args.number c.args.uid.now) (place_of g.W.Wire c.args.client.now)
-    (place_of g.W.Wire c.read_text.new.client))
-unmarked g c m f fetched sure safe firm bytes has left may now is seen there =
+    (λ bytes. IsEntryLeft c.args.ledger.now.seen.rows bytes c.args.uid.now c.in_ok-text.text.items)
+marked_left g c m f sure safe firm bytes has left may now is seen there =
     let before = (c.remember.ensures.saves f).0 in
     let all = (c.in_ok-append_text.ensures.lasts m before sure safe).0 in
     let (mbox_sound, file_sound, (was, follows, holds, opened, saves)) = c.in_ok-append_text.ensures.appends m before in
     let text = c.in_ok-text.text.items in
-    subst (λ (b : List ℕ). IsCutLeft c.args.ledger.now.seen.rows (stores c.args.number c.args.uid.now)
-    (place_of g.W.Wire c.args.client.now) (place_of g.W.Wire c.read_text.new.client) b seen left)
-    (same_Some was bytes (sym follows.0 ∙ has)) (inr (
-      c.args.number,
-      c.args.uid.now,
-      text,
-      refl,
-      fetched,
-      inr (inr (
-        rw (c.append_text.ensures.ledger.rows, opened) at ((c.remember.ensures.keeps f).1 all.1 now is seen there),
-        (all.0.1 (was ++ entry_of text) (ap (λ (s : Stored). s.content) holds)).1 left may,
-      )),
-    ))
+    subst (λ (b : List ℕ). IsEntryLeft c.args.ledger.now.seen.rows b c.args.uid.now text seen left)
+    (same_Some was bytes (sym follows.0 ∙ has)) (inr (inr (
+      rw (c.append_text.ensures.ledger.rows, opened) at ((c.remember.ensures.keeps f).1 all.1 now is seen there),
+      (all.0.1 (was ++ entry_of text) (ap (λ (s : Stored). s.content) holds)).1 left may,
+    )))
 
 pub returns-in_err-remember : goal.returns-in_err-remember
 returns-in_err-remember g c =
@@ -207,10 +197,19 @@ returns-in_err-remember g c =
           (λ f safe. (c.remember.ensures.keeps f).1 (c.in_ok-append_text.ensures.ledger.lasts (marks.saves f).0 safe).0);
       before = kept.before;
       takes = both_sound (read g here.In_ok-text) (λ m f. c.in_ok-append_text.ensures.appends m (marks.saves f).0) (λ text f appends.
-          entry_not_saved c.len-length.result c.in_ok-text.text.items
+          inr (inr (entry_not_saved c.len-length.result c.in_ok-text.text.items
           (g.F.FlatFile.stored c.append_text.new.ledger.file) c.args.ledger.now.seen c.append_text.new.ledger.seen
           c.in_err-remember.field-0.0 text
-          (long g here.After-len-length) appends kept.ledger.rows (marks.saves f).1 (told g here.After-note));
+          (long g here.After-len-length) appends kept.ledger.rows (marks.saves f).1 (told g here.After-note)).0));
       keeps = λ m f. let keeps = kept.keeps m (marks.saves f).0 in (keeps.0, λ last. (c.remember.ensures.keeps f).0 _ (keeps.1 last));
-      lasts = λ m f sure safe. (tt, λ whole w. unmarked g here.After-remember m f (read g here.In_ok-text w).2 sure safe);
+      lasts = λ m f sure safe. (
+        tt,
+        λ whole w firm bytes has left may now is seen there.
+            let (u, its, text) = entry_not_saved c.len-length.result c.in_ok-text.text.items
+            (g.F.FlatFile.stored c.append_text.new.ledger.file) c.args.ledger.now.seen c.append_text.new.ledger.seen
+            c.in_err-remember.field-0.0 (read g here.In_ok-text w).2 (long g here.After-len-length)
+            (c.in_ok-append_text.ensures.appends m (marks.saves f).0).2 kept.ledger.rows (marks.saves f).1
+            (told g here.After-note) in
+            inr (inr (u, rw (its, text) (marked_left g here.After-remember m f sure safe firm bytes has left may now is seen there))),
+      );
     })

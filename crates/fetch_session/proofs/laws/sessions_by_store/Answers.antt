@@ -1,4 +1,5 @@
 use Rattle.fetch_session.specs.Account.{digits_of}
+use Rattle.fetch_session.specs.Lasting.{SessionLasts}
 use Rattle.fetch_session.specs.Session.{SessionIn, keeping}
 use Rattle.fetch_session.specs.Target.{AfterTakingIn}
 use Rattle.fetch_session.proofs.SessionLemmas.{entries_session, files_session}
@@ -15,6 +16,7 @@ returns-clause-maildir g c = λ now old new wire wire' report same runs w d f.
 pub returns-clause-mbox : goal.returns-clause-mbox
 returns-clause-mbox g c = λ now old new wire wire' report same runs w d f.
     entries_session g.D.MaildirDisk g.F.FlatFile old.store new.store (digits_of old.settings)
-    (λ t s s'. SessionIn old.settings t now (g.W.Wire.history wire) (keeping s (g.F.FlatFile.stored old.file)) report
-    (g.W.Wire.history wire') (keeping s' (g.F.FlatFile.stored new.file)))
-    _ _ _ same.kind (λ sound. let s = runs w sound f in (s.0, s.1, s.2, s.3, (s.4.0, s.4.1, s.4.2.0))) d
+    (λ t s s'. (session : SessionIn old.settings t now (g.W.Wire.history wire) (keeping s (g.F.FlatFile.stored old.file))
+    report (g.W.Wire.history wire') (keeping s' (g.F.FlatFile.stored new.file)))
+    × SessionLasts g.F.FlatFile old.store old.file session new.store new.file)
+    _ _ _ same.kind (λ sound. runs w sound f) d

@@ -36,13 +36,13 @@ returns-in_err-listing-clause-proceeds g c =
             search rules;
         nothing = search rules;
       }),
-      untouched _ _,
+      (untouched _ _, λ left may. may),
     ))))
 
 pub returns-in_err-reserve-clause-proceeds : goal.returns-in_err-reserve-clause-proceeds
 returns-in_err-reserve-clause-proceeds g c = rw (err_is c.from_residual-in_err-reserve.ensures.1)
     (link_alone (in_words g.W.Wire c.in_ok-listing.ensures.enters
-    (λ entered. untaken _ (inr (inl (search rules)), untouched _ _))))
+    (λ entered. untaken _ (inr (inl (search rules)), (untouched _ _, λ left may. may)))))
 
 -- ---- what calls leave as it was
 

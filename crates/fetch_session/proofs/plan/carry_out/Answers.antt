@@ -132,7 +132,8 @@ carries g c r (keeps, does) = λ w d f.
     (ap (λ lines. lines.items) c.prepare.ensures.store.lines) is.readies c.deref-2.ensures.value c.deref-3.ensures.value
     (c.skips_of.ensures ∙ ap (skips_of c.args.terms.settings.now before.ledger.seen.rows c.args.listing.now
     c.args.terms.now) c.deref.ensures.value)
-    is.lasts keeps.idle (in_kind before.store was.store c.args.terms.account.now c.prepare.ensures.store.kind done.4 (λ safe. safe)))
+    is.lasts (λ none. ((keeps.idle none).0, (keeps.idle none).1 d))
+    (in_kind before.store was.store c.args.terms.account.now c.prepare.ensures.store.kind done.4 (λ safe. safe)))
 
 -- ---- what calls leave as it was
 

@@ -1,6 +1,8 @@
-use Rattle.std.proofs.Common.{ap, inl, length, refl, sym, ◌∙◌, Ok, Err}
+use Rattle.std.proofs.Common.{ap, inl, inr, length, refl, sym, ◌∙◌, Ok, Err}
 use Rattle.fetch_session.proofs.TalkLemmas.{err_is}
+use Rattle.fetch_session.specs.Record.{record_state_in}
 use Rattle.fetch_session.specs.Target.{target_of}
+use Rattle.fetch_session.proofs.SceneLemmas.{read_keeps}
 use Rattle.fetch_session.proofs.ReadyLemmas.{planned_length, all_have_rows, asked, found_as_held, not_before, not_found, ready, unready}
 use Rattle.fetch_session.proofs.readiness.prepare_by_store.Goals as goal
 
@@ -42,7 +44,17 @@ returns-in_err-found-clause-readies g c = rw (err_is c.from_residual.ensures.1)
             c.in_err-found.field-0.0 (c.requires.stands f) finds;
         content = inl refl;
       };
-      lasts = λ safe left may. may;
+      lasts = λ safe. (
+        λ left may. may,
+        inr (
+          safe.1,
+          (
+            record_state_in c.args.work.now.ledger.seen,
+            read_keeps (g.F.FlatFile.stored c.args.work.now.ledger.file).content c.args.work.now.ledger.seen (c.requires.stands f),
+            c.in_err-found.ensures.leaves d safe.0,
+          ),
+        ),
+      );
     }))
 
 pub returns-in_err-take_in-clause-readies : goal.returns-in_err-take_in-clause-readies
@@ -52,7 +64,13 @@ returns-in_err-take_in-clause-readies g c = rw (err_is c.from_residual-in_err-ta
     unready _ _ _ _ _ c.take_in.new.file c.args.terms.account.now _ _ _ left c.args.work.now.ledger.seen
     c.in_ok-found.found (c.requires.stands merges.0) c.merges_ask_only_for_new_ids.ensures
     c.requires.is_record finds
-    (Err c.in_err-take_in.field-0.0) merges.1 (λ safe. (c.in_err-take_in.ensures.lasts f safe.1).0)))
+    (Err c.in_err-take_in.field-0.0) merges.1
+    (λ safe. (
+      safe.1,
+      (c.in_err-take_in.ensures.lasts f safe.1).0,
+      c.in_ok-found.ensures.lasts d safe.0,
+      c.in_ok-found.ensures.leaves d safe.0,
+    ))))
 
 pub returns-in_err-steps-clause-readies : goal.returns-in_err-steps-clause-readies
 returns-in_err-steps-clause-readies g c = rw (err_is c.from_residual-in_err-steps.ensures.1) (λ d f.
@@ -61,7 +79,13 @@ returns-in_err-steps-clause-readies g c = rw (err_is c.from_residual-in_err-step
     unready _ _ _ _ _ c.take_in.new.file c.args.terms.account.now _ _ _ left c.args.work.now.ledger.seen
     c.in_ok-found.found (c.requires.stands merges.0) c.merges_ask_only_for_new_ids.ensures
     c.requires.is_record finds
-    (Ok tt) merges.1 (λ safe. (c.in_ok-take_in.ensures.lasts f safe.1).0)))
+    (Ok tt) merges.1
+    (λ safe. (
+      safe.1,
+      (c.in_ok-take_in.ensures.lasts f safe.1).0,
+      c.in_ok-found.ensures.lasts d safe.0,
+      c.in_ok-found.ensures.leaves d safe.0,
+    ))))
 
 pub returns-clause-readies : goal.returns-clause-readies
 returns-clause-readies g c = λ d f.

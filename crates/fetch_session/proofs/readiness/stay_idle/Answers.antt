@@ -13,7 +13,8 @@ returns-in_err-ready-clause-readies g c = rw (err_is c.from_residual.ensures.1) 
       f,
       unrested g.D.MaildirDisk g.F.FlatFile c.args.terms.account.now c.args.work.now.store c.rest.new.store
           c.args.work.now.ledger.file c.args.work.now.ledger.file c.args.work.now.ledger.seen c.args.steps.items
-          c.known_listings_change_nothing.ensures (c.requires.stands f) c.requires.idle c.in_err-ready.field-0.0 finds.1 refl,
+          c.known_listings_change_nothing.ensures (c.requires.stands f) c.requires.idle c.in_err-ready.field-0.0 finds.1
+          (c.rest.ensures.keeps d) refl,
     ))
 
 -- ---- the file needs no change
@@ -36,7 +37,7 @@ returns-then-not-needs_rewrite-clause-readies g c = λ d f.
       rested g.D.MaildirDisk g.F.FlatFile c.args.terms.account.now c.args.work.now.store c.rest.new.store file file
           c.args.work.now.ledger.seen c.args.steps.items
           c.known_listings_change_nothing.ensures (c.requires.stands f) c.requires.idle c.in_ok-ready.ready finds.1
-          (inl refl) steady.0 refl (untouched g.F.FlatFile file)
+          (inl refl) steady.0 refl (untouched g.F.FlatFile file) (c.rest.ensures.keeps d)
           c.in_ok-ready.ensures.steps c.in_ok-ready.ensures.length,
     )
 
@@ -57,8 +58,8 @@ returns-in_err-save-clause-readies g c = rw (err_is c.from_residual-in_err-save.
           (writes_merges (g.F.FlatFile.stored from) (g.F.FlatFile.stored c.save.new.file) (record_state_in seen)
           (record_state_in seen) (Err c.in_err-save.field-0.0) (read_keeps _ seen stood)
           c.save.ensures.stands saves.1)
-          (written_merged g.F.FlatFile seen.rows seen.rows from c.save.new.file _
-          (rw c.requires.idle.closed at c.save.ensures.stands) (c.save.ensures.leaves f)),
+          (written_merged g.F.FlatFile from c.save.new.file (record_state_in seen) seen.rows _
+          (rw c.requires.idle.closed at c.save.ensures.stands) (c.save.ensures.leaves f)) (c.rest.ensures.keeps d),
     ))
 
 pub returns-clause-steady : goal.returns-clause-steady
@@ -82,5 +83,5 @@ returns-clause-readies g c = λ d f.
           c.known_listings_change_nothing.ensures stood c.requires.idle c.in_ok-ready.ready finds.1 (inr anew)
           (rw (saves.1, c.requires.idle.closed) (rw c.requires.idle.closed at c.save.ensures.stands))
           (rw saves.1 refl)
-          (refl, c.in_ok-save.ensures.lasts f) c.in_ok-ready.ensures.steps c.in_ok-ready.ensures.length,
+          (refl, c.in_ok-save.ensures.lasts f) (c.rest.ensures.keeps d) c.in_ok-ready.ensures.steps c.in_ok-ready.ensures.length,
     )

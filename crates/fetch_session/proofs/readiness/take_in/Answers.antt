@@ -2,6 +2,8 @@ use Rattle.std.proofs.Common.{◌≡◌, List, None, false, inl, sym, ap, subst,
 use Rattle.fetch_rules.specs.Intents.{closed_rows}
 use Rattle.fetch_rules.specs.Record.{Row, RecordState, none_open, merged}
 use Rattle.fetch_rules.specs.RecordGrowth.{Updates}
+use Rattle.fetch_session.specs.Lasting.{LeavesMerged}
+use Rattle.mail_store.specs.Durable.{MayLeave}
 use Rattle.fetch_session.specs.Record.{Merges, Steady, record_state_in}
 use Rattle.fetch_session.proofs.SessionLemmas.{grown_merged, written_merged}
 use Rattle.fetch_session.proofs.SceneLemmas.{saves_merges, writes_merges, read_keeps, read_steady, held_is, and_so}
@@ -46,9 +48,15 @@ returns-clause-merges g c = λ kept.
 
 pub returns-clause-lasts : goal.returns-clause-lasts
 returns-clause-lasts g c = λ kept safe.
-    let it = grows g (goal.at.returns-clause-lasts g c).After-grow kept in (
-      grown_merged g.F.FlatFile c.args.seen.now.rows _ c.args.file.now c.grow.new.file c.deref-2.result.now it.2
-          (c.grow.ensures.leaves kept safe (none_open c.args.seen.now.rows) it.0).1,
+    let it = grows g (goal.at.returns-clause-lasts g c).After-grow kept in
+    let was = c.args.seen.now.rows in
+    let rows = merged (closed_rows c.args.found.now.stored was c.args.seen.now.intent) c.args.listing.now
+    c.args.found.now.held.items c.args.now in (
+      subst (λ (h : RecordState). LeavesMerged (MayLeave (g.F.FlatFile.disk c.args.file.now)) h rows
+          (MayLeave (g.F.FlatFile.disk c.grow.new.file)))
+          (held_is c.args.seen.now it.1)
+          (grown_merged g.F.FlatFile c.args.file.now c.grow.new.file (none_open was) rows c.deref-2.result.now it.2
+          (c.grow.ensures.leaves kept safe (none_open was) it.0).1),
       c.grow.ensures.lasts kept safe,
     )
 
@@ -64,7 +72,7 @@ returns-then-needs_rewrite-clause-merges g c = λ kept. and_so (c.save.ensures.s
 
 pub returns-then-needs_rewrite-clause-lasts : goal.returns-then-needs_rewrite-clause-lasts
 returns-then-needs_rewrite-clause-lasts g c = λ kept safe. (
-  written_merged g.F.FlatFile c.args.seen.now.rows _ c.args.file.now c.save.new.file _
+  written_merged g.F.FlatFile c.args.file.now c.save.new.file (record_state_in c.args.seen.now) _ _
       (rw (c.in_ok-group.ensures.after, c.deref.ensures.value, c.close.ensures.after) at c.save.ensures.stands)
       (rw (c.in_ok-group.ensures.after, c.deref.ensures.value, c.close.ensures.after) at (c.save.ensures.leaves kept)),
   c.save.ensures.lasts kept,

@@ -1,4 +1,4 @@
-use Rattle.std.proofs.Common.{◌∙◌}
+use Rattle.std.proofs.Common.{◌∙◌, inl, inr, sym, ⊎_elim}
 use Rattle.mail_store.proofs.DiskLemmas.{cuts_for_good}
 use Rattle.fetch_session.proofs.SessionLemmas.{front_rows}
 use Rattle.fetch_session.proofs.SceneLemmas.{taken_back, and_so}
@@ -13,6 +13,10 @@ returns-clause-keeps g c = λ kept rows till. front_rows g.F.FlatFile c.args.fil
     till c.cut_to.result (g.met.F.FlatFile.shown c.args.file.now) (c.cut_to.ensures.durable kept)
 
 pub returns-clause-leaves : goal.returns-clause-leaves
-returns-clause-leaves g c = λ kept safe was has left may. (cuts_for_good (g.F.FlatFile.disk c.args.file.now)
-    (g.F.FlatFile.disk c.cut_to.new.self) c.args.size c.cut_to.result (c.cut_to.ensures.durable kept)).leaves
-    (safe.1 was has).0 was (g.met.F.FlatFile.shown c.args.file.now ∙ has) left may
+returns-clause-leaves g c = λ kept safe left may.
+    let (sound, closes) = c.cut_to.ensures.cuts kept in
+    let there = c.requires.there sound in
+    let shown = g.met.F.FlatFile.shown c.args.file.now in
+    ⊎_elim inl (λ (was, has, all). inr (was, sym shown ∙ has, all))
+    ((cuts_for_good (g.F.FlatFile.disk c.args.file.now) (g.F.FlatFile.disk c.cut_to.new.self) c.args.size c.cut_to.result
+    (c.cut_to.ensures.durable kept)).leaves (safe.1 there.0 there.1).0 left may)

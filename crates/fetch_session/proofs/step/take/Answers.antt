@@ -3,7 +3,7 @@ use Rattle.fetch_session.specs.declared.account.Store.TheVariants.{Maildir, Mbox
 use Rattle.fetch_session.specs.declared.account.Store.{Store}
 use Rattle.fetch_session.specs.Parts.{RunsTasks}
 use Rattle.fetch_session.specs.Task.{stores}
-use Rattle.fetch_session.proofs.PartLemmas.{runs_taking}
+use Rattle.fetch_session.proofs.PartLemmas.{err_if, runs_taking}
 use Rattle.fetch_session.proofs.SceneLemmas.{on_any}
 use Rattle.std.proofs.lemmas.Result.{on_ok_weaker}
 use Rattle.fetch_session.proofs.step.take.Goals as goal
@@ -20,7 +20,7 @@ returns-in-Maildir g c =
       (λ bytes has is. is, took.ensures.keeps f c.args.work.now.ledger.seen.rows),
       λ safe.
           let lasts = took.ensures.lasts d f safe.0 in
-          (on_ok_weaker took.result (λ all. (all, tt)) lasts.0, λ s. lasts.1),
+          (on_ok_weaker took.result (λ all. (all, tt)) lasts.0, λ s. err_if _ took.result lasts.1),
     )))
 
 pub returns-in-Mboxrd : goal.returns-in-Mboxrd

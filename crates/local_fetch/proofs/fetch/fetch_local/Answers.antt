@@ -35,6 +35,6 @@ returns-clause-fetched g c =
           mbox_fetches drop.sound drop.mail c.loops_are_honest.ensures c.mbox_sessions_follow_plans.ensures old.settings _ _ _
           (mbox_account_files (mbox_of file old.store) (file.stored old.file)) c.session-report.result
           (mbox_account_files (mbox_of file new.store) (file.stored new.file))
-          c.requires.new valid went.3 went.4 drop_sound messages)
+          c.requires.new valid went.3 went.4.0 drop_sound messages)
           store_sound;
     }
