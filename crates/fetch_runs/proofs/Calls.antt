@@ -21,16 +21,20 @@ use Rattle.fetch_runs.specs.Promises.{HoldsEntries, IsMaildrop, IsSafe, IsFront,
 use Rattle.fetch_runs.specs.Sessions.{SessionOverLink, MboxMail}
 use Rattle.fetch_runs.specs.Steps.{holds}
 use Rattle.fetch_runs.specs.Calls.{Called, CallsKeepPromises, EmptyAccountsAreKept, Left, with_left, IsCall, Shows}
-use Rattle.fetch_runs.specs.Calls.{MboxCallsKeepPromises, ShowsMbox}
+use Rattle.fetch_runs.specs.Calls.{DurableMboxesAreSafe, MboxCallsKeepPromises, ShowsMbox}
 use Rattle.fetch_runs.proofs.LeftRecords.{LeavesDurably, leaves_durably}
 use Rattle.fetch_runs.proofs.Losses.{all_left_durable, calls_keep_order, calls_keep_safe, durable_is_safe}
 use Rattle.fetch_runs.proofs.Losses.{left_keeps_front, left_keeps_safe, losses_keep_order, losses_leave_kept}
 use Rattle.fetch_runs.proofs.Losses.{others_keep_order, others_keep_safe, front_stays, left_front}
 use Rattle.fetch_runs.proofs.Lists.{left_or_none, all_filter, all_ids_at, all_map, all_front, are_distinct, distinct_filter, distinct_is}
-use Rattle.fetch_runs.proofs.Lists.{front_is, is_some, no_texts, all_at, bytes_self, ids_both, all_mapped, none_or_one}
+use Rattle.fetch_runs.proofs.Lists.{front_is, is_some, no_texts, all_at, bytes_self, ids_both, all_mapped, none_or_one, same_held}
 use Rattle.fetch_session.specs.declared.account.Store.TheVariants.{Maildir as InMaildir, Mboxrd as InMbox}
 use Rattle.fetch_runs.specs.Below.{Below}
+use Rattle.fetch_runs.proofs.MboxLeft.{Holds, session_left}
 use Rattle.fetch_runs.proofs.MboxPromised.{appends, starts, ends_whole, open_row}
+use Rattle.fetch_runs.specs.Losses.{AreMboxSure, IsFileLeft, IsMboxSafe}
+use Rattle.fetch_session.specs.Record.{record_state}
+use Rattle.mail_store.specs.Durable.{seen_on}
 use Rattle.fetch_runs.proofs.Promised.{IsSession, others_leave_kept, sessions_keep_promises, copies_came}
 use Rattle.fetch_runs.proofs.Promised.{copies_messages, held_copies, named_messages, one_text}
 use Rattle.fetch_runs.proofs.Safety.{texts_stand}
@@ -39,7 +43,7 @@ use Rattle.std.specs.List.{AllByRecursion}
 use Rattle.std.proofs.lemmas.Bool.{both_ways, false_from_ne_true, or_left, cases_Bool}
 use Rattle.std.proofs.lemmas.List.{append-nil}
 use Rattle.mail_terms.specs.UniqueId.{is_legal_id, has_id}
-use Rattle.fetch_rules.specs.Record.{is_delivered}
+use Rattle.fetch_rules.specs.Record.{RecordState, is_delivered}
 use Rattle.fetch_runs.specs.Headline.{World, IsSound, HoldsAPrefix, EmptyFrontsBegin, NoneTaken, StaysAway, selected_of, MboxStartsInOrder}
 use Rattle.fetch_runs.specs.Headline.{EntriesMeanTexts, IsInOrder, world_without, Headline, MboxHeadline, HoldsAMboxPrefix, IsUnbegun}
 use Rattle.fetch_runs.proofs.Core.{next_here, prefix_left, done_legal, done_distinct}
@@ -176,10 +180,10 @@ calls_keep_promises laws {W} {D} {F} link disk file = keep
           rw (shows.maildir, lost.shows.maildir) lost.maildir in
           let now = losses_leave_kept (file.disk devices.file) mail state account (file.stored left.file).content
           lost.shows.intent kept safe
-          loses lost.record_is lost.shows.record_is in (
+          loses lost.record_is.is lost.shows.record_is in (
             durable_is_safe laws file left.file mail (record state { account = account }) lost.shows.intent
                 now lost.shows.record_is
-                (all_left_durable mail.account state.account.maildir account.maildir loses) lost.durable,
+                (all_left_durable mail.account state.account.maildir account.maildir loses) lost.record_is.durable,
             λ all legal front. losses_keep_order mail state account all legal front loses,
             keep mail (record state { account = account }) left later lost.shows now,
           ),
@@ -221,10 +225,58 @@ mbox_calls_append laws link disk file sessions base done account devices call sh
           (rw (← shows.bytes) at s.session),
     )
 
+-- if whatever may be left of both files before a call holds entries, it does after it; and the first messages of these
+-- lists have them, if they had and the server shows what is next
+mbox_calls_keep_safe : Below → {W D F : Type 0} (link : WireGhosts W) (disk : DiskGhosts D) (file : FileGhosts F)
+    → ((f : F) → seen_on (file.disk f) ≡ (file.stored f).content) → MboxSessions link disk file → (base : Base)
+    (Among : List Message → Type 0) (done done' : List Message) (account after : MboxMail) (devices : Devices F F)
+    (call : Call W F F) → ShowsMbox file devices account → (holds : HoldsEntries base done account)
+    → ((all : List Message) → Among all → (front : IsMboxFront base holds all)
+    × ShowsNext call.settings call.maildrop (front.first ++ done) front.rest) → call.settings.read_all ≡ false
+    → IsCall link disk file InMbox file.sound base.text devices call → ShowsMbox file call.after after
+    → Holds base Among done' after → AreMboxSure file devices call.after
+    → IsMboxSafe (Holds base Among) file devices → IsMboxSafe (Holds base Among) file call.after
+mbox_calls_keep_safe laws {D = D} link disk file shown sessions base Among done done' account after devices call shows holds fronts
+    only_new is shows' kept sure safe =
+    let met = sessions call.now (record { settings = call.settings; store = _; file = devices.file })
+    (record { settings = call.settings; store = _; file = call.after.file }) call.wire call.wire'
+    call.report is.made.1 is.made.2
+    is.link_sound is.store_sound is.file_sound in
+    let both = subst (λ (bytes : List ℕ). (h : HoldsEntries base done (record account { file = bytes }))
+    × ((all : List Message) → Among all → (front : IsMboxFront base h all)
+    × ShowsNext call.settings call.maildrop (front.first ++ done) front.rest)) shows.bytes (holds, fronts) in
+    let now = subst (λ (bytes : List ℕ). Holds base Among done' (record after { file = bytes })) shows'.bytes kept in
+    session_left laws D file shown base Among call (link.history call.wire) (link.history call.wire') is.made.0 is.maildrop only_new
+    is.served devices call.after (record_state account.rows account.intent) (record_state after.rows after.intent) done done'
+    (both.0, λ all among. (both.1 all among).0) now shows.record_is shows'.record_is (λ all among. (both.1 all among).1) sure safe
+    met.4.0 met.4.1
+
+-- what calls see of both files is left
+pub durable_is_mbox_safe : Below → {F : Type 0} (file : FileGhosts F) → DurableMboxesAreSafe file
+durable_is_mbox_safe laws file base done account devices shows holds held_is mbox_is rows intent left bytes may keeps also =
+    let same = same_held laws.one (file.stored devices.file).content (record_state rows intent)
+    (record_state account.rows account.intent) (rw (held_is left may) at keeps) shows.record_is in
+    let rows_are : rows ≡ account.rows = ap (λ (r : RecordState). r.rows) same in
+    let intent_is : intent ≡ account.intent = ap (λ (r : RecordState). r.intent) same in
+    (done, rw (rows_are, intent_is, mbox_is bytes also, ← shows.bytes) holds)
+
+-- what a loss of power left holds entries, if whatever it might leave does
+mbox_losses_leave : {F : Type 0} (file : FileGhosts F) (Holds : List Message → MboxMail → Type 0) (devices left : Devices F F)
+    (now : MboxMail) → ShowsMbox file left now → IsMboxSafe Holds file devices → IsFileLeft file devices.store left.store
+    → IsFileLeft file devices.file left.file → IsMboxSafe Holds file left × ((first : List Message) × Holds first now)
+mbox_losses_leave file Holds devices left now shows safe mbox held = (
+  λ rows intent could bytes may keeps also. rw (mbox.durable bytes also) (safe rows intent (file.stored left.file).content
+      (file.stored left.store).content held.is (rw (held.durable could may) at keeps) mbox.is),
+  let (first, holds) = safe now.rows now.intent (file.stored left.file).content (file.stored left.store).content held.is
+      shows.record_is mbox.is in
+      (first, subst (λ (bytes : List ℕ). Holds first (record now { file = bytes })) (sym shows.bytes) holds),
+)
+
 pub mbox_calls_keep_promises : Below
-    → {W D F : Type 0} (link : WireGhosts W) (disk : DiskGhosts D) (file : FileGhosts F) → MboxSessions link disk file
+    → {W D F : Type 0} (link : WireGhosts W) (disk : DiskGhosts D) (file : FileGhosts F)
+    → ((f : F) → seen_on (file.disk f) ≡ (file.stored f).content) → MboxSessions link disk file
     → MboxCallsKeepPromises link disk file
-mbox_calls_keep_promises laws link disk file sessions = keep
+mbox_calls_keep_promises laws link disk file shown sessions = keep
   where
     keep : MboxCallsKeepPromises link disk file
     keep base done account devices [] shows holds = (shows, holds)
@@ -233,11 +285,33 @@ mbox_calls_keep_promises laws link disk file sessions = keep
       holds,
       λ only_new is.
           let (sent, after, sent_is, shows', one) = mbox_calls_append laws link disk file sessions base done account
-          devices call shows holds only_new is in
-          (sent, after, sent_is, shows', one, keep base (done ++ one.more) after call.after later shows' one.kept),
+          devices call shows holds only_new is in (
+            sent,
+            after,
+            sent_is,
+            shows',
+            one,
+            λ sure safe rows intent left bytes may keeps also.
+                let (first, there) = mbox_calls_keep_safe laws link disk file shown sessions base (λ all. ⊥) done (done ++ one.more)
+                account after devices call shows holds (λ all never. absurd never) only_new is shows'
+                (one.kept, λ all never. absurd never) sure
+                (λ rows intent left bytes may keeps also.
+                let (first, there) = safe rows intent left bytes may keeps also in (first, (there, λ all never. absurd never)))
+                rows intent left bytes may keeps also in
+                (first, there.0),
+            keep base (done ++ one.more) after call.after later shows' one.kept,
+          ),
     )
-    keep base done account devices (Left left now ∷ later) shows holds =
-        (shows, holds, λ then from first there. keep from first now left later then there)
+    keep base done account devices (Left left now ∷ later) shows holds = (
+      shows,
+      holds,
+      λ then. (
+        λ from first there. keep from first now left later then there,
+        λ safe mbox held.
+            let (safe', (first, there)) = mbox_losses_leave file (HoldsEntries base) devices left now then safe mbox held in
+            (safe', (first, keep base first now left later then there)),
+      ),
+    )
 
 -- all mail is a world
 pub as_world : (text : List ℕ → List ℕ) (all : List Message) → IsMaildrop text all → IsWorld all
@@ -465,8 +539,8 @@ headline link disk file promised = all_hold
         )
 
 pub mbox_headline : Below → {W D F : Type 0} (link : WireGhosts W) (disk : DiskGhosts D) (file : FileGhosts F)
-    → MboxSessions link disk file → MboxHeadline link disk file
-mbox_headline laws link disk file sessions = all_hold
+    → ((f : F) → seen_on (file.disk f) ≡ (file.stored f).content) → MboxSessions link disk file → MboxHeadline link disk file
+mbox_headline laws link disk file seen sessions = all_hold
   where
     all_hold : MboxHeadline link disk file
     all_hold world done account devices [] sound shows is = (shows, is)
@@ -486,6 +560,23 @@ mbox_headline laws link disk file sessions = all_hold
             sent_is,
             shows',
             one,
+            λ sure safe rows intent left bytes may keeps also.
+                let among : (done : List Message) (seen : MboxMail) (holds : HoldsEntries world.start done seen)
+                → IsMboxFront world.start holds (selected_of (world_without withdrawn world))
+                → Holds world.start (λ all. all ≡ selected_of (world_without withdrawn world)) done seen =
+                λ done seen holds front.
+                (holds, λ all same. subst (λ (l : List Message). IsMboxFront world.start holds l) (sym same) front) in
+                let (first, there) = mbox_calls_keep_safe laws link disk file seen sessions world.start
+                (λ all. all ≡ selected_of (world_without withdrawn world)) done (done ++ one.more) account after devices call
+                shows is.holds
+                (λ all same. subst (λ (l : List Message). (f : IsMboxFront world.start is.holds l)
+                × ShowsNext call.settings call.maildrop (f.first ++ done) f.rest) (sym same) (front, shown))
+                only_new called shows' (among (done ++ one.more) after one.kept (one.in_order _ front shown)) sure
+                (λ rows intent left bytes may keeps also.
+                let (first, (there, unbegun)) = safe rows intent left bytes may keeps also in
+                (first, among first _ there.holds (withdrawn_leave_prefixes world first _ withdrawn sound there unbegun).1))
+                rows intent left bytes may keeps also in
+                (first, record { holds = there.0; front = there.1 _ refl }),
             all_hold (world_without withdrawn world) (done ++ one.more) after call.after later sound' shows'
                 (record { holds = one.kept; front = one.in_order _ front shown }),
           ),
@@ -493,6 +584,10 @@ mbox_headline laws link disk file sessions = all_hold
     all_hold world done account devices (Left left now ∷ later) sound shows is = (
       shows,
       is,
-      λ then from held sound' there. all_hold (record world { start = from }) held now left
-          later sound' then there,
+      λ then. (
+        λ from held sound' there. all_hold (record world { start = from }) held now left later sound' then there,
+        λ safe mbox record_left.
+            let (safe', (held, there)) = mbox_losses_leave file (HoldsAMboxPrefix world) devices left now then safe mbox record_left
+            in (safe', (held, all_hold world held now left later sound then there)),
+      ),
     )

@@ -4,6 +4,7 @@ pub mod LeftRecords
 pub mod Listed
 pub mod Lists
 pub mod Losses
+pub mod MboxLeft
 pub mod MboxPromised
 pub mod Promised
 pub mod Safety

@@ -137,6 +137,27 @@ module _ (base : Base) where
   bytes_more done more = ap (λ l. base.start ++ l) (entries-append done more)
       ∙ sym (append_assoc base.start (entries_of done) (entries_of more))
 
+  pub one_more : (done : List Message) (next : Message) → bytes_of done ++ entry_of next.text ≡ bytes_of (done ++ next ∷ [])
+  one_more done next = rw (bytes_more done (next ∷ [])) (simp append-nil)
+
+  -- the entry of an open intent is whole, and the intent is closed
+  pub entered : Below → {done : List Message} {was : MboxMail} → HoldsEntries base done was
+      → (o : IsOpenFor base (bytes_of done) was) → has_row was.rows o.next.uid ≡ true → (now : MboxMail)
+      → now.rows ≡ marked was.rows o.next.uid → now.intent ≡ None → now.file ≡ bytes_of done ++ entry_of o.next.text
+      → HoldsEntries base (done ++ o.next ∷ []) now
+  entered laws {done} {was} kept o rowed now rows closed file =
+      let more = grown done (o.next ∷ []) (kept.are, kept.new) (o.is, tt) (refl, tt)
+      (sym (kept.recorded o.next.uid) ∙ o.unrecorded, tt) in
+      record {
+        are = more.0;
+        new = more.1;
+        recorded = λ id. ap (λ r. is_delivered r id) rows ∙ delivered_one laws was.rows o.next.uid id rowed
+            ∙ ap (λ b. b || bytes_eq id o.next.uid) (kept.recorded id)
+            ∙ ap (λ b. is_entered base done id || b) (sym (or-false (bytes_eq id o.next.uid)))
+            ∙ sym (in_more done (o.next ∷ []) id);
+        stands = inl (closed, file ∙ one_more done o.next);
+      }
+
   -- nothing more, or the message whose intent was open
   abbrev pub IsMore : (bytes : List ℕ) (account : MboxMail) → Stands base bytes account → List Message → Type 0
   IsMore bytes account (inl closed) more = more ≡ []
@@ -151,7 +172,7 @@ module _ (base : Base) where
   abbrev pub IsNext : (bytes : List ℕ) (account : MboxMail) → List Message → Stands base bytes account → Type 0
   IsNext bytes account rest stands = (o : IsOpenFor base bytes account) → stands ≡ inr o → (more : List Message) × (rest ≡ o.next ∷ more)
 
-  next_is : {bytes : List ℕ} {account : MboxMail} {rest : List Message} (o : IsOpenFor base bytes account)
+  pub next_is : {bytes : List ℕ} {account : MboxMail} {rest : List Message} (o : IsOpenFor base bytes account)
       (more : List Message) → rest ≡ o.next ∷ more → IsNext bytes account rest (inr o)
   next_is {bytes} {account} o more first = λ p same. let is : o ≡ p = cc
       in (more, first ∙ ap (λ (q : IsOpenFor base bytes account). q.next ∷ more) is)
@@ -189,24 +210,12 @@ module _ (base : Base) where
     settle_by listing (inl closed) = let same = no_more listing (rw closed.0 refl) (rw closed.0 closed.1) in ([], same.0, same.1, refl)
     settle_by listing (inr o) = elim (settled_is laws listing o) [
       | inr (rows, file) ↦ let same = no_more listing rows file in ([], same.0, same.1, inl refl)
-      | inl (rows, file) ↦
-          let longer : (settled listing before).file ≡ bytes_of (done ++ o.next ∷ []) = file
-          ∙ rw (bytes_more done (o.next ∷ [])) (simp append-nil) in (
-            o.next ∷ [],
-            let more = grown done (o.next ∷ []) (kept.are, kept.new) (o.is, tt) (refl, tt)
-                (sym (kept.recorded o.next.uid) ∙ o.unrecorded, tt) in
-                record {
-                  are = more.0;
-                  new = more.1;
-                  recorded = λ id. ap (λ r. is_delivered r id) rows ∙ delivered_one laws before.rows o.next.uid id (rowed _ o.intent)
-                      ∙ ap (λ b. b || bytes_eq id o.next.uid) (kept.recorded id)
-                      ∙ ap (λ b. is_entered base done id || b) (sym (or-false (bytes_eq id o.next.uid)))
-                      ∙ sym (in_more done (o.next ∷ []) id);
-                  stands = inl (refl, longer);
-                },
-            longer,
-            inr refl,
-          )
+      | inl (rows, file) ↦ (
+        o.next ∷ [],
+        entered laws kept o (rowed _ o.intent) (settled listing before) rows refl file,
+        file ∙ one_more done o.next,
+        inr refl,
+      )
     ]
 
     pub settle : (listing : List Item) → Settled done (bytes_of done) before kept.stands (settled listing before)
@@ -363,7 +372,7 @@ module _ (base : Base) where
       stands_at (inl (closed, file)) = inl (closed, file ∙ bytes_are)
       stands_at (inr b) = inr (broken b)
 
-      holds_after : HoldsEntries base (was ++ new s.stored) now
+      pub holds_after : HoldsEntries base (was ++ new s.stored) now
       holds_after = let more = grown was (new s.stored) (origin.1.are, origin.1.new)
           (all_new (IsOf base.text) s.stored is.each) (distinct_wanted fetch s.stored) (fresh s.stored) in record {
             are = more.0;
@@ -371,6 +380,13 @@ module _ (base : Base) where
             recorded = recorded_after;
             stands = stands_at s.ending;
           }
+
+      -- an open intent is that of the text that came
+      pub opened_after : (b : IsBroken v.settings before did s.stored now) → s.ending ≡ inr b
+          → (o : IsOpenFor base (bytes_of (was ++ new s.stored)) now) × (holds_after.stands ≡ inr o)
+          × (o.next.text ≡ b.text)
+      unfolding broken holds_after
+      opened_after b is = (broken b, ap stands_at is, sym (placed b).2)
 
       part_of : (ending : Ending) (o : IsOpenFor base (bytes_of (was ++ new s.stored)) now) → stands_at ending ≡ inr o
           → IsPart now o.next o.part
@@ -468,7 +484,7 @@ module _ (base : Base) where
         next_after (inl c) = ((rest_after s.stored).0, prefix_new s.stored, λ o e. absurd cc)
         next_after (inr b) = next_open b
 
-        front_after : IsMboxFront base holds_after all
+        pub front_after : IsMboxFront base holds_after all
         unfolding holds_after
         front_after = let next' = next_after s.ending
             in record { first = front.first; rest = next'.0; prefix = next'.1; had = front.had; next = next'.2 }

@@ -337,7 +337,7 @@ module _ (laws : Below) {sent got : List ℕ} (effect : Effect) {drop : List Mes
             rw (item, m.4) at begun.2
       ])
 
-  session_honest : (wanted : List (ℕ × Item)) → ReadsReplies wanted sends.commands sent got effect → IsHonest wanted drop effect
+  pub session_honest : (wanted : List (ℕ × Item)) → ReadsReplies wanted sends.commands sent got effect → IsHonest wanted drop effect
   session_honest wanted r =
       let asked = User r.name ∷ Pass r.word ∷ Stat ∷ UidlAll ∷ ListAll ∷ r.more in
       let replies = r.user ∷ r.pass ∷ r.stat ∷ r.uidl ∷ r.list ∷ r.replies in

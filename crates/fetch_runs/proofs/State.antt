@@ -29,7 +29,7 @@ use Rattle.fetch_session.specs.declared.report.Outcome.TheVariants.{Cut as WasCu
 use Rattle.fetch_session.specs.declared.report.ReportLine.{ReportLine}
 use Rattle.fetch_session.specs.Plan.{Unprepared, Carried, Carries, tasks_ahead as tasks_for}
 use Rattle.fetch_session.specs.Record.{Keeps, Steady, KeepsRows, record_state, with_open}
-use Rattle.fetch_session.specs.Scene.{Scene, scene, Went, Fell, NoFile, FileNotSaved, Stops, Does, EntryNotSaved}
+use Rattle.fetch_session.specs.Scene.{Scene, scene, Went, Fell, NoEntry, NoFile, FileNotSaved, Stops, Does, EntryNotSaved}
 use Rattle.fetch_session.specs.Session.{outcome_of, Keeping, Noted, Proceeds, AccountFiles, keeping, keeps_files}
 use Rattle.fetch_runs.specs.Accounts.{without_flags}
 use Rattle.fetch_session.specs.Readiness.{UnreadyCause, IsSettledBy, SettlesStore}
@@ -40,7 +40,7 @@ use Rattle.fetch_runs.specs.Steps.{holds, mbox_holds}
 use Rattle.mail_store.specs.Mboxrd.{entry_of}
 use Rattle.std.proofs.lemmas.Option.{same_Some}
 use Rattle.fetch_session.specs.Laws.{SteadyFilesKeep, UnsavedFilesKeep}
-use Rattle.fetch_session.specs.Mbox.{IsTakenBack, RefusesEntry, intent_of}
+use Rattle.fetch_session.specs.Mbox.{IsTakenBack, RefusesAgain, RefusesEntry, intent_of}
 use Rattle.fetch_session.specs.declared.fault.Why.TheVariants as why
 use Rattle.fetch_runs.proofs.Tasks.{tasks_ahead, key, fetched_in, fetched, IsRight, Inputs, rows_on, tasks_on, messages_on, texts_by, count}
 use Rattle.fetch_runs.proofs.Tasks.{same_length, rows_after, Part, right_part, wanted_are, records_part, files_part, is_ended, Starts}
@@ -317,6 +317,10 @@ module _ (laws : Below) (settings : Settings) (account : List ℕ) (now : ℕ) (
 
 -- ---- The texts that tasks appended to an mboxrd file, and the intent of the next one.
 
+-- the file was only looked at
+pub same_looked : (old new : Stores) (fault : Fault) → RefusesAgain old fault new → new.mbox.content ≡ old.mbox.content
+same_looked old new fault refuses = let looked = refuses.2 in grind (arith, looked)
+
 -- ---- texts
 
 -- no message counts as held, so each text that was retrieved was to be stored
@@ -408,12 +412,12 @@ mbox_inputs settings now held mbox items = record {
 }
 
 pub record MboxLeads (settings : Settings) (now : ℕ) (held : RecordState) (mbox : Stored)
-    (result : Result (Unit {0}) Cut) (c : Course) (mbox' : Stored) (content' : Option (List ℕ)) : Type 0 where
+    (result : Result (Unit {0}) Cut) (c : Course) (mbox' : Stored) (Kept : RecordState → Type 0) : Type 0 where
   pub full : List Done
   pub noted : List Done
   pub tally : Tally (mbox_inputs settings now held mbox c.items) result c full noted (Unit {0})
   pub intent' : Option Intent
-  pub keeps : Keeps content' (record_state (rows_after (mbox_inputs settings now held mbox c.items) noted) intent')
+  pub keeps : Kept (record_state (rows_after (mbox_inputs settings now held mbox c.items) noted) intent')
   pub ending : ((intent' ≡ None)
       × (mail_in mbox'.content ≡ bytes_at (mbox_holds held mbox) (effect_of now (is_ended result) c) (count noted)))
       ⊎ IsBroken settings (mbox_holds held mbox) (effect_of now (is_ended result) c) (count noted)
@@ -435,10 +439,10 @@ module _ (laws : Below) (settings : Settings) (now : ℕ) (held : RecordState) (
   q items = mbox_inputs settings now held mbox items
 
   abbrev MboxLeading : Result (Unit {0}) Cut → Course → Stored → Option (List ℕ) → Type 0
-  MboxLeading result c mbox' content' = MboxLeads settings now held mbox result c mbox' content'
+  MboxLeading result c mbox' content' = MboxLeads settings now held mbox result c mbox' (Keeps content')
 
-  module _ {result : Result (Unit {0}) Cut} {c : Course} {mbox' : Stored} {content' : Option (List ℕ)}
-      (l : MboxLeading result c mbox' content') where
+  module _ {result : Result (Unit {0}) Cut} {c : Course} {mbox' : Stored} {Kept : RecordState → Type 0}
+      (l : MboxLeads settings now held mbox result c mbox' Kept) where
     -- what the session appended, and the report counts
     abbrev pub mbox_figures : (report : Report) → report.retrieved ≡ count c.taken → report.outcome ≡ outcome_of result
         → MboxStores settings (mbox_holds held mbox) (effect_of now (is_ended result) c)
@@ -456,7 +460,7 @@ module _ (laws : Below) (settings : Settings) (now : ℕ) (held : RecordState) (
   -- ---- of tasks
 
   module _ (items : List Item) where
-    abbrev bytes_after : List Done → List ℕ
+    abbrev pub bytes_after : List Done → List ℕ
     bytes_after dones = bytes_settled items held mbox ++ entries (texts_by dones)
 
     bytes_are : {result : Result (Unit {0}) Cut} {taken full noted : List Done}
@@ -498,7 +502,7 @@ module _ (laws : Below) (settings : Settings) (now : ℕ) (held : RecordState) (
         abbrev MboxStopped : Course → Type 0
         MboxStopped c = MboxLeading (Err cut) c new.store.mbox new.file.content
 
-        mid_content : fell.mid.store.mbox.content ≡ Some (bytes_after fell.dones)
+        pub mid_content : fell.mid.store.mbox.content ≡ Some (bytes_after fell.dones)
         mid_content = content_after fell.dones fell.mid fell.went (part_done laws (q items) starts fell)
 
         same_held : (content : Option (List ℕ)) (intent : Option Intent) → Keeps content (record_state fell.mid.rows intent)
@@ -529,12 +533,12 @@ module _ (laws : Below) (settings : Settings) (now : ℕ) (held : RecordState) (
           -- its intent is open after the entries of the tasks that were done
           opens : (taken : List Done) (spare : List WholeReply) (under : List Task)
               → map text_found (found_of (course items taken spare under)) ≡ texts_by with_next
-              → (front behind : List ℕ) → entry_of text ≡ front ++ behind → mail_in new.store.mbox.content ≡ bytes_after fell.dones ++ front
-              → IsBroken settings (mbox_holds held mbox) (effect_of now false (course items taken spare under))
-              (count fell.dones) (mbox_holds
-              (record_state (rows_after (q items) fell.dones) (Some (intent_of (bytes_after fell.dones) uid text)))
-              new.store.mbox)
-          opens taken spare under texts front behind entry file =
+              → (front behind : List ℕ) → entry_of text ≡ front ++ behind → (mbox' : Stored)
+              → mail_in mbox'.content ≡ bytes_after fell.dones ++ front → (b : IsBroken settings (mbox_holds held mbox)
+              (effect_of now false (course items taken spare under)) (count fell.dones) (mbox_holds
+              (record_state (rows_after (q items) fell.dones) (Some (intent_of (bytes_after fell.dones) uid text))) mbox'))
+              × (b.text ≡ text)
+          opens taken spare under texts front behind entry mbox' file =
               -- its message is the next of the wanted ones
               let next = mapped_at key (messages_on (q items)) (count fell.dones) (number, uid)
               (rw (
@@ -547,20 +551,22 @@ module _ (laws : Below) (settings : Settings) (now : ℕ) (held : RecordState) (
                     fell.dones fell.went.each,
               )
               (at_length (fetched (tasks_of fell.dones)) (number, uid) (fetched fell.later))) in
-              let are = texts ∙ full_texts in
-              record {
-                message = next.0;
-                text = text;
-                wanted = next.1;
-                got = rw (are, ← length-map (found_by fell.dones) text_found) (at_length (texts_by fell.dones) text []);
-                opened = rw (front_texts _ (text ∷ []) fell.dones are) (record {
-                  intent = ap (λ (k : ℕ × List ℕ). Some (intent_of (bytes_after fell.dones) k.1 text)) (sym next.2);
-                  front = front;
-                  behind = behind;
-                  entry = entry;
-                  file = file;
-                });
-              }
+              let are = texts ∙ full_texts in (
+                record {
+                  message = next.0;
+                  text = text;
+                  wanted = next.1;
+                  got = rw (are, ← length-map (found_by fell.dones) text_found) (at_length (texts_by fell.dones) text []);
+                  opened = rw (front_texts _ (text ∷ []) fell.dones are) (record {
+                    intent = ap (λ (k : ℕ × List ℕ). Some (intent_of (bytes_after fell.dones) k.1 text)) (sym next.2);
+                    front = front;
+                    behind = behind;
+                    entry = entry;
+                    file = file;
+                  });
+                },
+                refl,
+              )
 
           -- its entry wasn't appended, or only a prefix of it
           refused : LeavesEntry (bytes_after fell.dones) fell.mid.rows uid text new.store.mbox new.file
@@ -577,7 +583,7 @@ module _ (laws : Below) (settings : Settings) (now : ℕ) (held : RecordState) (
                 intent' = _;
                 keeps = same_held _ _ keeps;
                 ending = inr (opens fell.dones (reply ∷ []) (fell.next ∷ []) (ap (map text_found) t.found) front behind
-                    entry (ap mail_in now_is));
+                    entry new.store.mbox (ap mail_in now_is)).0;
                 last = λ less. absurd (omega (arith, less));
                 closed = not_ended;
               }
@@ -611,13 +617,13 @@ module _ (laws : Below) (settings : Settings) (now : ℕ) (held : RecordState) (
                     intent' = _;
                     keeps = rw (← same_Some was (bytes_after fell.dones) (sym there ∙ mid_content)) (same_held _ _ old_one);
                     ending = inr (opens u.number u.uid u.reply u.is u.talked.good all [] []
-                        (ap (map text_found) t.found) (entry_of (body_text u.reply.body)) [] (sym (append-nil _))
+                        (ap (map text_found) t.found) (entry_of (body_text u.reply.body)) [] (sym (append-nil _)) new.store.mbox
                         (ap mail_in content ∙ rw (
                           full_texts u.number u.uid u.reply u.is u.talked.good,
                           flat_map-append
                               entry_of (texts_by fell.dones) (body_text u.reply.body ∷ []),
                         )
-                        (simp (append_assoc, append-nil))));
+                        (simp (append_assoc, append-nil)))).0;
                     last = λ less. rw (bytes_are t [] (sym (append-nil (texts_by all)))) (ap mail_in content);
                     closed = not_ended;
                   }
@@ -627,6 +633,74 @@ module _ (laws : Below) (settings : Settings) (now : ℕ) (held : RecordState) (
                   (rw (← full_rows laws (q items) starts fell u.number u.uid u.reply u.is u.talked.good) new_one)
                   (ap mail_in content)
             ]
+
+        -- an mboxrd file with the whole entry of the text after those of the tasks that were done
+        abbrev pub whole_in : List ℕ → Stored
+        whole_in text = record { content = Some (bytes_after fell.dones ++ entry_of text); failures = 0 }
+
+        -- so an account with that file and the text's open intent is left by a session with this course
+        abbrev pub LeavesWhole : Course → List ℕ → List ℕ → Type 0
+        LeavesWhole c uid text = (l : MboxLeads settings now held mbox (Err cut) c (whole_in text) (λ state. Unit {0}))
+            × (b : IsBroken settings (mbox_holds held mbox) (effect_of now false c) (count l.noted)
+            (mbox_holds (record_state (rows_after (q c.items) l.noted) l.intent') (whole_in text)))
+            × (l.ending ≡ inr b) × (b.text ≡ text) × (rows_after (q c.items) l.noted ≡ fell.mid.rows)
+            × (l.intent' ≡ Some (intent_of (bytes_after fell.dones) uid text))
+
+        pub whole_refused : (n : NoEntry fell.next fell.mid new cut)
+            → LeavesWhole (course items fell.dones (n.reply ∷ []) (fell.next ∷ [])) n.uid (body_text n.reply.body)
+        whole_refused n =
+            let text = body_text n.reply.body in
+            let t = tally_spare laws (q items) starts fell n.number n.uid n.reply n.is n.talked.good tt in
+            let (b, same) = opens n.number n.uid n.reply n.is n.talked.good fell.dones (n.reply ∷ []) (fell.next ∷ [])
+            (ap (map text_found) t.found) (entry_of text) [] (sym (append-nil _)) (whole_in text) refl in (
+              record {
+                full = fell.dones ++ stored_done n.number n.uid n.reply ∷ [];
+                noted = fell.dones;
+                tally = t;
+                intent' = Some (intent_of (bytes_after fell.dones) n.uid text);
+                keeps = tt;
+                ending = inr b;
+                last = λ less. absurd (omega (arith, less));
+                closed = not_ended;
+              },
+              b,
+              refl,
+              same,
+              sym (mid_rows laws (q items) starts fell.dones fell.mid fell.went),
+              refl,
+            )
+
+        pub whole_unsaved : (u : EntryNotSaved fell.next fell.mid new cut)
+            → LeavesWhole (course items (fell.dones ++ stored_done u.number u.uid u.reply ∷ []) [] []) u.uid (body_text u.reply.body)
+        whole_unsaved u =
+            let text = body_text u.reply.body in
+            let all : List Done = fell.dones ++ stored_done u.number u.uid u.reply ∷ [] in
+            let (was, there, between, first, second) = u.saves in
+            let t = tally_old laws (q items) starts fell u.number u.uid u.reply u.is u.talked.good (grind (arith, second)) in
+            let (b, same) = opens u.number u.uid u.reply u.is u.talked.good all [] [] (ap (map text_found) t.found)
+            (entry_of text) [] (sym (append-nil _)) (whole_in text) refl in
+            let longer : bytes_after all ≡ bytes_after fell.dones ++ entry_of text =
+            rw (
+              full_texts u.number u.uid u.reply u.is u.talked.good,
+              flat_map-append entry_of (texts_by fell.dones) (text ∷ []),
+            )
+            (simp (append_assoc, append-nil)) in (
+              record {
+                full = all;
+                noted = fell.dones;
+                tally = t;
+                intent' = Some (intent_of (bytes_after fell.dones) u.uid text);
+                keeps = tt;
+                ending = inr b;
+                last = λ less. rw (bytes_are t [] (sym (append-nil (texts_by all)))) (sym longer);
+                closed = not_ended;
+              },
+              b,
+              refl,
+              same,
+              sym (mid_rows laws (q items) starts fell.dones fell.mid fell.went),
+              refl,
+            )
 
         mbox_stopped : (stops : Stops AsEntries fell.next fell.mid cut new)
             → MboxStopped (course_stopped AsEntries items fell.dones fell.next fell.mid new cut stops)
@@ -641,7 +715,7 @@ module _ (laws : Below) (settings : Settings) (now : ℕ) (held : RecordState) (
             (fell.went.saved starts.steady) cut.fault r.refuses)
         mbox_stopped (inr (inl (inr (inr stays)))) =
             mbox_still (tally_recorded laws (q items) fell.dones (part_done laws (q items) starts fell) not_ended)
-            (let looked = stays.refuses.2 in grind (arith, looked)) stays.file
+            (same_looked fell.mid.store new.store cut.fault stays.refuses) stays.file
         mbox_stopped (inr (inr u)) = mbox_unsaved u
 
       mbox_does_leads : (result : Result (Unit {0}) Cut) (new : Scene) (does : Does AsEntries tasks old result new)
@@ -671,9 +745,22 @@ module _ (laws : Below) (settings : Settings) (now : ℕ) (before : Keeping) (he
   settled_content was items new stood (bytes, is, settled, goes_on) =
       rw (settled, closed_is was bytes items stood is) refl
 
+  -- what it had ready before its tasks
+  pub carried_starts : (items : List Item) (place : _) {result : Result (Unit {0}) Cut} {new : Scene} {skipped : _}
+      → (is : Carried settings AsEntries items now place before.store before.file [] result new skipped)
+      → Starts (mbox_inputs settings now held before.store.mbox items)
+      (tasks_for settings AsEntries items now before.store is.mid.rows) is.mid
+      × (is.mid.store.mbox.content ≡ Some (bytes_settled items held before.store.mbox))
+  carried_starts items place is =
+      let rows : is.mid.rows ≡ rows_on (mbox_inputs settings now held before.store.mbox items) =
+      rw (is.prepared.rows, rows_are is.prepared.was items is.prepared.stood) refl in (
+        record { tasks_are = ap (tasks_for settings AsEntries items now before.store) rows; rows = rows; steady = is.prepared.saved },
+        settled_content is.prepared.was items is.mid.store is.prepared.stood is.prepared.settles,
+      )
+
   abbrev Left : Result (Unit {0}) Cut → Course → Stored → Option (List ℕ) → Type 0
   Left result c mbox' content' = Rests now result c held before.store.mbox mbox' content'
-      ⊎ MboxLeads settings now held before.store.mbox result c mbox' content'
+      ⊎ MboxLeads settings now held before.store.mbox result c mbox' (Keeps content')
 
   pub course_leaves : (old : _) (result : Result (Unit {0}) Cut) (new : _) (after : Keeping) (notes : Noted)
       (is : Proceeds settings AsEntries now old before result new after notes)
@@ -710,11 +797,6 @@ module _ (laws : Below) (settings : Settings) (now : ℕ) (before : Keeping) (he
             (rw (← rows_are m.was items m.stood) merges) (settled ∙ sym (append-nil _)))) m.stands
       ])
       (λ items place result new skipped is.
-      let rows : is.mid.rows ≡ rows_on (mbox_inputs settings now held before.store.mbox items) =
-      rw (is.prepared.rows, rows_are is.prepared.was items is.prepared.stood) refl in
-      let starts : Starts (mbox_inputs settings now held before.store.mbox items)
-      (tasks_for settings AsEntries items now before.store is.mid.rows) is.mid =
-      record { tasks_are = ap (tasks_for settings AsEntries items now before.store) rows; rows = rows; steady = is.prepared.saved } in
-      inr (mbox_does_leads laws settings now held before.store.mbox items starts
-      (settled_content is.prepared.was items is.mid.store is.prepared.stood is.prepared.settles) result new
-      is.does)) old result new after notes is
+      let (starts, same) = carried_starts items place is in
+      inr (mbox_does_leads laws settings now held before.store.mbox items starts same result new is.does)) old result new
+      after notes is

@@ -11,7 +11,9 @@ use Rattle.rc_file.specs.declared.settings.Settings.{Settings}
 use Rattle.fetch_rules.specs.Record.{Row, RecordState}
 use Rattle.mail_terms.specs.UniqueId.{has_id}
 use Rattle.fetch_runs.specs.Sessions.{IsBegun, SendsOnly, BeginsOne, Leaves, SessionOverLink, is_retr, tail_behind}
-use Rattle.fetch_runs.specs.Sessions.{AsksForNoMessage, MboxSessionOverLink}
+use Rattle.fetch_runs.specs.Sessions.{AsksForNoMessage, IsHonest, MboxSessionOverLink, Served, mbox_wanted}
+use Rattle.pop3_wire.specs.World.{Message}
+use Rattle.mail_store.specs.FlatFile.{Stored}
 use Rattle.pop3_wire.specs.declared.command.Command.{Command}
 use Rattle.pop3_wire.specs.declared.command.Command.TheVariants.{Dele, User, Pass, Stat, UidlAll, ListAll, Retr}
 use Rattle.fetch_runs.specs.Steps.{holds, IsStep, SessionIsAStep, IsMboxStep, MboxSessionIsAStep, mbox_holds}
@@ -24,7 +26,7 @@ use Rattle.fetch_session.specs.declared.report.Outcome.TheVariants.{Ended}
 use Rattle.fetch_session.specs.Report.{retrieved_in}
 use Rattle.fetch_session.specs.Task.{Task, deletes, Done, report_lines}
 use Rattle.fetch_session.specs.Record.{Keeps, KeepsRows}
-use Rattle.fetch_session.specs.Session.{keeps_files, outcome_of, Keeping, keeps_entries, SessionIn}
+use Rattle.fetch_session.specs.Session.{MboxAccountFiles, keeps_files, outcome_of, Keeping, keeps_entries, SessionIn}
 use Rattle.fetch_session.specs.Target.{AsFiles, AsEntries, mail_in, no_maildir, Target}
 use Rattle.fetch_runs.proofs.Talk.{name_of, word_of, Spoke, session_spoke, Planned, idle_said, is_tail_for}
 use Rattle.fetch_runs.proofs.Turns.{Course, course, SessionCourse, Idle, Deals, begun_of, IsOfTask, begins_of, both_none, deleted_in}
@@ -34,7 +36,7 @@ use Rattle.fetch_runs.proofs.State.{CourseLeads, inputs, Leads, figures, course_
 use Rattle.fetch_runs.proofs.State.{mbox_figures, course_leaves}
 use Rattle.pop3_wire.specs.Link.{Link}
 use Rattle.fetch_session.specs.declared.report.Report.{Report}
-use Rattle.fetch_runs.proofs.Safety.{session_holds, mbox_session_holds}
+use Rattle.fetch_runs.proofs.Safety.{session_holds, mbox_session_holds, session_honest}
 
 -- ---- deletions
 
@@ -77,7 +79,7 @@ ended_if (Err cut) is = (λ never. absurd cc, λ ended. absurd cc)
 module _ {settings : Settings} {target : Target} {now : ℕ} {link : Link} {before after : Keeping} {report : Report}
     {link' : Link} (is : SessionIn settings target now link before report link' after) {c : Course}
     (said : Planned settings target now before link link' is.result is.notes.lines c) where
-  retrieved_is : report.retrieved ≡ count c.taken
+  pub retrieved_is : report.retrieved ≡ count c.taken
   retrieved_is = is.reports.retrieved_is ∙ ap retrieved_in said.by.told ∙ (found_all c.taken said.by.took.each).1
 
   -- if it ended, each RETR is in the report
@@ -221,7 +223,7 @@ mbox_session_is_a_step laws settings now link before held report link' after val
 
     joined : (session_course : SessionCourse)
         → CourseLeads (λ (c : Course). Rests now is.result c held before.mbox after.mbox after.file.content
-        ⊎ MboxLeads settings now held before.mbox is.result c after.mbox after.file.content) is.result
+        ⊎ MboxLeads settings now held before.mbox is.result c after.mbox (Keeps after.file.content)) is.result
         (keeps_entries before) (keeps_entries after) is.notes.lines session_course
         → Spoke settings AsEntries now (keeps_entries before) link link' is.result is.notes.lines session_course
         → IsMboxStep settings now link before held report link' after
@@ -260,3 +262,21 @@ mbox_session_is_a_step laws settings now link before held report link' after val
                 (tally_numbers laws (mbox_inputs settings now held before.mbox c.items) left.tally),
           );
         })
+
+-- the texts that it took are those of the wanted messages, if its server was honest
+pub mbox_honest : (laws : Below) {settings : Settings} {now : ℕ} {link : Link} {before : MboxAccountFiles} {report : Report}
+    {link' : Link} {after : MboxAccountFiles} (held : RecordState)
+    (is : SessionIn settings AsEntries now link (keeps_entries before) report link' (keeps_entries after)) {c : Course}
+    {mbox' : Stored} {Kept : RecordState → Type 0} (left : MboxLeads settings now held before.mbox is.result c mbox' Kept)
+    (said : Planned settings AsEntries now (keeps_entries before) link link' is.result is.notes.lines c)
+    {drop : List Message} {vanished : List (List ℕ)} → Served drop said.sent said.got vanished
+    → IsHonest (mbox_wanted settings (mbox_holds held before.mbox) (effect_of now (is_ended is.result) c)) drop
+    (effect_of now (is_ended is.result) c)
+mbox_honest laws {settings} {now} {before = before} held is {c} left said served = session_honest laws
+    (effect_of now (is_ended is.result) c)
+    (sends_of [] no_maildir c.items (begun_of c)
+    (tally_right laws (mbox_inputs settings now held before.mbox c.items) left.tally) said.speaks.asked
+    said.speaks.deletes said.speaks.next) served
+    (mbox_wanted settings (mbox_holds held before.mbox) (effect_of now (is_ended is.result) c))
+    (said.speaks.reads now (is_ended is.result) _
+    (tally_numbers laws (mbox_inputs settings now held before.mbox c.items) left.tally))

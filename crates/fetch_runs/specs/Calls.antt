@@ -24,7 +24,8 @@ use Rattle.fetch_runs.specs.Accounts.{AccountMail, copies, files}
 use Rattle.fetch_runs.specs.Sessions.{Served, MboxMail}
 use Rattle.fetch_runs.specs.Promises.{Call, Devices, IsBetween, IsMaildrop, Kept, Mail, Promises, ShowsNext, State}
 use Rattle.fetch_runs.specs.Promises.{is_safe, state_with, AppendsMail, Base, HoldsEntries}
-use Rattle.fetch_runs.specs.Losses.{IsCrashSafe, IsDurableFront, RecordIsSure, KeepsDurable, KeepsFronts}
+use Rattle.fetch_runs.specs.Losses.{AreMboxSure, IsCrashSafe, IsDurableFront, IsFileLeft, IsMboxSafe, KeepsDurable}
+use Rattle.fetch_runs.specs.Losses.{KeepsFronts, RecordIsSure}
 use Rattle.fetch_session.specs.Target.{mail_in}
 
 -- ---- one call
@@ -81,8 +82,7 @@ pub record IsPromised {W D F : Type 0} (link : WireGhosts W) (disk : DiskGhosts 
   pub safe : RecordIsSure file devices.file call.after.file → IsCrashSafe (file.disk devices.file) mail state
       → IsCrashSafe (file.disk call.after.file) mail (state_with mail (with_left mail state left) call.vanished after)
   pub in_order : (all : List Message) → AllByRecursion (λ (m : Message). is_legal_id m.uid ≡ true) all
-      → (front : IsDurableFront mail state all)
-      → ShowsNext call.settings call.maildrop front.is.done front.is.rest
+      → (front : IsDurableFront mail state all) → ShowsNext call.settings call.maildrop front.is.done front.is.rest
       → IsDurableFront mail (state_with mail (with_left mail state left) call.vanished after) all
 
 -- of the account's messages no other is held than such as were held or taken away
@@ -94,9 +94,7 @@ HoldsNoMore mail state after = (id : List ℕ) → is_legal_id id ≡ true
 pub record IsLeftByLoss {D F : Type 0} (disk : DiskGhosts D) (file : FileGhosts F) (from left : Devices D F)
     (account : AccountMail) : Type 0 where
   pub maildir : LosesPower (disk.maildir from.store) (disk.maildir left.store)
-  pub record_is : MayLeave (file.disk from.file) (file.stored left.file).content
-  pub durable : (bytes : Option (List ℕ)) → MayLeave (file.disk left.file) bytes
-      → bytes ≡ (file.stored left.file).content
+  pub record_is : IsFileLeft file from.file left.file
   pub shows : Shows disk file left account
 
 -- ---- any list of calls
@@ -147,8 +145,9 @@ pub record ShowsMbox {F : Type 0} (file : FileGhosts F) (devices : Devices F F) 
   pub bytes : account.file ≡ mail_in (file.stored devices.store).content
 
 -- the devices show an account whose file holds these entries; if the next of these happens, a call that reads only what
--- is new appends entries, and they do so after it. What others or a loss of power left has the entries of some messages
--- after some bytes, as each file has without an open intent (`mbox_starts`), and perhaps a part of one more
+-- is new appends entries, and they do so after it. What others left has the entries of some messages after some bytes,
+-- as each file has without an open intent (`mbox_starts`), and perhaps a part of one more; and so has what a loss of
+-- power left, if whatever it might leave has, which calls keep
 abbrev pub AreMboxPromised : {W D F : Type 0} → WireGhosts W → DiskGhosts D → FileGhosts F → Base → List Message
     → MboxMail → Devices F F → List (Happening (Call W F F) (Devices F F) MboxMail) → Type 0
 AreMboxPromised link disk file base done account devices [] =
@@ -158,10 +157,15 @@ AreMboxPromised link disk file base done account devices (Called call ∷ later)
     → IsCall link disk file InMbox file.sound base.text devices call → (sent : List ℕ) × (after : MboxMail)
     × ((link.history call.wire').sent ≡ (link.history call.wire).sent ++ sent) × ShowsMbox file call.after after
     × (appends : AppendsMail base holds call sent after)
+    × (AreMboxSure file devices call.after → IsMboxSafe (HoldsEntries base) file devices
+    → IsMboxSafe (HoldsEntries base) file call.after)
     × AreMboxPromised link disk file base (done ++ appends.more) after call.after later)
 AreMboxPromised link disk file base done account devices (Left left now ∷ later) = ShowsMbox file devices account
-    × HoldsEntries base done account × (ShowsMbox file left now → (from : Base) (first : List Message)
+    × HoldsEntries base done account × (ShowsMbox file left now → ((from : Base) (first : List Message)
     → HoldsEntries from first now → AreMboxPromised link disk file from first now left later)
+    × (IsMboxSafe (HoldsEntries base) file devices → IsFileLeft file devices.store left.store
+    → IsFileLeft file devices.file left.file → IsMboxSafe (HoldsEntries base) file left
+    × ((first : List Message) × AreMboxPromised link disk file base first now left later)))
 
 -- the law: so it is of any list of calls and of what others and losses of power leave
 abbrev pub MboxCallsKeepPromises : {W D F : Type 0} → WireGhosts W → DiskGhosts D → FileGhosts F → Type 0
@@ -169,3 +173,11 @@ MboxCallsKeepPromises {W} {D} {F} link disk file = (base : Base) (done : List Me
     (devices : Devices F F) (list : List (Happening (Call W F F) (Devices F F) MboxMail))
     → ShowsMbox file devices account → HoldsEntries base done account
     → AreMboxPromised link disk file base done account devices list
+
+-- a law: an account that holds entries is safe if nothing else may be left of both files than what calls see
+abbrev pub DurableMboxesAreSafe : {F : Type 0} → FileGhosts F → Type 0
+DurableMboxesAreSafe {F} file = (base : Base) (done : List Message) (account : MboxMail) (devices : Devices F F)
+    → ShowsMbox file devices account → HoldsEntries base done account
+    → ((left : Option (List ℕ)) → MayLeave (file.disk devices.file) left → left ≡ (file.stored devices.file).content)
+    → ((left : Option (List ℕ)) → MayLeave (file.disk devices.store) left → left ≡ (file.stored devices.store).content)
+    → IsMboxSafe (HoldsEntries base) file devices

@@ -21,7 +21,7 @@ use Rattle.fetch_runs.specs.Promises.{is_safe, state_with, AppendsMail, Base, Ho
 use Rattle.fetch_runs.specs.Promises.{base_from, is_entered}
 use Rattle.fetch_runs.specs.Calls.{Called, Happening, HoldsNoMore, IsCall, IsLeftByLoss, IsPromised, Left}
 use Rattle.fetch_runs.specs.Calls.{Shows, with_left, ShowsMbox}
-use Rattle.fetch_runs.specs.Losses.{IsCrashSafe, IsDurableFront}
+use Rattle.fetch_runs.specs.Losses.{AreMboxSure, IsCrashSafe, IsDurableFront, IsFileLeft, IsMboxSafe}
 
 -- a session's limit on sizes is this one, and its maildrop is a beginning of all mail, without messages of such ids
 pub record IsInOrder (limit : ℕ) (all : List Message) (IsDone : List ℕ → Type 0) (settings : Settings)
@@ -153,8 +153,9 @@ EntriesMeanTexts = (base : Base) (done : List Message) (account : MboxMail) (fir
 
 -- the devices show an account whose file holds a prefix. If messages that weren't begun are withdrawn, and the next
 -- call shows a beginning of all mail but for some that are entered, it appends entries and keeps its promises, and a
--- prefix is held after it; and so on. What others or a loss of power left holds a prefix after some bytes, as each
--- account in order does without an open intent (`mbox_starts_in_order`)
+-- prefix is held after it; and so on. What others left holds a prefix after some bytes, as each account in order does
+-- without an open intent (`mbox_starts_in_order`); and so does what a loss of power left, if whatever it might leave
+-- does, and begins nothing that is withdrawn, which calls keep
 abbrev pub HoldMboxPrefixes : {W D F : Type 0} → WireGhosts W → DiskGhosts D → FileGhosts F → World Base → List Message
     → MboxMail → Devices F F → List (Happening (Call W F F) (Devices F F) MboxMail) → Type 0
 HoldMboxPrefixes link disk file world done account devices [] =
@@ -166,11 +167,16 @@ HoldMboxPrefixes link disk file world done account devices (Called call ∷ late
     → call.settings.read_all ≡ false → IsCall link disk file InMbox file.sound world.start.text devices call
     → (sent : List ℕ) × (after : MboxMail) × ((link.history call.wire').sent ≡ (link.history call.wire).sent ++ sent)
     × ShowsMbox file call.after after × (appends : AppendsMail world.start is.holds call sent after)
+    × (AreMboxSure file devices call.after → IsMboxSafe (λ first seen. HoldsAMboxPrefix world first seen
+    × AllByRecursion (IsUnbegun seen) withdrawn) file devices → IsMboxSafe (HoldsAMboxPrefix next) file call.after)
     × HoldMboxPrefixes link disk file next (done ++ appends.more) after call.after later)
 HoldMboxPrefixes link disk file world done account devices (Left left now ∷ later) = ShowsMbox file devices account
-    × HoldsAMboxPrefix world done account × (ShowsMbox file left now → (from : Base) (held : List Message)
+    × HoldsAMboxPrefix world done account × (ShowsMbox file left now → ((from : Base) (held : List Message)
     → IsMaildrop from.text world.all → let next = record world { start = from } in HoldsAMboxPrefix next held now
     → HoldMboxPrefixes link disk file next held now left later)
+    × (IsMboxSafe (HoldsAMboxPrefix world) file devices → IsFileLeft file devices.store left.store
+    → IsFileLeft file devices.file left.file → IsMboxSafe (HoldsAMboxPrefix world) file left
+    × ((held : List Message) × HoldMboxPrefixes link disk file world held now left later)))
 
 -- the law: so it is from each such account
 abbrev pub MboxHeadline : {W D F : Type 0} → WireGhosts W → DiskGhosts D → FileGhosts F → Type 0

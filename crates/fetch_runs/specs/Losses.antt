@@ -11,7 +11,9 @@ use Rattle.mail_store.specs.declared.file.flat_file.FlatFile.{Ghosts as FileGhos
 use Rattle.fetch_rules.specs.Record.{Intent, Row, is_delivered}
 use Rattle.fetch_rules.specs.RecordMeaning.{FileStandsFor}
 use Rattle.fetch_runs.specs.Accounts.{AccountMail, has_named}
-use Rattle.fetch_runs.specs.Promises.{Mail, State, IsFront, Kept}
+use Rattle.fetch_runs.specs.Promises.{Devices, Mail, State, IsFront, Kept}
+use Rattle.fetch_runs.specs.Sessions.{MboxMail}
+use Rattle.fetch_session.specs.Target.{mail_in}
 
 -- a file of the message is there whose name is durable, or the message was taken away
 abbrev pub lasts : Mail → State → List ℕ → Bool
@@ -40,6 +42,23 @@ pub record IsCrashSafe (disk : Disk) (mail : Mail) (state : State) : Type 0 wher
 abbrev pub RecordIsSure : {F : Type 0} → FileGhosts F → F → F → Type 0
 RecordIsSure file from f = IsSure (file.disk from).now
     × ((file.stored f).content ≡ None → (left : Option (List ℕ)) → MayLeave (file.disk f) left → left ≡ None)
+
+-- nor of an mboxrd file, before it or in it; without a record's file a loss of power leaves of this what calls see
+abbrev pub AreMboxSure : {F : Type 0} → FileGhosts F → Devices F F → Devices F F → Type 0
+AreMboxSure file from left = RecordIsSure file from.file left.file × IsSure (file.disk from.store).now
+    × IsSure (file.disk left.store).now × ((file.stored left.file).content ≡ None
+    → (bytes : Option (List ℕ)) → MayLeave (file.disk left.store) bytes → bytes ≡ (file.stored left.store).content)
+
+-- whatever a loss of power leaves of both files, if the record can be read, this holds of some messages and the account
+abbrev pub IsMboxSafe : {F : Type 0} → (List Message → MboxMail → Type 0) → FileGhosts F → Devices F F → Type 0
+IsMboxSafe Holds file devices = (rows : List Row) (intent : Option Intent) (left bytes : Option (List ℕ))
+    → MayLeave (file.disk devices.file) left → FileStandsFor left rows intent → MayLeave (file.disk devices.store) bytes
+    → (done : List Message) × Holds done (record { rows = rows; intent = intent; file = mail_in bytes })
+
+-- a loss of power left what this file holds, and of the new device over it nothing else may be left
+pub record IsFileLeft {F : Type 0} (file : FileGhosts F) (from left : F) : Type 0 where
+  pub is : MayLeave (file.disk from) (file.stored left).content
+  pub durable : (bytes : Option (List ℕ)) → MayLeave (file.disk left) bytes → bytes ≡ (file.stored left).content
 
 -- others leave durable what was: the names of messages that they leave, and the bytes of the account's files; and no
 -- more may be left of the record's file than it holds and than could be left before
@@ -72,9 +91,8 @@ pub record IsDurableFront (mail : Mail) (state : State) (all : List Message) : T
 
 -- `IsDurableFront` holds afterwards of each list of messages of which it held before
 abbrev pub KeepsFronts : Mail → State → State → Type 0
-KeepsFronts mail before after = (all : List Message)
-    → AllByRecursion (λ (m : Message). is_legal_id m.uid ≡ true) all → IsDurableFront mail before all
-    → IsDurableFront mail after all
+KeepsFronts mail before after = (all : List Message) → AllByRecursion (λ (m : Message). is_legal_id m.uid ≡ true) all
+    → IsDurableFront mail before all → IsDurableFront mail after all
 
 -- a law: so it is, if these are in order and the files of the account are durable
 abbrev pub DurableFrontsBegin : Type 0

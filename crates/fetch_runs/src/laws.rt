@@ -6,7 +6,7 @@ ghost use Rattle.fetch_runs.specs.Conversations.{MboxSessionsFollowPlans, Sessio
 ghost use Rattle.fetch_runs.specs.Headline.{EmptyFrontsBegin, EntriesMeanTexts, Headline, MboxHeadline};
 ghost use Rattle.fetch_runs.specs.Headline.{MboxStartsInOrder, NoneTaken, StaysAway};
 ghost use Rattle.fetch_runs.specs.Losses.{DurableAccountsAreSafe, DurableFrontsBegin};
-ghost use Rattle.fetch_runs.specs.Calls.{MboxCallsKeepPromises};
+ghost use Rattle.fetch_runs.specs.Calls.{DurableMboxesAreSafe, MboxCallsKeepPromises};
 ghost use Rattle.fetch_runs.specs.Promises.{MboxStarts};
 ghost use Rattle.fetch_runs.specs.Steps.{MboxSessionIsAStep, SessionIsAStep};
 
@@ -204,12 +204,22 @@ pub fn empty_accounts_are_kept()
 ///
 /// Between two calls a process may start anew. What others or a loss of power left may be any account without an
 /// open intent, which counts as from before the first call, or one whose file holds the entries of any messages
-/// and a part of one more.
+/// and a part of one more. Power may be lost after any call, also one that was cut: if whatever that might leave
+/// before the call holds the entries of messages, so does whatever it may leave after it.
 pub fn mbox_calls_keep_promises<W: Wire, D: MaildirDisk, F: FlatFile>()
     ensures { MboxCallsKeepPromises W.Wire D.MaildirDisk F.FlatFile }
 {
     laws_below();
     sessions_by_store::<W, D, F>();
+}
+
+/// With an mboxrd file: what a loss of power leaves holds entries if nothing else may be left of both files than
+/// what calls see.
+#[tactic(auto, using(crate::proofs::Calls::durable_is_mbox_safe))]
+pub fn durable_mboxes_are_safe<F: FlatFile>()
+    ensures { DurableMboxesAreSafe F.FlatFile }
+{
+    laws_below();
 }
 
 /// With an mboxrd file: it may begin with any account that has no open intent, also after others wrote.

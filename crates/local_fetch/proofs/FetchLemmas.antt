@@ -79,7 +79,7 @@ module _ {M D F : Type 0} (link : WireGhosts (Loop M)) (disk : DiskGhosts D) (fi
     λ only_new is.
         let (vanished, left, call) = is_call InMbox base.text devices fetch is in
         let (now, held, then) = law base done account devices (Called (as_call drop fetch vanished) ∷ []) shows holds in
-        let (sent, after, sent_is, shown, appends, (shows', holds')) = then only_new call in
+        let (sent, after, sent_is, shown, appends, safe, (shows', holds')) = then only_new call in
         let on = mbox_fetches_keep law base (done ++ appends.more) after fetch.after later shows' holds' in
         (vanished, left, held, sent, after, sent_is, shown, appends, on),
   )

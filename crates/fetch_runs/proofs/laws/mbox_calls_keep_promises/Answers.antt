@@ -2,4 +2,5 @@ use Rattle.fetch_runs.proofs.Calls as lemmas
 use Rattle.fetch_runs.proofs.laws.mbox_calls_keep_promises.Goals as goal
 
 pub returns : goal.returns
-returns g c = lemmas.mbox_calls_keep_promises c.laws_below.ensures g.W.Wire g.D.MaildirDisk g.F.FlatFile c.sessions_by_store.ensures.mbox
+returns g c = lemmas.mbox_calls_keep_promises c.laws_below.ensures g.W.Wire g.D.MaildirDisk g.F.FlatFile
+    g.met.F.FlatFile.shown c.sessions_by_store.ensures.mbox

@@ -1,0 +1,643 @@
+-- What a loss of power may leave of an account with an mboxrd file holds entries, also after a session that was cut.
+use Rattle.std.proofs.Common.{◌≡◌, ◌⊎◌, inl, inr, ℕ, true, false, List, [], ◌∷◌, ◌++◌, length, take, refl, sym, ap, subst, ◌∙◌, arith}
+use Rattle.std.proofs.Common.{All, Option, None, Some, Result, Ok, Err, append_assoc, append-nil, ⊎_elim}
+use Rattle.std.proofs.Math.Seq.{take-append_seam}
+use Rattle.std.proofs.lemmas.Option.{same_Some}
+use Rattle.mail_terms.specs.Listing.{Item}
+use Rattle.pop3_wire.specs.Link.{Link}
+use Rattle.pop3_wire.specs.Place.{Place, at}
+use Rattle.pop3_wire.specs.World.{Message}
+use Rattle.pop3_client.specs.Texts.{body_text}
+use Rattle.rc_file.specs.Settings.{IsValid}
+use Rattle.fetch_rules.specs.Plan.{IsQuiet, planned}
+use Rattle.fetch_rules.specs.Record.{Intent, RecordState, Row, has_row, is_delivered, marked, none_open}
+use Rattle.mail_store.specs.Durable.{MayLeave, seen_on}
+use Rattle.mail_store.specs.FlatFile.{Stored}
+use Rattle.mail_store.specs.Mboxrd.{entry_of}
+use Rattle.mail_store.specs.Settling.{MayBeLeft}
+use Rattle.mail_store.specs.declared.file.flat_file.FlatFile.{Ghosts as FileGhosts}
+use Rattle.mail_store.proofs.DiskLemmas.{may_arrive, may_now}
+use Rattle.mail_store.proofs.SettlingLemmas.{all_left}
+use Rattle.fetch_session.specs.Lasting.{AreSure, CarriesLast, IsCutLeft, IsEntryLeft, IsGrownAtMost, IsSafeFile}
+use Rattle.fetch_session.specs.Lasting.{KeptLasts, Lasts, LeavesSettled, LeavesStore, ProceedsLast, SessionLasts, UnlessQuiet, UnreadyLasts}
+use Rattle.fetch_session.specs.Mbox.{intent_of}
+use Rattle.fetch_session.specs.Plan.{Carried, Carries, tasks_ahead}
+use Rattle.fetch_session.specs.Readiness.{AreDurable, IsFileKept, IsMerged, IsMergedAtMost, merged_in}
+use Rattle.fetch_session.specs.Record.{Keeps, record_state, with_open}
+use Rattle.fetch_session.specs.Report.{Reports}
+use Rattle.fetch_session.specs.Scene.{EntryNotSaved, NoEntry, Scene, Stops, scene}
+use Rattle.fetch_session.specs.Session.{Enters_with, LeavesLink, MboxAccountFiles, MboxSession, Noted, Proceeds, SessionIn, keeps_entries}
+use Rattle.fetch_session.specs.Session.{mbox_account_files, outcome_of}
+use Rattle.fetch_session.specs.Target.{AsEntries, Stores, closed_file, in_mbox, mail_in}
+use Rattle.fetch_session.specs.declared.account.Store.TheVariants.{Mboxrd as InMbox}
+use Rattle.fetch_session.specs.declared.fault.Cut.{Cut}
+use Rattle.fetch_session.specs.declared.report.ReportLine.{ReportLine}
+use Rattle.fetch_session.specs.declared.report.Skips.{Skips}
+use Rattle.fetch_runs.specs.Below.{Below}
+use Rattle.fetch_runs.specs.Losses.{AreMboxSure, IsMboxSafe}
+use Rattle.fetch_runs.specs.Promises.{Base, Call, Devices, HoldsEntries, IsMaildrop, IsMboxFront, IsOpenFor, ShowsNext, Stands}
+use Rattle.fetch_runs.specs.Sessions.{MboxMail, Served, entry_intent, settled}
+use Rattle.fetch_runs.specs.Steps.{mbox_holds}
+use Rattle.fetch_runs.proofs.LeftRecords.{grown_reads}
+use Rattle.fetch_runs.proofs.Lists.{delivered_unheld, same_held}
+use Rattle.fetch_runs.proofs.MboxPromised.{bytes_of, ends_whole, entered, front_after, holds_after, next_is, open_row, opened_after}
+use Rattle.fetch_runs.proofs.MboxPromised.{settled_is}
+use Rattle.fetch_runs.proofs.State.{LeavesWhole, bytes_after, bytes_settled, carried_starts, mbox_figures, mbox_inputs, mid_content}
+use Rattle.fetch_runs.proofs.State.{same_looked, whole_in, whole_refused, whole_unsaved}
+use Rattle.fetch_runs.proofs.Steps.{mbox_honest, retrieved_is}
+use Rattle.fetch_runs.proofs.Talk.{Planned, session_spoke}
+use Rattle.fetch_runs.proofs.Tasks.{Starts, rows_after}
+use Rattle.fetch_runs.proofs.Turns.{Course, effect_of}
+
+-- ---- accounts like one that holds entries
+
+module _ (base : Base) (Among : List Message → Type 0) where
+  -- it holds these entries, and the first messages of each of these lists have them
+  abbrev pub Holds : List Message → MboxMail → Type 0
+  Holds done account = (holds : HoldsEntries base done account)
+      × ((all : List Message) → Among all → IsMboxFront base holds all)
+
+  abbrev pub HoldsSome : MboxMail → Type 0
+  HoldsSome account = (done : List Message) × Holds done account
+
+  -- no intent is open, and the same is recorded
+  closed_as : {done : List Message} {was : MboxMail} → Holds done was → (now : MboxMail) → now.intent ≡ None
+      → ((id : List ℕ) → is_delivered now.rows id ≡ is_delivered was.rows id) → now.file ≡ bytes_of base done → Holds done now
+  closed_as (holds, fronts) now closed same file = (
+    record { are = holds.are; new = holds.new; recorded = λ id. same id ∙ holds.recorded id; stands = inl (closed, file) },
+    λ all among. let front = fronts all among in record {
+      first = front.first;
+      rest = front.rest;
+      prefix = front.prefix;
+      had = front.had;
+      next = λ o e. absurd (let never = sym closed ∙ o.intent in cc);
+    },
+  )
+
+  module _ {done : List Message} {was : MboxMail} (held : Holds done was) (o : IsOpenFor base (bytes_of base done) was)
+      (is : held.0.stands ≡ inr o) where
+    -- another part of the entry is there
+    part_as : (part : List ℕ) → MayBeLeft (length (bytes_of base done)) (entry_of o.next.text) part
+        → Holds done (record was { file = bytes_of base done ++ part })
+    part_as part left =
+        let now : IsOpenFor base (bytes_of base done) (record was { file = bytes_of base done ++ part }) = record {
+          next = o.next;
+          is = o.is;
+          unrecorded = o.unrecorded;
+          intent = o.intent;
+          part = part;
+          left = left;
+          file = refl;
+        } in (
+          record { are = held.0.are; new = held.0.new; recorded = held.0.recorded; stands = inr now },
+          λ all among.
+              let front = held.1 all among in
+              let (more, first) = front.next o is in
+              record {
+                first = front.first;
+                rest = front.rest;
+                prefix = front.prefix;
+                had = front.had;
+                next = next_is base now more first;
+              },
+        )
+
+    -- nothing of it is there, and the intent is closed
+    none_as : Holds done (record { rows = was.rows; intent = None; file = bytes_of base done })
+    none_as = closed_as held (record { rows = was.rows; intent = None; file = bytes_of base done }) refl (λ id. refl) refl
+
+    -- all of it is, and the message is marked
+    whole_as : Below → has_row was.rows o.next.uid ≡ true → Holds (done ++ o.next ∷ [])
+        (record { rows = marked was.rows o.next.uid; intent = None; file = bytes_of base done ++ entry_of o.next.text })
+    whole_as laws rowed = (
+      entered base laws held.0 o rowed
+          (record { rows = marked was.rows o.next.uid; intent = None; file = bytes_of base done ++ entry_of o.next.text })
+          refl refl refl,
+      λ all among.
+          let front = held.1 all among in
+          let (more, first) = front.next o is in
+          record {
+            first = front.first;
+            rest = more;
+            prefix = front.prefix ∙ ap (λ (l : List Message). (front.first ++ done) ++ l) first ∙ simp append_assoc;
+            had = front.had;
+            next = λ p e. absurd (let never = p.intent in cc);
+          },
+    )
+
+  -- ---- an account that is settled
+
+  module _ (laws : Below) {done : List Message} {was : MboxMail} (held : Holds done was)
+      (rowed : (i : Intent) → was.intent ≡ Some i → has_row was.rows i.uid ≡ true) (listing : List Item) where
+    abbrev settled_bytes : List ℕ
+    settled_bytes = (settled listing was).file
+
+    -- its file is, and the intent is still open
+    file_settled : HoldsSome (record was { file = settled_bytes })
+    file_settled = by held.0.stands refl
+      where
+        by : (stands : Stands base (bytes_of base done) was) → held.0.stands ≡ stands → HoldsSome (record was { file = settled_bytes })
+        by (inl (closed, file)) is =
+            let same : settled_bytes ≡ was.file = rw closed refl in
+            (done, subst (λ (f : List ℕ). Holds done (record was { file = f })) (sym same) held)
+        by (inr o) is = (
+          done,
+          elim (settled_is laws listing o) [
+            | inl (rows, file) ↦ subst (λ (f : List ℕ). Holds done (record was { file = f })) (sym file)
+                (part_as held o is (entry_of o.next.text) (all_left (length (bytes_of base done)) (entry_of o.next.text)))
+            | inr (rows, file) ↦ subst (λ (f : List ℕ). Holds done (record was { file = f })) (append-nil _ ∙ sym file)
+                (part_as held o is [] tt)
+          ],
+        )
+
+    -- the intent is closed too, and these rows show the same as delivered
+    all_settled : (rows : List Row) → ((id : List ℕ) → is_delivered rows id ≡ is_delivered (settled listing was).rows id)
+        → HoldsSome (record { rows = rows; intent = None; file = settled_bytes })
+    all_settled rows same = by held.0.stands refl
+      where
+        by : (stands : Stands base (bytes_of base done) was) → held.0.stands ≡ stands
+            → HoldsSome (record { rows = rows; intent = None; file = settled_bytes })
+        by (inl (closed, file)) is =
+            let none : (settled listing was).rows ≡ was.rows = rw closed refl in (
+              done,
+              closed_as held (record { rows = rows; intent = None; file = settled_bytes }) refl
+                  (λ id. same id ∙ ap (λ (r : List Row). is_delivered r id) none) (rw closed file),
+            )
+        by (inr o) is = elim (settled_is laws listing o) [
+          | inl (marks, file) ↦
+              let whole = whole_as held o is laws (rowed _ o.intent) in (
+                done ++ o.next ∷ [],
+                closed_as whole (record { rows = rows; intent = None; file = settled_bytes }) refl
+                    (λ id. same id ∙ ap (λ (r : List Row). is_delivered r id) marks)
+                    (file ∙ ends_whole base (done ++ o.next ∷ []) _ whole.0 refl),
+              )
+          | inr (marks, file) ↦ (
+            done,
+            closed_as held (record { rows = rows; intent = None; file = settled_bytes }) refl
+                (λ id. same id ∙ ap (λ (r : List Row). is_delivered r id) marks) file,
+          )
+        ]
+
+  -- ---- what is left of a text's entry
+
+  -- it has the whole entry of this text, whose intent is open
+  pub record HoldsWhole (account : MboxMail) (text : List ℕ) : Type 0 where
+    pub done : List Message
+    pub held : Holds done account
+    pub o : IsOpenFor base (bytes_of base done) account
+    pub is : held.0.stands ≡ inr o
+    pub text_is : o.next.text ≡ text
+
+  -- the account after a text's entry was appended to these bytes
+  abbrev pub with_entry : List Row → List ℕ → List ℕ → List ℕ → MboxMail
+  with_entry rows bytes uid text =
+      record { rows = rows; intent = Some (intent_of bytes uid text); file = bytes ++ entry_of text }
+
+  module _ (laws : Below) (rows : List Row) (bytes uid text : List ℕ) (w : HoldsWhole (with_entry rows bytes uid text) text) where
+    same_intent : intent_of bytes uid text ≡ entry_intent (bytes_of base w.done) w.o.next.uid w.o.next.text
+    same_intent = same_Some _ _ w.o.intent
+
+    bytes_are : bytes_of base w.done ≡ bytes
+    bytes_are = sym (take-append_seam (bytes_of base w.done) w.o.part)
+        ∙ ap (take (length (bytes_of base w.done))) (sym w.o.file)
+        ∙ ap (λ (n : ℕ). take n (bytes ++ entry_of text)) (sym (ap (λ (i : Intent). i.start) same_intent))
+        ∙ take-append_seam bytes (entry_of text)
+
+    uid_is : w.o.next.uid ≡ uid
+    uid_is = sym (ap (λ (i : Intent). i.uid) same_intent)
+
+    -- this part of the entry is there
+    with_part : (part : List ℕ) → MayBeLeft (length bytes) (entry_of text) part
+        → HoldsSome (record { rows = rows; intent = Some (intent_of bytes uid text); file = bytes ++ part })
+    with_part part left = (
+      w.done,
+      subst (λ (b : List ℕ). Holds w.done (record { rows = rows; intent = Some (intent_of bytes uid text); file = b ++ part }))
+          bytes_are (part_as w.held w.o w.is part (rw (bytes_are, w.text_is) left)),
+    )
+
+    -- nothing of it is, and no intent is open
+    pub without : HoldsSome (record { rows = rows; intent = None; file = bytes })
+    without = (
+      w.done,
+      subst (λ (b : List ℕ). Holds w.done (record { rows = rows; intent = None; file = b })) bytes_are
+          (none_as w.held w.o w.is),
+    )
+
+    ended : has_row rows uid ≡ true → HoldsSome (record { rows = marked rows uid; intent = None; file = bytes ++ entry_of text })
+    ended rowed =
+        let account : List ℕ → List ℕ → List ℕ → MboxMail =
+        λ u b t. record { rows = marked rows u; intent = None; file = b ++ entry_of t } in
+        let same : account w.o.next.uid (bytes_of base w.done) w.o.next.text ≡ account uid bytes text =
+        rw (uid_is, bytes_are, w.text_is) refl in
+        (w.done ++ w.o.next ∷ [], subst (Holds (w.done ++ w.o.next ∷ [])) same (whole_as w.held w.o w.is laws (rw uid_is rowed)))
+
+    pub entry_left : (left mbox : Option (List ℕ)) (then : RecordState) → IsEntryLeft rows bytes uid text left mbox → Keeps left then
+        → HoldsSome (record { rows = then.rows; intent = then.intent; file = mail_in mbox })
+    entry_left left mbox then (inl (grown, is)) keeps = ⊎_elim
+        (λ (same : then ≡ none_open rows). rw (same, is) without)
+        (λ (same : then ≡ with_open rows (intent_of bytes uid text)). rw (same, is) (subst (λ (f : List ℕ). HoldsSome (record {
+          rows = rows;
+          intent = Some (intent_of bytes uid text);
+          file = f;
+        })) (append-nil bytes) (with_part [] tt)))
+        (grown_reads laws.one laws.meaning laws.counts laws.torn (none_open rows) (with_open rows (intent_of bytes uid text))
+        then left grown keeps)
+    entry_left left mbox then (inr (inl (grown, (part, is, may)))) keeps =
+        let same : then ≡ with_open rows (intent_of bytes uid text) =
+        ⊎_elim (λ e. e) (λ e. e) (grown_reads laws.one laws.meaning laws.counts laws.torn
+        (with_open rows (intent_of bytes uid text)) (with_open rows (intent_of bytes uid text)) then left grown keeps) in
+        rw (same, is) (with_part part may)
+    entry_left left mbox then (inr (inr (grown, is))) keeps =
+        let opened : RecordState = with_open rows (intent_of bytes uid text) in
+        let rowed : has_row rows uid ≡ true = open_row laws (Some grown.file.bytes) rows opened.intent
+        (laws.steady (Some grown.file.bytes) opened grown.file.stands) (intent_of bytes uid text) refl in
+        ⊎_elim
+        (λ (same : then ≡ with_open rows (intent_of bytes uid text)). rw (same, is)
+        (with_part (entry_of text) (all_left (length bytes) (entry_of text))))
+        (λ (same : then ≡ none_open (marked rows uid)). rw (same, is) (ended rowed))
+        (grown_reads laws.one laws.meaning laws.counts laws.torn (with_open rows (intent_of bytes uid text))
+        (none_open (marked rows uid)) then left grown keeps)
+
+-- ---- what may be left of a file
+
+-- a loss of power may leave what calls see
+may_seen : {F : Type 0} (files : FileGhosts F) (f : F) → seen_on (files.disk f) ≡ (files.stored f).content
+    → MayLeave (files.disk f) (files.stored f).content
+may_seen files f shown = subst (λ (o : Option (List ℕ)). MayLeave (files.disk f) o) shown
+    (may_now (files.disk f) (seen_on (files.disk f)) (may_arrive (files.disk f).now))
+
+-- ---- a session
+
+module _ (laws : Below) (D : Type 0) {F : Type 0} (files : FileGhosts F)
+    (shown : (f : F) → seen_on (files.disk f) ≡ (files.stored f).content)
+    (base : Base) (Among : List Message → Type 0) {W S G : Type 0} (v : Call W S G) (link link' : Link)
+    (valid : IsValid v.settings) (maildrop : IsMaildrop base.text v.maildrop) (only_new : v.settings.read_all ≡ false)
+    (served : (sent got : List ℕ) → link'.sent ≡ link.sent ++ sent → link'.got ≡ link.got ++ got
+    → Served v.maildrop sent got v.vanished)
+    (from to : Devices F F) (held held' : RecordState) (done done' : List Message)
+    (before : Holds base Among done (mbox_holds held (files.stored from.store)))
+    (after : Holds base Among done' (mbox_holds held' (files.stored to.store)))
+    (stood : Keeps (files.stored from.file).content held) (stands : Keeps (files.stored to.file).content held')
+    (next : (all : List Message) (among : Among all)
+    → ShowsNext v.settings v.maildrop ((before.1 all among).first ++ done) (before.1 all among).rest)
+    (sure : AreMboxSure files from to) (safe : IsMboxSafe (Holds base Among) files from) where
+  abbrev old_files : MboxAccountFiles
+  old_files = mbox_account_files (files.stored from.store) (files.stored from.file)
+
+  abbrev new_files : MboxAccountFiles
+  new_files = mbox_account_files (files.stored to.store) (files.stored to.file)
+
+  -- the account with what is left of both files
+  abbrev Left : Option (List ℕ) → Option (List ℕ) → Type 0
+  Left left mbox = (then : RecordState) → Keeps left then
+      → HoldsSome base Among (record { rows = then.rows; intent = then.intent; file = mail_in mbox })
+
+  -- so it is whatever is left of both
+  abbrev Leaves : Type 0
+  Leaves = (left mbox : Option (List ℕ)) → MayLeave (files.disk to.file) left → MayLeave (files.disk to.store) mbox
+      → Left left mbox
+
+  rowed : (i : Intent) → held.intent ≡ Some i → has_row held.rows i.uid ≡ true
+  rowed = open_row laws (files.stored from.file).content held.rows held.intent stood
+
+  -- it could be left before
+  left_before : (left mbox : Option (List ℕ)) → MayLeave (files.disk from.file) left → MayLeave (files.disk from.store) mbox
+      → Left left mbox
+  left_before left mbox may also then keeps = safe then.rows then.intent left mbox may keeps also
+
+  -- the record that was read, with an mboxrd file that could be left
+  read_before : (mbox : Option (List ℕ)) → MayLeave (files.disk from.store) mbox
+      → HoldsSome base Among (record { rows = held.rows; intent = held.intent; file = mail_in mbox })
+  read_before mbox also =
+      left_before (files.stored from.file).content mbox (may_seen files from.file (shown from.file)) also held stood
+
+  -- it is what calls see
+  left_after : (left mbox : Option (List ℕ)) → left ≡ (files.stored to.file).content
+      → mbox ≡ (files.stored to.store).content → Left left mbox
+  left_after left mbox is also then keeps =
+      let same = same_held laws.one (files.stored to.file).content then held'
+      (subst (λ (c : Option (List ℕ)). Keeps c then) is keeps) stands in
+      rw (same, also) (done', after)
+
+  -- just what calls see is left of the record's file, if it is safe
+  record_left : IsSafeFile files to.file → (left : Option (List ℕ)) → MayLeave (files.disk to.file) left
+      → left ≡ (files.stored to.file).content
+  record_left firm left may = by (files.stored to.file).content refl
+    where
+      by : (content : Option (List ℕ)) → (files.stored to.file).content ≡ content → left ≡ (files.stored to.file).content
+      by None none = sure.0.1 none left may ∙ sym none
+      by (Some bytes) some = (firm.1 bytes some).1 left may ∙ sym some
+
+  mbox_left : IsSafeFile files to.store → (bytes : List ℕ) → (files.stored to.store).content ≡ Some bytes
+      → (mbox : Option (List ℕ)) → MayLeave (files.disk to.store) mbox → mbox ≡ (files.stored to.store).content
+  mbox_left firm bytes some mbox may = (firm.1 bytes some).1 mbox may ∙ sym some
+
+  -- ---- it was cut while it prepared the record
+
+  -- the file was cut to the place of the intent that was read
+  cut_before : (i : Intent) → held.intent ≡ Some i → (was : List ℕ) → (files.stored from.store).content ≡ Some was
+      → HoldsSome base Among (record { rows = held.rows; intent = held.intent; file = take i.start was })
+  cut_before i opened was has = by before.0.stands refl
+    where
+      by : (s : Stands base (bytes_of base done) (mbox_holds held (files.stored from.store))) → before.0.stands ≡ s
+          → HoldsSome base Among (record { rows = held.rows; intent = held.intent; file = take i.start was })
+      by (inl closed) is = absurd (let never = sym closed.0 ∙ opened in cc)
+      by (inr o) is =
+          let start : i.start ≡ length (bytes_of base done) =
+          ap (λ (j : Intent). j.start) (same_Some _ _ (sym opened ∙ o.intent)) in
+          let bytes : was ≡ bytes_of base done ++ o.part = sym (ap mail_in has) ∙ o.file in
+          let cut : bytes_of base done ++ [] ≡ take i.start was = append-nil (bytes_of base done)
+          ∙ sym (rw (start, bytes) (take-append_seam (bytes_of base done) o.part)) in (
+            done,
+            subst (λ (f : List ℕ). Holds base Among done (record { rows = held.rows; intent = held.intent; file = f })) cut
+                (part_as base Among before o is [] tt),
+          )
+
+  module _ {items : List Item} {now : ℕ} (m : IsMerged AsEntries items now (in_mbox (files.stored from.store))
+      (files.stored from.file) (in_mbox (files.stored to.store)) (files.stored to.file)) where
+    abbrev merged_rows : List Row
+    merged_rows = merged_in AsEntries (in_mbox (files.stored from.store)) m.was items now
+
+    -- they show the same as delivered as the settled ones
+    merged_shows : (id : List ℕ)
+        → is_delivered merged_rows id ≡ is_delivered (settled items (mbox_holds held (files.stored from.store))).rows id
+    merged_shows id =
+        let was : m.was ≡ held = same_held laws.one (files.stored from.file).content m.was held m.stood stood in
+        rw was (delivered_unheld laws (settled items (mbox_holds held (files.stored from.store))).rows items now id)
+
+    merged_reads : (left : Option (List ℕ)) (then : RecordState) → IsGrownAtMost m.was (none_open merged_rows) left
+        ⊎ IsGrownAtMost (none_open merged_rows) (none_open merged_rows) left → Keeps left then
+        → (then ≡ m.was) ⊎ (then ≡ none_open merged_rows)
+    merged_reads left then (inl grown) keeps =
+        grown_reads laws.one laws.meaning laws.counts laws.torn m.was (none_open merged_rows) then left grown keeps
+    merged_reads left then (inr grown) keeps = inr (⊎_elim (λ e. e) (λ e. e) (grown_reads laws.one laws.meaning laws.counts
+        laws.torn (none_open merged_rows) (none_open merged_rows) then left grown keeps))
+
+  unready_left : {items : List Item} {now : ℕ} (content : IsMergedAtMost AsEntries items now (in_mbox (files.stored from.store))
+      (files.stored from.file) (in_mbox (files.stored to.store)) (files.stored to.file))
+      → UnreadyLasts {D = D} files (InMbox from.store) from.file content (InMbox to.store) to.file → Leaves
+  unready_left (inl same) (no_more, inl still) left mbox may also = left_before left mbox (no_more left may) (still mbox also)
+  unready_left (inl same) (no_more, inr (firm, (state, keeps, settles))) left mbox may also =
+      let was : state ≡ held = same_held laws.one (files.stored from.file).content state held
+      (subst (λ (c : Option (List ℕ)). Keeps c state) same keeps) stood in
+      by held.intent refl (subst (λ (s : RecordState). LeavesSettled s.intent (files.stored from.store).content
+      (MayLeave (files.disk from.store)) (MayLeave (files.disk to.store))) was settles)
+    where
+      by : (intent : Option Intent) → held.intent ≡ intent → LeavesSettled held.intent (files.stored from.store).content
+          (MayLeave (files.disk from.store)) (MayLeave (files.disk to.store)) → Left left mbox
+      by None closed settles =
+          let still = subst (λ (o : Option Intent). LeavesSettled o (files.stored from.store).content
+          (MayLeave (files.disk from.store)) (MayLeave (files.disk to.store))) closed settles in
+          left_before left mbox (no_more left may) (still mbox also)
+      by (Some i) opened settles =
+          let cuts = subst (λ (o : Option Intent). LeavesSettled o (files.stored from.store).content
+          (MayLeave (files.disk from.store)) (MayLeave (files.disk to.store))) opened settles in
+          elim (cuts mbox also) [
+            | inl before ↦ left_before left mbox (no_more left may) before
+            | inr (was, has, cut) ↦ λ then keeps.
+                let read = same_held laws.one (files.stored from.file).content then held
+                (subst (λ (c : Option (List ℕ)). Keeps c then) (record_left firm left may ∙ same) keeps) stood in
+                rw (read, cut) (cut_before i opened was has)
+          ]
+  unready_left (inr m) (inl (closed, leaves, still)) left mbox may also = λ then keeps.
+      let was : m.was ≡ held = same_held laws.one (files.stored from.file).content m.was held m.stood stood in
+      let none : held.intent ≡ None = sym (ap (λ (r : RecordState). r.intent) was) ∙ closed in
+      let (first, here) = read_before mbox (still mbox also) in
+      elim (leaves left may) [
+        | inl could ↦ left_before left mbox could (still mbox also) then keeps
+        | inr are ↦ ⊎_elim (λ (read : then ≡ m.was). rw (read ∙ was) (first, here))
+            (λ (read : then ≡ none_open (merged_rows m)). rw read (
+              first,
+              closed_as base Among here (record {
+                rows = merged_rows m;
+                intent = None;
+                file = mail_in mbox;
+              }) refl (λ id. merged_shows m id ∙ rw none refl) (ends_whole base first _ here.0 none),
+            ))
+            (merged_reads m left then are keeps)
+      ]
+  unready_left {items} (inr m) (inr (leaves, firm)) left mbox may also = λ then keeps.
+      let was : m.was ≡ held = same_held laws.one (files.stored from.file).content m.was held m.stood stood in
+      let (bytes, has, now_is, goes_on) = m.settles in
+      let some : (files.stored to.store).content ≡ Some (closed_file m.was.intent items bytes) =
+      ap (λ (s : Stored). s.content) now_is in
+      let file : mail_in mbox ≡ (settled items (mbox_holds held (files.stored from.store))).file =
+      ap mail_in (mbox_left firm _ some mbox also ∙ some) ∙ rw (was, has) refl in
+      elim (leaves left may) [
+        | inl is ↦
+            let read = same_held laws.one (files.stored from.file).content then held
+            (subst (λ (c : Option (List ℕ)). Keeps c then) is keeps) stood in
+            rw (read, file) (file_settled base Among laws before rowed items)
+        | inr are ↦ ⊎_elim (λ (read : then ≡ m.was). rw (read ∙ was, file) (file_settled base Among laws before rowed items))
+            (λ (read : then ≡ none_open (merged_rows m)). rw (read, file) (all_settled base Among laws before rowed items
+            (merged_rows m) (merged_shows m)))
+            (merged_reads m left then are keeps)
+      ]
+
+  -- ---- it had its record ready
+
+  module _ {items : List Item} {place : Place} {result : Result (Unit {0}) Cut} {new : Scene} {skipped : Skips}
+      (c : Carried v.settings AsEntries items v.now place (in_mbox (files.stored from.store)) (files.stored from.file) []
+      result new skipped) where
+    -- nothing was to be done
+    quiet_left : (kept : IsFileKept c.mid.rows (files.stored from.file) c.mid.file)
+        → KeptLasts files from.file c.mid.rows (files.stored from.file) c.mid.file kept to.file
+        → LeavesStore {D = D} files (InMbox from.store) (InMbox to.store) → Leaves
+    quiet_left (inl same) un still left mbox may also = left_before left mbox (un.no_more left may) (still mbox also)
+    quiet_left (inr (kept, stale, anew)) (same, firm) still left mbox may also = λ then keeps.
+        let now_is : Keeps (files.stored to.file).content (none_open c.mid.rows) =
+        rw same (laws.steady c.mid.file.content (none_open c.mid.rows) c.prepared.saved) in
+        let read = same_held laws.one (files.stored to.file).content then (none_open c.mid.rows)
+        (subst (λ (o : Option (List ℕ)). Keeps o then) (record_left firm left may) keeps) now_is in
+        let was = same_held laws.one (files.stored from.file).content (none_open c.mid.rows) held kept stood in
+        rw (read ∙ was) (read_before mbox (still mbox also))
+
+    -- or else this is left
+    planned_left : (Safe : Type 0) → (Safe → Leaves) → (durable : (All IsQuiet (planned v.settings c.mid.rows items v.now)
+        × IsFileKept c.mid.rows (files.stored from.file) c.mid.file)
+        ⊎ AreDurable AsEntries c.prepared.was.rows items (in_mbox (files.stored from.store)))
+        → UnlessQuiet {D = D} files (InMbox from.store) from.file c.mid.rows (files.stored from.file) c.mid.file durable Safe
+        (InMbox to.store) to.file → Leaves
+    planned_left Safe leaves (inl (quiet, kept)) (keeps, still) = quiet_left kept keeps still
+    planned_left Safe leaves (inr durable) safe = leaves safe
+
+    mid_some : c.mid.store.mbox.content ≡ Some (settled items (mbox_holds held (files.stored from.store))).file
+    mid_some = (carried_starts laws v.settings v.now (keeps_entries old_files) held stood items place c).1
+
+  -- it did all its tasks
+  ended_left : {items : List Item} {mid place : Place} {rows : List Row} {lines : List ReportLine} {skipped : Skips}
+      (c : Carried v.settings AsEntries items v.now mid (in_mbox (files.stored from.store)) (files.stored from.file) [] (Ok tt)
+      (scene place (in_mbox (files.stored to.store)) (files.stored to.file) rows lines) skipped)
+      → Lasts {D = D} files AsEntries (tasks_ahead v.settings AsEntries items v.now (in_mbox (files.stored from.store)) c.mid.rows)
+      c.mid (Ok tt) (scene place (in_mbox (files.stored to.store)) (files.stored to.file) rows lines) c.does (InMbox to.store) to.file
+      → Leaves
+  ended_left c lasts left mbox may also =
+      let some = rw (mid_some c) at c.does.went.stored.content in
+      left_after left mbox (record_left lasts.1 left may) (mbox_left lasts.2 _ some mbox also)
+
+  -- ---- it was cut at a task
+
+  module _ (items : List Item) (mid place : Place) (notes : Noted) (rows : List Row) (cut : Cut)
+      (enters : Enters_with v.settings (at link []) (Ok items) mid) (total : notes.total ≡ length items)
+      (c : Carried v.settings AsEntries items v.now mid (in_mbox (files.stored from.store)) (files.stored from.file) [] (Err cut)
+      (scene place (in_mbox (files.stored to.store)) (files.stored to.file) rows notes.lines) notes.skipped)
+      (leaves : LeavesLink (Err cut) place link')
+      (reports : Reports (outcome_of (Err cut)) notes.total notes.skipped notes.lines v.report) where
+    abbrev end : Scene
+    end = scene place (in_mbox (files.stored to.store)) (files.stored to.file) rows notes.lines
+
+    -- the session, if it stopped so
+    abbrev session_at : Stops AsEntries c.does.next c.does.mid cut end
+        → SessionIn v.settings AsEntries v.now link (keeps_entries old_files) v.report link' (keeps_entries new_files)
+    session_at stops = record {
+      result = Err cut;
+      mid = place;
+      notes = notes;
+      proceeds = inr (inr (record {
+        items = items;
+        mid = mid;
+        enters = enters;
+        total = total;
+        carries = (
+          rows,
+          inr (record {
+            mid = c.mid;
+            prepared = c.prepared;
+            does = record c.does { stops = stops };
+            skips = c.skips;
+          }),
+        );
+      }));
+      leaves = leaves;
+      reports = reports;
+    }
+
+    starts : Starts (mbox_inputs v.settings v.now held (files.stored from.store) items)
+        (tasks_ahead v.settings AsEntries items v.now (in_mbox (files.stored from.store)) c.mid.rows) c.mid
+        × (c.mid.store.mbox.content ≡ Some (bytes_settled items held (files.stored from.store)))
+    starts = carried_starts laws v.settings v.now (keeps_entries old_files) held stood items mid c
+
+    -- the mboxrd file after the tasks that were done
+    abbrev bytes : List ℕ
+    bytes = bytes_after laws v.settings v.now held (files.stored from.store) items c.does.dones
+
+    whole_holds : (stops : Stops AsEntries c.does.next c.does.mid cut end) {course : Course} {uid text : List ℕ}
+        → Planned v.settings AsEntries v.now (keeps_entries old_files) link link' (Err cut) notes.lines course
+        → LeavesWhole laws v.settings v.now held (files.stored from.store) items starts.0 starts.1 c.does course uid text
+        → HoldsWhole base Among (with_entry base Among c.does.mid.rows bytes uid text) text
+    whole_holds stops {course} {uid} {text} said (l, b, ending, text_is, rows_are, intent_is) =
+        let figures = mbox_figures laws v.settings v.now held (files.stored from.store) l v.report
+        (retrieved_is (session_at stops) said) reports.outcome_is in
+        let honest = mbox_honest laws held (session_at stops) l said (served said.sent said.got said.sent_is said.got_is) in
+        let now : MboxMail = mbox_holds (record_state (rows_after (mbox_inputs v.settings v.now held (files.stored from.store)
+        course.items) l.noted) l.intent') (whole_in laws v.settings v.now held (files.stored from.store) items starts.0 starts.1
+        c.does text) in
+        let (o, is, text_was) = opened_after base laws before.0 rowed v now (effect_of v.now false course) maildrop only_new
+        figures honest b ending in
+        let same : now ≡ with_entry base Among c.does.mid.rows bytes uid text = rw (rows_are, intent_is) refl in
+        subst (λ (account : MboxMail). HoldsWhole base Among account text) same (record {
+          done = _;
+          held = (
+            holds_after base laws before.0 rowed v now (effect_of v.now false course) maildrop only_new figures honest,
+            λ all among. front_after base laws before.0 rowed v now (effect_of v.now false course) maildrop only_new figures
+                honest all (before.1 all among) (next all among),
+          );
+          o = o;
+          is = is;
+          text_is = text_was ∙ text_is;
+        })
+
+    refused_whole : (n : NoEntry c.does.next c.does.mid end cut)
+        → HoldsWhole base Among (with_entry base Among c.does.mid.rows bytes n.uid (body_text n.reply.body)) (body_text n.reply.body)
+    refused_whole n =
+        let stops : Stops AsEntries c.does.next c.does.mid cut end = inr (inl (inr (inl n))) in
+        whole_holds stops (session_spoke laws v.settings valid AsEntries v.now link (keeps_entries old_files) v.report link'
+        (keeps_entries new_files) (session_at (inr (inl (inr (inl n))))))
+        (whole_refused laws v.settings v.now held (files.stored from.store) items starts.0 starts.1 c.does n)
+
+    unsaved_whole : (u : EntryNotSaved c.does.next c.does.mid end cut)
+        → HoldsWhole base Among (with_entry base Among c.does.mid.rows bytes u.uid (body_text u.reply.body)) (body_text u.reply.body)
+    unsaved_whole u =
+        let stops : Stops AsEntries c.does.next c.does.mid cut end = inr (inr u) in
+        whole_holds stops (session_spoke laws v.settings valid AsEntries v.now link (keeps_entries old_files) v.report link'
+        (keeps_entries new_files) (session_at (inr (inr u))))
+        (whole_unsaved laws v.settings v.now held (files.stored from.store) items starts.0 starts.1 c.does u)
+
+    mid_is : c.does.mid.store.mbox.content ≡ Some bytes
+    mid_is = mid_content laws v.settings v.now held (files.stored from.store) items starts.0 starts.1 c.does
+
+    -- nothing was begun
+    unbegun : (stops : Stops AsEntries c.does.next c.does.mid cut end) (left mbox : Option (List ℕ))
+        → IsGrownAtMost (none_open c.does.mid.rows) (none_open c.does.mid.rows) left → mbox ≡ Some bytes → Left left mbox
+    unbegun stops left mbox grown is then keeps = by stops
+      where
+        read : then ≡ none_open c.does.mid.rows
+        read = ⊎_elim (λ e. e) (λ e. e) (grown_reads laws.one laws.meaning laws.counts laws.torn (none_open c.does.mid.rows)
+            (none_open c.does.mid.rows) then left grown keeps)
+
+        -- calls see both files as they were
+        quiet : files.stored to.file ≡ c.does.mid.file → (files.stored to.store).content ≡ c.does.mid.store.mbox.content
+            → HoldsSome base Among (record { rows = then.rows; intent = then.intent; file = mail_in mbox })
+        quiet same same_mbox =
+            let kept : Keeps (files.stored to.file).content (none_open c.does.mid.rows) =
+            rw same (laws.steady c.does.mid.file.content (none_open c.does.mid.rows) (c.does.went.saved c.prepared.saved)) in
+            let seen = same_held laws.one (files.stored to.file).content (none_open c.does.mid.rows) held' kept stands in
+            rw (read ∙ seen, is ∙ sym (same_mbox ∙ mid_is)) (done', after)
+
+        by : Stops AsEntries c.does.next c.does.mid cut end
+            → HoldsSome base Among (record { rows = then.rows; intent = then.intent; file = mail_in mbox })
+        by (inl broken) = quiet broken.file (ap (λ (s : Stores). s.mbox.content) broken.store)
+        by (inr (inl (inl wanting))) = quiet wanting.file (ap (λ (s : Stores). s.mbox.content) wanting.store)
+        by (inr (inl (inr (inl n)))) = rw (read, is)
+            (without base Among laws c.does.mid.rows bytes n.uid (body_text n.reply.body) (refused_whole n))
+        by (inr (inl (inr (inr stays)))) = quiet stays.file (same_looked c.does.mid.store end.store cut.fault stays.refuses)
+        by (inr (inr u)) = rw (read, is) (without base Among laws c.does.mid.rows bytes u.uid (body_text u.reply.body) (unsaved_whole u))
+
+    cut_left : Lasts {D = D} files AsEntries (tasks_ahead v.settings AsEntries items v.now (in_mbox (files.stored from.store)) c.mid.rows)
+        c.mid (Err cut) end c.does (InMbox to.store) to.file → Leaves
+    cut_left lasts left mbox may also = by (files.stored to.file).content refl
+      where
+        by_cut : IsCutLeft c.does.next c.does.mid cut end bytes left mbox → Left left mbox
+        by_cut (inl (grown, is)) = unbegun c.does.stops left mbox grown is
+        by_cut (inr (inl (n, e))) = λ then keeps. entry_left base Among laws c.does.mid.rows bytes n.uid (body_text n.reply.body)
+            (refused_whole n) left mbox then e keeps
+        by_cut (inr (inr (u, e))) = λ then keeps. entry_left base Among laws c.does.mid.rows bytes u.uid (body_text u.reply.body)
+            (unsaved_whole u) left mbox then e keeps
+
+        by : (content : Option (List ℕ)) → (files.stored to.file).content ≡ content → Left left mbox
+        by None none = left_after left mbox (sure.0.1 none left may ∙ sym none) (sure.3 none mbox also)
+        by (Some now) some = by_cut (lasts.1 sure.2 bytes mid_is mbox also now some left may)
+
+  -- ---- whatever cut it
+
+  pub session_left : (session : MboxSession v.settings v.now link old_files v.report link' new_files)
+      → SessionLasts {D = D} files (InMbox from.store) from.file session (InMbox to.store) to.file → IsMboxSafe (Holds base Among) files to
+  session_left session lasts rows intent left mbox may keeps also =
+      by session.result session.proceeds session.leaves session.reports lasts left mbox may also (record_state rows intent) keeps
+    where
+      are_sure : AreSure {D = D} files (InMbox from.store) from.file
+      are_sure = (sure.1, sure.0.0)
+
+      by : (result : Result (Unit {0}) Cut)
+          (proceeds : Proceeds v.settings AsEntries v.now (at link []) (keeps_entries old_files) result session.mid
+          (keeps_entries new_files) session.notes) → LeavesLink result session.mid link'
+          → Reports (outcome_of result) session.notes.total session.notes.skipped session.notes.lines v.report
+          → ProceedsLast {D = D} files (InMbox from.store) from.file _ _ _ _ _ _ _ _ _ proceeds (InMbox to.store) to.file → Leaves
+      by (Ok done) dealt leaves reports lasts =
+          let c = dealt.carries.1 in planned_left c _ (ended_left c) c.prepared.durable (lasts are_sure)
+      by (Err cut) (inl stopped) leaves reports (un, still) =
+          λ left mbox may also. left_before left mbox (un.no_more left may) (still mbox also)
+      by (Err cut) (inr (inl wanting)) leaves reports (un, still) =
+          λ left mbox may also. left_before left mbox (un.no_more left may) (still mbox also)
+      by (Err cut) (inr (inr dealt)) leaves reports lasts = of dealt.carries lasts
+        where
+          of : (carries : Carries v.settings AsEntries dealt.items v.now dealt.mid (in_mbox (files.stored from.store))
+              (files.stored from.file) [] (Err cut) session.mid (in_mbox (files.stored to.store)) (files.stored to.file)
+              session.notes.lines session.notes.skipped)
+              → CarriesLast {D = D} files (InMbox from.store) from.file v.settings AsEntries dealt.items v.now dealt.mid
+              (in_mbox (files.stored from.store)) (files.stored from.file) [] (Err cut) session.mid
+              (in_mbox (files.stored to.store)) (files.stored to.file) session.notes.lines session.notes.skipped carries
+              (InMbox to.store) to.file → Leaves
+          of (rows, inl (none, unprepared)) lasts = unready_left unprepared.unready.content (lasts are_sure)
+          of (rows, inr c) lasts = planned_left c _ (cut_left dealt.items dealt.mid session.mid session.notes rows cut dealt.enters
+              dealt.total c leaves reports) c.prepared.durable (lasts are_sure)
