@@ -105,8 +105,7 @@ pub data Happening (Call Devices Account : Type 0) : Type 0 where
   Left : Devices → Account → Happening Call Devices Account
 
 -- the devices show a kept state; if the next of these happens, a call keeps its promises, and they do so after it, and
--- after others or a loss of power. What such a loss takes, if it can do no harm, doesn't count as taken away: the next
--- calls fetch it again
+-- after others or a loss of power. What such a loss takes, if it can do no harm, isn't taken away, but fetched again
 abbrev pub ArePromised : {W D F : Type 0} → WireGhosts W → DiskGhosts D → FileGhosts F → Mail → State → Devices D F
     → List (Happening (Call W D F) (Devices D F) AccountMail) → Type 0
 ArePromised link disk file mail state devices [] = Shows disk file devices state.account × Kept mail state

@@ -224,8 +224,7 @@ pub record MboxPromises {W S F : Type 0} (base : Base) (before done : List Messa
   pub vanished : AllByRecursion (λ id. is_entered base done id ≡ true) call.vanished
 
 -- a call adds the entries of these messages, in the order in which they were fetched, and keeps its promises. What
--- follows of one more entry is as it was, or a prefix. If the server shows the messages of a list in their order, the
--- first of these have entries
+-- follows of one more entry is as it was, or a prefix. If the server shows a list in order, its first have entries
 pub record AppendsMail {W S F : Type 0} (base : Base) {done : List Message} {before : MboxMail}
     (holds : HoldsEntries base done before) (call : Call W S F) (sent : List ℕ) (after : MboxMail) : Type 0 where
   pub more : List Message

@@ -8,8 +8,7 @@ use Rattle.mail_terms.specs.MaildirName.{base}
 use Rattle.mail_terms.specs.UniqueId.{IsLegalId}
 use Rattle.mail_store.specs.Maildir.{Maildir, File, mail}
 
--- the text by which accounts are told apart: the digest of server, NUL, port, NUL, user name in
--- lower-case hexadecimal
+-- the text by which accounts are told apart: the digest of server, NUL, port, NUL, user name, in small hexadecimal
 abbrev pub account_text : List ℕ → ℕ → List ℕ → List ℕ
 account_text server port username =
     encode_lower (sha256 (server ++ 0 ∷ [] ++ decimal port ++ 0 ∷ [] ++ username))

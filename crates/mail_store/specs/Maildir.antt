@@ -117,8 +117,7 @@ name_begun maildir = option_map (λ (d : Draft). d.name) maildir.begun
 abbrev pub AreReached : List File → List File → Type 0
 AreReached files risen = AllZip IsAsDurable files risen
 
--- what is left of some files, in order, once these were taken from them, one after another; at each moment more may
--- be durable
+-- what is left of some files, in order, once these were taken, one by one; at each moment more may be durable
 abbrev pub IsWithout : List File → List File → List File → Type 0
 IsWithout files [] left = AreReached files left
 IsWithout files (f ∷ gone) left = (front back : List File) × AreReached files (front ++ f ∷ back)
