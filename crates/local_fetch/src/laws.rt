@@ -1,18 +1,41 @@
 //! Laws over what sessions over a server in memory did.
+ghost use Rattle.fetch_runs.specs.Calls.{CallsKeepPromises, MboxCallsKeepPromises};
+ghost use Rattle.fetch_runs.specs.Headline.{Headline, MboxHeadline};
 ghost use Rattle.local_fetch.specs.Fetches.{FetchesFromNothing, FetchesKeepPromises, FirstFetchesKeepMail};
 ghost use Rattle.local_fetch.specs.Fetches.{MboxFetchesFromNothing, MboxFetchesKeepPromises, MboxFirstFetchesKeepMail};
 ghost use Rattle.local_fetch.specs.Good.{GoodFetchesStoreAll};
 
 use crate::loop_wire::LoopWire;
 use fetch_runs::{
-    calls_keep_promises, empty_accounts_are_kept, mbox_calls_keep_promises, mbox_starts,
+    calls_keep_promises, empty_accounts_are_kept, headline, mbox_calls_keep_promises,
+    mbox_headline, mbox_starts,
 };
 use fetch_session::served_sessions_store_all;
 use folder_store::{FolderMaildir, HostFile};
 use mail_store::{FlatFile, MaildirDisk, MemoryFile, MemoryMaildir};
 use pop3_server::{Maildrop, MemoryDrop};
 use pop3_wire::Wire;
-use test_devices::{MemoryFolder, MemoryFolders};
+use test_devices::{Fused, FusedWire, MemoryFolder, MemoryFolders};
+
+/// A law: kills are events of the statement. A program that is killed makes no more calls, so it leaves, but for a
+/// draft in `tmp`, what the same call of `session` leaves over a link and devices of which each, from some call on,
+/// refuses all without effect. Any number of calls of each may pass, and the last of them be refused with all that
+/// its trait allows. So a kill may come at any call, also within a text, a merge or a settling; the statement goes
+/// on after it, and power may be lost there too.
+pub fn killed_calls_keep_promises<W: Wire, D: MaildirDisk, F: FlatFile>()
+    ensures calls { CallsKeepPromises ⟦<FusedWire<W> as Wire>⟧ ⟦<Fused<D> as MaildirDisk>⟧
+        ⟦<Fused<F> as FlatFile>⟧ }
+    ensures mbox_calls { MboxCallsKeepPromises ⟦<FusedWire<W> as Wire>⟧ ⟦<Fused<D> as MaildirDisk>⟧
+        ⟦<Fused<F> as FlatFile>⟧ }
+    ensures in_order { Headline ⟦<FusedWire<W> as Wire>⟧ ⟦<Fused<D> as MaildirDisk>⟧ ⟦<Fused<F> as FlatFile>⟧ }
+    ensures mbox_in_order { MboxHeadline ⟦<FusedWire<W> as Wire>⟧ ⟦<Fused<D> as MaildirDisk>⟧
+        ⟦<Fused<F> as FlatFile>⟧ }
+{
+    calls_keep_promises::<FusedWire<W>, Fused<D>, Fused<F>>();
+    mbox_calls_keep_promises::<FusedWire<W>, Fused<D>, Fused<F>>();
+    headline::<FusedWire<W>, Fused<D>, Fused<F>>();
+    mbox_headline::<FusedWire<W>, Fused<D>, Fused<F>>();
+}
 
 /// A law: all that `calls_keep_promises` promises holds of any list of calls of
 /// [`fetch_local`](crate::fetch_local). That their servers are honest is no premise.
