@@ -2,12 +2,13 @@
 ghost use Rattle.std.specs.Prelude.{◌≡◌, false, true, None, IfSome, IsSome};
 ghost use Rattle.pop3_server.specs.Quitting.{ReadsQuit};
 ghost use Rattle.pop3_wire.specs.Link.{WhereSound};
-ghost use Rattle.popd_program.specs.Visits.{removals_by};
+ghost use Rattle.popd_program.specs.Start.{at_start};
+ghost use Rattle.popd_program.specs.Visits.{LeavesDrop, removals_by};
 
 use crate::account::Account;
 use crate::warning::{Warning, warn};
 use folder_drop::MaildirDrop;
-use pop3_server::{Journal, ServerFault, only_quit_closes, serve_and_note};
+use pop3_server::{Journal, Maildrop, ServerFault, only_quit_closes, serve_and_note};
 use pop3_wire::Wire;
 use std::random::RandomSource;
 use std::rt::{Clock, Files};
@@ -58,7 +59,7 @@ fn quit_of(is_open: bool, removals: u64) -> Option<Quit>
 }
 
 /// Serves the account's Maildir over a link, and warns of what couldn't be read or removed. Nothing is removed
-/// unless QUIT was read there.
+/// unless QUIT was read there, nor after the answer to it.
 pub(crate) fn serve_account<'a, R, J, W>(
     system: &System<'_, R>,
     account: Account,
@@ -73,6 +74,9 @@ where
     ensures removals { result.maildir.removals ≡ removals_by result.quit maildir.entry.removals }
     ensures quit { WhereSound W.sound W.leads_to wire.old wire.new
         (IsSome result.quit → ReadsQuit (W.history wire.old) (W.history wire.new)) }
+    ensures left { WhereSound W.sound W.leads_to wire.old wire.new (LeavesDrop ⟦<MaildirDrop<'a, R> as Maildrop>⟧
+        (at_start account.user.items account.password.items maildir.entry) (W.history wire.old) result.served
+        result.maildir (W.history wire.new)) }
 {
     only_quit_closes::<MaildirDrop<'a, R>>();
     let mut server = account.into_server(system.alloc(), maildir);
