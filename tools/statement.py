@@ -11,14 +11,14 @@ import sys
 from sources import TOP, Sources, Thing
 
 # What is promised: crate and function.
-LAWS = ["fetch_runs:calls_keep_promises", "fetch_runs:mbox_calls_keep_promises", "fetch_rules:files_stand_for_one_record"]
+LAWS = ["fetch_runs:calls_keep_promises", "fetch_runs:mbox_calls_keep_promises", "fetch_record:files_stand_for_one_record"]
 # The calls that the laws are about.
 CALLS = ["fetch_runs:promised_session"]
 # The devices of a call, and those that the real ones are made over.
 TRAITS = ["pop3_wire:Wire", "mail_store:MaildirDisk", "mail_store:FlatFile",
           "folder_store:FolderState", "folder_store:FileFolder", "folder_store:MailFolders"]
 # Definitions that nobody has to open: only what they are of is printed, and what they are made of is left out.
-UNOPENED = ["fetch_runs:Calls:WasMade", "fetch_rules:RecordMeaning:StandsFor"]
+UNOPENED = ["fetch_runs:Calls:WasMade", "fetch_record:RecordMeaning:StandsFor"]
 
 INTRODUCTION = """\
 What is proved of fetching, from the sources: `make statement` prints this text. Each name is explained before it is

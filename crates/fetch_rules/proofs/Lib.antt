@@ -1,6 +1,1 @@
-mod LineLemmas
-mod MeaningLemmas
-mod MergeLemmas
 mod PlanLemmas
-mod ReadLemmas
-mod RowLemmas

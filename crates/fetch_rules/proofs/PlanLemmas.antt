@@ -2,17 +2,18 @@
 use Rattle.std.proofs.Common.{Bool, List, [], ap, append_assoc, arith, cond, count_by, false, filter, get_or, inl, inr}
 use Rattle.std.proofs.Common.{length, length-append, map, nat_lt, ne_eqb, refl, subst, suc, sym, take, take_all}
 use Rattle.std.proofs.Common.{take_at, true, zero, zip, ℕ, ◌&&◌, ◌++◌, ◌+◌, ◌-◌, ◌<◌, ◌==◌, ◌||◌, ◌∙◌, ◌∷◌, ◌≡◌, ◌≤◌}
-use Rattle.std.proofs.Common.{◌⊎◌, Less, All, Bor, bytes_eq, drop, is_eq, length-set, nat_cmp, not, replicate, set, ◌≢◌}
+use Rattle.std.proofs.Common.{◌⊎◌, Less, All, bytes_eq, drop, length-set, nat_cmp, not, replicate, set, ◌≢◌}
 use Rattle.mail_terms.specs.Listing.{Item, has_item, is_first, numbered, HasDistinctIds, Joins, ids_of, is_last, UidRow}
 use Rattle.mail_terms.specs.Numbering.{IsNumbering}
 use Rattle.mail_terms.specs.UniqueId.{has_id}
 use Rattle.mail_terms.specs.declared.listing.ScanRow.{ScanRow}
+use Rattle.mail_terms.proofs.IdLemmas.{nobody, test_from_other}
 use Rattle.rc_file.specs.declared.settings.Settings.{Settings}
 use Rattle.std.proofs.Math.Bool.{or_comm}
 use Rattle.std.proofs.Math.Seq.{get_or-append_seam}
 use Rattle.std.proofs.lemmas.Bool.{and_parts, cases_Bool, cond-false, cond-true, eq-eqb, lt-ltb, not-true, cases_lt, not_from_false}
 use Rattle.std.proofs.lemmas.Bool.Decides.{nat_tests, Decides-at}
-use Rattle.std.proofs.lemmas.Cmp.{nat_list_cmp_total, nat_list_eq_equiv}
+use Rattle.std.proofs.lemmas.Cmp.{nat_list_cmp_total}
 use Rattle.std.proofs.lemmas.List.{length-take, map_more, drop-set, drop_all, drop_more, ext_get_or, get_or-drop}
 use Rattle.std.proofs.lemmas.List.{get_or-map, get_or-take, length-drop, length-map}
 use Rattle.std.proofs.lemmas.List.Elements.{All-filter, All-take, All-weaker, All-head, All-tail}
@@ -24,21 +25,17 @@ use Rattle.std.proofs.lemmas.Map.Made.{AllPairs-from_IsDistinct}
 use Rattle.std.proofs.lemmas.Map.Text.{is_eq-slice_cmp}
 use Rattle.std.proofs.lemmas.Slice.Eq.{bytes_eq-Decides}
 use Rattle.std.specs.Cmp.Lexicographic.{slice_cmp}
-use Rattle.std.specs.List.{enumerate_from, list_any}
+use Rattle.std.specs.List.{enumerate_from}
+use Rattle.fetch_record.specs.Record.{Row}
 use Rattle.fetch_rules.specs.Due.{is_due, may_delete}
 use Rattle.fetch_rules.specs.Laws.{FetchesAsked, FetchesFirsts, PassesOver}
 use Rattle.fetch_rules.specs.Plan.{has_number, is_deleted, planned, retrieved, step_of}
-use Rattle.fetch_rules.specs.Record.{Row}
 use Rattle.fetch_rules.specs.Wanted.{candidates, at_most, is_asked_for, is_candidate, is_within, wanted, DistinctAreFiltered}
 use Rattle.fetch_rules.specs.declared.steps.Step.{Step}
-use Rattle.fetch_rules.proofs.RowLemmas.{test_from_other}
 
 -- a message with its number
 abbrev pub Message : Type 0
 Message = ℕ × Item
-
-abbrev pub nobody : Item
-nobody = record { uid = []; size = 0 }
 
 -- no number below is among them
 pub none_below : (p : Message → Bool) (n m k : ℕ) (items : List Item) → k < n
@@ -543,19 +540,3 @@ joined_once n uids sizes a b p q = ext_get_or nobody a b (p.count ∙ sym q.coun
     λ i. record { uid = ids i; size = sizes' i })
 
 pub ruleset plan_laws = (firsts_planned, asked_planned, passes_planned, retrieved-planned, candidates-distinct)
-
--- ---- ids in a set that compares them
-
-abbrev pub has_key : List (Bor (List ℕ)) → List ℕ → Bool
-has_key keys uid = list_any (λ other. is_eq (slice_cmp nat_cmp uid other.now)) keys
-
-pub has_id_keys : (uid : List ℕ) (keys : List (Bor (List ℕ))) → has_key keys uid ≡ has_id (map (λ id. id.now) keys) uid
-has_id_keys uid [] = refl
-has_id_keys uid (key ∷ keys) = rw (is_eq-slice_cmp uid key.now, has_id_keys uid keys) refl
-
-pub has_id_more : (id uid : List ℕ) (keys keys' : List (Bor (List ℕ))) (ids : List (List ℕ)) → map (λ key. key.now) keys ≡ ids
-    → has_key keys' id ≡ cond (is_eq (slice_cmp nat_cmp uid id)) true (has_key keys id)
-    → has_id (map (λ key. key.now) keys') id ≡ (bytes_eq id uid || has_id ids id)
-has_id_more id uid keys keys' ids ids_are updated =
-    sym (has_id_keys id keys') ∙ updated
-    ∙ rw (is_eq-slice_cmp uid id, nat_list_eq_equiv.symm uid id, has_id_keys id keys, ids_are) (grind arith)

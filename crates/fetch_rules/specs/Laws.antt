@@ -3,7 +3,7 @@ use Rattle.std.specs.Prelude.{◌≡◌, ◌⊎◌, ◌≤◌, ◌+◌, ◌==◌
 use Rattle.std.specs.Prelude.{if◌then◌else◌}
 use Rattle.mail_terms.specs.Listing.{Item, has_item}
 use Rattle.rc_file.specs.declared.settings.Settings.{Settings}
-use Rattle.fetch_rules.specs.Record.{Row, is_delivered}
+use Rattle.fetch_record.specs.Record.{Row, is_delivered}
 use Rattle.fetch_rules.specs.Wanted.{is_asked_for}
 use Rattle.fetch_rules.specs.declared.steps.Step.{Step}
 

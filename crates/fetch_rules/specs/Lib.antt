@@ -1,13 +1,4 @@
 pub mod Due
 pub mod Laws
-pub mod Intents
-pub mod Lines
-pub mod Outgrown
 pub mod Plan
-pub mod Record
-pub mod RecordFile
-pub mod RecordGrowth
-pub mod RecordMeaning
-pub mod RecordTorn
-pub mod Rows
 pub mod Wanted

@@ -2,7 +2,7 @@
 use Rattle.std.specs.Prelude.{◌≡◌, ℕ, Bool, false, ◌&&◌, ◌||◌, ◌==◌, List, map, filter, zip, unwrap_or}
 use Rattle.std.specs.List.{list_any}
 use Rattle.mail_terms.specs.Listing.{Item, numbered, is_first, is_last}
-use Rattle.fetch_rules.specs.Record.{Row, is_delivered, first_seen_of}
+use Rattle.fetch_record.specs.Record.{Row, is_delivered, first_seen_of}
 use Rattle.fetch_rules.specs.Wanted.{wanted}
 use Rattle.fetch_rules.specs.Due.{is_due}
 use Rattle.rc_file.specs.declared.settings.Settings.{Settings}

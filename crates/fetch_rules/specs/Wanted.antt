@@ -1,7 +1,7 @@
 -- Which messages of a listing are fetched.
 use Rattle.std.specs.Prelude.{◌≡◌, ℕ, Bool, not, ◌&&◌, ◌||◌, ◌==◌, nat_le, List, take, filter, if◌then◌else◌}
 use Rattle.mail_terms.specs.Listing.{Item, HasDistinctIds, numbered, is_first}
-use Rattle.fetch_rules.specs.Record.{Row, is_delivered}
+use Rattle.fetch_record.specs.Record.{Row, is_delivered}
 use Rattle.rc_file.specs.declared.settings.Settings.{Settings}
 
 -- whether a size is within the limit; 0 sets none

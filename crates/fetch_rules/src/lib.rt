@@ -1,27 +1,26 @@
-//! What a POP3 retriever decides, as rules over values: which messages of a maildrop are fetched, which
-//! are deleted, and what is remembered from one session to the next. Settings come from `rc_file`, and
-//! listings from `mail_terms`. Nothing here waits for anybody: no call reads a file, a socket or the
-//! clock.
+//! What a POP3 retriever decides, as rules over values: which messages of a maildrop are fetched, and
+//! which are deleted. Settings come from `rc_file`, listings from `mail_terms`, and the record, with
+//! what is remembered from one session to the next, from `fetch_record`. Nothing here waits for
+//! anybody: no call reads a file, a socket or the clock.
 #![tactic(auto)]
 
-mod id_set;
 mod laws;
 mod occurrence;
-mod seen;
 mod steps;
 
+pub use fetch_record::{
+    Intent, Seen, SeenFault, appended_counts, bytes_have_one_meaning, bytes_stand, cut_is_ignored,
+    delivered_has_row, files_stand_for_one_record, held_is_delivered,
+    known_listings_change_nothing, listed_has_row, marked_is_delivered, marked_keeps_rows,
+    merges_ask_only_for_new_ids, open_intents_have_rows, torn_is_ignored_or_seen,
+};
 pub use laws::{
-    appended_counts, bytes_have_one_meaning, bytes_stand, cut_is_ignored, delivered_has_row,
-    distinct_messages_are_filtered, files_stand_for_one_record, firsts_are_fetched,
-    held_is_delivered, known_listings_change_nothing, listed_has_row, marked_is_delivered,
-    marked_keeps_rows, merges_ask_only_for_new_ids, older_files_are_read, open_intents_have_rows,
-    plans_fetch_wanted, plans_fetch_what_is_asked_for, plans_pass_over, rows_join_in_one_way,
-    torn_is_ignored_or_seen,
+    distinct_messages_are_filtered, firsts_are_fetched, plans_fetch_wanted,
+    plans_fetch_what_is_asked_for, plans_pass_over, rows_join_in_one_way,
 };
 pub use mail_terms::{Listing, ListingFault, MESSAGE_LIMIT, ScanRow, UidRows, is_legal_id};
 pub use rc_file::{
     Dest, Flags, Key, RcFault, Section, Settings, Warning, full_path, override_with, rc_text,
     read_rc, warning_text,
 };
-pub use seen::{Intent, Seen, SeenFault};
 pub use steps::{SECONDS_PER_DAY, Step, ask_nothing, plan, plan_of_known};

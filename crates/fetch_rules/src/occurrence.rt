@@ -8,8 +8,7 @@ ghost use Rattle.std.specs.Ordering.{nat_cmp};
 ghost use Rattle.std.specs.declared.cmp.Ordering.TheVariants.{Less};
 ghost use Rattle.mail_terms.specs.Listing.{HasDistinctIds, numbered, is_first, is_last};
 
-use crate::id_set::{IdSet, text_of};
-use mail_terms::Listing;
+use mail_terms::{IdSet, Listing, id_text};
 use std::alloc::{AllocError, Global};
 use std::cmp::Ordering;
 
@@ -17,7 +16,7 @@ use std::cmp::Ordering;
 fn comes_before(first: &[u8], second: &[u8]) -> bool
     ensures { OnTrue result (slice_cmp nat_cmp first.now second.now ≡ Less) }
 {
-    match (text_of(first), text_of(second)) {
+    match (id_text(first), id_text(second)) {
         (Some(first), Some(second)) => first.cmp(second) == Ordering::Less,
         _ => false,
     }

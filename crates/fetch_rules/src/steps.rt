@@ -3,13 +3,13 @@
 ghost use Rattle.std.specs.Prelude.{◌≡◌, ◌==◌, false, nat_lt, ◌+◌, ◌<◌, ◌&&◌, ◌||◌, ◌↔◌, true, length, map, All};
 ghost use Rattle.std.specs.Prelude.{IsTrue, HoldsAt, IfOk};
 ghost use Rattle.mail_terms.specs.Listing.{numbered, is_last};
-ghost use Rattle.fetch_rules.specs.Record.{is_delivered};
+ghost use Rattle.fetch_record.specs.Record.{is_delivered};
 ghost use Rattle.fetch_rules.specs.Wanted.{is_asked_for, wanted};
 ghost use Rattle.fetch_rules.specs.Due.{is_due, may_delete};
 ghost use Rattle.fetch_rules.specs.Plan.{IsQuiet, seen_since, planned, retrieved};
 
 use crate::occurrence::{are_first, are_last};
-use crate::seen::Seen;
+use fetch_record::Seen;
 use mail_terms::Listing;
 use rc_file::Settings;
 use std::alloc::{AllocError, Global};

@@ -43,7 +43,7 @@ use Rattle.std.specs.List.{AllByRecursion}
 use Rattle.std.proofs.lemmas.Bool.{both_ways, false_from_ne_true, or_left, cases_Bool}
 use Rattle.std.proofs.lemmas.List.{append-nil}
 use Rattle.mail_terms.specs.UniqueId.{is_legal_id, has_id}
-use Rattle.fetch_rules.specs.Record.{RecordState, is_delivered}
+use Rattle.fetch_record.specs.Record.{RecordState, is_delivered}
 use Rattle.fetch_runs.specs.Headline.{World, IsSound, HoldsAPrefix, EmptyFrontsBegin, NoneTaken, StaysAway, selected_of, MboxStartsInOrder}
 use Rattle.fetch_runs.specs.Headline.{EntriesMeanTexts, IsInOrder, world_without, Headline, MboxHeadline, HoldsAMboxPrefix, IsUnbegun}
 use Rattle.fetch_runs.proofs.Core.{next_here, prefix_left, done_legal, done_distinct}

@@ -14,7 +14,7 @@ use Rattle.std.proofs.lemmas.Option.{same_Some, slice_get-get_or}
 use Rattle.std.proofs.lemmas.Simd.{map-map}
 use Rattle.pop3_wire.specs.World.{Message, IsWorld, maildrop_of}
 use Rattle.mail_terms.specs.Listing.{Item, has_item}
-use Rattle.fetch_rules.specs.Record.{Row, is_delivered}
+use Rattle.fetch_record.specs.Record.{Row, is_delivered}
 use Rattle.fetch_rules.specs.Wanted.{is_within, is_asked_for, candidates, at_most, wanted, DistinctAreFiltered}
 use Rattle.rc_file.specs.declared.settings.Settings.{Settings}
 use Rattle.mail_store.specs.Maildir.{File, Maildir}

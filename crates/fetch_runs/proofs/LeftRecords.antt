@@ -6,13 +6,13 @@ use Rattle.std.proofs.Common.{None, Some, ◌⊎◌, false, length, subst, bytes
 use Rattle.std.proofs.Common.{length-append, Result, Ok, Err, refl, All, ◌-◌, ◌%◌, ◌==◌, take, ◌&&◌}
 use Rattle.std.specs.List.{AllByRecursion, list_all, list_any}
 use Rattle.std.proofs.lemmas.Bool.{cond_both, both_ways, cases_Bool, and_parts, or_cases}
-use Rattle.fetch_rules.specs.Record.{Row, RecordState, is_delivered, Intent, has_row, marked, marked_all, merged, none_open}
+use Rattle.fetch_record.specs.Record.{Row, RecordState, is_delivered, Intent, has_row, marked, marked_all, merged, none_open}
 use Rattle.fetch_session.specs.Record.{Keeps, KeepsRows, record_state}
 use Rattle.mail_terms.specs.UniqueId.{is_legal_id}
 use Rattle.std.proofs.lemmas.List.Elements.{recursion_from_All, Contains-push}
-use Rattle.fetch_rules.specs.RecordFile.{Version, Two, Line, RowLine, IsRecordLine, GroupLine, file_of}
-use Rattle.fetch_rules.specs.RecordMeaning.{Ends, Fails, Judged, InBase, InGroup, Means, Progress, Rows, Stands, after_intent, after_line}
-use Rattle.fetch_rules.specs.RecordMeaning.{counted, judged, may_take, with_taken, BetweenGroups, Fault, FileStandsFor}
+use Rattle.fetch_record.specs.RecordFile.{Version, Two, Line, RowLine, IsRecordLine, GroupLine, file_of}
+use Rattle.fetch_record.specs.RecordMeaning.{Ends, Fails, Judged, InBase, InGroup, Means, Progress, Rows, Stands, after_intent, after_line}
+use Rattle.fetch_record.specs.RecordMeaning.{counted, judged, may_take, with_taken, BetweenGroups, Fault, FileStandsFor}
 use Rattle.mail_store.specs.Durable.{MayLeave}
 use mathlib.Core.Logic.{⊎_map}
 use Rattle.std.proofs.lemmas.Bool.Decides.{nat_tests}
@@ -20,11 +20,11 @@ use Rattle.std.proofs.lemmas.List.{append-nil, append_cancel_left}
 use Rattle.std.proofs.lemmas.List.Concat.{flat_map-append}
 use Rattle.std.proofs.lemmas.List.Folds.{list_any_at}
 use Rattle.std.proofs.lemmas.Slice.Eq.{bytes_eq-Decides}
+use Rattle.fetch_record.specs.RecordGrowth.{AppendedCounts, OneMeaning, OneRecord}
+use Rattle.fetch_record.specs.RecordTorn.{IsPartOf, TornIsIgnoredOrSeen, ends_at_zero}
+use Rattle.fetch_record.specs.declared.seen.SeenFault.TheVariants.{BadRow}
 use Rattle.fetch_rules.specs.Plan.{IsQuiet, planned}
-use Rattle.fetch_rules.specs.RecordGrowth.{AppendedCounts, OneMeaning, OneRecord}
-use Rattle.fetch_rules.specs.RecordTorn.{IsPartOf, TornIsIgnoredOrSeen, ends_at_zero}
 use Rattle.fetch_rules.specs.declared.steps.Step.{Step}
-use Rattle.fetch_rules.specs.declared.seen.SeenFault.TheVariants.{BadRow}
 use Rattle.fetch_session.specs.Lasting.{AreLeft, CarriedLasts, CarriesLast, IsRecordUntouched, Lasts, LeavesFile}
 use Rattle.fetch_session.specs.Lasting.{IsGrownAtMost, LeavesMerged, ProceedsLast, SessionLasts, UnlessQuiet, UnreadyLasts, IsSafeFile}
 use Rattle.fetch_session.specs.Laws.{LeavesDurable}

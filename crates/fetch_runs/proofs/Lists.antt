@@ -18,8 +18,8 @@ pub use Rattle.mail_terms.proofs.ListLemmas.{all_append, list_any-map}
 use Rattle.mail_terms.specs.Distinct.{AreDistinct}
 use Rattle.mail_terms.specs.Listing.{Item, has_item, is_flagged}
 use Rattle.mail_terms.specs.UniqueId.{has_id}
-use Rattle.fetch_rules.specs.Record.{RecordState, Row, has_row, is_delivered, marked, merged, marked_all}
-use Rattle.fetch_rules.specs.RecordGrowth.{OneRecord}
+use Rattle.fetch_record.specs.Record.{RecordState, Row, has_row, is_delivered, marked, merged, marked_all}
+use Rattle.fetch_record.specs.RecordGrowth.{OneRecord}
 use Rattle.mail_store.specs.FileName.{is_held, names_id, stem, stem_of}
 use Rattle.mail_store.specs.Held.{flags_of}
 use Rattle.mail_store.specs.Maildir.{AreReached, File, IsPart, Maildir}

@@ -13,8 +13,8 @@ use Rattle.mail_store.specs.FileName.{is_held, name_of, names_id, stem, stem_of}
 use Rattle.mail_store.specs.Loss.{AreLeftAs, LosesPower}
 use Rattle.mail_store.specs.Maildir.{AllNamed, AreReached, File, IsDurableFile, IsWithout, Maildir, WereTaken, file}
 use Rattle.mail_store.specs.declared.file.flat_file.FlatFile.{Ghosts as FileGhosts}
-use Rattle.fetch_rules.specs.Record.{Intent, is_delivered}
-use Rattle.fetch_rules.specs.RecordMeaning.{FileStandsFor}
+use Rattle.fetch_record.specs.Record.{Intent, is_delivered}
+use Rattle.fetch_record.specs.RecordMeaning.{FileStandsFor}
 use Rattle.fetch_runs.specs.Accounts.{AccountMail, copies, has_named, without_flags, message_ids}
 use Rattle.fetch_runs.specs.Promises.{IsBetween, Mail, State, is_safe, state_with, IsFront, Kept, Promises, ShowsNext, Call}
 use Rattle.fetch_runs.proofs.Promised.{IsSession}

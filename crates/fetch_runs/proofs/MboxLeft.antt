@@ -9,8 +9,8 @@ use Rattle.pop3_wire.specs.Place.{Place, at}
 use Rattle.pop3_wire.specs.World.{Message}
 use Rattle.pop3_client.specs.Texts.{body_text}
 use Rattle.rc_file.specs.Settings.{IsValid}
+use Rattle.fetch_record.specs.Record.{Intent, RecordState, Row, has_row, is_delivered, marked, none_open}
 use Rattle.fetch_rules.specs.Plan.{IsQuiet, planned}
-use Rattle.fetch_rules.specs.Record.{Intent, RecordState, Row, has_row, is_delivered, marked, none_open}
 use Rattle.mail_store.specs.Durable.{MayLeave, seen_on}
 use Rattle.mail_store.specs.FlatFile.{Stored}
 use Rattle.mail_store.specs.Mboxrd.{entry_of}

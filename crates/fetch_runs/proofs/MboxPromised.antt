@@ -16,8 +16,8 @@ use Rattle.std.proofs.lemmas.Grind.{flat_map-append}
 use Rattle.std.proofs.lemmas.Option.{same_Some}
 use Rattle.fetch_runs.specs.Sessions.{AreTexts, Effect, IsHonest, SendsOnly, IsBegun, Served, is_retr, MboxMail, settled, mbox_rows}
 use Rattle.fetch_runs.specs.Sessions.{mbox_wanted, entries, IsBroken, MboxLeaves, MboxStores, entries_of, MboxSessionOverLink}
-use Rattle.fetch_rules.specs.Record.{Intent, marked, is_delivered, Row, has_row, marked_all}
-use Rattle.fetch_rules.specs.RecordMeaning.{FileStandsFor}
+use Rattle.fetch_record.specs.Record.{Intent, marked, is_delivered, Row, has_row, marked_all}
+use Rattle.fetch_record.specs.RecordMeaning.{FileStandsFor}
 use Rattle.pop3_wire.specs.World.{Message}
 use Rattle.fetch_runs.specs.Accounts.{message_ids}
 use Rattle.fetch_runs.specs.Below.{Below}

@@ -12,7 +12,7 @@ use Rattle.mail_terms.specs.Listing.{Item, has_item}
 use Rattle.pop3_wire.specs.World.{Message}
 use Rattle.pop3_wire.specs.declared.command.Command.{Command}
 use Rattle.pop3_wire.specs.declared.command.Command.TheVariants.{Dele}
-use Rattle.fetch_rules.specs.Record.{is_delivered, Row}
+use Rattle.fetch_record.specs.Record.{is_delivered, Row}
 use Rattle.mail_store.specs.Maildir.{File, file as file_of}
 use Rattle.mail_terms.specs.MaildirName.{base}
 use Rattle.mail_store.specs.FileName.{names_id, name_of, stem, is_held, stem_of, IsAccountText}

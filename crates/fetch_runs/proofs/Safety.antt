@@ -14,7 +14,7 @@ use Rattle.std.proofs.Math.Logic.{⊎_elim, ⊎_map}
 use Rattle.mail_terms.specs.Listing.{Item, numbered, is_first}
 use Rattle.fetch_rules.specs.Wanted.{is_candidate, wanted}
 use Rattle.rc_file.specs.declared.settings.Settings.{Settings}
-use Rattle.fetch_rules.specs.Record.{Row, is_delivered}
+use Rattle.fetch_record.specs.Record.{Row, is_delivered}
 use Rattle.mail_store.specs.FileName.{is_held, mail_file}
 use Rattle.mail_store.specs.Mboxrd.{entry_of, MboxFile, EntryAddsText}
 use Rattle.mail_terms.specs.UniqueId.{has_id}

@@ -6,7 +6,7 @@ use Rattle.std.proofs.lemmas.List.{append-nil, take_at, length-map, map-append}
 use Rattle.std.proofs.lemmas.List.Concat.{flat_map-append}
 use Rattle.mail_terms.specs.Listing.{Item}
 use Rattle.rc_file.specs.declared.settings.Settings.{Settings}
-use Rattle.fetch_rules.specs.Record.{Row, marked, RecordState, none_open, Intent}
+use Rattle.fetch_record.specs.Record.{Row, marked, RecordState, none_open, Intent}
 use Rattle.mail_store.specs.Maildir.{Maildir, File}
 use Rattle.mail_store.specs.FileName.{stem_of}
 use Rattle.fetch_session.specs.Task.{Task, stores, rereads, Done, IsAnswered, tasks_of, files_in, files_of, file_from, texts_in, done_texts}

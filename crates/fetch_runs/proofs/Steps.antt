@@ -8,7 +8,7 @@ use Rattle.std.proofs.lemmas.List.Folds.{list_any-append}
 use Rattle.std.proofs.lemmas.Grind.{flat_map-append}
 use Rattle.mail_terms.specs.Listing.{Item}
 use Rattle.rc_file.specs.declared.settings.Settings.{Settings}
-use Rattle.fetch_rules.specs.Record.{Row, RecordState}
+use Rattle.fetch_record.specs.Record.{Row, RecordState}
 use Rattle.mail_terms.specs.UniqueId.{has_id}
 use Rattle.fetch_runs.specs.Sessions.{IsBegun, SendsOnly, BeginsOne, Leaves, SessionOverLink, is_retr, tail_behind}
 use Rattle.fetch_runs.specs.Sessions.{AsksForNoMessage, IsHonest, MboxSessionOverLink, Served, mbox_wanted}

@@ -31,7 +31,7 @@ use Rattle.fetch_runs.specs.Sessions.{BeginsOne, ReadsReplies, Retrieves, IsList
 use Rattle.fetch_runs.specs.Conversations.{Conversation, plan_turns, Converses, plan_commands, IsTail as IsTailOf, IsFrontOfPlan}
 use Rattle.fetch_runs.specs.Conversations.{is_retrieval, retrieved_by, FollowsPlan, MboxSessionsFollowPlans, EndsInOpening, SpeaksByPlan}
 use Rattle.fetch_runs.specs.Conversations.{SessionsAreConversations, step_commands}
-use Rattle.fetch_rules.specs.Record.{Row}
+use Rattle.fetch_record.specs.Record.{Row}
 use Rattle.fetch_rules.specs.Plan.{planned, step_of}
 use Rattle.fetch_rules.specs.declared.steps.Step.{Step}
 use Rattle.pop3_client.specs.declared.fault.ClientFault.{ClientFault}

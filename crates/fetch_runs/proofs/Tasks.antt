@@ -10,8 +10,8 @@ use Rattle.std.proofs.lemmas.List.Concat.{flat_map-append}
 use Rattle.std.proofs.lemmas.List.Folds.{flat_map-map, list_any_at}
 use Rattle.mail_terms.specs.Listing.{Item, has_item, numbered, is_first, is_last, is_flagged}
 use Rattle.rc_file.specs.declared.settings.Settings.{Settings}
-use Rattle.fetch_rules.specs.Record.{Row, is_delivered, is_of, has_row, with_delivered, marked, marked_all, new_ids}
-use Rattle.fetch_rules.specs.Record.{with_held, merged, none_open}
+use Rattle.fetch_record.specs.Record.{Row, is_delivered, is_of, has_row, with_delivered, marked, marked_all, new_ids}
+use Rattle.fetch_record.specs.Record.{with_held, merged, none_open}
 use Rattle.fetch_rules.specs.Wanted.{wanted}
 use Rattle.fetch_rules.specs.Plan.{step_of}
 use Rattle.fetch_rules.specs.declared.steps.Step.{Step}

@@ -35,7 +35,7 @@ use Rattle.fetch_runs.specs.Sessions.{BeginsOne, AreGood, Retrieves, Effect, tai
 use Rattle.fetch_runs.specs.Conversations.{SentBehind, Conversation}
 use Rattle.std.proofs.lemmas.Bool.{true≢false}
 use Rattle.pop3_wire.specs.Body.{Body}
-use Rattle.fetch_rules.specs.Record.{Row}
+use Rattle.fetch_record.specs.Record.{Row}
 use Rattle.fetch_rules.specs.Plan.{planned, step_of}
 use Rattle.fetch_rules.specs.declared.steps.Step.{Step}
 use Rattle.pop3_client.specs.declared.fault.ClientFault.{ClientFault}

@@ -3,7 +3,7 @@
 -- The messages of a maildrop: their ids, their listing, and which of them are selected.
 use Rattle.std.specs.Prelude.{◌&&◌, ℕ, Bool, List, map, bytes_eq, not}
 use Rattle.std.specs.List.{filter, list_any}
-use Rattle.fetch_rules.specs.Record.{Row}
+use Rattle.fetch_record.specs.Record.{Row}
 use Rattle.mail_store.specs.Maildir.{File, Maildir, file}
 use Rattle.mail_store.specs.FileName.{names_id, stem}
 use Rattle.mail_terms.specs.UniqueId.{has_id}

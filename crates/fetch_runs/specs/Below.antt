@@ -8,10 +8,10 @@ use Rattle.pop3_client.specs.Conversation.{ConversationsArePaced, TurnsJoin}
 use Rattle.mail_terms.specs.Listing.{Item, has_item, is_flagged}
 use Rattle.mail_terms.specs.MaildirName.{base}
 use Rattle.rc_file.specs.declared.settings.Settings.{Settings}
+use Rattle.fetch_record.specs.Record.{Row, has_row, is_delivered, marked, merged}
+use Rattle.fetch_record.specs.RecordGrowth.{AppendedCounts, OneMeaning, OneRecord, OpenHasRow}
+use Rattle.fetch_record.specs.RecordTorn.{TornIsIgnoredOrSeen}
 use Rattle.fetch_rules.specs.Plan.{planned, retrieved}
-use Rattle.fetch_rules.specs.Record.{Row, has_row, is_delivered, marked, merged}
-use Rattle.fetch_rules.specs.RecordGrowth.{AppendedCounts, OneMeaning, OneRecord, OpenHasRow}
-use Rattle.fetch_rules.specs.RecordTorn.{TornIsIgnoredOrSeen}
 use Rattle.fetch_rules.specs.Wanted.{DistinctAreFiltered, wanted}
 use Rattle.mail_store.specs.FileName.{IsAccountText, NamesAreBases, NamesHaveStems, StemsDiffer, account_text, is_held}
 use Rattle.mail_store.specs.FileName.{stem}

@@ -7,8 +7,8 @@ use Rattle.pop3_wire.specs.declared.wire.Wire.{Ghosts as WireGhosts}
 use Rattle.mail_terms.specs.UniqueId.{is_legal_id}
 use Rattle.rc_file.specs.Settings.{IsValid}
 use Rattle.rc_file.specs.declared.settings.Settings.{Settings}
-use Rattle.fetch_rules.specs.Record.{Intent}
-use Rattle.fetch_rules.specs.RecordMeaning.{FileStandsFor}
+use Rattle.fetch_record.specs.Record.{Intent}
+use Rattle.fetch_record.specs.RecordMeaning.{FileStandsFor}
 use Rattle.mail_store.specs.Durable.{MayLeave}
 use Rattle.mail_store.specs.FileName.{is_held, stem_of}
 use Rattle.mail_store.specs.Loss.{LosesPower}

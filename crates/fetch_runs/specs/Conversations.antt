@@ -12,7 +12,7 @@ use Rattle.pop3_wire.specs.Link.{Link}
 use Rattle.pop3_wire.specs.Reading.{WholeReply, reply_bytes}
 use Rattle.pop3_client.specs.Turns.{Turn, asking, greeting, retr, IsGood}
 use Rattle.mail_terms.specs.Listing.{Item}
-use Rattle.fetch_rules.specs.Record.{Row, merged}
+use Rattle.fetch_record.specs.Record.{Row, merged}
 use Rattle.mail_store.specs.Held.{flags_of}
 use Rattle.fetch_session.specs.Record.{KeepsRows}
 use Rattle.fetch_rules.specs.Plan.{planned}

@@ -7,7 +7,7 @@ use Rattle.pop3_wire.specs.World.{Message, maildrop_of}
 use Rattle.pop3_wire.specs.declared.wire.Wire.{Ghosts as WireGhosts}
 use Rattle.mail_terms.specs.UniqueId.{is_legal_id, has_id}
 use Rattle.rc_file.specs.declared.settings.Settings.{Settings}
-use Rattle.fetch_rules.specs.Record.{Intent, is_delivered}
+use Rattle.fetch_record.specs.Record.{Intent, is_delivered}
 use Rattle.mail_store.specs.FileName.{IsAccountText, is_held, stem_of}
 use Rattle.mail_store.specs.Mboxrd.{MboxFile}
 use Rattle.mail_store.specs.declared.file.flat_file.FlatFile.{Ghosts as FileGhosts}

@@ -8,8 +8,8 @@ use Rattle.pop3_wire.specs.World.{Message}
 use Rattle.mail_store.specs.FileName.{is_held, names_id}
 use Rattle.mail_store.specs.Maildir.{File, IsDurableFile}
 use Rattle.mail_store.specs.declared.file.flat_file.FlatFile.{Ghosts as FileGhosts}
-use Rattle.fetch_rules.specs.Record.{Intent, Row, is_delivered}
-use Rattle.fetch_rules.specs.RecordMeaning.{FileStandsFor}
+use Rattle.fetch_record.specs.Record.{Intent, Row, is_delivered}
+use Rattle.fetch_record.specs.RecordMeaning.{FileStandsFor}
 use Rattle.fetch_runs.specs.Accounts.{AccountMail, has_named}
 use Rattle.fetch_runs.specs.Promises.{Devices, Mail, State, IsFront, Kept}
 use Rattle.fetch_runs.specs.Sessions.{MboxMail}

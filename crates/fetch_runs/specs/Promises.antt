@@ -10,7 +10,7 @@ use Rattle.mail_terms.specs.Distinct.{AreDistinct}
 use Rattle.mail_terms.specs.Text.{IsWhole}
 use Rattle.mail_terms.specs.UniqueId.{is_legal_id, has_id}
 use Rattle.rc_file.specs.declared.settings.Settings.{Settings}
-use Rattle.fetch_rules.specs.Record.{is_delivered}
+use Rattle.fetch_record.specs.Record.{is_delivered}
 use Rattle.fetch_rules.specs.Wanted.{is_within}
 use Rattle.mail_store.specs.FileName.{is_held, name_of, stem_of}
 use Rattle.mail_store.specs.Maildir.{file}

@@ -19,7 +19,7 @@ use Rattle.mail_terms.specs.Listing.{Item, Joins, UidRow, is_first, is_last}
 use Rattle.mail_terms.specs.UniqueId.{has_id}
 use Rattle.mail_terms.specs.declared.listing.ScanRow.{ScanRow}
 use Rattle.rc_file.specs.declared.settings.Settings.{Settings}
-use Rattle.fetch_rules.specs.Record.{Row, is_delivered, marked_all, merged, Intent}
+use Rattle.fetch_record.specs.Record.{Row, is_delivered, marked_all, merged, Intent}
 use Rattle.fetch_rules.specs.Wanted.{wanted}
 use Rattle.mail_store.specs.Maildir.{Maildir, File}
 use Rattle.mail_store.specs.FileName.{is_held, mail_file}
@@ -31,7 +31,7 @@ use Rattle.fetch_session.specs.declared.report.Outcome.TheVariants.{Ended, Cut}
 use Rattle.fetch_session.specs.declared.report.Report.{Report}
 use Rattle.fetch_session.specs.Tail.{tail, turns_of_tail}
 use Rattle.fetch_runs.specs.Accounts.{AccountMail, listing_of, without_flags}
-use Rattle.fetch_rules.specs.Intents.{closed_rows}
+use Rattle.fetch_record.specs.Intents.{closed_rows}
 use Rattle.mail_store.specs.Mboxrd.{entry_of}
 use Rattle.fetch_session.specs.Target.{closed_file, is_stored, none_held}
 

@@ -9,7 +9,7 @@ use Rattle.pop3_wire.specs.World.{Message}
 use Rattle.mail_terms.specs.Listing.{Item}
 use Rattle.rc_file.specs.Settings.{IsValid}
 use Rattle.rc_file.specs.declared.settings.Settings.{Settings}
-use Rattle.fetch_rules.specs.Record.{RecordState, Row, is_delivered}
+use Rattle.fetch_record.specs.Record.{RecordState, Row, is_delivered}
 use Rattle.mail_store.specs.FileName.{is_held, mail_file}
 use Rattle.mail_store.specs.FlatFile.{Stored}
 use Rattle.mail_store.specs.Maildir.{File, Maildir}

@@ -5,7 +5,7 @@ use Rattle.std.proofs.lemmas.Bool.{false≢true}
 use Rattle.std.proofs.lemmas.List.Concat.{flat_map-append}
 use Rattle.std.proofs.lemmas.List.Folds.{flat_map-map}
 use Rattle.std.specs.String.{string_bytes}
-use Rattle.fetch_rules.specs.Record.{RecordState, Row}
+use Rattle.fetch_record.specs.Record.{RecordState, Row}
 use Rattle.mail_terms.specs.Listing.{Item}
 use Rattle.mail_store.specs.FileName.{stem_of}
 use Rattle.mail_store.specs.FlatFile.{Stored}

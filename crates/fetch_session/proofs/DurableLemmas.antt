@@ -7,8 +7,8 @@ use Rattle.std.specs.List.{AllByRecursion}
 use Rattle.std.proofs.lemmas.Bool.{and_parts, cases_Bool, or_cases}
 use Rattle.std.proofs.lemmas.List.Elements.{Contains-append_left, Contains-append_right}
 use Rattle.std.proofs.lemmas.Slice.Eq.{bytes_eq-Decides}
-use Rattle.fetch_rules.specs.Record.{Row, has_row, is_delivered, marked, marked_all, merged, none_open}
-use Rattle.fetch_rules.specs.RecordGrowth.{OneRecord}
+use Rattle.fetch_record.specs.Record.{Row, has_row, is_delivered, marked, marked_all, merged, none_open}
+use Rattle.fetch_record.specs.RecordGrowth.{OneRecord}
 use Rattle.mail_store.specs.FileName.{IsAccountText, NamesAreBases, NamesHaveStems, is_held, mail_file, names_id, sized_file, stem, stem_of}
 use Rattle.mail_store.specs.FlatFile.{Stored}
 use Rattle.mail_store.specs.Held.{FoundDurable, HasDurable, flags_of}

@@ -8,9 +8,9 @@ use Rattle.std.proofs.lemmas.Bool.{and_parts, cases_Bool}
 use Rattle.std.proofs.lemmas.Bool.Decides.{nat_tests}
 use Rattle.mail_terms.specs.Listing.{Item, has_item}
 use Rattle.rc_file.specs.declared.settings.Settings.{Settings}
+use Rattle.fetch_record.specs.Record.{Row, is_delivered}
 use Rattle.fetch_rules.specs.Laws.{IsPassedOver, PassesOver}
 use Rattle.fetch_rules.specs.Plan.{planned}
-use Rattle.fetch_rules.specs.Record.{Row, is_delivered}
 use Rattle.fetch_rules.specs.Wanted.{is_asked_for, is_within}
 use Rattle.fetch_rules.specs.declared.steps.Step.{Step}
 use Rattle.fetch_session.specs.declared.message_preview.Known.{Known}

@@ -10,7 +10,7 @@ use Rattle.mail_store.specs.declared.file.flat_file.FlatFile.{Ghosts as FileGhos
 use Rattle.mail_store.specs.declared.maildir.disk.MaildirDisk.{Ghosts as DiskGhosts}
 use Rattle.mail_store.specs.FileName.{stem_of}
 use Rattle.mail_store.specs.Maildir.{AllNamed, Maildir}
-use Rattle.fetch_rules.specs.Record.{Intent, Row, has_row, none_open, marked, marked_all}
+use Rattle.fetch_record.specs.Record.{Intent, Row, has_row, none_open, marked, marked_all}
 use Rattle.fetch_rules.specs.declared.steps.Step.{Step}
 use Rattle.mail_terms.specs.FailureCount.{Tallies}
 use Rattle.pop3_client.specs.Client.{HasSameLink, link_of, place_of}

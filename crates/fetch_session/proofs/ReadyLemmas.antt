@@ -28,7 +28,7 @@ use Rattle.fetch_rules.specs.Laws.{FetchesAsked, FetchesFirsts}
 use Rattle.mail_terms.proofs.ListLemmas.{all_append}
 use Rattle.fetch_session.proofs.SceneLemmas.{all_weaker, read_keeps, steady_keeps, not_whole}
 use Rattle.std.proofs.lemmas.List.{map-append, take_more, length-map}
-use Rattle.fetch_rules.specs.Record.{Loaded, Row, is_delivered, Intent, RecordState, has_row, marked, none_open, merged, IsRecord}
+use Rattle.fetch_record.specs.Record.{Loaded, Row, is_delivered, Intent, RecordState, has_row, marked, none_open, merged, IsRecord}
 use Rattle.fetch_session.specs.declared.readiness.Found.{Found}
 use Rattle.fetch_session.specs.Lasting.{IsSafeFile, IsSafeStore, KeptLasts, LeavesMerged, LeavesSettled, LeavesStore}
 use Rattle.fetch_session.specs.Lasting.{ReadiesAndLasts, ReadyLasts, UnlessQuiet, UnreadyLasts, may_leave_in}
@@ -39,7 +39,7 @@ use Rattle.fetch_session.specs.Readiness.{Readies, Rests}
 use Rattle.fetch_session.specs.Record.{FileReadAs, IsSecured, ReadsRecord, Keeps, Merges, Steady, record_state_in}
 use Rattle.fetch_rules.specs.Plan.{IsQuiet, planned, step_of}
 use Rattle.mail_store.specs.FlatFile.{Stored, holding}
-use Rattle.fetch_rules.specs.RecordFile.{file_of}
+use Rattle.fetch_record.specs.RecordFile.{file_of}
 use Rattle.mail_store.specs.Power.{LeavesNoMore}
 use Rattle.rc_file.specs.declared.settings.Settings.{Settings}
 use Rattle.fetch_session.specs.declared.fault.Fault.{Fault}
@@ -48,7 +48,7 @@ use Rattle.fetch_session.specs.declared.fault.Why.TheVariants as why
 use Rattle.fetch_session.specs.declared.readiness.Ready.{Ready}
 use Rattle.std.proofs.Math.Bool.{and-false, or-true}
 use Rattle.std.proofs.lemmas.List.Elements.{recursion_from_All}
-use Rattle.fetch_rules.specs.Intents.{closed_rows}
+use Rattle.fetch_record.specs.Intents.{closed_rows}
 use Rattle.fetch_session.specs.Mbox.{AsksMbox, IsStoreFault}
 use Rattle.mail_store.specs.declared.fault.StoreFault.{StoreFault}
 use Rattle.mail_store.specs.declared.fault.StoreFault.TheVariants as refused

@@ -5,11 +5,11 @@ use Rattle.std.proofs.Common.{Ok, Err, ◌≤◌, refl, sym, ap, arith, ◌∙�
 use Rattle.std.proofs.Common.{append-nil, subst, append_assoc, option_map, take, length-append}
 use Rattle.std.proofs.lemmas.Bool.{true≢false, or_parts}
 use Rattle.std.proofs.lemmas.Bool.Decides.{nat_tests}
-use Rattle.fetch_rules.specs.Record.{Row, Intent, RecordState, Loaded, none_open, IsIntent, has_row, marked, marked_all}
-use Rattle.fetch_rules.specs.RecordFile.{Version, One, Two, header, file_of, intent_line}
-use Rattle.fetch_rules.specs.RecordMeaning.{Rows, Means, has_bytes, with_taken, Fault as Faulty}
-use Rattle.fetch_rules.specs.RecordGrowth.{Updates, Grows, AppendedCounts, CutIsIgnored, taken_all}
-use Rattle.fetch_rules.specs.Intents.{has_intent, is_older, closed_rows}
+use Rattle.fetch_record.specs.Record.{Row, Intent, RecordState, Loaded, none_open, IsIntent, has_row, marked, marked_all}
+use Rattle.fetch_record.specs.RecordFile.{Version, One, Two, header, file_of, intent_line}
+use Rattle.fetch_record.specs.RecordMeaning.{Rows, Means, has_bytes, with_taken, Fault as Faulty}
+use Rattle.fetch_record.specs.RecordGrowth.{Updates, Grows, AppendedCounts, CutIsIgnored, taken_all}
+use Rattle.fetch_record.specs.Intents.{has_intent, is_older, closed_rows}
 use Rattle.mail_terms.proofs.ListLemmas.{all_append}
 use Rattle.mail_store.specs.FlatFile.{Stored, Appends, Cuts, Denies, file_refused}
 use Rattle.mail_store.specs.declared.fault.StoreFault.{StoreFault}
@@ -19,8 +19,8 @@ use Rattle.fetch_session.specs.declared.fault.Fault.TheVariants.{SeenRefused, No
 use Rattle.fetch_session.specs.Record.{bytes_in, record_state, Keeps, Steady, FileReadAs, StandsTill, TellsSize}
 use Rattle.fetch_session.specs.Record.{WritesRecord, Saves, Merges, TakesBack, record_state_in, LineOf, ReadsRecord}
 use Rattle.fetch_session.specs.Record.{IsLineFault}
-use Rattle.fetch_rules.specs.declared.seen.SeenFault.{SeenFault}
-use Rattle.fetch_rules.specs.declared.seen.SeenFault.TheVariants.{NoMemory as WantsMemory}
+use Rattle.fetch_record.specs.declared.seen.SeenFault.{SeenFault}
+use Rattle.fetch_record.specs.declared.seen.SeenFault.TheVariants.{NoMemory as WantsMemory}
 use Rattle.std.proofs.lemmas.List.{append-nil, map-append}
 use Rattle.std.proofs.Math.Seq.{take-append_seam}
 use Rattle.std.proofs.lemmas.Grind.{flat_map-append}

@@ -13,10 +13,10 @@ use Rattle.mail_store.specs.FileName.{is_held}
 use Rattle.mail_store.specs.FlatFile.{Stored}
 use Rattle.mail_store.specs.Mboxrd.{entry_of}
 use Rattle.rc_file.specs.declared.settings.Settings.{Settings}
+use Rattle.fetch_record.specs.Record.{RecordState, Row}
+use Rattle.fetch_record.specs.RecordGrowth.{OneMeaning}
+use Rattle.fetch_record.specs.RecordMeaning.{Meaning, Rows, Fault as Faulty}
 use Rattle.fetch_rules.specs.Plan.{planned, retrieved, step_of}
-use Rattle.fetch_rules.specs.Record.{RecordState, Row}
-use Rattle.fetch_rules.specs.RecordGrowth.{OneMeaning}
-use Rattle.fetch_rules.specs.RecordMeaning.{Meaning, Rows, Fault as Faulty}
 use Rattle.fetch_rules.specs.Wanted.{wanted}
 use Rattle.fetch_rules.specs.declared.steps.Step.{Step}
 use Rattle.pop3_wire.proofs.BodyLemmas.{first_lines, IsLine-front, no_body, one_line, one_reading}

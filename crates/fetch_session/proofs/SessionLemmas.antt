@@ -7,8 +7,8 @@ use Rattle.std.proofs.lemmas.Grind.{flat_map-append}
 use Rattle.std.proofs.lemmas.Option.{none-some, same_Some}
 use Rattle.std.specs.List.{flat_map, AllByRecursion}
 use Rattle.pop3_wire.specs.Place.{Place, at}
-use Rattle.fetch_rules.specs.Record.{Row, RecordState, Intent, none_open, marked_all, Loaded, merged}
-use Rattle.fetch_rules.specs.RecordGrowth.{Grows, Updates}
+use Rattle.fetch_record.specs.Record.{Row, RecordState, Intent, none_open, marked_all, Loaded, merged}
+use Rattle.fetch_record.specs.RecordGrowth.{Grows, Updates}
 use Rattle.mail_store.specs.FlatFile.{Stored, holding}
 use Rattle.mail_store.specs.declared.fault.StoreFault.{StoreFault}
 use Rattle.mail_store.specs.DiskCalls.{AppendsDisk, CutsDisk, CutsForGood}
@@ -59,7 +59,7 @@ use Rattle.fetch_session.specs.Readiness.{AreDurable, IsFileKept, IsReady, Finds
 use Rattle.fetch_session.specs.declared.report.Skips.{Skips}
 use Rattle.std.proofs.lemmas.List.Elements.{recursion_from_All}
 use Rattle.fetch_session.proofs.ReadyLemmas.{ahead, not_found, unread}
-use Rattle.fetch_rules.specs.Intents.{closed_rows}
+use Rattle.fetch_record.specs.Intents.{closed_rows}
 use Rattle.pop3_client.specs.declared.fault.ClientFault.{ClientFault}
 use Rattle.fetch_session.specs.declared.readiness.Found.{Found}
 use Rattle.fetch_session.specs.declared.preview.Preview.{Preview}

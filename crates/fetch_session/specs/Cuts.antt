@@ -5,7 +5,7 @@ use Rattle.mail_terms.specs.Listing.{Agree, Item, UidRow}
 use Rattle.mail_terms.specs.declared.listing.ScanRow.{ScanRow}
 use Rattle.mail_store.specs.MboxCalls.{IsNoMbox}
 use Rattle.rc_file.specs.declared.settings.Settings.{Settings}
-use Rattle.fetch_rules.specs.Record.{RecordState}
+use Rattle.fetch_record.specs.Record.{RecordState}
 use Rattle.pop3_wire.specs.Link.{Link}
 use Rattle.pop3_wire.specs.Place.{Place, at}
 use Rattle.pop3_wire.specs.Reading.{WholeReply}

@@ -7,8 +7,8 @@ use Rattle.pop3_wire.specs.declared.wire.Wire.{Ghosts as WireGhosts}
 use Rattle.pop3_wire.specs.Link.{Link}
 use Rattle.pop3_wire.specs.Place.{Place, at}
 use Rattle.rc_file.specs.declared.settings.Settings.{Settings}
+use Rattle.fetch_record.specs.Record.{Row, RecordState}
 use Rattle.fetch_rules.specs.Plan.{planned}
-use Rattle.fetch_rules.specs.Record.{Row, RecordState}
 use Rattle.fetch_session.specs.Account.{Holding, digits_of}
 use Rattle.fetch_session.specs.MessagePreview.{message_previews}
 use Rattle.fetch_session.specs.Readiness.{merged_in}

@@ -17,8 +17,8 @@ use Rattle.pop3_wire.specs.Link.{Link}
 use Rattle.pop3_wire.specs.declared.wire.Wire.{Ghosts as WireGhosts}
 use Rattle.pop3_wire.specs.Place.{Place}
 use Rattle.rc_file.specs.declared.settings.Settings.{Settings}
-use Rattle.fetch_rules.specs.Record.{Row, RecordState, Intent, none_open, marked, marked_all}
-use Rattle.fetch_rules.specs.RecordGrowth.{Grows}
+use Rattle.fetch_record.specs.Record.{Row, RecordState, Intent, none_open, marked, marked_all}
+use Rattle.fetch_record.specs.RecordGrowth.{Grows}
 use Rattle.fetch_session.specs.declared.account.Store.{Store}
 use Rattle.fetch_session.specs.declared.account.Store.TheVariants.{Maildir as InMaildir, Mboxrd as InMbox}
 use Rattle.fetch_session.specs.declared.fault.Cut.{Cut}

@@ -1,7 +1,7 @@
 -- What a list of tasks that stopped leaves, in terms of the tasks that were done.
 use Rattle.std.specs.Prelude.{◌≡◌, ◌⊎◌, ◌≤◌, ℕ, Bool, true, List, [], ◌∷◌, ◌++◌, length, Option, Err}
 use Rattle.std.specs.List.{AllByRecursion, AllZip, flat_map}
-use Rattle.fetch_rules.specs.Record.{RecordState, Row, is_delivered, marked_all, none_open}
+use Rattle.fetch_record.specs.Record.{RecordState, Row, is_delivered, marked_all, none_open}
 use Rattle.mail_store.specs.FlatFile.{Stored}
 use Rattle.mail_store.specs.FileName.{IsAccountText}
 use Rattle.mail_store.specs.Held.{HasDurable}

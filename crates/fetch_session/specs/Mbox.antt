@@ -2,7 +2,7 @@
 use Rattle.std.specs.Prelude.{◌≡◌, ◌⊎◌, ◌+◌, ℕ, Bool, false, List, ◌++◌, length, Option, None, Some, Result, Ok, Err}
 use Rattle.std.specs.Prelude.{true}
 use Rattle.mail_terms.specs.Listing.{Item}
-use Rattle.fetch_rules.specs.Record.{Row, Intent, Loaded, none_open, marked}
+use Rattle.fetch_record.specs.Record.{Row, Intent, Loaded, none_open, marked}
 use Rattle.mail_store.specs.FlatFile.{Stored, holding, file_refused, edges_of}
 use Rattle.mail_store.specs.Mboxrd.{MayGoOn, entry_of}
 use Rattle.mail_store.specs.MboxCalls.{EntryMayFollow, IsNoMbox, RefusesLook}

@@ -4,8 +4,8 @@ use Rattle.std.specs.Prelude.{List, [], ◌∷◌, ◌++◌, Option, Some, None,
 use Rattle.mail_terms.specs.Listing.{Item, has_item}
 use Rattle.mail_terms.specs.Numeral.{greatest_size}
 use Rattle.rc_file.specs.declared.settings.Settings.{Settings}
+use Rattle.fetch_record.specs.Record.{Row, is_delivered}
 use Rattle.fetch_rules.specs.Due.{seconds_per_day}
-use Rattle.fetch_rules.specs.Record.{Row, is_delivered}
 use Rattle.fetch_rules.specs.Plan.{planned, seen_since}
 use Rattle.fetch_rules.specs.Wanted.{is_within}
 use Rattle.fetch_rules.specs.declared.steps.Step.{Step}

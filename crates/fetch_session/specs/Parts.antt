@@ -6,8 +6,8 @@ use Rattle.mail_store.specs.declared.file.flat_file.FlatFile.{Ghosts as FileGhos
 use Rattle.mail_store.specs.declared.maildir.disk.MaildirDisk.{Ghosts as DiskGhosts}
 use Rattle.mail_store.specs.FileName.{IsAccountText}
 use Rattle.mail_store.specs.Maildir.{AllNamed}
-use Rattle.fetch_rules.specs.Intents.{IsNoneOrOf}
-use Rattle.fetch_rules.specs.Record.{Row, has_row, marked, none_open}
+use Rattle.fetch_record.specs.Intents.{IsNoneOrOf}
+use Rattle.fetch_record.specs.Record.{Row, has_row, marked, none_open}
 use Rattle.pop3_client.specs.Client.{HasSameLink, link_of, place_of}
 use Rattle.pop3_client.specs.Conversation.{most_of}
 use Rattle.pop3_client.specs.declared.client.Client.{Client}

@@ -6,7 +6,7 @@ use Rattle.pop3_wire.specs.Place.{Place, at}
 use Rattle.pop3_client.specs.Conversation.{Talks}
 use Rattle.pop3_client.specs.Turns.{quit}
 use Rattle.rc_file.specs.declared.settings.Settings.{Settings}
-use Rattle.fetch_rules.specs.Record.{Row, Intent, RecordState}
+use Rattle.fetch_record.specs.Record.{Row, Intent, RecordState}
 use Rattle.fetch_rules.specs.Plan.{planned}
 use Rattle.mail_store.specs.FlatFile.{Stored, file_refused}
 use Rattle.mail_store.specs.Held.{flags_of}

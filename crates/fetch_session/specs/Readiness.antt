@@ -3,10 +3,10 @@ use Rattle.std.specs.Prelude.{◌≡◌, ◌⊎◌, ◌<◌, ℕ, Bool, true, fa
 use Rattle.std.specs.Prelude.{Result, Ok, Err, Vec}
 use Rattle.std.specs.List.{AllByRecursion}
 use Rattle.mail_terms.specs.Listing.{Item}
-use Rattle.fetch_rules.specs.Record.{Row, Intent, RecordState, IsRecord, Loaded, has_row, is_delivered, none_open}
-use Rattle.fetch_rules.specs.Record.{merged}
+use Rattle.fetch_record.specs.Record.{Row, Intent, RecordState, IsRecord, Loaded, has_row, is_delivered, none_open}
+use Rattle.fetch_record.specs.Record.{merged}
+use Rattle.fetch_record.specs.RecordFile.{file_of}
 use Rattle.fetch_rules.specs.Plan.{IsQuiet, planned}
-use Rattle.fetch_rules.specs.RecordFile.{file_of}
 use Rattle.fetch_rules.specs.declared.steps.Step.{Step}
 use Rattle.fetch_session.specs.Task.{tasks_planned}
 use Rattle.rc_file.specs.declared.settings.Settings.{Settings}

@@ -5,8 +5,8 @@ use Rattle.std.specs.List.{filter, count_by, list_any, sum_by}
 use Rattle.mail_terms.specs.Numeral.{greatest_size}
 use Rattle.mail_terms.specs.Listing.{Item, message_limit}
 use Rattle.rc_file.specs.declared.settings.Settings.{Settings}
+use Rattle.fetch_record.specs.Record.{Row}
 use Rattle.fetch_rules.specs.Plan.{planned}
-use Rattle.fetch_rules.specs.Record.{Row}
 use Rattle.fetch_rules.specs.declared.steps.Step.{Step}
 use Rattle.fetch_session.specs.declared.fault.Fault.TheVariants.{StoreRefused, SeenRefused, BadSeen}
 use Rattle.fetch_session.specs.declared.message_preview.Fate.{Fate}

@@ -2,7 +2,7 @@
 use Rattle.std.specs.Prelude.{◌≡◌, ◌⊎◌, ◌≤◌, ℕ, true, List, [], ◌∷◌, ◌++◌, None, Some, Result, Ok, Err}
 use Rattle.pop3_wire.specs.Place.{Place}
 use Rattle.std.specs.List.{AllByRecursion}
-use Rattle.fetch_rules.specs.Record.{Row, none_open, marked, marked_all}
+use Rattle.fetch_record.specs.Record.{Row, none_open, marked, marked_all}
 use Rattle.mail_store.specs.FlatFile.{Stored}
 use Rattle.pop3_client.specs.Turns.{Turn, quit, retr}
 use Rattle.pop3_wire.specs.Reading.{WholeReply}

@@ -1,8 +1,8 @@
 -- Where the texts of an account go, and what is known of it.
 use Rattle.std.specs.Prelude.{◌≡◌, ℕ, Bool, false, List, [], map, Option, None, Some}
 use Rattle.mail_terms.specs.Listing.{Item}
-use Rattle.fetch_rules.specs.Record.{Row, Intent, RecordState}
-use Rattle.fetch_rules.specs.Intents.{closed_rows}
+use Rattle.fetch_record.specs.Record.{Row, Intent, RecordState}
+use Rattle.fetch_record.specs.Intents.{closed_rows}
 use Rattle.mail_store.specs.declared.maildir.disk.MaildirDisk.{Ghosts as DiskGhosts}
 use Rattle.mail_store.specs.declared.file.flat_file.FlatFile.{Ghosts as FileGhosts}
 use Rattle.mail_store.specs.FlatFile.{Stored}

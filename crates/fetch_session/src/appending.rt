@@ -1,7 +1,7 @@
 //! How a text is appended to an mboxrd file: it is read whole, its intent is written to the record,
 //! and then the entry is appended at once. If nothing of it came, its intent is closed again.
 ghost use Rattle.std.specs.Prelude.{◌≡◌, ◌≢◌, ℕ, List, [], None, true, IfErr, OnErr, OnOk};
-ghost use Rattle.fetch_rules.specs.Record.{has_row, none_open};
+ghost use Rattle.fetch_record.specs.Record.{has_row, none_open};
 ghost use Rattle.mail_terms.specs.Text.{IsWhole};
 ghost use Rattle.mail_terms.specs.UniqueId.{IsLegalId};
 ghost use Rattle.pop3_client.specs.Client.{HasSameLink, place_of, link_of};

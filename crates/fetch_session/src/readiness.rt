@@ -2,9 +2,9 @@
 ghost use Rattle.std.specs.Prelude.{◌≡◌, ◌≢◌, ◌⊎◌, ℕ, Bool, List, [], false, true};
 ghost use Rattle.std.specs.Prelude.{All, None, Some, length, OnOk, IfOk, IfSome};
 ghost use Rattle.std.specs.List.{AllByRecursion};
-ghost use Rattle.fetch_rules.specs.Intents.{closed_rows};
-ghost use Rattle.fetch_rules.specs.Record.{IsRecord, Loaded, has_row, is_delivered, none_open, merged};
-ghost use Rattle.fetch_rules.specs.RecordFile.{file_of};
+ghost use Rattle.fetch_record.specs.Intents.{closed_rows};
+ghost use Rattle.fetch_record.specs.Record.{IsRecord, Loaded, has_row, is_delivered, none_open, merged};
+ghost use Rattle.fetch_record.specs.RecordFile.{file_of};
 ghost use Rattle.fetch_rules.specs.Plan.{IsQuiet, planned};
 ghost use Rattle.fetch_session.specs.Mbox.{AsksMbox, SettlesIntent};
 ghost use Rattle.mail_store.specs.Durable.{IsSure, MayLeave};

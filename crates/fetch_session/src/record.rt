@@ -1,11 +1,11 @@
 //! The record and its file.
 ghost use Rattle.std.specs.Prelude.{◌≡◌, ◌≢◌, ◌++◌, List, [], false, true, None, Some, OnOk, IfOk};
 ghost use Rattle.mail_terms.specs.UniqueId.{IsLegalId};
-ghost use Rattle.fetch_rules.specs.Intents.{IsNoneOrOf};
-ghost use Rattle.fetch_rules.specs.Record.{RecordState, Row, has_row, none_open, marked};
-ghost use Rattle.fetch_rules.specs.RecordFile.{Two, file_of};
-ghost use Rattle.fetch_rules.specs.RecordMeaning.{Means, Rows};
-ghost use Rattle.fetch_rules.specs.RecordGrowth.{Grows};
+ghost use Rattle.fetch_record.specs.Intents.{IsNoneOrOf};
+ghost use Rattle.fetch_record.specs.Record.{RecordState, Row, has_row, none_open, marked};
+ghost use Rattle.fetch_record.specs.RecordFile.{Two, file_of};
+ghost use Rattle.fetch_record.specs.RecordMeaning.{Means, Rows};
+ghost use Rattle.fetch_record.specs.RecordGrowth.{Grows};
 ghost use Rattle.fetch_session.specs.Record.{WritesRecord, Saves, StandsTill, Steady, TakesBack, TellsSize, bytes_in};
 ghost use Rattle.fetch_session.specs.Record.{intent_at, record_state_in, with_open};
 ghost use Rattle.fetch_session.specs.Mbox.{went};

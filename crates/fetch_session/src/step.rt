@@ -1,6 +1,6 @@
 //! What is done with each message.
 ghost use Rattle.std.specs.Prelude.{◌≡◌, ◌∷◌, [], List, length};
-ghost use Rattle.fetch_rules.specs.Record.{Row};
+ghost use Rattle.fetch_record.specs.Record.{Row};
 ghost use Rattle.fetch_session.specs.Refusal.{TookTillCut};
 ghost use Rattle.fetch_session.specs.Parts.{DoesTasks, RunsTasks, IsReadyFor, KeepsLink, KeepsSession, task_of};
 ghost use Rattle.fetch_session.specs.Report.{AddsLines, HasRoom};

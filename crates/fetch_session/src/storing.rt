@@ -7,7 +7,7 @@ ghost use Rattle.pop3_wire.specs.Place.{Place};
 ghost use Rattle.pop3_wire.specs.declared.unstuffer.Spot.TheVariants.{Done};
 ghost use Rattle.pop3_client.specs.Turns.{most, retr, text_limit};
 ghost use Rattle.pop3_client.specs.Texts.{Fetching};
-ghost use Rattle.fetch_rules.specs.Record.{Row};
+ghost use Rattle.fetch_record.specs.Record.{Row};
 ghost use Rattle.mail_store.specs.FlatFile.{Stored};
 ghost use Rattle.mail_store.specs.FileName.{HasRoomForSize, IsAccountText, is_held, sized, stem_of};
 ghost use Rattle.mail_store.specs.Maildir.{AllNamed, IsThere};

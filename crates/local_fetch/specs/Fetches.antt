@@ -12,8 +12,8 @@ use Rattle.pop3_wire.specs.Honest.{HasSent}
 use Rattle.pop3_wire.specs.declared.command.Command.{Command}
 use Rattle.pop3_wire.specs.declared.command.Command.TheVariants.{Dele}
 use Rattle.mail_terms.specs.UniqueId.{has_id}
-use Rattle.fetch_rules.specs.Record.{Row}
-use Rattle.fetch_rules.specs.RecordMeaning.{FileStandsFor}
+use Rattle.fetch_record.specs.Record.{Row}
+use Rattle.fetch_record.specs.RecordMeaning.{FileStandsFor}
 use Rattle.pop3_wire.specs.declared.wire.Wire.{Ghosts as WireGhosts}
 use Rattle.pop3_server.specs.declared.maildrop.Maildrop.{Ghosts as DropGhosts}
 use Rattle.pop3_server.specs.Maildrop.{there}

@@ -14,7 +14,7 @@ use Rattle.pop3_server.specs.HonestLoop.{IsUnused}
 use Rattle.pop3_server.specs.LoopLink.{Loop}
 use Rattle.pop3_server.specs.Maildrop.{there}
 use Rattle.pop3_server.specs.ServerMachine.{Machine}
-use Rattle.fetch_rules.specs.Record.{Loaded}
+use Rattle.fetch_record.specs.Record.{Loaded}
 use Rattle.fetch_session.specs.declared.fault.Fault.TheVariants.{NoMemory}
 use Rattle.fetch_session.specs.declared.report.Outcome.TheVariants.{Ended, Cut as WasCut}
 use Rattle.fetch_session.specs.declared.report.Report.{Report}

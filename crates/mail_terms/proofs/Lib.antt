@@ -1,4 +1,5 @@
 pub mod ErrLemmas
+pub mod IdLemmas
 pub mod ListLemmas
 mod ListingLemmas
 mod NumberingLemmas

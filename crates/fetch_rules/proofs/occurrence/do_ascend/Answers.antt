@@ -1,6 +1,7 @@
 use Rattle.std.proofs.Common.{arith}
 use Rattle.std.proofs.lemmas.Bool.{OnTrue_at}
-use Rattle.fetch_rules.proofs.PlanLemmas.{nobody, Ascends-more, Ascends-all}
+use Rattle.mail_terms.proofs.IdLemmas.{nobody}
+use Rattle.fetch_rules.proofs.PlanLemmas.{Ascends-more, Ascends-all}
 use Rattle.fetch_rules.proofs.occurrence.do_ascend.Goals as goal
 
 pub loop-i-init : goal.loop-i-init

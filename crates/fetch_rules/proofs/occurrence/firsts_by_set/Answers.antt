@@ -1,5 +1,6 @@
 use Rattle.std.proofs.Common.{arith}
-use Rattle.fetch_rules.proofs.PlanLemmas.{nobody, HasFirsts-more, HasFirsts-all}
+use Rattle.mail_terms.proofs.IdLemmas.{nobody}
+use Rattle.fetch_rules.proofs.PlanLemmas.{HasFirsts-more, HasFirsts-all}
 use Rattle.fetch_rules.proofs.occurrence.firsts_by_set.Goals as goal
 
 pub loop-i-preserved : goal.loop-i-preserved

@@ -1,5 +1,6 @@
 use Rattle.std.proofs.Common.{◌≡◌, ◌+◌, ◌-◌, arith}
-use Rattle.fetch_rules.proofs.PlanLemmas.{nobody, HasLasts-none, HasLasts-more}
+use Rattle.mail_terms.proofs.IdLemmas.{nobody}
+use Rattle.fetch_rules.proofs.PlanLemmas.{HasLasts-none, HasLasts-more}
 use Rattle.fetch_rules.proofs.occurrence.lasts_by_set.Goals as goal
 
 pub loop-i-init : goal.loop-i-init

@@ -1,7 +1,7 @@
 use Rattle.std.proofs.Common.{inl, inr, ◌≡◌, List, ℕ, length, refl, ap, ◌∙◌, sym, subst, Option, None, Some}
 use Rattle.std.specs.Prelude.{IfErr}
 use Rattle.std.proofs.lemmas.Option.{same_Some}
-use Rattle.fetch_rules.specs.Record.{Intent, RecordState, Row, none_open}
+use Rattle.fetch_record.specs.Record.{Intent, RecordState, Row, none_open}
 use Rattle.mail_store.specs.declared.file.flat_file.Edges.{Edges}
 use Rattle.std.proofs.lemmas.Result.{err_from_is_err_and}
 use Rattle.mail_store.specs.Durable.{IsSure, MayLeave}

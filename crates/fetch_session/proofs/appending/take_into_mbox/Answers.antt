@@ -1,6 +1,6 @@
 use Rattle.std.proofs.Common.{rules, ◌≡◌, ℕ, List, [], ◌∷◌, inl, inr, ◌++◌, Vec, Ok, Err, length, arith, sym, ap, subst, ◌∙◌}
 use Rattle.std.proofs.Common.{refl, true≢false}
-use Rattle.fetch_rules.specs.Record.{marked}
+use Rattle.fetch_record.specs.Record.{marked}
 use Rattle.pop3_wire.specs.Link.{WhereSound}
 use Rattle.pop3_client.specs.Client.{link_of, place_of}
 use Rattle.pop3_client.specs.Texts.{Fetched}

@@ -2,8 +2,8 @@ use Rattle.std.proofs.Common.{refl, ◌≡◌, ◌*◌, ℕ, List, [], ◌∷◌
 use Rattle.std.proofs.Common.{Err, sym, ap, subst, ◌∙◌, append-nil}
 use Rattle.mail_store.specs.Maildir.{AllNamed}
 use Rattle.mail_terms.specs.UniqueId.{IsLegalId}
+use Rattle.fetch_record.specs.Record.{has_row}
 use Rattle.fetch_rules.specs.Plan.{IsQuiet, planned}
-use Rattle.fetch_rules.specs.Record.{has_row}
 use Rattle.fetch_rules.specs.declared.steps.Step.{Step}
 use Rattle.pop3_client.specs.Turns.{quit}
 use Rattle.fetch_session.proofs.TalkLemmas.{err_is}

@@ -1,7 +1,7 @@
 use Rattle.std.proofs.Common.{Bool, List, ap, length, ◌∙◌}
 use Rattle.std.proofs.lemmas.Result.{IfOk-weaker}
-use Rattle.fetch_rules.specs.Intents.{closed_rows}
-use Rattle.fetch_rules.specs.Record.{Loaded, merged}
+use Rattle.fetch_record.specs.Intents.{closed_rows}
+use Rattle.fetch_record.specs.Record.{Loaded, merged}
 use Rattle.fetch_session.specs.MessagePreview.{message_previews}
 use Rattle.fetch_session.proofs.ReadyLemmas.{planned_length}
 use Rattle.fetch_session.proofs.SessionLemmas.{previews_are}

@@ -1,7 +1,7 @@
 use Rattle.std.proofs.Common.{false, sym, refl, ◌∙◌, ℕ, List, Option, None, Some}
 use Rattle.std.proofs.lemmas.Result.{err_from_is_err_and}
 use Rattle.std.proofs.lemmas.Simd.{splat_is_map}
-use Rattle.fetch_rules.specs.Record.{Intent}
+use Rattle.fetch_record.specs.Record.{Intent}
 use Rattle.mail_store.specs.Durable.{IsSure, MayLeave}
 use Rattle.mail_store.specs.Power.{LeavesNoMore}
 use Rattle.mail_store.proofs.DiskLemmas.{all_sure, flushes_for_good}

@@ -1,7 +1,7 @@
 use Rattle.std.proofs.Common.{◌≡◌, List, None, false, inl, sym, ap, subst, ◌∙◌}
-use Rattle.fetch_rules.specs.Intents.{closed_rows}
-use Rattle.fetch_rules.specs.Record.{Row, RecordState, none_open, merged}
-use Rattle.fetch_rules.specs.RecordGrowth.{Updates}
+use Rattle.fetch_record.specs.Intents.{closed_rows}
+use Rattle.fetch_record.specs.Record.{Row, RecordState, none_open, merged}
+use Rattle.fetch_record.specs.RecordGrowth.{Updates}
 use Rattle.fetch_session.specs.Lasting.{LeavesMerged}
 use Rattle.mail_store.specs.Durable.{MayLeave}
 use Rattle.fetch_session.specs.Record.{Merges, Steady, record_state_in}

@@ -1,5 +1,5 @@
 use Rattle.std.proofs.Common.{ap, arith, not}
-use Rattle.fetch_rules.specs.Record.{is_delivered}
+use Rattle.fetch_record.specs.Record.{is_delivered}
 use Rattle.fetch_session.proofs.ReadyLemmas.{flags_more}
 use Rattle.fetch_session.proofs.readiness.undelivered.Goals as goal
 

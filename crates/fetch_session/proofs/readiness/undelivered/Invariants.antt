@@ -1,6 +1,6 @@
 use Rattle.std.proofs.Common.{◌≡◌, map, not, take}
 use Rattle.mail_terms.specs.Listing.{Item}
-use Rattle.fetch_rules.specs.Record.{is_delivered}
+use Rattle.fetch_record.specs.Record.{is_delivered}
 use Rattle.fetch_session.proofs.readiness.undelivered.Given as goal
 
 -- the flags of the items so far

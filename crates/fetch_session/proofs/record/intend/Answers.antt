@@ -1,6 +1,6 @@
 use Rattle.std.proofs.Common.{◌≡◌, List, ◌++◌, None, Some, Result, Ok, Err, subst, ◌∙◌}
-use Rattle.fetch_rules.specs.Record.{Row, none_open}
-use Rattle.fetch_rules.specs.RecordGrowth.{Grows}
+use Rattle.fetch_record.specs.Record.{Row, none_open}
+use Rattle.fetch_record.specs.RecordGrowth.{Grows}
 use Rattle.fetch_session.specs.Lasting.{IsGrownAtMost, IsSafeFile, LeavesFile, RowsStillLast}
 use Rattle.mail_store.specs.FlatFile.{Stored}
 use Rattle.fetch_session.specs.Record.{Saves, bytes_in, intent_at, with_open}

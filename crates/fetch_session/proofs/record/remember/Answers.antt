@@ -1,7 +1,7 @@
 use Rattle.std.proofs.Common.{List, None, inl, sym, ap, subst}
 use Rattle.std.specs.Prelude.{OnOk}
-use Rattle.fetch_rules.specs.Record.{Row, Loaded, marked, none_open}
-use Rattle.fetch_rules.specs.RecordGrowth.{Updates}
+use Rattle.fetch_record.specs.Record.{Row, Loaded, marked, none_open}
+use Rattle.fetch_record.specs.RecordGrowth.{Updates}
 use Rattle.fetch_session.specs.Record.{Steady, record_state_in}
 use Rattle.fetch_session.proofs.SessionLemmas.{part_grown, same_grown}
 use Rattle.fetch_session.proofs.SceneLemmas.{saves_steady, mark_begun, and_so}

@@ -1,6 +1,6 @@
 use Rattle.std.proofs.Common.{◌≡◌, ◌∙◌, ℕ, List, Option, None, Ok, ap, subst}
-use Rattle.fetch_rules.specs.Record.{Intent}
-use Rattle.fetch_rules.specs.RecordFile.{file_of}
+use Rattle.fetch_record.specs.Record.{Intent}
+use Rattle.fetch_record.specs.RecordFile.{file_of}
 use Rattle.mail_store.specs.Durable.{MayLeave}
 use Rattle.mail_store.specs.Power.{LeavesEither}
 use Rattle.mail_store.proofs.DiskLemmas.{replaces_for_good}

@@ -1,0 +1,5 @@
+mod LineLemmas
+mod MeaningLemmas
+mod MergeLemmas
+mod ReadLemmas
+mod RowLemmas

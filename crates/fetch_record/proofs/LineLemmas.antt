@@ -1,0 +1,270 @@
+-- The lines of the record's file: numerals, and how lines are cut.
+use Rattle.std.proofs.Common.{All, Bool, Bor, IfNone, IfSome, List, MatchOption, None, Option, Some, [], ap}
+use Rattle.std.proofs.Common.{append_assoc, ap₂, arith, decimal, drop, false, get_or, if◌then◌else◌, inl, inr, length}
+use Rattle.std.proofs.Common.{lit<, nat_eq, nat_le, nat_lt, refl, subst, sym, take, true, ℕ, ◌&&◌, ◌++◌, ◌+◌, ◌<◌, ◌^◌}
+use Rattle.std.proofs.Common.{◌∙◌, ◌∷◌, ◌≡◌, ◌≢◌, ◌≤◌}
+use Rattle.mail_terms.specs.Numeral.{greatest_size, is_numeral, numeral_value}
+use Rattle.mail_terms.specs.UniqueId.{IsLegalId}
+use Rattle.mail_terms.proofs.IdLemmas.{id_characters}
+use Rattle.std.proofs.lemmas.Bool.{and_from, and_parts, cases_eq, le-leb, leb-true, lt-ltb}
+use Rattle.std.proofs.lemmas.Bool.Decides.{Decides-eqb}
+use Rattle.std.proofs.lemmas.Fmt.{decimal-digits_value, decimal_digit, decimal_injective, decimal_is_IsNumeral}
+use Rattle.std.proofs.lemmas.Fmt.{digits_decimal, first_decimal, length-decimal-le}
+use Rattle.std.proofs.lemmas.List.Elements.{All-from_get_or, recursion_from_All}
+use Rattle.std.proofs.lemmas.Option.{cond_some, none-some}
+use Rattle.std.proofs.lemmas.Slice.Eq.{strip_prefix_is}
+use Rattle.std.proofs.lemmas.Str.Parse.{IsNumeralModel, digit_at, not_in_digits, numerals_by_value, tells_all_ascii_digits, tells_digits}
+use Rattle.std.specs.Char.{is_ascii_digit}
+use Rattle.std.specs.Cmp.Lexicographic.{pointwise}
+use Rattle.std.specs.List.{AllByRecursion, list_all}
+use Rattle.std.specs.Str.{all_ascii_digits}
+use Rattle.std.specs.Str.Parse.{AllDigits, digits_value}
+use Rattle.fetch_record.specs.Record.{Intent, Row}
+use Rattle.fetch_record.specs.RecordFile.{GroupLine, IntentLine, IsRecordLine, Line, RowLine, group_line, intent_line}
+use Rattle.fetch_record.specs.RecordFile.{record_row_line, delivered_octets, record_line}
+
+-- ---- numerals without leading zeros
+
+-- the bytes begin with a digit, the only byte if it is 0
+abbrev pub BeginsAsNumeral : List ℕ → Type 0
+BeginsAsNumeral field = (0 < length field) × (48 ≤ get_or field 0 0) × (get_or field 0 0 ≤ 57) × (get_or field 0 0 ≡ 48 → length field ≡ 1)
+
+pub begins_as_numeral : (n : ℕ) → n < 2 ^ 64 → BeginsAsNumeral (decimal n)
+begins_as_numeral n fits = elim (cases_eq n 0) [
+  | inl none ↦ rw (none, decimal_digit 0 (lit< tt)) (omega arith, omega arith, omega arith, λ _. refl)
+  | inr more ↦
+      let numeral = (decimal_is_IsNumeral n fits).0 in
+      let first = digit_at (decimal n) 0 numeral.1 numeral.0 in
+      let above : 48 < get_or (decimal n) 0 0 = first_decimal n (omega (arith, more)) fits in
+      (numeral.0, first.0, first.1, λ same. absurd (omega (arith, same, above)))
+]
+
+digits_same : (ds : List ℕ) → list_all is_ascii_digit ds ≡ all_ascii_digits ds
+digits_same [] = refl
+digits_same (d ∷ ds) = rw (digits_same ds) refl
+
+by_test : IsNumeralModel (λ (ds : List ℕ). all_ascii_digits ds ≡ true) (digits_value 10)
+by_test = numerals_by_value (λ (ds : List ℕ). all_ascii_digits ds ≡ true) tells_all_ascii_digits
+
+-- what is read from a numeral without leading zeros is the number that it writes
+decimal_from_numeral : (field : List ℕ) (number : ℕ) → BeginsAsNumeral field → numeral_value field ≡ Some number → field ≡ decimal number
+decimal_from_numeral field number begins read =
+    let found = cond_some (is_numeral field && nat_le (digits_value 10 field) greatest_size) (digits_value 10 field) number read in
+    let tests = and_parts (is_numeral field) (nat_le (digits_value 10 field) greatest_size) found.0 in
+    let digits = (and_parts (nat_lt 0 (length field) && nat_le (length field) 20) (list_all is_ascii_digit field) tests.0).1 in
+    sym (decimal-digits_value by_test field (sym (digits_same field) ∙ digits) begins.0 begins.3
+    (omega (arith, leb-true (digits_value 10 field) greatest_size tests.1))) ∙ ap decimal found.1
+
+-- and each number of 64 bits is read from the numeral that writes it
+numeral_value-decimal : (number : ℕ) → number < 2 ^ 64 → numeral_value (decimal number) ≡ Some number
+numeral_value-decimal number fits =
+    let numeral = decimal_is_IsNumeral number fits in
+    let test : is_numeral (decimal number) ≡ true = and_from _ _
+    (and_from _ _ (lt-ltb 0 (length (decimal number)) numeral.0.0)
+    (le-leb (length (decimal number)) 20 (length-decimal-le 20 number (omega arith) (omega (arith, fits)) fits)))
+    (digits_same (decimal number) ∙ digits_decimal by_test number fits) in
+    rw (test, ap (λ (n : ℕ). nat_le n greatest_size) numeral.1 ∙ le-leb number greatest_size (omega (arith, fits)))
+    (ap (λ (n : ℕ). Some n) numeral.1)
+
+pub number_found : (field : List ℕ) (read : Option ℕ) → BeginsAsNumeral field → read ≡ numeral_value field
+    → IfSome read (λ number. field ≡ decimal number)
+number_found field None begins same = tt
+number_found field (Some number) begins same = decimal_from_numeral field number begins (sym same)
+
+pub no_number : (field : List ℕ) (read : Option ℕ) → read ≡ numeral_value field
+    → IfNone read ((number : ℕ) → number < 2 ^ 64 → field ≢ decimal number)
+no_number field None same = λ number fits is. none-some number (same ∙ ap numeral_value is ∙ numeral_value-decimal number fits)
+no_number field (Some number) same = tt
+
+-- ---- what is cut at a byte that doesn't occur
+
+abbrev pub HasNo : ℕ → List ℕ → Type 0
+HasNo byte bytes = AllByRecursion (λ other. other ≢ byte) bytes
+
+pub same_cons : {c d : ℕ} {a b : List ℕ} → c ∷ a ≡ d ∷ b → (c ≡ d) × (a ≡ b)
+same_cons e = (cc, cc)
+
+pub cut_unique : (s t : ℕ) (a b x y : List ℕ) → HasNo t a → HasNo s b → a ++ s ∷ x ≡ b ++ t ∷ y → (a ≡ b) × (s ≡ t) × (x ≡ y)
+cut_unique s t [] [] x y p q e = (refl, (same_cons e).0, (same_cons e).1)
+cut_unique s t [] (d ∷ b) x y p q e = absurd (q.0 (sym (same_cons e).0))
+cut_unique s t (c ∷ a) [] x y p q e = absurd (p.0 (same_cons e).0)
+cut_unique s t (c ∷ a) (d ∷ b) x y p q e =
+    let parts = same_cons e in
+    let rest = cut_unique s t a b x y p.1 q.1 parts.1 in
+    (ap₂ (λ (k : ℕ) (xs : List ℕ). k ∷ xs) parts.0 rest.0, rest.1, rest.2)
+
+-- what lacks the byte isn't cut there
+uncut : (s : ℕ) (a y : List ℕ) → HasNo s (a ++ s ∷ y) → ⊥
+uncut s [] y none = none.0 refl
+uncut s (c ∷ a) y none = uncut s a y none.1
+
+HasNo-id : (s : ℕ) → s < 0x21 → (uid : List ℕ) → IsLegalId uid → HasNo s uid
+HasNo-id s below uid legal =
+    recursion_from_All _ uid (λ k d inside same. omega (arith, (id_characters uid legal k d inside).0, same, below))
+
+HasNo-decimal : (s : ℕ) → s < 48 → (n : ℕ) → n < 2 ^ 64 → HasNo s (decimal n)
+HasNo-decimal s below n fits = recursion_from_All (λ other. other ≢ s) (decimal n) (All-from_get_or (λ other. other ≢ s) (decimal n) 0
+    (not_in_digits (numerals_by_value (AllDigits 10) tells_digits) (decimal n) s (decimal_is_IsNumeral n fits).0.1
+    (λ range. omega (arith, range.0, below))))
+
+-- ---- the fields of a line
+
+pub line_split : (row : Row) (behind : List ℕ)
+    → record_row_line row ++ behind ≡ row.uid
+    ++ 32 ∷ (decimal row.first_seen ++ 32 ∷ (delivered_octets row.delivered ++ behind))
+line_split row behind = simp append_assoc
+
+group_split : (n : ℕ) (behind : List ℕ) → group_line n ++ behind ≡ 43 ∷ 32 ∷ (decimal n ++ 10 ∷ behind)
+group_split n behind = simp append_assoc
+
+intent_split : (intent : Intent) (behind : List ℕ)
+    → intent_line intent ++ behind
+    ≡ 33 ∷ 32 ∷ (intent.uid ++ 32 ∷ (decimal intent.start ++ 32 ∷ (decimal intent.len ++ 10 ∷ behind)))
+intent_split intent behind = simp append_assoc
+
+abbrev digit : Bool → ℕ
+digit d = if d then 49 else 48
+
+state_text : (d : Bool) (behind : List ℕ) → delivered_octets d ++ behind ≡ digit d ∷ 10 ∷ behind
+state_text true behind = refl
+state_text false behind = refl
+
+-- what follows the sign of a group's line
+pub behind_sign : (bytes line : List ℕ) (count : ℕ) (behind : List ℕ) → bytes ≡ 43 ∷ 32 ∷ line
+    → bytes ≡ group_line count ++ behind → line ≡ decimal count ++ 10 ∷ behind
+behind_sign bytes line count behind bytes_are is = (same_cons (same_cons (sym bytes_are ∙ is ∙ group_split count behind)).1).1
+
+-- and of an intent's line
+pub behind_intent_sign : (bytes line : List ℕ) (intent : Intent) (behind : List ℕ) → bytes ≡ 33 ∷ 32 ∷ line
+    → bytes ≡ intent_line intent ++ behind
+    → line ≡ intent.uid ++ 32 ∷ (decimal intent.start ++ 32 ∷ (decimal intent.len ++ 10 ∷ behind))
+behind_intent_sign bytes line intent behind bytes_are is = (same_cons (same_cons (sym bytes_are ∙ is ∙ intent_split intent behind)).1).1
+
+-- ---- a line is its fields, with a space between two of them, and LF
+
+-- the first field, and the others
+abbrev fields : Line → List ℕ × List (List ℕ)
+fields (RowLine row) = (row.uid, decimal row.first_seen ∷ (digit row.delivered ∷ []) ∷ [])
+fields (GroupLine n) = (43 ∷ [], decimal n ∷ [])
+fields (IntentLine i) = (33 ∷ [], i.uid ∷ decimal i.start ∷ decimal i.len ∷ [])
+
+abbrev joined : List ℕ → List (List ℕ) → List ℕ
+joined field [] = field
+joined field (next ∷ more) = field ++ 32 ∷ joined next more
+
+abbrev pub body : Line → List ℕ
+body line = joined (fields line).0 (fields line).1
+
+-- no byte of a field is a space or below
+clean_fields : (line : Line) → IsRecordLine line → (s : ℕ) → s ≤ 32 → AllByRecursion (HasNo s) ((fields line).0 ∷ (fields line).1)
+clean_fields (RowLine row) is s low = (
+  HasNo-id s (omega (arith, low)) row.uid is.legal,
+  (
+    HasNo-decimal s (omega (arith, low)) row.first_seen is.fits,
+    (((λ same. grind (arith, low, same)), tt), tt),
+  ),
+)
+clean_fields (GroupLine n) is s low =
+    (((λ same. omega (arith, low, same)), tt), (HasNo-decimal s (omega (arith, low)) n (omega (arith, is.1)), tt))
+clean_fields (IntentLine i) is s low = (
+  ((λ same. omega (arith, low, same)), tt),
+  (
+    HasNo-id s (omega (arith, low)) i.uid is.legal,
+    (
+      HasNo-decimal s (omega (arith, low)) i.start is.start,
+      (HasNo-decimal s (omega (arith, low)) i.len is.len, tt),
+    ),
+  ),
+)
+
+clean_joined : (s : ℕ) → s < 32 → (field : List ℕ) (more : List (List ℕ)) → AllByRecursion (HasNo s) (field ∷ more)
+    → HasNo s (joined field more)
+clean_joined s low field [] each = each.0
+clean_joined s low [] (next ∷ more) each = ((λ same. omega (arith, low, same)), clean_joined s low next more each.1)
+clean_joined s low (byte ∷ field) (next ∷ more) each = (each.0.0, clean_joined s low field (next ∷ more) (each.0.1, each.1))
+
+pub clean_body : (line : Line) → IsRecordLine line → (s : ℕ) → s < 32 → HasNo s (body line)
+clean_body line is s low = clean_joined s low _ _ (clean_fields line is s (omega (arith, low)))
+
+pub body_text : (line : Line) (behind : List ℕ) → record_line line ++ behind ≡ body line ++ 10 ∷ behind
+body_text (RowLine row) behind = line_split row behind ∙ rw (state_text row.delivered behind) (sym (simp append_assoc))
+body_text (GroupLine n) behind = group_split n behind
+body_text (IntentLine i) behind = intent_split i behind ∙ sym (simp append_assoc)
+
+same_fields : (a b : List ℕ) (fs gs : List (List ℕ)) → AllByRecursion (HasNo 32) (a ∷ fs)
+    → AllByRecursion (HasNo 32) (b ∷ gs) → joined a fs ≡ joined b gs → (a ≡ b) × (fs ≡ gs)
+same_fields a b [] [] p q e = (e, refl)
+same_fields a b [] (d ∷ gs) p q e = absurd (uncut 32 b (joined d gs) (subst (HasNo 32) e p.0))
+same_fields a b (c ∷ fs) [] p q e = absurd (uncut 32 a (joined c fs) (subst (HasNo 32) (sym e) q.0))
+same_fields a b (c ∷ fs) (d ∷ gs) p q e =
+    let parts = cut_unique 32 32 a b _ _ p.0 q.0 e in
+    let rest = same_fields c d fs gs p.1 q.1 parts.2 in
+    (parts.0, ap₂ (λ (x : List ℕ) (xs : List (List ℕ)). x ∷ xs) rest.0 rest.1)
+
+same_line : (a b : Line) → IsRecordLine a → IsRecordLine b → (fields a).0 ≡ (fields b).0 → (fields a).1 ≡ (fields b).1 → a ≡ b
+same_line (RowLine a) (RowLine b) is_a is_b first rest =
+    let second : a.first_seen ≡ b.first_seen = decimal_injective _ _ is_a.fits is_b.fits cc in
+    let third : digit a.delivered ≡ digit b.delivered = cc in
+    let states : a.delivered ≡ b.delivered = grind (arith, third) in
+    λ i. RowLine (record { uid = first i; first_seen = second i; delivered = states i })
+same_line (GroupLine m) (GroupLine n) is_m is_n first rest =
+    ap GroupLine (decimal_injective m n (omega (arith, is_m.1)) (omega (arith, is_n.1)) cc)
+same_line (IntentLine a) (IntentLine b) is_a is_b first rest =
+    let second : a.uid ≡ b.uid = cc in
+    let third : a.start ≡ b.start = decimal_injective _ _ is_a.start is_b.start cc in
+    let fourth : a.len ≡ b.len = decimal_injective _ _ is_a.len is_b.len cc in
+    λ i. IntentLine (record { uid = second i; start = third i; len = fourth i })
+same_line a b is_a is_b first rest = absurd cc
+
+pub text_unique : (a b : Line) (x y : List ℕ) → IsRecordLine a → IsRecordLine b
+    → record_line a ++ x ≡ record_line b ++ y → (a ≡ b) × (x ≡ y)
+text_unique a b x y is_a is_b e =
+    let cut = cut_unique 10 10 (body a) (body b) x y (clean_body a is_a 10 (omega arith))
+    (clean_body b is_b 10 (omega arith)) (sym (body_text a x) ∙ e ∙ body_text b y) in
+    let same = same_fields _ _ _ _ (clean_fields a is_a 32 (omega arith)) (clean_fields b is_b 32 (omega arith)) cut.0 in
+    (same_line a b is_a is_b same.0 same.1, cut.2)
+
+-- what has no LF holds no line
+pub no_line : (rest : List ℕ) → HasNo 10 rest → (line : Line) (behind : List ℕ) → IsRecordLine line → rest ≡ record_line line ++ behind → ⊥
+no_line rest none line behind is e = uncut 10 (body line) behind (subst (HasNo 10) (e ∙ body_text line behind) none)
+
+-- ---- the fields that a reader takes
+
+-- what follows a legal id and a space
+pub behind_id : (line uid rest expected tail : List ℕ) → IsLegalId uid → IsLegalId expected → line ≡ uid ++ 32 ∷ rest
+    → line ≡ expected ++ 32 ∷ tail → rest ≡ tail
+behind_id line uid rest expected tail legal legal' cut e =
+    (cut_unique 32 32 uid expected rest tail (HasNo-id 32 (omega arith) uid legal)
+    (HasNo-id 32 (omega arith) expected legal') (sym cut ∙ e)).2
+
+-- a number and what follows its separator
+pub number_behind : (s : ℕ) (line : List ℕ) (number : ℕ) (rest : List ℕ) (expected : ℕ) (tail : List ℕ) → s < 48
+    → number < 2 ^ 64 → expected < 2 ^ 64
+    → line ≡ decimal number ++ s ∷ rest → line ≡ decimal expected ++ s ∷ tail → (number ≡ expected) × (rest ≡ tail)
+number_behind s line number rest expected tail small fits fits' cut e =
+    let parts = cut_unique s s (decimal number) (decimal expected) rest tail (HasNo-decimal s small number fits)
+    (HasNo-decimal s small expected fits') (sym cut ∙ e) in
+    (decimal_injective number expected fits fits' parts.0, parts.2)
+
+-- what was stripped
+pub stripped : (prefix bytes : List ℕ) (rest : Bor (List ℕ))
+    → MatchOption (Some rest) (pointwise nat_eq (take (length prefix) bytes) prefix ≡ false)
+    (λ x. (pointwise nat_eq (take (length prefix) bytes) prefix ≡ true) × (x.now ≡ drop (length prefix) bytes)
+    × (length x.now + length prefix ≡ length bytes)) → bytes ≡ prefix ++ rest.now
+stripped prefix bytes rest cases = strip_prefix_is Decides-eqb bytes prefix (Some rest) cases
+
+-- the fields that are cut at a separator
+pub field_id : (line uid rest expected tail : List ℕ) → line ≡ uid ++ 32 ∷ rest → All (λ byte. byte ≢ 32) uid
+    → IsLegalId expected → line ≡ expected ++ 32 ∷ tail → uid ≡ expected
+field_id line uid rest expected tail cut none legal e =
+    (cut_unique 32 32 uid expected rest tail (recursion_from_All _ uid none)
+    (HasNo-id 32 (omega arith) expected legal) (sym cut ∙ e)).0
+
+pub field_number : (s : ℕ) (line number rest : List ℕ) (n : ℕ) (tail : List ℕ) → s < 48 → n < 2 ^ 64
+    → line ≡ number ++ s ∷ rest → All (λ byte. byte ≢ s) number → line ≡ decimal n ++ s ∷ tail → number ≡ decimal n
+field_number s line number rest n tail small fits cut none e =
+    (cut_unique s s number (decimal n) rest tail (recursion_from_All _ number none)
+    (HasNo-decimal s small n fits) (sym cut ∙ e)).0
+
+pub no_field : (s : ℕ) (line expected tail : List ℕ) → All (λ byte. byte ≢ s) line → line ≡ expected ++ s ∷ tail → ⊥
+no_field s line expected tail none e = uncut s expected tail (subst (HasNo s) e (recursion_from_All _ line none))

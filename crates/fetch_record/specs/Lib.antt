@@ -1,0 +1,9 @@
+pub mod Intents
+pub mod Lines
+pub mod Outgrown
+pub mod Record
+pub mod RecordFile
+pub mod RecordGrowth
+pub mod RecordMeaning
+pub mod RecordTorn
+pub mod Rows

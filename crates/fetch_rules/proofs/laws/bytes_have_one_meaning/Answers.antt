@@ -1,5 +1,0 @@
-use Rattle.fetch_rules.proofs.MeaningLemmas.{one_meaning}
-use Rattle.fetch_rules.proofs.laws.bytes_have_one_meaning.Goals as goal
-
-pub returns : goal.returns
-returns c = one_meaning

@@ -1,5 +1,0 @@
-use Rattle.fetch_rules.proofs.MeaningLemmas.{cut_is_ignored}
-use Rattle.fetch_rules.proofs.laws.cut_is_ignored.Goals as goal
-
-pub returns : goal.returns
-returns c = cut_is_ignored

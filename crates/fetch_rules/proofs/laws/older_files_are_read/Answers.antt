@@ -1,5 +1,0 @@
-use Rattle.fetch_rules.proofs.MeaningLemmas.{one_is_read}
-use Rattle.fetch_rules.proofs.laws.older_files_are_read.Goals as goal
-
-pub returns : goal.returns
-returns c = one_is_read

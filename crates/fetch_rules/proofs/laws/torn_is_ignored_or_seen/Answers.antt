@@ -1,5 +1,0 @@
-use Rattle.fetch_rules.proofs.MeaningLemmas.{torn_ignored_or_seen}
-use Rattle.fetch_rules.proofs.laws.torn_is_ignored_or_seen.Goals as goal
-
-pub returns : goal.returns
-returns c = torn_ignored_or_seen

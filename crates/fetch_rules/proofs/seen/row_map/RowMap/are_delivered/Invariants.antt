@@ -1,6 +1,0 @@
-use Rattle.std.proofs.Common.{◌≡◌, true}
-use Rattle.std.specs.List.{AllWithin}
-use Rattle.fetch_rules.proofs.seen.row_map.RowMap.are_delivered.Given as goal
-
-abbrev pub invariant-loop-place : goal.invariant-loop-place
-invariant-loop-place g l = AllWithin (λ row. row.delivered ≡ true) l.self 0 l.place

@@ -1,5 +1,0 @@
-use Rattle.fetch_rules.proofs.MergeLemmas.{HasHeldAnew}
-use Rattle.fetch_rules.proofs.seen.row_map.RowMap.held_anew.Given as goal
-
-abbrev pub invariant-loop-i : goal.invariant-loop-i
-invariant-loop-i g l = HasHeldAnew l.self l.listing l.held l.i l.ids

@@ -1,6 +1,0 @@
-use Rattle.std.proofs.Common.{take, zip}
-use Rattle.fetch_rules.proofs.MergeLemmas.{HasMarked}
-use Rattle.fetch_rules.proofs.seen.row_map.RowMap.mark_held.Given as goal
-
-abbrev pub invariant-loop-i : goal.invariant-loop-i
-invariant-loop-i g l = HasMarked (take l.i (zip l.listing l.held)) l.initial.self l.changed l.self

@@ -1,8 +1,0 @@
-use Rattle.std.proofs.Common.{Some}
-use Rattle.fetch_rules.proofs.RowLemmas.{place_found}
-use Rattle.fetch_rules.proofs.seen.row_map.RowMap.place_of.Goals as goal
-
-pub returns-clause-found : goal.returns-clause-found
-returns-clause-found g c = rw (← c.self.view_is, ← c.in_ok-text_of.ensures.text)
-    (place_found c.in_ok-text_of.field-0.now c.self.inside.states.entries (Some c.in_ok-place.place)
-    c.in_ok-place.ensures.index)
