@@ -6,6 +6,7 @@ pub mod Lists
 pub mod Losses
 pub mod MboxLeft
 pub mod MboxPromised
+pub mod MboxState
 pub mod Promised
 pub mod Safety
 pub mod State

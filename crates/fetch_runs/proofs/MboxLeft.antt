@@ -42,8 +42,8 @@ use Rattle.fetch_runs.proofs.LeftRecords.{grown_reads}
 use Rattle.fetch_runs.proofs.Lists.{delivered_unheld, same_held}
 use Rattle.fetch_runs.proofs.MboxPromised.{bytes_of, ends_whole, entered, front_after, holds_after, next_is, open_row, opened_after}
 use Rattle.fetch_runs.proofs.MboxPromised.{settled_is}
-use Rattle.fetch_runs.proofs.State.{LeavesWhole, bytes_after, bytes_settled, carried_starts, mbox_figures, mbox_inputs, mid_content}
-use Rattle.fetch_runs.proofs.State.{same_looked, whole_in, whole_refused, whole_unsaved}
+use Rattle.fetch_runs.proofs.MboxState.{LeavesWhole, bytes_after, bytes_settled, carried_starts, mbox_figures, mbox_inputs, mid_content}
+use Rattle.fetch_runs.proofs.MboxState.{same_looked, whole_in, whole_refused, whole_unsaved}
 use Rattle.fetch_runs.proofs.Steps.{mbox_honest, retrieved_is}
 use Rattle.fetch_runs.proofs.Talk.{Planned, session_spoke}
 use Rattle.fetch_runs.proofs.Tasks.{Starts, rows_after}

@@ -32,8 +32,8 @@ use Rattle.fetch_runs.proofs.Talk.{name_of, word_of, Spoke, session_spoke, Plann
 use Rattle.fetch_runs.proofs.Turns.{Course, course, SessionCourse, Idle, Deals, begun_of, IsOfTask, begins_of, both_none, deleted_in}
 use Rattle.fetch_runs.proofs.Turns.{deleted_by, effect_of, tail_for, course_proceeded, found_by, found_in}
 use Rattle.fetch_runs.proofs.Tasks.{IsRight, found_all, count, is_ended, tally_numbers, tally_right}
-use Rattle.fetch_runs.proofs.State.{CourseLeads, inputs, Leads, figures, course_leads, mbox_inputs, MboxLeads, Rests}
-use Rattle.fetch_runs.proofs.State.{mbox_figures, course_leaves}
+use Rattle.fetch_runs.proofs.MboxState.{MboxLeads, Rests, course_leaves, mbox_figures, mbox_inputs}
+use Rattle.fetch_runs.proofs.State.{CourseLeads, Leads, course_leads, figures, inputs}
 use Rattle.pop3_wire.specs.Link.{Link}
 use Rattle.fetch_session.specs.declared.report.Report.{Report}
 use Rattle.fetch_runs.proofs.Safety.{session_holds, mbox_session_holds, session_honest}
