@@ -6,7 +6,7 @@ ghost use Rattle.std.specs.Prelude.{◌≡◌, ℕ, List, take, IfErr, IfOk, IfS
 use std::alloc::Global;
 use std::io::{self, Read};
 use std::rt::Files;
-use trace::System;
+use system_calls::System;
 
 /// One that is asked for the octets of files.
 pub trait ReadFile {

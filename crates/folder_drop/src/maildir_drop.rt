@@ -21,7 +21,7 @@ use std::marker::Model;
 use std::random::RandomSource;
 use std::rt::Files;
 use std::time::Clock;
-use trace::{Noted, System};
+use system_calls::{Noted, System};
 
 /// A Maildir in a real folder. Nothing is known of what it holds: contracts see its path, the names of
 /// the files that were listed, and the counts. NoMemory means that a growth of its own was refused,

@@ -15,7 +15,7 @@ use std::io::{self, BufReader, ErrorKind};
 use std::marker::Model;
 use std::rt::Files;
 use std::time::{Clock, Duration};
-use trace::{Noted, System};
+use system_calls::{Noted, System};
 
 /// How many times a file is tried, if it has a new name each time.
 const MOST_TRIES: u32 = 10;

@@ -14,7 +14,7 @@ use std::os::unix::fs::MetadataExt;
 use std::rt::Files;
 use std::time::{Clock, Duration};
 use std::{fs, io, thread};
-use trace::System;
+use system_calls::System;
 
 /// How many milliseconds a folder must be unchanged before it is listed, so that each later change
 /// gives it another time: longer than the steps of the clock by which Linux stamps changes (1 to 10).

@@ -19,7 +19,7 @@ use mail_store::{Edges, FlatFile, StoreFault, admit, refuse};
 use mail_terms::FailureCount;
 use std::rt::Files;
 use std::time::Clock;
-use trace::System;
+use system_calls::System;
 
 /// A file in a folder of a file system.
 ///

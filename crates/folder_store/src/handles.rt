@@ -10,7 +10,7 @@ use std::alloc::Global;
 use std::fs::{Metadata, OpenFile};
 use std::io::{self, ErrorKind, Read, Seek, SeekFrom, Write};
 use std::os::unix::fs::MetadataExt;
-use trace::Refusals;
+use system_calls::Refusals;
 
 /// Why a watched file isn't used any more.
 const CHANGED: &str = "changed by another program";

@@ -18,7 +18,7 @@ use std::io::{self, ErrorKind};
 use std::os::unix::fs::MetadataExt;
 use std::rt::Files;
 use std::time::Clock;
-use trace::{Noted, Refusals, System};
+use system_calls::{Noted, Refusals, System};
 
 /// Why what a name leads to isn't used.
 const IRREGULAR: &str = "not a regular file";

@@ -15,7 +15,7 @@ use std::collections::BTreeSet;
 use std::io;
 use std::rt::Files;
 use std::time::{Clock, Duration};
-use trace::System;
+use system_calls::System;
 
 /// For how many seconds the folders are listed again while readers change them all the time.
 const MOST_SECONDS: u64 = 4;

@@ -4,7 +4,7 @@ use crate::process_mark::ProcessMark;
 use std::alloc::Global;
 use std::io;
 use std::path::PathBuf;
-use trace::Refusals;
+use system_calls::Refusals;
 
 /// Where a folder and its files are, and what notes why they can't be used.
 #[derive(Clone, Copy)]

@@ -15,7 +15,7 @@ use mail_terms::FailureCount;
 use std::alloc::Global;
 use std::rt::Files;
 use std::time::Clock;
-use trace::System;
+use system_calls::System;
 
 /// A Maildir in the folders `new` and `cur` of a file system, whatever mail readers move there
 /// meanwhile; what is made for `new` is in `tmp`.

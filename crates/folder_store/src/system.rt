@@ -8,7 +8,7 @@ use std::os::unix::fs::OpenOptionsExt;
 use std::rt::Files;
 use std::time::{Clock, SystemTime};
 use std::{fs, io};
-use trace::{Noted, Refusals, System};
+use system_calls::{Noted, Refusals, System};
 
 /// How many seconds nothing is written to a file before it counts as left behind. A run at work waits
 /// for the server for three minutes at most.

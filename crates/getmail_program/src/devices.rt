@@ -12,7 +12,7 @@ use getmail_setup::account_of;
 use mail_store::{FlatFile, MaildirDisk};
 use std::rt::{Clock, Files};
 use std::time::{SystemTime, UNIX_EPOCH};
-use trace::System;
+use system_calls::System;
 
 /// Now, in seconds since 1970; 0 before that.
 pub fn seconds_now(rt: &impl Clock) -> u64 {

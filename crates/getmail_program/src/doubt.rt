@@ -10,7 +10,7 @@ use getmail_setup::joined;
 use std::io::{self, ErrorKind};
 use std::rt::Files;
 use std::vec::Vec;
-use trace::System;
+use system_calls::System;
 
 /// The folder of a Maildir in which messages are made.
 const TMP: &str = "tmp";

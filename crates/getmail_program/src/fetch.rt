@@ -22,7 +22,7 @@ use std::net::{Net, TcpStream};
 use std::process::Process;
 use std::random::RandomSource;
 use std::rt::{Clock, Files};
-use trace::System;
+use system_calls::System;
 
 /// One that runs a setup.
 pub trait RunSetup {

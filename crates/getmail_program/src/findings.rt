@@ -4,7 +4,8 @@ use fetch_session::{Fault, Outcome, Why};
 use getmail_setup::{Errors, SILENT};
 use std::alloc::{AllocError, Global};
 use std::io::ErrorKind;
-use trace::{Refusal, Refusals, Said};
+use system_calls::{Refusal, Refusals};
+use trace::Said;
 
 /// What was noted of a session that a fault cut; what wasn't is empty.
 #[derive(Drop)]

@@ -16,7 +16,7 @@ use std::random::RandomSource;
 use std::rt::{Clock, Files};
 use std::str;
 use std::time::{Duration, UNIX_EPOCH};
-use trace::{Refusals, System};
+use system_calls::{Refusals, System};
 
 /// What is told, and what is kept of it.
 #[derive(Drop)]

@@ -6,7 +6,7 @@ use run_memory::{MOST_OCTETS, Memory};
 use std::alloc::AllocError;
 use std::io::{self, ErrorKind};
 use std::rt::{Clock, Files};
-use trace::System;
+use system_calls::System;
 
 /// The octets at a path, if there is a file.
 fn octets_at<R: Files + AllocGlobal>(

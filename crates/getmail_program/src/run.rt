@@ -17,7 +17,7 @@ use pop3_wire::Wire;
 use std::hash::BuildHasher;
 use std::io::Write;
 use std::rt::Files;
-use trace::System;
+use system_calls::System;
 
 /// Runs one session of the account over the link, or only previews it. What it says goes to `out`, all else
 /// to standard error. The caller has drawn the hasher's keys and the mark of the files.

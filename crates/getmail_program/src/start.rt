@@ -1,7 +1,7 @@
 //! A run from its command line to its exit status.
 ghost use Rattle.std.specs.Prelude.{◌≡◌, ◌≤◌, ◌&&◌, map, not};
 ghost use Rattle.std.specs.String.{string_bytes};
-ghost use Rattle.trace.specs.declared.system.System.{System};
+ghost use Rattle.system_calls.specs.declared.system.System.{System};
 ghost use Rattle.getmail_program.specs.Rehearsal.{Rehearses};
 ghost use Rattle.getmail_program.specs.Starting.{LeadsTo, Obeys, Starts};
 
@@ -25,7 +25,8 @@ use std::net::{Net, TcpStream};
 use std::process::Process;
 use std::random::RandomSource;
 use std::rt::{Clock, Files};
-use trace::{System, TracedWire};
+use system_calls::System;
+use trace::TracedWire;
 
 /// Whether nobody waits for what is said. A preview is for somebody.
 fn is_unattended(words: &Words) -> bool

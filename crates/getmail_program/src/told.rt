@@ -25,7 +25,7 @@ use std::alloc::Global;
 use std::hash::BuildHasher;
 use std::io::Write;
 use std::rt::Files;
-use trace::System;
+use system_calls::System;
 
 /// When a session is, where its texts go, and what is said of it.
 #[derive(Clone, Copy)]

@@ -12,7 +12,7 @@ use Rattle.rc_file.specs.declared.fault.RcFault.TheVariants.{BadValue, Unsupport
 use Rattle.rc_file.specs.declared.key.Key.{Key}
 use Rattle.rc_file.specs.declared.key.Key.TheVariants.{UseApop, Server, Port, Username, Password, DestinationKind}
 use Rattle.rc_file.specs.declared.key.Key.TheVariants.{Path, ReadAll, Delete, DeleteAfter}
-use Rattle.trace.specs.Line.{IsTraceLine}
+use Rattle.system_calls.specs.Line.{IsTraceLine}
 use Rattle.getmail_setup.specs.declared.words.Words.{Words}
 
 -- what the value of a key has to be

@@ -14,7 +14,8 @@ use std::net::{Net, SocketAddr, TcpStream, ToSocketAddrs};
 use std::os::fd::OwnedFd;
 use std::os::unix::net::UnixStream;
 use std::time::Duration;
-use trace::{Noted, Refusals, TracedWire};
+use system_calls::{Noted, Refusals};
+use trace::TracedWire;
 
 /// How long one address of the server has to take the connection.
 const CONNECT_SECONDS: u64 = 60;

@@ -10,7 +10,8 @@ use fetch_rules::Settings;
 use std::alloc::Global;
 use std::cell::Cell;
 use std::io::{Stderr, Write};
-use trace::{Refusals, Talk};
+use system_calls::Refusals;
+use trace::Talk;
 
 /// What is kept of refusals while a program runs, to tell the reason of a fault: a device's, the link's or
 /// that of what comes before the session.

@@ -9,7 +9,7 @@ use std::io::{self, ErrorKind, Write};
 use std::os::unix::fs::OpenOptionsExt;
 use std::rt::{Clock, Files};
 use std::time::{SystemTime, UNIX_EPOCH};
-use trace::System;
+use system_calls::System;
 
 /// What became of a run's lock.
 #[derive(Drop)]

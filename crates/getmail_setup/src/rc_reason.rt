@@ -10,7 +10,7 @@ use crate::errors::Reasons;
 use crate::words::Words;
 use rc_file::{Key, RcFault, fault_line};
 use std::alloc::{AllocError, Global};
-use trace::line_text;
+use system_calls::line_text;
 
 /// An rc file.
 #[derive(Clone, Copy)]

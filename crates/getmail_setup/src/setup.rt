@@ -22,7 +22,7 @@ use std::fs;
 use std::io::Write;
 use std::os::unix::fs::PermissionsExt;
 use std::rt::Files;
-use trace::line_text;
+use system_calls::line_text;
 
 /// One octet more than an rc file may have, so that a longer one is noticed.
 const RC_ROOM: u64 = 65_537;

@@ -14,7 +14,7 @@ use pop3_server::{Maildrop, Server};
 use std::alloc::{AllocError, Global};
 use std::random::RandomSource;
 use std::rt::{Clock, Files};
-use trace::System;
+use system_calls::System;
 
 /// The account that is served.
 #[derive(Drop)]

@@ -9,7 +9,7 @@ use pop3_server::ServerFault;
 use std::alloc::AllocError;
 use std::io::{self, ErrorKind};
 use std::str;
-use trace::Refusals;
+use system_calls::Refusals;
 
 /// Why the program serves nothing, or ends early.
 #[derive(Clone, Copy)]

@@ -19,7 +19,8 @@ use std::random::RandomSource;
 use std::rt::{Clock, Files};
 use std::thread;
 use std::time::Duration;
-use trace::{Noted, System, TracedWire};
+use system_calls::{Noted, System};
+use trace::TracedWire;
 
 /// How long the server waits after a connection that couldn't be accepted: without a free descriptor,
 /// the next one can't be accepted at once either.

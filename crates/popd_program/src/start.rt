@@ -19,7 +19,7 @@ use std::io::{IsTerminal, Read, Stderr, Write};
 use std::net::{Net, TcpListener, TcpStream};
 use std::random::RandomSource;
 use std::rt::{Clock, Env, Files};
-use trace::{Refusals, System};
+use system_calls::{Refusals, System};
 
 /// The words of the command line, the program's name first. If they can't be read, for example because
 /// one isn't UTF-8, the failure is that of a wrong number of words.

@@ -12,7 +12,7 @@ use pop3_server::{Journal, Maildrop, ServerFault, only_quit_closes, serve_and_no
 use pop3_wire::Wire;
 use std::random::RandomSource;
 use std::rt::{Clock, Files};
-use trace::System;
+use system_calls::System;
 
 /// That a session came to QUIT, and how many removals its Maildir was asked for by its end. Nothing but
 /// `serve_account` makes one, and only after a line QUIT.

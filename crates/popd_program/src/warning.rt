@@ -8,7 +8,7 @@ use std::fmt::{self, Display, Formatter, Write};
 use std::net::SocketAddr;
 use std::os::unix::fs::PermissionsExt;
 use std::rt::Files;
-use trace::System;
+use system_calls::System;
 
 /// Something that may be wrong, though the program goes on.
 #[derive(Clone, Copy)]

@@ -8,7 +8,7 @@ use folder_store::{FolderMaildir, HostFile, HostFolder, ProcessMark};
 use mail_store::{FlatFile, MaildirDisk, account_id, deliver, file_stem, held};
 use mail_terms::{Listing, UidRows, is_legal_id};
 use std::alloc::Global;
-use trace::{Refusals, System};
+use system_calls::{Refusals, System};
 
 /// The id of message `number`, as the driver names its files.
 fn id_of(alloc: Global, number: u32) -> Result<String> {

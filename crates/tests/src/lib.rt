@@ -13,4 +13,4 @@ mod pop3_wire_tests;
 #[cfg(test)]
 mod support;
 #[cfg(test)]
-mod trace_tests;
+mod system_calls_tests;

@@ -4,7 +4,8 @@ use Rattle.std.specs.Prelude.{codes, count_by, min, option_map, take}
 use Rattle.pop3_wire.specs.declared.note.Note.{Note}
 use Rattle.pop3_wire.specs.declared.note.Note.TheVariants.{Command, Reply, Body}
 use Rattle.trace.specs.Command.{shown_command}
-use Rattle.trace.specs.Line.{HasTraceLine, count_text, most_shown}
+use Rattle.system_calls.specs.Line.{HasTraceLine}
+use Rattle.trace.specs.Line.{count_text, most_shown}
 use Rattle.trace.specs.Masking.{IsShown, is_login}
 use Rattle.trace.specs.declared.wire.Trace.{Trace}
 use Rattle.trace.specs.declared.wire.TracedWire.{TracedWire}

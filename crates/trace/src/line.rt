@@ -1,72 +1,12 @@
-//! The lines of a trace.
-ghost use Rattle.std.specs.Prelude.{◌≡◌, ◌++◌, ◌↔◌, IfOk, OnOk, IsTrue, take};
+//! What a line shows of a conversation.
+ghost use Rattle.std.specs.Prelude.{◌≡◌, IfOk, take};
 ghost use Rattle.std.specs.String.{string_bytes};
-ghost use Rattle.trace.specs.Line.{IsTraceLine, IsShowable, HasTraceLine, count_text};
-ghost use Rattle.trace.specs.Line.{most_shown, shown_octet};
+ghost use Rattle.trace.specs.Line.{count_text, most_shown};
 
 use std::alloc::{AllocError, Global};
-use std::io::{self, Write};
-use std::str;
 
 /// How many octets of a command or of an answer are shown.
-pub const SHOWN: usize = 512;
-
-/// Whether octets above ASCII are shown as they are: if all together are UTF-8, and hold no character
-/// from U+0080 to U+00BF, since some of these are control characters.
-fn is_showable(octets: &[u8]) -> bool
-    ensures { IsTrue result ↔ IsShowable octets.now }
-{
-    if octets.contains(&0xC2) {
-        return false;
-    }
-    str::from_utf8(octets).is_ok()
-}
-
-/// Appends what a line shows of an octet: the octet, or `\x` and two digits.
-#[tactic(auto, unfolding(crate::specs::Line::shown_octet))]
-fn put_octet(line: &mut Vec<u8>, wide: bool, octet: u8) -> Result<(), AllocError>
-    ensures { OnOk result (line.new.items ≡ line.old.items ++ shown_octet wide octet) }
-{
-    let is_plain = octet >= b' ' && octet < 0x7F && octet != b'\\';
-    if is_plain || (wide && octet >= 0x80) {
-        line.push(octet)?;
-        return Ok(());
-    }
-    let mut digits = [0; 2];
-    hex::encode_to_slice([octet].as_slice(), &mut digits).unwrap();
-    line.extend_from_slice(b"\\x")?;
-    line.extend_from_slice(&digits)?;
-    Ok(())
-}
-
-/// A line: the mark, and the octets. Control characters, backslashes and what isn't UTF-8 are escaped
-/// as `\x` and two digits.
-pub fn line_text(alloc: Global, mark: &str, octets: &[u8]) -> Result<Vec<u8>, AllocError>
-    ensures { IfOk result (λ line. IsTraceLine mark.now octets.now line.items) }
-{
-    let wide = is_showable(octets);
-    let mut line = Vec::from_slice(alloc, mark.as_bytes())?;
-    for octet in octets {
-        put_octet(&mut line, wide, *octet)?;
-    }
-    line.push(b'\n')?;
-    Ok(line)
-}
-
-/// What a line shows of octets.
-pub fn shown(alloc: Global, octets: &[u8]) -> Result<Vec<u8>, AllocError> {
-    let mut line = line_text(alloc, "", octets)?;
-    line.pop();
-    Ok(line)
-}
-
-/// Writes a line at once. If memory for it is refused, it is left out.
-pub fn write_line<E: Write>(alloc: Global, err: &mut E, mark: &str, octets: &[u8]) -> io::Result<()>
-    ensures { OnOk result (HasTraceLine E.contents err.old err.new mark.now octets.now) }
-{
-    let line = line_text(alloc, mark, octets)?;
-    err.write_all(line.as_slice())
-}
+const SHOWN: usize = 512;
 
 /// The front of an answer or a command that is shown.
 pub fn cut(octets: &[u8]) -> &[u8]

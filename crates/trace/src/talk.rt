@@ -1,9 +1,9 @@
 //! What was said in a conversation, to tell where it went wrong.
 use crate::command::is_word;
-use crate::line::shown;
 use crate::masking::Shown;
 use std::alloc::Global;
 use std::cell::Cell;
+use system_calls::shown;
 
 /// What was said, as a trace shows it; what wasn't said is empty. Without memory less is kept.
 #[derive(Drop)]

@@ -6,12 +6,13 @@ ghost use Rattle.trace.specs.Masking.{is_login};
 ghost use Rattle.trace.specs.Wire.{AddsTraceLine, Counts, Hides, ShowsAnswer, ShowsPart};
 
 use crate::command::{is_word, shown_command};
-use crate::line::{count_text, cut, write_line};
+use crate::line::{count_text, cut};
 use crate::masking::{Shown, is_login};
 use crate::talk::Talk;
 use pop3_wire::{Note, Wire, WireDown};
 use std::alloc::Global;
 use std::io::{self, Write};
+use system_calls::write_line;
 
 /// The octets of a body's last line, a full stop and CR LF.
 const END_MARK: u64 = 3;

@@ -6,7 +6,7 @@ use std::io::{self, ErrorKind, Read, Seek, SeekFrom};
 use std::random::RandomSource;
 use std::rt::Files;
 use std::time::Clock;
-use trace::Noted;
+use system_calls::Noted;
 
 /// The error for a file that isn't there.
 fn missing() -> io::Error {

@@ -6,7 +6,7 @@ use folder_drop::MaildirDrop;
 use pop3_server::{DropFault, Maildrop, MemoryDrop};
 use std::fs;
 use std::test::Fail;
-use trace::{Refusals, System};
+use system_calls::{Refusals, System};
 
 /// Prints a maildrop's fault.
 fn tell_drop_fault(rt: &HostRuntime, fault: DropFault) {

@@ -5,8 +5,9 @@ use crate::no_memory_tests::watched::{
 };
 use pop3_wire::{Note, Wire};
 use std::io::Read;
+use system_calls::{Refusals, System, line_text, refusal_text};
 use test_devices::ScriptWire;
-use trace::{Refusals, System, TracedWire, line_text, refusal_text};
+use trace::TracedWire;
 
 fn tell_line(rt: &HostRuntime) {
     begin(rt);

@@ -1,7 +1,7 @@
 //! What `Refusals` keeps of refused calls.
 
 use std::io::{Error, ErrorKind};
-use trace::Refusals;
+use system_calls::Refusals;
 
 /// What was refused before isn't the reason once memory ran out.
 #[test]
