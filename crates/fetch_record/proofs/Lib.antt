@@ -1,5 +1,5 @@
 mod LineLemmas
-mod MeaningLemmas
-mod MergeLemmas
+pub mod MeaningLemmas
+pub mod MergeLemmas
 mod ReadLemmas
 mod RowLemmas

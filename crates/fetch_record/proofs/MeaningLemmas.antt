@@ -28,6 +28,7 @@ use Rattle.fetch_record.specs.declared.seen.SeenFault.{SeenFault}
 use Rattle.fetch_record.specs.declared.seen.SeenFault.TheVariants.{RepeatedId, BadRow}
 use Rattle.fetch_record.proofs.LineLemmas.{text_unique, HasNo, body, body_text, clean_body, cut_unique, no_line, same_cons}
 use Rattle.fetch_record.proofs.RowLemmas.{fresh}
+use Rattle.mail_terms.proofs.ListLemmas.{both_none}
 
 judged_fails : (version : Version) (n : ℕ) (fault : SeenFault) (lines : List Line)
     → judged version n (Fails fault) lines ≡ Fails fault
@@ -391,10 +392,6 @@ has_bytes_behind : (front : List ℕ) (byte : ℕ) (more : List ℕ) → has_byt
 has_bytes_behind [] byte more = refl
 has_bytes_behind (c ∷ front) byte more = refl
 
-nothing_left : (front behind : List ℕ) → front ++ behind ≡ [] → (front ≡ []) × (behind ≡ [])
-nothing_left [] behind e = (refl, e)
-nothing_left (byte ∷ front) behind e = (cc, cc)
-
 -- a front of bytes that ends before the first LF, or after it
 split_at_feed : (body tail front behind : List ℕ) → HasNo 10 body → front ++ behind ≡ body ++ 10 ∷ tail
     → HasNo 10 front ⊎ ((more : List ℕ) × (front ≡ body ++ 10 ∷ more) × (more ++ behind ≡ tail))
@@ -431,7 +428,7 @@ record RowsFront (before rows : List Row) (front : List ℕ) : Type 0 where
 
 rows_front : (before rows : List Row) (front behind : List ℕ) → AllByRecursion IsRow rows → MayFollow before rows
     → front ++ behind ≡ flat_map record_row_line rows → behind ≢ [] → RowsFront before rows front
-rows_front before [] front behind each follows e some = absurd (some (nothing_left front behind e).1)
+rows_front before [] front behind each follows e some = absurd (some (both_none front behind e).1)
 rows_front before (row ∷ rows) front behind each follows e some =
     elim (split_at_line (RowLine row) each.0 (flat_map record_row_line rows) front behind e) [
       | inl none ↦ record {
@@ -513,7 +510,7 @@ module _ {bytes : List ℕ} {rows : List Row} {intent : Option Intent} (was : St
   intent_cut opened front behind is e left =
       elim (split_at_line (IntentLine opened) is [] front behind (e ∙ sym (append-nil (intent_line opened)))) [
         | inl none ↦ torn_piece front none
-        | inr more ↦ absurd (left (nothing_left more.0 behind more.2).1)
+        | inr more ↦ absurd (left (both_none more.0 behind more.2).1)
       ]
 
 intent_counts : (bytes : List ℕ) (rows : List Row) (intent : Intent) → Stood Two bytes rows None false → IsIntent intent
@@ -540,7 +537,7 @@ appended_counts bytes added old new before after some means (inr opens) =
 
 pub cut_is_ignored : CutIsIgnored
 cut_is_ignored bytes added front behind old new before after some means (inl (inl none)) cut left =
-    absurd (left (nothing_left front behind (sym cut ∙ none.0)).1)
+    absurd (left (both_none front behind (sym cut ∙ none.0)).1)
 cut_is_ignored bytes added front behind old new before after some means (inl (inr one)) cut left =
     group_cut (stood Two bytes old before false some means) one.0 front behind one.1 (sym cut ∙ one.2) left
 cut_is_ignored bytes added front behind old new before after some means (inr opens) cut left =
@@ -665,6 +662,6 @@ torn_ignored_or_seen bytes added left old new before after some means grows part
     cut = cut_is_ignored bytes added s.front s.behind old new before after some means grows s.added_is s.some
 
     piece : Stood Two (bytes ++ s.front) old before (has_bytes s.front)
-    piece = stood Two (bytes ++ s.front) old before (has_bytes s.front) (λ e. some (nothing_left bytes s.front e).0) cut
+    piece = stood Two (bytes ++ s.front) old before (has_bytes s.front) (λ e. some (both_none bytes s.front e).0) cut
 
 pub ruleset file_laws = (one_record, bytes_stand, open_has_row)

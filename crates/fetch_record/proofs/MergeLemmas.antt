@@ -25,11 +25,12 @@ use Rattle.fetch_record.specs.RecordFile.{changed, Two, record_row_line, written
 use Rattle.fetch_record.specs.RecordGrowth.{MayFollow, Updates, taken_all}
 use Rattle.fetch_record.specs.RecordMeaning.{delivers, may_take, with_taken}
 use Rattle.fetch_record.proofs.RowLemmas.{apart, ids_distinct, is_delivered-at, none_of, rest_of, same_row, uid_of}
-use Rattle.fetch_record.proofs.RowLemmas.{with_delivered-false, fresh, unmarked, any-map}
+use Rattle.fetch_record.proofs.RowLemmas.{with_delivered-false, fresh, unmarked}
+use Rattle.mail_terms.proofs.ListLemmas.{any_map}
 
 -- ---- the ids of a listing that have no row yet
 
-has_id-kept : (p : List ℕ → Bool) (ids : List (List ℕ)) (uid : List ℕ) → has_id (filter p ids) uid ≡ (has_id ids uid && p uid)
+pub has_id-kept : (p : List ℕ → Bool) (ids : List (List ℕ)) (uid : List ℕ) → has_id (filter p ids) uid ≡ (has_id ids uid && p uid)
 has_id-kept p ids uid = is_member-filter nat_list_eq_equiv p uid (alike_from_same bytes_eq-Decides p uid) ids
 
 has_id-distinct_ids : (uid : List ℕ) (ids : List (List ℕ)) → has_id (distinct_ids ids) uid ≡ has_id ids uid
@@ -79,7 +80,7 @@ has_id-new_of rows ids uid = has_id-kept (λ id. not (has_row rows id)) (distinc
 has_id-new_ids : (rows : List Row) (listing : List Item) (uid : List ℕ)
     → has_id (new_ids rows listing) uid ≡ (has_item listing uid && not (has_row rows uid))
 has_id-new_ids rows listing uid = has_id-new_of rows (ids_of listing) uid
-    ∙ ap (λ (b : Bool). b && not (has_row rows uid)) (any-map (bytes_eq uid) (λ (item : Item). item.uid) listing)
+    ∙ ap (λ (b : Bool). b && not (has_row rows uid)) (any_map (bytes_eq uid) (λ (item : Item). item.uid) listing)
 
 new_of-push : (rows : List Row) (ids : List (List ℕ)) (uid : List ℕ)
     → new_of rows (ids ++ uid ∷ []) ≡ cond (has_row rows uid || has_id ids uid) (new_of rows ids)
@@ -101,7 +102,7 @@ has_row-longer : (rows : List Row) (ids : List (List ℕ)) (now : ℕ) (uid : Li
     → has_row (rows ++ map (undelivered now) (new_of rows ids)) uid ≡ has_row rows uid || has_id ids uid
 has_row-longer rows ids now uid =
     list_any-append (is_of uid) rows (map (undelivered now) (new_of rows ids))
-    ∙ ap (λ (b : Bool). has_row rows uid || b) (any-map (is_of uid) (undelivered now) (new_of rows ids) ∙ has_id-new_of rows ids uid)
+    ∙ ap (λ (b : Bool). has_row rows uid || b) (any_map (is_of uid) (undelivered now) (new_of rows ids) ∙ has_id-new_of rows ids uid)
     ∙ grind arith
 
 pub added_next : (rows : List Row) (listing : List Item) (now i : ℕ) (new : List Row) (uid : List ℕ)
@@ -135,7 +136,7 @@ pub delivered-marked : (rows : List Row) (uid other : List ℕ)
 delivered-marked rows uid other = delivered-with (bytes_eq uid) rows other
 
 pub has_row-marked : (rows : List Row) (uid other : List ℕ) → has_row (marked rows uid) other ≡ has_row rows other
-has_row-marked rows uid other = any-map _ _ rows
+has_row-marked rows uid other = any_map _ _ rows
 
 none_new : (now : ℕ) (ids : List (List ℕ)) (uid : List ℕ) → is_delivered (map (undelivered now) ids) uid ≡ false
 none_new now [] uid = refl
@@ -168,7 +169,7 @@ delivered-merged rows listing held now uid =
       list_any-append (λ row. is_of uid row && row.delivered) rows (map (undelivered now) (new_ids rows listing)),
       none_new now (new_ids rows listing) uid,
       has_row-longer rows (ids_of listing) now uid,
-      any-map (bytes_eq uid) (λ (item : Item). item.uid) listing,
+      any_map (bytes_eq uid) (λ (item : Item). item.uid) listing,
     )
     (let listed = flagged_listed listing held uid in grind (arith, listed))
 
@@ -176,10 +177,10 @@ pub has_row-merged : (rows : List Row) (listing : List Item) (held : List Bool) 
     → has_row (merged rows listing held now) uid ≡ has_row rows uid || has_item listing uid
 has_row-merged rows listing held now uid =
     ap (λ (rs : List Row). has_row rs uid) (sym (merged_steps rows listing held now))
-    ∙ any-map (is_of uid) (λ (row : Row). with_delivered (is_flagged listing held row.uid) row)
+    ∙ any_map (is_of uid) (λ (row : Row). with_delivered (is_flagged listing held row.uid) row)
     (rows ++ map (undelivered now) (new_ids rows listing))
     ∙ has_row-longer rows (ids_of listing) now uid
-    ∙ ap (λ (b : Bool). has_row rows uid || b) (any-map (bytes_eq uid) (λ (item : Item). item.uid) listing)
+    ∙ ap (λ (b : Bool). has_row rows uid || b) (any_map (bytes_eq uid) (λ (item : Item). item.uid) listing)
 
 -- ---- a merge changes no more rows than the listing has messages
 
@@ -227,10 +228,10 @@ merge_is_short rows listing held now is = omega (
   length-le_from_is_member nat_list_eq_equiv (map uid_of group) (ids_of listing)
       (changed_are rows (merged rows listing held now) (recursion_from_All IsRow _ is.each, ids_distinct _ is)).1
       (λ uid there.
-      any-map (bytes_eq uid) (λ (item : Item). item.uid) listing ∙ changed_listed listing held rows _ uid
-      (λ at. (and_parts _ _ (sym (any-map (is_of uid) (new_row listing held now) (new_ids rows listing)
+      any_map (bytes_eq uid) (λ (item : Item). item.uid) listing ∙ changed_listed listing held rows _ uid
+      (λ at. (and_parts _ _ (sym (any_map (is_of uid) (new_row listing held now) (new_ids rows listing)
       ∙ has_id-new_ids rows listing uid) ∙ at)).0)
-      (sym (any-map (bytes_eq uid) uid_of group) ∙ there)),
+      (sym (any_map (bytes_eq uid) uid_of group) ∙ there)),
   length-map group uid_of,
   length-map listing (λ (item : Item). item.uid),
 )

@@ -36,10 +36,7 @@ use Rattle.fetch_record.specs.declared.seen.SeenFault.TheVariants.{RepeatedId}
 use Rattle.fetch_record.specs.declared.reading.Part.{Part}
 use Rattle.fetch_record.specs.declared.reading.Part.TheVariants.{Base, Between, Within}
 use Rattle.fetch_record.specs.declared.row_map.State.{State}
-
-pub any-map : {X Y : Type 0} (p : Y → Bool) (f : X → Y) (xs : List X) → list_any p (map f xs) ≡ list_any (λ x. p (f x)) xs
-any-map p f [] = refl
-any-map p f (x ∷ xs) = rw (any-map p f xs) refl
+use Rattle.mail_terms.proofs.ListLemmas.{any_map}
 
 pub with_delivered-false : (row : Row) → with_delivered false row ≡ row
 with_delivered-false row = ap (λ (b : Bool). record row { delivered = b }) (or-false row.delivered)
@@ -68,7 +65,7 @@ IsRecord-push : (rows : List Row) (row : Row) → IsRecord rows → IsRow row �
 IsRecord-push rows row is is_row none = record {
   each = All-push IsRow rows row is.each is_row;
   distinct = rw map-append (AllPairs-from_IsDistinct bytes_eq-Decides _
-      (IsDistinct-push nat_list_eq_equiv (map uid_of rows) row.uid (ids_distinct rows is) (any-map (bytes_eq row.uid) uid_of rows ∙ none)));
+      (IsDistinct-push nat_list_eq_equiv (map uid_of rows) row.uid (ids_distinct rows is) (any_map (bytes_eq row.uid) uid_of rows ∙ none)));
 }
 
 pub IsRecord-take : (n : ℕ) (rows : List Row) → IsRecord rows → IsRecord (take n rows)

@@ -1,1 +1,1 @@
-mod PlanLemmas
+pub mod PlanLemmas

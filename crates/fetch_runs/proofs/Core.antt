@@ -23,7 +23,7 @@ use Rattle.mail_terms.specs.UniqueId.{has_id, is_legal_id}
 use Rattle.fetch_runs.specs.Accounts.{message_ids, item_of, listing_of, is_selected, selected, without, AccountMail}
 use Rattle.fetch_runs.specs.Sessions.{AreTexts, file_for, is_unheld, Effect, IsHonest, ids_wanted, StoresTexts, MboxMail, MboxStores}
 use Rattle.fetch_runs.specs.Promises.{may_fetch, IsPastCount}
-use Rattle.fetch_runs.proofs.Lists.{filter-map, filter-swap, list_any-map, all_map, all_take, all_filter, Distinct, are_distinct, front_is}
+use Rattle.fetch_runs.proofs.Lists.{filter-map, filter-swap, any_map, all_map, all_take, all_filter, Distinct, are_distinct, front_is}
 use Rattle.fetch_runs.proofs.Lists.{filter-filter, filter_all, all_both, all_passing, all_front, distinct_is, distinct_take}
 use Rattle.fetch_runs.proofs.Lists.{distinct_filter, ids_both, all_at, all_ids_at, bytes_self, bytes_same, members, other_id}
 use Rattle.fetch_session.specs.declared.report.Report.{Report}
@@ -31,8 +31,8 @@ use Rattle.pop3_wire.specs.declared.command.Command.{Command}
 
 pub has_listed : {listing : List Item} (ms : List Message) → listing ≡ listing_of ms → (id : List ℕ)
     → has_item listing id ≡ has_id (message_ids ms) id
-has_listed ms e id = rw e (list_any-map (λ (i : Item). bytes_eq id i.uid) item_of ms
-    ∙ sym (list_any-map (bytes_eq id) (λ (m : Message). m.uid) ms))
+has_listed ms e id = rw e (any_map (λ (i : Item). bytes_eq id i.uid) item_of ms
+    ∙ sym (any_map (bytes_eq id) (λ (m : Message). m.uid) ms))
 
 -- ---- numbered messages
 

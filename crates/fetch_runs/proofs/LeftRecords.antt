@@ -24,7 +24,6 @@ use Rattle.fetch_record.specs.RecordGrowth.{AppendedCounts, OneMeaning, OneRecor
 use Rattle.fetch_record.specs.RecordTorn.{IsPartOf, TornIsIgnoredOrSeen, ends_at_zero}
 use Rattle.fetch_record.specs.declared.seen.SeenFault.TheVariants.{BadRow}
 use Rattle.fetch_rules.specs.Plan.{IsQuiet, planned}
-use Rattle.fetch_rules.specs.declared.steps.Step.{Step}
 use Rattle.fetch_session.specs.Lasting.{AreLeft, CarriedLasts, CarriesLast, IsRecordUntouched, Lasts, LeavesFile}
 use Rattle.fetch_session.specs.Lasting.{IsGrownAtMost, LeavesMerged, ProceedsLast, SessionLasts, UnlessQuiet, UnreadyLasts, IsSafeFile}
 use Rattle.fetch_session.specs.Laws.{LeavesDurable}
@@ -35,7 +34,7 @@ use Rattle.fetch_session.specs.Session.{Keeping, Proceeds, Session, account_file
 use Rattle.fetch_session.specs.Store.{RefusesText}
 use Rattle.fetch_session.specs.Target.{AsFiles, Stores, held_flags, in_maildir}
 use Rattle.fetch_session.specs.Task.{Done, Task, file_from, files_in, files_of, ids_ahead, ids_in, marked_ids, stores}
-use Rattle.fetch_session.specs.Task.{tasks_of, tasks_planned}
+use Rattle.fetch_session.specs.Task.{tasks_of}
 use Rattle.fetch_session.specs.declared.account.Store.TheVariants.{Maildir as InMaildir}
 use Rattle.fetch_session.specs.declared.fault.Cut.{Cut}
 use Rattle.fetch_session.specs.declared.report.Report.{Report}
@@ -53,10 +52,10 @@ use Rattle.rc_file.specs.declared.settings.Settings.{Settings}
 use Rattle.fetch_runs.specs.Accounts.{has_named, AccountMail}
 use Rattle.fetch_runs.specs.Losses.{RecordIsSure}
 use Rattle.fetch_runs.specs.Steps.{holds}
-use Rattle.fetch_runs.proofs.State.{unready_files}
-use Rattle.fetch_runs.proofs.Turns.{both_none}
-use Rattle.fetch_runs.proofs.Lists.{bytes_same, all_append, same_held, same_rows}
+use Rattle.fetch_runs.proofs.Lists.{bytes_same, all_append, both_none, same_held, same_rows}
 use Rattle.fetch_runs.specs.Below.{Below}
+use Rattle.fetch_session.proofs.TakenLemmas.{unready_same}
+use Rattle.fetch_session.proofs.SessionLemmas.{quiet_ids}
 
 abbrev AreLegal : List Row → Type 0
 AreLegal rows = AllByRecursion (λ (row : Row). is_legal_id row.uid ≡ true) rows
@@ -239,11 +238,6 @@ no_files account (d ∷ dones) none =
     by : (task : Task) → ids_in task ≡ [] → files_in account task d.replies ≡ []
     by (stores number uid) never = absurd cc
     by other none = refl
-
-pub quiet_ids : (steps : List Step) (items : List Item) (held : List Bool) → AllByRecursion IsQuiet steps
-    → ids_ahead (tasks_planned steps items held) ≡ []
-quiet_ids (s ∷ ss) (i ∷ is) (h ∷ hs) quiet = grind (arith, quiet.0.0, quiet.0.1, quiet_ids ss is hs quiet.1)
-quiet_ids steps items held quiet = refl
 
 module _ (account : List ℕ) (settings : Settings) (items : List Item) (now : ℕ) (place : Place) (left : Maildir) (file : Stored) where
   -- no file came
@@ -526,7 +520,7 @@ module _ (laws : Below) {D F : Type 0} (files : FileGhosts F) (device device' : 
                 (in_maildir left) (files.stored from) [] (Err cut) session.mid (in_maildir maildir) (files.stored f)
                 session.notes.lines session.notes.skipped carries (InMaildir device') f → Answered
             of (rows', inl (none_said, unprepared)) all =
-                unready dealt.items (unready_files cut.fault left (files.stored from) maildir (files.stored f)
+                unready dealt.items (unready_same cut.fault left (files.stored from) maildir (files.stored f)
                 unprepared.unready.cause) unprepared.unready.content (all (tt, sure.0))
             of (rows', inr c) all = by_plan c.prepared.durable (all (tt, sure.0))
               where
@@ -568,7 +562,7 @@ module _ (laws : Below) {D F : Type 0} (files : FileGhosts F) (device device' : 
       by (Err cut) (inl stopped) = same (ap (λ (k : Keeping). k.store.maildir.files) stopped.same)
       by (Err cut) (inr (inl wanting)) = same (ap (λ (k : Keeping). k.store.maildir.files) wanting.same)
       by (Err cut) (inr (inr dealt)) = elim dealt.carries.1 [
-        | inl (none_said, unprepared) ↦ same (unready_files cut.fault left (files.stored from) maildir (files.stored f)
+        | inl (none_said, unprepared) ↦ same (unready_same cut.fault left (files.stored from) maildir (files.stored f)
             unprepared.unready.cause)
         | inr c ↦ of c
       ]

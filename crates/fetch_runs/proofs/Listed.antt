@@ -29,6 +29,7 @@ use Rattle.pop3_wire.specs.Reading.{has_body, IsBodyIf, IsReplyTo, OneReading}
 use Rattle.fetch_runs.specs.Sessions.{IsGoodReply, AreGood, AreGranted, HonestIsGranted, IsListed, IsNumbered, Retrieves}
 use Rattle.pop3_wire.specs.declared.command.Command.{Command}
 use Rattle.fetch_runs.specs.Below.{Below}
+use Rattle.pop3_wire.proofs.BodyLemmas.{two_statuses}
 
 -- a reply's body is what follows its first line
 body_is : OneLine → (reply : WholeReply) (first body : List ℕ) → IsLine reply.first → SaysAnything Positive first
@@ -176,11 +177,6 @@ listing_is_maildrop laws drop name word commands user pass stat uidl list replie
 
 -- ---- what was got splits into replies in one way only
 
--- a line isn't both positive and negative
-not_both : (line rest other : List ℕ) → IsFirstLine line Positive rest → IsFirstLine line Negative other → ⊥
-not_both line rest other p n =
-    let head : ◌≡◌ {A = ℕ} 43 45 = cc (p.1, n.1) in absurd (omega (arith, head))
-
 -- the octets are those of a whole reply to the command
 pub record Looks (command : Command) (bytes : List ℕ) : Type 0 where
   pub reply : WholeReply
@@ -230,7 +226,7 @@ module _ (law : OneReading) (drop : List Message) where
         whole = said ∙ sym (append-nil (ended (indicator Negative ++ after)));
       } in
       let no : IsFirstLine (indicator Negative ++ after) Negative (without_space after) = (after, refl, refl) in
-      absurd (not_both reply.first good.rest (without_space after) good.positive
+      absurd (two_statuses refl good.positive
       (rw (ap (λ (r : WholeReply). r.first) (same_reply reply more tail refused good e).0) at no))
   granted marks command bytes next reply more tail (inr grants) good e =
       let look = looks drop marks command bytes next grants in

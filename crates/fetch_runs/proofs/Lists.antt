@@ -14,7 +14,8 @@ use Rattle.std.proofs.lemmas.List.Kept.{AllPairs-cons}
 use Rattle.std.proofs.lemmas.Option.{same_Some}
 use Rattle.std.proofs.lemmas.Slice.Eq.{bytes_eq-Decides}
 use Rattle.pop3_wire.specs.World.{Message}
-pub use Rattle.mail_terms.proofs.ListLemmas.{all_append, list_any-map}
+pub use Rattle.mail_terms.proofs.ListLemmas.{all_append, all_back, all_front, any_map, both_none}
+pub use Rattle.mail_terms.proofs.IdLemmas.{same_from_test as bytes_same}
 use Rattle.mail_terms.specs.Distinct.{AreDistinct}
 use Rattle.mail_terms.specs.Listing.{Item, has_item, is_flagged}
 use Rattle.mail_terms.specs.UniqueId.{has_id}
@@ -27,6 +28,7 @@ use Rattle.fetch_session.specs.Record.{Keeps, KeepsRows}
 use Rattle.fetch_runs.specs.Accounts.{copies, message_ids, texts_of}
 use Rattle.fetch_runs.specs.Below.{Below}
 use Rattle.fetch_session.specs.Target.{none_held}
+use Rattle.fetch_record.proofs.MergeLemmas.{has_id-kept}
 
 pub filter-filter : {X : Type 0} (p q : X → Bool) (xs : List X) → filter p (filter q xs) ≡ filter (λ x. q x && p x) xs
 filter-filter p q [] = refl
@@ -93,14 +95,6 @@ module _ {X : Type 0} where
   filter_all p [] h = refl
   filter_all p (x ∷ xs) h = grind (arith, filter_all p xs h.1)
 
-  pub all_front : (P : X → Type 0) (xs ys : List X) → AllByRecursion P (xs ++ ys) → AllByRecursion P xs
-  all_front P [] ys h = tt
-  all_front P (x ∷ xs) ys h = (h.0, all_front P xs ys h.1)
-
-  pub all_back : (P : X → Type 0) (xs ys : List X) → AllByRecursion P (xs ++ ys) → AllByRecursion P ys
-  all_back P [] ys h = h
-  all_back P (x ∷ xs) ys h = all_back P xs ys h.1
-
   pub all_take : (P : X → Type 0) (n : ℕ) (xs : List X) → AllByRecursion P xs → AllByRecursion P (take n xs)
   all_take P n xs h = all_front P (take n xs) (drop n xs) (rw take-append-drop h)
 
@@ -109,9 +103,6 @@ module _ {X : Type 0} where
   all_mapped P f (x ∷ xs) h = (h.0, all_mapped P f xs h.1)
 
 -- ---- ids of messages
-
-pub bytes_same : (a b : List ℕ) → bytes_eq a b ≡ true → a ≡ b
-bytes_same a b test = (bytes_eq-Decides a b).0 test
 
 pub bytes_self : (a : List ℕ) → bytes_eq a a ≡ true
 bytes_self a = (bytes_eq-Decides a a).1 refl
@@ -127,16 +118,12 @@ bytes_swap a b = same_tests {a = a} {b = b} sym sym
 
 -- ---- whether an id is among these
 
-pub has_filtered : (p : List ℕ → Bool) (ids : List (List ℕ)) (id : List ℕ) → has_id (filter p ids) id ≡ (has_id ids id && p id)
-has_filtered p [] id = refl
-has_filtered p (x ∷ xs) id = grind (arith, has_filtered p xs id, λ (e : bytes_eq id x ≡ true). ap p (bytes_same id x e))
-
 pub ids_filtered : (p : List ℕ → Bool) (ms : List Message) (id : List ℕ)
     → has_id (message_ids (filter (λ (m : Message). p m.uid) ms)) id ≡ (has_id (message_ids ms) id && p id)
-ids_filtered p ms id = rw (← filter-map p (λ (m : Message). m.uid) ms) (has_filtered p (message_ids ms) id)
+ids_filtered p ms id = rw (← filter-map p (λ (m : Message). m.uid) ms) (has_id-kept p (message_ids ms) id)
 
 pub has_texts : (ms : List Message) (id : List ℕ) → has_id (message_ids ms) id ≡ is_some (texts_of ms id)
-has_texts ms id = list_any-map (bytes_eq id) (λ (m : Message). m.uid) ms
+has_texts ms id = any_map (bytes_eq id) (λ (m : Message). m.uid) ms
     ∙ any_filter (λ (m : Message). bytes_eq id m.uid) (λ (m : Message). m.text) ms
 
 pub ids_both : (ms ns : List Message) (id : List ℕ)

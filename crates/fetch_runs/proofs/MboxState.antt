@@ -41,6 +41,7 @@ use Rattle.fetch_runs.proofs.Tasks.{same_length, rows_after, Part, right_part, w
 use Rattle.fetch_runs.proofs.Tasks.{or_less, Tally, not_ended, tally_begun, tally_number, tally_recorded, tally_none, mid_rows, mid_keeps}
 use Rattle.fetch_runs.proofs.Tasks.{part_all, tally_all, part_done, tally_no_line, full_found, tally_spare, tally_old, tally_new, full_rows}
 use Rattle.fetch_runs.proofs.State.{CourseLeads, by_course}
+use Rattle.fetch_session.proofs.TextLemmas.{same_content}
 
 -- the file was only looked at
 pub same_looked : (old new : Stores) (fault : Fault) → RefusesAgain old fault new → new.mbox.content ≡ old.mbox.content
@@ -75,9 +76,6 @@ abbrev LeavesEntry : List ℕ → List Row → List ℕ → List ℕ → Stored 
 LeavesEntry was rows uid text mbox' file' = ((mbox'.content ≡ Some was) × Keeps file'.content (none_open rows))
     ⊎ ((front behind : List ℕ) × (entry_of text ≡ front ++ behind) × (mbox'.content ≡ Some (was ++ front))
     × Keeps file'.content (with_open rows (intent_of was uid text)))
-
-same_content : {a b : Stored} → a ≡ b → a.content ≡ b.content
-same_content same = ap (λ (s : Stored). s.content) same
 
 module _ (steadies : SteadyFilesKeep) (unsaved : UnsavedFilesKeep) (was : List ℕ) (mbox file : Stored) (rows : List Row)
     (uid text : List ℕ) (mbox' file' : Stored) (there : mbox.content ≡ Some was)

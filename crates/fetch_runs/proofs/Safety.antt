@@ -40,9 +40,10 @@ use Rattle.pop3_wire.specs.Place.{at}
 use Rattle.mail_store.specs.Maildir.{File}
 use Rattle.fetch_session.specs.declared.report.Outcome.TheVariants.{Ended}
 use Rattle.fetch_runs.proofs.Turns.{text_found}
-use Rattle.pop3_wire.specs.Body.{kept, text_of, unstuffed}
+use Rattle.pop3_wire.specs.Body.{kept}
 use Rattle.mail_terms.specs.Text.{IsWhole}
 use Rattle.fetch_session.specs.declared.report.Report.{Report}
+use Rattle.fetch_session.proofs.TextLemmas.{text_whole}
 
 -- ---- one message of an id
 
@@ -439,17 +440,12 @@ session_holds laws settings account before {sent} {got} {report} effect {after} 
 
 -- ---- after a session that ended, the mboxrd file also stands for the texts that came: these are whole
 
-lines_whole : (lines : List (List ℕ)) → IsWhole (text_of lines)
-lines_whole [] = inl refl
-lines_whole (line ∷ lines) = inr (⊎_elim (λ none. (unstuffed line, rw none (append-nil (kept line))))
-    (λ (front, is). (kept line ++ front, rw is (sym (append_assoc (kept line) front (10 ∷ []))))) (lines_whole lines))
-
 retrieved_whole : (commands : List Command) (replies : List WholeReply) (found : List (ℕ × List ℕ))
     → Retrieves commands replies found → AllByRecursion IsWhole (map text_found found)
 retrieved_whole commands [] found none = rw none tt
 retrieved_whole [] (reply ∷ replies) found never = absurd never
 retrieved_whole (Retr number ∷ commands) (reply ∷ replies) found (text, more, body, is, later) =
-    rw is (rw body.read (lines_whole body.lines), retrieved_whole commands replies more later)
+    rw is (rw body.read (text_whole body.lines), retrieved_whole commands replies more later)
 retrieved_whole (other ∷ commands) (reply ∷ replies) found later = retrieved_whole commands replies found later
 
 -- ---- entries after a file that stands for texts

@@ -20,7 +20,6 @@ use Rattle.fetch_runs.specs.Below.{Below}
 use mathlib.Core.Logic.{⊎_map}
 use Rattle.mail_store.specs.FlatFile.{Stored}
 use Rattle.fetch_session.specs.declared.fault.Cut.{Cut}
-use Rattle.fetch_session.specs.declared.fault.Fault.{Fault}
 use Rattle.fetch_session.specs.declared.fault.Fault.TheVariants.{StoreRefused}
 use Rattle.fetch_session.specs.declared.report.Outcome.TheVariants.{Cut as WasCut}
 use Rattle.fetch_session.specs.declared.report.ReportLine.{ReportLine}
@@ -29,7 +28,6 @@ use Rattle.fetch_session.specs.Record.{KeepsRows}
 use Rattle.fetch_session.specs.Scene.{Scene, scene, Went, Fell, NoFile, FileNotSaved, Stops, Does}
 use Rattle.fetch_session.specs.Session.{outcome_of, Keeping, Noted, Proceeds, AccountFiles, keeping, keeps_files}
 use Rattle.fetch_runs.specs.Accounts.{without_flags}
-use Rattle.fetch_session.specs.Readiness.{UnreadyCause}
 use Rattle.fetch_session.specs.Store.{RefusesText}
 use Rattle.fetch_session.specs.declared.report.Report.{Report}
 use Rattle.pop3_wire.specs.declared.command.Command.{Command}
@@ -39,6 +37,7 @@ use Rattle.fetch_runs.proofs.Tasks.{tasks_ahead, Inputs, rows_on, count}
 use Rattle.fetch_runs.proofs.Tasks.{rows_after, records_part, files_part, is_ended, Starts}
 use Rattle.fetch_runs.proofs.Tasks.{Tally, tally_begun, tally_number, tally_none, mid_rows, mid_keeps}
 use Rattle.fetch_runs.proofs.Tasks.{tally_all, tally_no_line, tally_spare, tally_old, tally_new, full_rows}
+use Rattle.fetch_session.proofs.TakenLemmas.{unready_same}
 
 -- ---- of a session
 
@@ -129,12 +128,6 @@ pub record Leads (settings : Settings) (account : List ℕ) (now : ℕ) (maildir
   pub keeps : KeepsRows content' rows'
   pub recorded : (rows' ≡ rows_after (inputs settings account now maildir rows c.items) noted)
       ⊎ ((rows' ≡ rows) × (found_of c ≡ []) × (begun_of c ≡ []) × (is_ended result ≡ false))
-
--- the files are as they were
-pub unready_files : (fault : Fault) (old : Maildir) (file : Stored) (new : Maildir) (file' : Stored)
-    → UnreadyCause fault old file new file' → new.files ≡ old.files
-unready_files (StoreRefused why.Refused) old file new file' is = rw is refl
-unready_files fault old file new file' is = grind arith
 
 module _ (laws : Below) (settings : Settings) (account : List ℕ) (now : ℕ) (maildir : Maildir) (rows : List Row) where
   abbrev p : List Item → Inputs
@@ -275,7 +268,7 @@ module _ (laws : Below) (settings : Settings) (account : List ℕ) (now : ℕ) (
         let none : Tally (p items) (Err cut) (course items [] [] []) [] [] (RefusedIn (Err cut)) =
         tally_none laws (p items) in
         let same : AddsFiles account maildir [] new.store.maildir =
-        ap without_flags (unready_files cut.fault maildir file new.store.maildir new.file is.unready.cause)
+        ap without_flags (unready_same cut.fault maildir file new.store.maildir new.file is.unready.cause)
         ∙ sym (append-nil (without_flags maildir.files)) in
         -- the record is as it was
         let stays : KeepsRows new.file.content rows

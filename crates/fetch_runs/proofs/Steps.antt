@@ -29,7 +29,7 @@ use Rattle.fetch_session.specs.Record.{Keeps, KeepsRows}
 use Rattle.fetch_session.specs.Session.{MboxAccountFiles, keeps_files, outcome_of, Keeping, keeps_entries, SessionIn}
 use Rattle.fetch_session.specs.Target.{AsFiles, AsEntries, mail_in, no_maildir, Target}
 use Rattle.fetch_runs.proofs.Talk.{name_of, word_of, Spoke, session_spoke, Planned, idle_said, is_tail_for}
-use Rattle.fetch_runs.proofs.Turns.{Course, course, SessionCourse, Idle, Deals, begun_of, IsOfTask, begins_of, both_none, deleted_in}
+use Rattle.fetch_runs.proofs.Turns.{Course, course, SessionCourse, Idle, Deals, begun_of, IsOfTask, begins_of, deleted_in}
 use Rattle.fetch_runs.proofs.Turns.{deleted_by, effect_of, tail_for, course_proceeded, found_by, found_in}
 use Rattle.fetch_runs.proofs.Tasks.{IsRight, found_all, count, is_ended, tally_numbers, tally_right}
 use Rattle.fetch_runs.proofs.MboxState.{MboxLeads, Rests, course_leaves, mbox_figures, mbox_inputs}
@@ -37,6 +37,7 @@ use Rattle.fetch_runs.proofs.State.{CourseLeads, Leads, course_leads, figures, i
 use Rattle.pop3_wire.specs.Link.{Link}
 use Rattle.fetch_session.specs.declared.report.Report.{Report}
 use Rattle.fetch_runs.proofs.Safety.{session_holds, mbox_session_holds, session_honest}
+use Rattle.mail_terms.proofs.ListLemmas.{both_none}
 
 -- ---- deletions
 

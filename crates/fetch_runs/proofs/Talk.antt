@@ -57,9 +57,10 @@ use Rattle.rc_file.specs.Settings.{IsValid}
 use Rattle.fetch_session.specs.declared.report.Report.{Report}
 use Rattle.fetch_runs.proofs.Turns.{Course, SessionCourse, Idle, Deals, course_does, course_carried, course_carries, course_dealt}
 use Rattle.fetch_runs.proofs.Turns.{course_proceeded, found_of, begun_of, IsOfTask, number_found, number_of, effect_of, said_in}
-use Rattle.fetch_runs.proofs.Turns.{commands_in, CanBeSaid, both_none, begins_any, begins_one, Commanded, commanded, IsCommand}
+use Rattle.fetch_runs.proofs.Turns.{commands_in, CanBeSaid, begins_any, begins_one, Commanded, commanded, IsCommand}
 use Rattle.fetch_runs.proofs.Turns.{replies_read, each_found, IsPlain, plain_ahead, said_tasks, commands_tasks, of_tasks, fronted, Goes}
 use Rattle.fetch_runs.proofs.Turns.{goes_tail, goes_broke, conversation, Took, tail_for, Ahead, ahead_cut, tailed, all_done, ahead_stopped}
+use Rattle.mail_terms.proofs.ListLemmas.{both_none}
 
 -- ---- The opening of a session, as the law over accounts reads it.
 

@@ -198,11 +198,6 @@ abbrev pub CanBeSaid : Turn → Type 0
 CanBeSaid None = Unit {0}
 CanBeSaid (Some command) = (can_be_sent command ≡ true) × HasNumbers command
 
--- if two lists are empty together, each is empty
-pub both_none : {A : Type 0} (xs ys : List A) → xs ++ ys ≡ [] → (xs ≡ []) × (ys ≡ [])
-both_none [] ys e = (refl, e)
-both_none (x ∷ xs) ys e = absurd (let f : x ∷ (xs ++ ys) ≡ [] = e in cc)
-
 -- if there are no octets, any commands may be next
 pub begins_any : (next : List Command) (part : List ℕ) → part ≡ [] → BeginsNext next part
 begins_any [] part e = e

@@ -1,12 +1,12 @@
 mod CutLemmas
-mod DurableLemmas
+pub mod DurableLemmas
 mod HearingLemmas
 mod MessagePreviewLemmas
 mod PartLemmas
 mod ReadyLemmas
-mod SceneLemmas
+pub mod SceneLemmas
 pub mod ServedLemmas
-mod SessionLemmas
-mod TakenLemmas
+pub mod SessionLemmas
+pub mod TakenLemmas
 mod TalkLemmas
-mod TextLemmas
+pub mod TextLemmas

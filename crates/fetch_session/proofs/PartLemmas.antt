@@ -45,7 +45,7 @@ use Rattle.fetch_session.proofs.ReadyLemmas.{fetched_all, OneMore, ahead, fresh_
 use Rattle.fetch_session.proofs.TalkLemmas.{most_tail, takes_on, took_broke, took_less, took_nothing, with_tail_on, cut_by, till_cut}
 use Rattle.fetch_session.proofs.SessionLemmas.{good_before, good_more, in_kind, keeps_same, no_more_keeps, none_lasts, nothing_cut}
 use Rattle.fetch_session.proofs.SessionLemmas.{grown_left, rows_last, same_left, scene_at, texts_ok}
-use Rattle.mail_terms.proofs.ListLemmas.{all_append}
+use Rattle.mail_terms.proofs.ListLemmas.{all_append, all_front, both_none}
 use Rattle.fetch_session.proofs.SceneLemmas.{did_then, all_sound, all_none, all_weaker, fell_first, on_any}
 use Rattle.mail_store.specs.FlatFile.{Stored}
 use Rattle.mail_store.specs.declared.file.flat_file.Edges.{Edges}
@@ -138,10 +138,6 @@ planned_all P (s ∷ ss) (i ∷ is) (h ∷ hs) all =
 planned_all P _ _ _ all = tt
 
 -- ---- the first of these tasks
-
-all_front : {A : Type 0} (P : A → Type 0) (xs ys : List A) → AllByRecursion P (xs ++ ys) → AllByRecursion P xs
-all_front P [] ys all = tt
-all_front P (x ∷ xs) ys all = (all.0, all_front P xs ys all.1)
 
 fresh_front : (account : List ℕ) (maildir : Maildir) (xs ys : List (List ℕ)) → AreFresh account maildir (xs ++ ys)
     → AreFresh account maildir xs
@@ -252,10 +248,6 @@ module _ {D F H Z : Type 0} {disk : DiskGhosts D} {file : FileGhosts F} where
 
 -- ---- parts one after the other
 
-none_both : (xs ys : List (List ℕ)) → xs ++ ys ≡ [] → (xs ≡ []) × (ys ≡ [])
-none_both [] ys none = (refl, none)
-none_both (x ∷ xs) ys none = absurd cc
-
 module _ {W D F H Z : Type 0} {link : WireGhosts W} {disk : DiskGhosts D} {file : FileGhosts F} {account : List ℕ} where
   pub runs_nothing : ((w : W) → link.leads_to w w) → {c : Client W} {w : Work D F H Z} → IsReadyForNext disk file w
       → RunsTasks link disk file account [] c w (Ok tt) c w
@@ -297,7 +289,7 @@ module _ {W D F H Z : Type 0} {link : WireGhosts W} {disk : DiskGhosts D} {file 
           let later = then.lasts d f in
           let before = first.lasts (then.store.none_begun d).0 later.0 in
           (before.0, λ safe. later.1 (before.1 safe));
-      idle = λ none. let both = none_both (ids_ahead xs) (ids_ahead ys) (sym (flat_map-append ids_in xs ys) ∙ none)
+      idle = λ none. let both = both_none (ids_ahead xs) (ids_ahead ys) (sym (flat_map-append ids_in xs ys) ∙ none)
           in (
             (then.idle both.1).0 ∙ (first.idle both.0).0,
             λ d left may.
@@ -324,7 +316,7 @@ module _ {W D F H Z : Type 0} {link : WireGhosts W} {disk : DiskGhosts D} {file 
       talk = link_on (most_of (turns_ahead (xs ++ ys))) (omega (arith, most_ahead xs ys)) link_still kept.talk;
       store = store_less (omega (arith, length-append xs ys)) kept.store;
       lasts = kept.lasts;
-      idle = λ none. kept.idle (none_both (ids_ahead xs) (ids_ahead ys) (sym (flat_map-append ids_in xs ys) ∙ none)).0;
+      idle = λ none. kept.idle (both_none (ids_ahead xs) (ids_ahead ys) (sym (flat_map-append ids_in xs ys) ∙ none)).0;
       next = tt;
     },
     λ s d f. did_then (did s d f) (good_before ys),

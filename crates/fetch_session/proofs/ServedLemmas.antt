@@ -19,7 +19,7 @@ use Rattle.fetch_record.specs.RecordMeaning.{Meaning, Rows, Fault as Faulty}
 use Rattle.fetch_rules.specs.Plan.{planned, retrieved, step_of}
 use Rattle.fetch_rules.specs.Wanted.{wanted}
 use Rattle.fetch_rules.specs.declared.steps.Step.{Step}
-use Rattle.pop3_wire.proofs.BodyLemmas.{first_lines, IsLine-front, no_body, one_line, one_reading}
+use Rattle.pop3_wire.proofs.BodyLemmas.{first_lines, IsLine-front, no_body, one_line, one_reading, two_statuses}
 use Rattle.pop3_wire.specs.Body.{HasNoBody, IsContent, body_of, dot, text_of}
 use Rattle.pop3_wire.specs.Line.{crlf, IsLine, ended}
 use Rattle.pop3_wire.specs.Link.{Link}
@@ -31,7 +31,7 @@ use Rattle.pop3_wire.specs.declared.command.Command.TheVariants.{UidlAll, ListAl
 use Rattle.pop3_wire.specs.declared.reply.Status.TheVariants.{Negative, Positive}
 use Rattle.pop3_client.specs.Causes.{BeginsPositive, Cause, HasRows, IsOverlong, IsPartOfBody, IsPartOfListing, NextLine}
 use Rattle.pop3_client.specs.Conversation.{Broke, ConversationsArePaced, Talked, Talks}
-use Rattle.pop3_client.specs.Turns.{list, uidl, asking, IsBody, IsGood, AsksListing, IsListingRow, IsShort, LinesFit}
+use Rattle.pop3_client.specs.Turns.{list, uidl, asking, IsBody, IsGood, IsListingRow, IsShort, LinesFit}
 use Rattle.pop3_client.specs.Turns.{Turn, line_limit, retr, text_limit, turn_bytes}
 use Rattle.pop3_client.specs.declared.fault.ClientFault.{ClientFault}
 use Rattle.pop3_client.specs.declared.fault.ClientFault.TheVariants as talk
@@ -59,24 +59,10 @@ use Rattle.fetch_session.specs.Task.{replies_of, says, stores, tasks_in, tasks_o
 use Rattle.fetch_session.specs.Task.{turns_in, turns_of}
 use Rattle.pop3_client.specs.Texts.{body_text}
 use Rattle.pop3_client.specs.Turns.{quit}
-
-all_front : {A : Type 0} (P : A → Type 0) (xs ys : List A) → AllByRecursion P (xs ++ ys) → AllByRecursion P xs
-all_front P [] ys all = tt
-all_front P (x ∷ xs) ys all = (all.0, all_front P xs ys all.1)
-
-all_back : {A : Type 0} (P : A → Type 0) (xs ys : List A) → AllByRecursion P (xs ++ ys) → AllByRecursion P ys
-all_back P [] ys all = all
-all_back P (x ∷ xs) ys all = all_back P xs ys all.1
+use Rattle.mail_terms.proofs.ListLemmas.{all_front, all_back}
+use Rattle.pop3_client.proofs.TalkLemmas.{by_listing}
 
 -- ---- a turn whose good reply came didn't break
-
--- no line has both a positive and a negative status
-two_statuses : {line rest more : List ℕ} → IsFirstLine line Positive rest → IsFirstLine line Negative more → ⊥
-two_statuses good bad = let heads : ◌≡◌ {A = ℕ} 43 45 = cc (good.1, bad.1) in absurd (omega (arith, heads))
-
-by_listing : (P : Turn → Type 0) → P uidl → P list → (turn : Turn) → AsksListing turn → P turn
-by_listing P first second turn (inl is) = rw is first
-by_listing P first second turn (inr is) = rw is second
 
 -- the first octets of a list that is longer
 take_past : (n : ℕ) (xs ys : List ℕ) → length xs ≤ n → take n (xs ++ ys) ≡ xs ++ take (n - length xs) ys
@@ -218,7 +204,7 @@ module _ (turn : Turn) (reply : WholeReply) (good : IsGood turn reply) (bytes la
       let (gives, bad) = not_positive good.rest (rw same good.positive) in
       absurd (bad (subst (λ r. IsOk r) (sym (good.fits gives).2) refl))
   no_cause (talk.Refused to) old new none all (names, (line, more, first, negative)) =
-      absurd (two_statuses good.positive (subst (λ (l : List ℕ). IsFirstLine l Negative more)
+      absurd (two_statuses refl good.positive (subst (λ (l : List ℕ). IsFirstLine l Negative more)
       (same_first line first.after first.is first.whole).0 negative))
   no_cause talk.BadListing old new none all (row, rows, next, few, bad) = absurd (bad (row_next row rows next).0)
   no_cause talk.ListingsDisagree old new none all never = absurd never

@@ -505,7 +505,7 @@ all_alike p [] = tt
 all_alike p (x ∷ xs) = (p, all_alike p xs)
 
 -- steps that fetch nothing mark nothing
-quiet_ids : (steps : List Step) (items : List Item) (held : List Bool) → AllByRecursion IsQuiet steps
+pub quiet_ids : (steps : List Step) (items : List Item) (held : List Bool) → AllByRecursion IsQuiet steps
     → ids_ahead (tasks_planned steps items held) ≡ []
 quiet_ids (s ∷ ss) (i ∷ is) (h ∷ hs) quiet = rw (ahead s i h (tasks_planned ss is hs), quiet.0.0) (quiet_ids ss is hs quiet.1)
 quiet_ids _ _ _ quiet = refl

@@ -2,12 +2,13 @@
 -- of it are refused.
 use Rattle.std.proofs.Common.{◌≡◌, Result, Ok, Err, ap, List, [], ◌∷◌, ◌++◌, refl, sym, ◌∙◌, append-nil, append_assoc}
 use Rattle.std.proofs.Common.{inl, inr, ℕ, Option, None, Some, ⊎_elim, ◌≤◌, ◌+◌, ◌*◌, length, arith, length-append}
-use Rattle.std.specs.Result.{IsErrAnd}
 use Rattle.pop3_wire.specs.declared.wire.Wire.{Ghosts}
 use Rattle.pop3_wire.specs.Link.{WhereSound, Link}
 use Rattle.pop3_wire.specs.Place.{Place, at}
 use Rattle.pop3_wire.specs.Reading.{WholeReply, GivesCount}
 use Rattle.pop3_client.specs.Turns.{Turn, stat, uidl, list, turn_bytes, asking, retr, Names, line_limit, text_limit, quit}
+pub use Rattle.pop3_client.proofs.TalkLemmas.{completes_talks, stopped_first, talked_none}
+pub use Rattle.mail_terms.proofs.ErrLemmas.{err_is}
 use Rattle.pop3_client.specs.Conversation.{Talked, Broke, Stopped, Completes, Talks, TurnsJoin, login}
 use Rattle.pop3_client.specs.Conversation.{ConversationsArePaced, is_link_refusal, most_of}
 use Rattle.pop3_client.specs.declared.fault.ClientFault.{ClientFault}
@@ -37,11 +38,6 @@ use Rattle.fetch_session.specs.declared.fault.Fault.TheVariants.{Refused}
 use Rattle.fetch_session.specs.declared.tail.Tail.{Tail}
 use Rattle.fetch_session.specs.Store.{StopsReading}
 
--- what the exit of a `?` returns, where one error is made of another in one way
-pub err_is : {T E : Type 0} {r : Result T E} {e : E} → IsErrAnd r (λ fault. fault ≡ e) → r ≡ Err e
-err_is {r = Ok done} never = absurd never
-err_is {r = Err fault} is = ap Err is
-
 module _ {W : Type 0} (link : Ghosts W) where
   -- what a call did, leaving out what the link leads to
   pub did_so : {a b : W} {P Q : Type 0} → WhereSound link.sound link.leads_to a b P → (P → Q) → link.sound b → link.sound a × Q
@@ -54,30 +50,6 @@ module _ {W : Type 0} (link : Ghosts W) where
       let then = second sound in
       let all = first then.0 in
       (all.0, both all.2 then.2)
-
--- ---- conversations of no turn, and of one
-
-pub talked_none : (place : Place) → Talked [] [] place place
-talked_none place = record {
-  gained = [];
-  sent = sym (append-nil place.link.sent);
-  got = sym (append-nil place.link.got);
-  heard = append-nil place.waiting;
-  good = tt;
-  goes_on = record { ended = refl; failures = refl };
-}
-
--- the first turn broke
-pub stopped_first : (turn : Turn) (turns : List Turn) (old new : Place) (fault : ClientFault) → Broke turn old new fault
-    → Stopped (turn ∷ turns) old new fault
-stopped_first turn turns old new fault broke =
-    record { done = []; replies = []; next = turn; later = turns; mid = old; split = refl; talked = talked_none old; broke = broke }
-
--- one turn is a conversation
-pub completes_talks : (turn : Turn) (old new : Place) (result : Result (Unit {0}) ClientFault)
-    → Completes turn old result new → Talks (turn ∷ []) old result new
-completes_talks turn old new (Ok done) completes = (completes.0 ∷ [], completes.1)
-completes_talks turn old new (Err fault) completes = stopped_first turn [] old new fault completes
 
 -- after turns that were completed, others stopped
 pub stopped_behind : TurnsJoin → (xs ys : List Turn) (rs : List WholeReply) (a b new : Place) (fault : ClientFault)

@@ -208,8 +208,8 @@ either (Some bytes) = inr (bytes, refl)
 pub held_same : (old : Stored) (bytes : List ℕ) → old.content ≡ Some bytes → old ≡ holding old bytes
 held_same old bytes is = ap (λ (c : Option (List ℕ)). let s : Stored = record old { content = c } in s) is
 
-content_of : (a b : Stored) → a ≡ b → a.content ≡ b.content
-content_of a b is = ap (λ (s : Stored). s.content) is
+pub same_content : {a b : Stored} → a ≡ b → a.content ≡ b.content
+same_content is = ap (λ (s : Stored). s.content) is
 
 -- ---- settling
 
@@ -231,7 +231,7 @@ pub asks_ok : (intent : Option Intent) (old mid new : Stored) (stored : Bool) (i
     → AsksMbox intent old items (Ok found) new
 asks_ok intent old mid new stored items found settles ((bytes, goes_on), same) stored_is flags =
     elim (settled_is intent items old mid stored settles) [
-      | inl (none, is) ↦ none_some mid.content bytes (content_of mid old is ∙ none) goes_on.0
+      | inl (none, is) ↦ none_some mid.content bytes (same_content is ∙ none) goes_on.0
       | inr (was, some, whole, now) ↦ (
           let closed : closed_file intent items was ≡ bytes = cc (rw now at goes_on.0) in
           (was, some, stored_is ∙ whole, same ∙ now, rw closed goes_on.1, flags)
@@ -242,8 +242,8 @@ at_most : (intent : Option Intent) (items : List Item) (old mid new : Stored) (s
     → SettlesIntent intent items old (Ok stored) mid → new.content ≡ mid.content → IsSettledAtMost intent items old new
 at_most intent items old mid new stored settles same =
     elim (settled_is intent items old mid stored settles) [
-      | inl (none, is) ↦ inl (same ∙ content_of mid old is)
-      | inr (was, some, whole, now) ↦ inr (was, some, same ∙ content_of mid (holding old (closed_file intent items was)) now)
+      | inl (none, is) ↦ inl (same ∙ same_content is)
+      | inr (was, some, whole, now) ↦ inr (was, some, same ∙ same_content now)
     ]
 
 failures_kept : (intent : Option Intent) (items : List Item) (old mid : Stored) (stored : Bool)
@@ -260,17 +260,17 @@ asks_refused intent old mid new stored items refused.Missing fault settles (none
     rw is (elim (settled_is intent items old mid stored settles) [
       | inl (missing, is) ↦ (missing, same ∙ is)
       | inr (was, some, whole, now) ↦ none_some mid.content (closed_file intent items was) none
-          (content_of mid (holding old (closed_file intent items was)) now)
+          (same_content now)
     ])
 asks_refused intent old mid new stored items refused.Refused fault settles same is =
     rw is (
       rw (same, failures_kept intent items old mid stored settles),
       at_most intent items old mid new stored settles
-          (content_of new (file_refused mid) same),
+          (same_content same),
     )
 asks_refused intent old mid new stored items refused.NotMbox fault settles ((bytes, is_mid, other), same) is =
     rw is (elim (settled_is intent items old mid stored settles) [
-      | inl (none, is) ↦ none_some mid.content bytes (content_of mid old is ∙ none) is_mid
+      | inl (none, is) ↦ none_some mid.content bytes (same_content is ∙ none) is_mid
       | inr (was, some, whole, now) ↦ (
           let closed : closed_file intent items was ≡ bytes = cc (rw now at is_mid) in
           (was, some, λ goes_on. other (rw closed at goes_on), same ∙ now)
@@ -319,7 +319,7 @@ appended_one : (mbox mbox' : Stored) (was text : List ℕ) → mbox.content ≡ 
 appended_one mbox mbox' was text some is = record { content = rw (is, some, append-nil); failures = rw is }
 
 -- the lines of a body end in LF
-text_whole : (lines : List (List ℕ)) → IsWhole (text_of lines)
+pub text_whole : (lines : List (List ℕ)) → IsWhole (text_of lines)
 text_whole [] = inl refl
 text_whole (line ∷ lines) = elim (text_whole lines) [
   | inl none ↦ inr (unstuffed line, rw none (append-nil (kept line)))

@@ -1,6 +1,6 @@
 -- Each answer of a server whose maildrop refuses nothing is a good reply, as a client takes it.
 use Rattle.std.proofs.Common.{◌≡◌, ◌≤◌, ◌<◌, ◌+◌, ◌-◌, ◌^◌, ◌∙◌, ℕ, zero, suc, false, List, [], ◌∷◌, ◌++◌, None, Some, Ok, Result, IsOk}
-use Rattle.std.proofs.Common.{append-nil, append_assoc, ap, ap₂, arith, codes, decimal, length, length-append, map, refl, rules, subst, sym}
+use Rattle.std.proofs.Common.{append-nil, append_assoc, ap, ap₂, arith, codes, decimal, length, length-append, map, refl, subst, sym}
 use Rattle.std.specs.List.{AllByRecursion, AllZip, flat_map}
 use Rattle.std.specs.Prelude.{slice_index_or}
 use Rattle.std.proofs.lemmas.Bool.{false≢true}
@@ -8,7 +8,6 @@ use Rattle.std.proofs.lemmas.Fmt.{length-decimal-le}
 use Rattle.std.proofs.lemmas.List.Folds.{list_all-append}
 use Rattle.mail_terms.specs.Listing.{UidRow, message_limit}
 use Rattle.mail_terms.specs.Numbering.{IsNumbering}
-use Rattle.mail_terms.specs.UniqueId.{IsLegalId}
 use Rattle.mail_terms.specs.declared.listing.ScanRow.{ScanRow}
 use Rattle.pop3_wire.proofs.BodyLemmas.{stuffed_is_body}
 use Rattle.pop3_wire.proofs.RowsLemmas.{first_lines_are_read, no_lf_decimal, scan_rows_are_read, uid_rows_are_read}
@@ -27,6 +26,7 @@ use Rattle.pop3_server.specs.Maildrop.{max_size}
 use Rattle.pop3_server.specs.ServerMachine.{lines_from, listed, octets_line, message_row, said, scan_line, text_body, uid_line}
 use Rattle.pop3_server.specs.declared.rows.MessageRow.{MessageRow}
 use Rattle.local_fetch.specs.Good.{IsWithin}
+use Rattle.mail_terms.proofs.ListingLemmas.{short_id}
 
 -- the body's lines stand for rows that are numbered from 1 to n
 abbrev pub AreNumbered : {R : Type 0} → (List ℕ → R → Type 0) → (R → ℕ) → ℕ → WholeReply → Type 0
@@ -212,9 +212,6 @@ module _ {R : Type 0} (turn : Turn) (IsThisRow : List ℕ → R → Type 0) (num
           tells reply (rows.lines, refl, λ rs are. rw (rows.numbered rs are) (numbering ms)),
         ),
       )
-
-short_id : (id : List ℕ) → IsLegalId id → length id ≤ 70
-short_id id legal = search (rules, arith)
 
 uid_good : IsGoodLine uidl IsUidLine (λ (row : UidRow). row.number) uid_line
 uid_good k m few is =

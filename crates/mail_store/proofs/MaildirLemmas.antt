@@ -36,7 +36,7 @@ use Rattle.mail_store.specs.MemoryMaildir.{MemoryMail, files_of_folder, shown}
 use Rattle.mail_store.specs.Held.{AreAmong, FoundDurable, HasDurable, HasStem, HasStems, any_name, flags_asked}
 use Rattle.mail_store.specs.Held.{flags_of, flags_sought, is_sought, sought_among}
 use Rattle.mail_store.specs.Loss.{with_flushed, flushed_by, is_among}
-use Rattle.mail_terms.proofs.ListLemmas.{list_any-map, zip_on, zip_same}
+use Rattle.mail_terms.proofs.ListLemmas.{any_map, zip_on, zip_same}
 
 -- ---- digits
 
@@ -295,7 +295,7 @@ held_by_names : {Z : Type 0} (account : List ℕ) (maildir : Maildir) (found : L
     → (uid : List ℕ) → found (encode_lower uid) ≡ is_held account maildir uid
 held_by_names account maildir found names texts told uid =
     let any = list_any-IsPermutation (names_id account uid) (names_of maildir.files) (bases_told names) told in
-    texts (encode_lower uid) ∙ sym (simp (list_any-map, stem_base) at any)
+    texts (encode_lower uid) ∙ sym (simp (any_map, stem_base) at any)
 
 -- and so which items are
 pub flags_found : {Z : Type 0} (account : List ℕ) (maildir : Maildir) (items : List Item) (found : List ℕ → Bool) (names : List (String Z))
@@ -361,7 +361,7 @@ flags_among {A} {B} account maildir stems (item ∷ items) (true ∷ flags) foun
         λ name is. rw (← (bytes_eq-Decides (stem_of account item.uid) (stem name)).0 is, among) refl in
         let any = list_any-IsPermutation ids (names_of maildir.files) order same
         ∙ sym (any-filter_same ids (is_sought stems) true of_one order) ∙ ap (list_any ids) (sym told) in
-        texts (encode_lower item.uid) ∙ sym (simp (list_any-map, stem_base) at any)
+        texts (encode_lower item.uid) ∙ sym (simp (any_map, stem_base) at any)
 
 -- of one item more
 sought_pushed : (found : List ℕ → Bool) (items : List Item) (flags : List Bool) (item : Item) (flag : Bool) → length flags ≡ length items
@@ -398,7 +398,7 @@ pub held_where_there : (account uid : List ℕ) (size : ℕ) (maildir : Maildir)
 held_where_there account uid size maildir a c =
     let same = (bytes_eq-Decides (stem_of account uid) _).1 (sym (stem_base (name_of account uid size)
     ∙ stem_name_of account uid size a)) in
-    rw list_any-map at (list_any_at (names_id account uid) (names_of maildir.files) c.0 _ c.1 (ap (names_id account uid) c.2 ∙ same))
+    rw any_map at (list_any_at (names_id account uid) (names_of maildir.files) c.0 _ c.1 (ap (names_id account uid) c.2 ∙ same))
 
 -- a file that came under an id's name makes that id held, and no other
 pub held_with_file : HaveRanges → (account a b content : List ℕ) (maildir : Maildir) → IsAccountText account → IsLegalId a → IsLegalId b
@@ -453,7 +453,7 @@ stems_more account items held flags i stems x uid has at is = below_more (HasSte
 -- a flush changes only what is durable
 held_flushed : {A : Type 0} (account : List ℕ) (maildir : Maildir) (stems : List (String A)) (uid : List ℕ)
     → is_held account (with_flushed stems maildir) uid ≡ is_held account maildir uid
-held_flushed account maildir stems uid = list_any-map (λ (f : File). names_id account uid f.name) (flushed_by stems) maildir.files
+held_flushed account maildir stems uid = any_map (λ (f : File). names_id account uid f.name) (flushed_by stems) maildir.files
 
 pub flags_flushed : {A : Type 0} (account : List ℕ) (maildir : Maildir) (stems : List (String A)) (items : List Item)
     → flags_of account (with_flushed stems maildir) items ≡ flags_of account maildir items

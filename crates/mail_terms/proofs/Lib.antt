@@ -1,7 +1,7 @@
 pub mod ErrLemmas
 pub mod IdLemmas
 pub mod ListLemmas
-mod ListingLemmas
+pub mod ListingLemmas
 mod NumberingLemmas
 mod NumeralLemmas
 mod TextLemmas

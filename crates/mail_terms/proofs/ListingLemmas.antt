@@ -25,7 +25,7 @@ place_of_row number n rows places numbering order k row inside =
 
 -- ---- ids in one buffer
 
-short_id : (id : List ℕ) → IsLegalId id → length id ≤ 70
+pub short_id : (id : List ℕ) → IsLegalId id → length id ≤ 70
 short_id id legal = search (rules, arith)
 
 -- an id stays where it is as others are added

@@ -26,16 +26,16 @@ use Rattle.pop3_client.specs.Conversation.{NoLineCause, Opened, Talked, TakesRef
 use Rattle.pop3_client.specs.Conversation.{Stopped, Sent, GivesFew, AsksTurn, Completes, Talks, most_of, IsFrontOfNext}
 use Rattle.pop3_client.specs.Conversation.{Paced, ConversationsArePaced}
 use Rattle.pop3_wire.specs.declared.command.Command.TheVariants.{UidlAll, ListAll, Retr}
-use Rattle.std.proofs.lemmas.List.Elements.{All-push, All-from_recursion, recursion_from_All}
 use Rattle.std.proofs.lemmas.Slice.Zip.{AllZip-long, all_zipped_more}
 use Rattle.mail_terms.specs.Listing.{Item, Agree, Joins, message_limit, UidRow}
 use Rattle.mail_terms.specs.declared.listing.ScanRow.{ScanRow}
-use Rattle.pop3_wire.specs.Body.{dot, IsContent, Body}
+use Rattle.pop3_wire.specs.Body.{dot, Body}
 use Rattle.pop3_client.specs.Listing.{Listed, GetsListing, ListsRows, RowsCause, NotTaken, TakesRows}
 use Rattle.std.proofs.lemmas.List.{append_cancel_left}
 use Rattle.pop3_wire.specs.declared.unstuffer.Spot.TheVariants.{Done}
 use Rattle.pop3_client.specs.Texts.{Fetched, Fetching}
 use Rattle.pop3_wire.proofs.BodiesLemmas.{drew_on}
+use Rattle.mail_terms.proofs.ListLemmas.{all_append}
 
 -- ---- how many octets a reply has at most
 
@@ -441,10 +441,6 @@ took_none turn StandsFor place listing = record {
   goes_on = record { ended = refl; failures = refl };
 }
 
-all_push : (P : List ℕ → Type 0) (lines : List (List ℕ)) (line : List ℕ) → AllByRecursion P lines → P line
-    → AllByRecursion P (lines ++ line ∷ [])
-all_push P lines line all is = recursion_from_All P (lines ++ line ∷ []) (All-push P lines line (All-from_recursion P lines all) is)
-
 module _ {R : Type 0} {turn : Turn} {StandsFor : List ℕ → R
     → Type 0} {old here : Place} {rows : List R} (now : TookRows turn StandsFor old here rows) where
   -- more was got, and nothing taken yet
@@ -486,9 +482,9 @@ module _ {R : Type 0} {turn : Turn} {StandsFor : List ℕ → R
           gained = now.gained;
           has = record {
             listing = now.has.listing;
-            content = all_push IsContent now.lines line now.has.content (has.line, other);
-            short = all_push IsShort now.lines line now.has.short ((line_at has).0);
-            rows = all_push (IsListingRow turn) now.lines line now.has.rows good;
+            content = all_append _ now.lines _ now.has.content ((has.line, other), tt);
+            short = all_append _ now.lines _ now.has.short ((line_at has).0, tt);
+            rows = all_append _ now.lines _ now.has.rows (good, tt);
             few = omega (arith, length-append now.lines (line ∷ []), AllZip-long StandsFor now.lines rows now.read);
             whole = now.has.whole ∙ ap (λ (l : List ℕ). flat_map ended now.lines ++ l) (line_at has).1
                 ∙ simp (flat_map-append, append-nil, append_assoc);

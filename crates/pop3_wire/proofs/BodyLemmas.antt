@@ -520,7 +520,7 @@ stuffed_is_read text more body read rest is e =
 -- ---- octets split into replies in one way only
 
 -- no line has both a positive and a negative status
-two_statuses : {line other rest more : List ℕ} → line ≡ other → IsFirstLine line Positive rest → IsFirstLine other Negative more → ⊥
+pub two_statuses : {line other rest more : List ℕ} → line ≡ other → IsFirstLine line Positive rest → IsFirstLine other Negative more → ⊥
 two_statuses same good bad = let heads : ◌≡◌ {A = ℕ} 43 45 = cc (same, good.1, bad.1) in absurd (omega (arith, heads))
 
 -- bytes begin with at most one body, if there is one, and with none if there isn't

@@ -17,10 +17,6 @@ use Rattle.rc_file.proofs.RowLemmas.{continued-nil, first_bad-read}
 
 -- what a whole file means
 
-pub list_any_map : {X Y : Type 0} (test : Y → Bool) (f : X → Y) (xs : List X) → list_any test (map f xs) ≡ list_any (λ x. test (f x)) xs
-list_any_map test f [] = refl
-list_any_map test f (x ∷ xs) = rw (list_any_map test f xs)
-
 pub good_rows : (read : List ReadRow) → first_bad (rows_in read) ≡ None
 good_rows read = rw (continued-nil, append-nil) at (first_bad-read read [] [])
 

@@ -55,7 +55,7 @@ pub(crate) fn required<'r>(rows: &'r [ReadRow<'_>], key: Key) -> Result<&'r str,
 }
 
 /// MissingSection if no row is a line of the section.
-#[tactic(auto, using(crate::proofs::RcMeaningLemmas::list_any_map))]
+#[tactic(auto, using(mail_terms::proofs::ListLemmas::any_map))]
 pub(crate) fn expect_section(rows: &[ReadRow<'_>], section: Section) -> Result<(), RcFault>
     ensures { fault_in result ≡ missing_section (rows_in rows.now) section }
 {

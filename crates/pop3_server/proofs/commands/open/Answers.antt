@@ -6,7 +6,7 @@ use Rattle.pop3_server.specs.declared.state.State.TheVariants.{Transaction}
 use Rattle.pop3_server.specs.Maildrop.{ListedMessage, DropMail, there, listed_message, ListsMessages}
 use Rattle.pop3_server.specs.ServerMachine.{message_row, row_of_entry, Unanswered, Tied}
 use Rattle.pop3_server.proofs.SlotLemmas.{there_map}
-use Rattle.mail_terms.proofs.ErrLemmas.{is_err}
+use Rattle.mail_terms.proofs.ErrLemmas.{err_is}
 use Rattle.pop3_server.proofs.commands.open.Goals as goal
 
 -- a row of a listing has its message
@@ -36,7 +36,7 @@ module _ {D Z : Type 0} (sound : D → Type 0) (mail : D
 
 pub returns-in_err-rows-clause-err : goal.returns-in_err-rows-clause-err
 returns-in_err-rows-clause-err g c =
-    rw (is_err c.from_residual-in_err-rows.result c.from_residual-in_err-rows.ensures.1) (
+    rw (err_is c.from_residual-in_err-rows.ensures.1) (
       refl,
       unanswered_listing _ _ _ _ c.in-Ok.entries c.in-Ok.ensures.lists c.in-Ok.ensures.tally
           c.in-Ok.ensures.removes_none,
@@ -44,7 +44,7 @@ returns-in_err-rows-clause-err g c =
 
 pub returns-in_err-reply-clause-err : goal.returns-in_err-reply-clause-err
 returns-in_err-reply-clause-err g c =
-    rw (is_err c.from_residual-in_err-reply.result c.from_residual-in_err-reply.ensures.1) (
+    rw (err_is c.from_residual-in_err-reply.ensures.1) (
       c.in_err-reply.ensures.err,
       unanswered_listing _ _ _ _ c.in-Ok.entries c.in-Ok.ensures.lists
           c.in-Ok.ensures.tally c.in-Ok.ensures.removes_none,

@@ -1,12 +1,12 @@
 use Rattle.std.proofs.Common.{rules, [], ◌++◌, append_assoc}
 use Rattle.pop3_wire.proofs.LinkLemmas.{and_then}
-use Rattle.mail_terms.proofs.ErrLemmas.{is_err}
+use Rattle.mail_terms.proofs.ErrLemmas.{err_is}
 use Rattle.pop3_server.proofs.serving.answer_line.Goals as goal
 
 pub returns-in_err-send-clause-answers : goal.returns-in_err-send-clause-answers
 returns-in_err-send-clause-answers g c =
     let before = c.loop-bytes.invariant.3 in
-    rw (is_err c.from_residual-in_err-send.result c.from_residual-in_err-send.ensures.1)
+    rw (err_is c.from_residual-in_err-send.ensures.1)
     (and_then g.W.Wire g.met.W.Wire.leads_on before.2 c.in_err-send.ensures.sends
     (λ link sent. rw c.in_err-send.ensures.err (
       before.0 ++ sent.0,
@@ -20,7 +20,7 @@ pub returns-in_err-rest-clause-answers : goal.returns-in_err-rest-clause-answers
 returns-in_err-rest-clause-answers g c =
     let before = c.loop-bytes.invariant.3 in
     let fault = c.in_err-rest.ensures.err in
-    rw (is_err c.from_residual-in_err-rest.result c.from_residual-in_err-rest.ensures.1)
+    rw (err_is c.from_residual-in_err-rest.ensures.1)
     (and_then g.W.Wire g.met.W.Wire.leads_on before.2 c.in_ok-send.ensures.sends (λ link sent. rw fault.0 (
       before.0 ++ c.loop-bytes.bytes.items,
       c.in-Some-rest.text,

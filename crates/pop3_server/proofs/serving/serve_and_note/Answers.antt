@@ -6,12 +6,12 @@ use Rattle.pop3_server.specs.AnswersLines.{MakesAnswer}
 use Rattle.pop3_server.proofs.ServeLemmas.{greeted, served_unmade, served_ungreeted, served_stopped, served_closed}
 use Rattle.pop3_server.proofs.ServeLemmas.{progress_line, long_turn, line_came}
 use Rattle.pop3_wire.proofs.LinkLemmas.{and_then_two}
-use Rattle.mail_terms.proofs.ErrLemmas.{is_err}
+use Rattle.mail_terms.proofs.ErrLemmas.{err_is}
 use Rattle.pop3_server.proofs.serving.serve_and_note.Goals as goal
 
 pub returns-in_err-hello-clause-served : goal.returns-in_err-hello-clause-served
 returns-in_err-hello-clause-served g c =
-    rw (is_err c.from_residual.result c.from_residual.ensures.1)
+    rw (err_is c.from_residual.ensures.1)
     (λ s. (
       s,
       g.met.W.Wire.leads_same c.args.wire.now,
@@ -21,7 +21,7 @@ returns-in_err-hello-clause-served g c =
 
 pub returns-in_err-send-clause-served : goal.returns-in_err-send-clause-served
 returns-in_err-send-clause-served g c =
-    rw (is_err c.from_residual-in_err-send.result c.from_residual-in_err-send.ensures.1) (λ s.
+    rw (err_is c.from_residual-in_err-send.ensures.1) (λ s.
     let sent = c.in_err-send.ensures.sends s in (
       sent.0,
       sent.1,
@@ -45,7 +45,7 @@ loop-hello-init g c = (
 
 pub returns-in_err-send-in-LongLine-clause-served : goal.returns-in_err-send-in-LongLine-clause-served
 returns-in_err-send-in-LongLine-clause-served g c =
-    rw (is_err c.from_residual-in_err-send-in-LongLine.result c.from_residual-in_err-send-in-LongLine.ensures.1)
+    rw (err_is c.from_residual-in_err-send-in-LongLine.ensures.1)
     (and_then_two g.W.Wire g.met.W.Wire.leads_on c.loop-hello.invariant.3 c.in_ok-next.ensures.hears
     c.in_err-send-in-LongLine.ensures.sends (λ p came sent.
     let heard = rw c.in-LongLine.is at came in
@@ -75,7 +75,7 @@ loop-hello-preserved-in-Continue-branch-5 g c = (
 
 pub returns-in_err-closing-in-Line-clause-served : goal.returns-in_err-closing-in-Line-clause-served
 returns-in_err-closing-in-Line-clause-served g c =
-    rw (is_err c.from_residual-in_err-closing-in-Line.result c.from_residual-in_err-closing-in-Line.ensures.1)
+    rw (err_is c.from_residual-in_err-closing-in-Line.ensures.1)
     (and_then_two g.W.Wire g.met.W.Wire.leads_on c.loop-hello.invariant.3 c.in_ok-next.ensures.hears
     c.in_err-closing-in-Line.ensures.answers (λ p came went.
     served_stopped p (line_came (rw c.in-Line.is at came) c.waiting.ensures refl) c.answer_line.new.server _

@@ -1,13 +1,13 @@
 use Rattle.std.proofs.Common.{◌≡◌, List, ℕ, refl, false}
 use Rattle.mail_store.specs.Held.{has_text}
 use Rattle.mail_store.proofs.MaildirLemmas.{flags_among, none_taken}
-use Rattle.mail_terms.proofs.ErrLemmas.{is_err}
+use Rattle.mail_terms.proofs.ErrLemmas.{err_is}
 use Rattle.mail_store.proofs.maildir.held.held_of_few.Goals as goal
 
 pub returns-in_err-stems-clause-finds : goal.returns-in_err-stems-clause-finds
 returns-in_err-stems-clause-finds g c =
     let maildir = g.D.MaildirDisk.maildir c.args.disk.now in
-    rw (is_err c.from_residual.result c.from_residual.ensures.1) (λ k. (k, (maildir, none_taken maildir, refl)))
+    rw (err_is c.from_residual.ensures.1) (λ k. (k, (maildir, none_taken maildir, refl)))
 
 pub returns-clause-finds : goal.returns-clause-finds
 returns-clause-finds g c = λ k.

@@ -5,7 +5,7 @@ use Rattle.pop3_client.specs.Turns.{stat}
 use Rattle.pop3_client.specs.Conversation.{GivesFew}
 use Rattle.pop3_client.proofs.TalkLemmas.{stat_bytes, sent_for, opened, broke_saying, broke_there, few_heard, talked_line}
 use Rattle.pop3_wire.proofs.LinkLemmas.{and_then}
-use Rattle.mail_terms.proofs.ErrLemmas.{is_err}
+use Rattle.mail_terms.proofs.ErrLemmas.{err_is}
 use Rattle.pop3_client.proofs.client.Client.count.Goals as goal
 
 pub returns-in_err-say-clause-counts : goal.returns-in_err-say-clause-counts
@@ -32,7 +32,7 @@ pub returns-in_err-count-clause-counts : goal.returns-in_err-count-clause-counts
 returns-in_err-count-clause-counts g c =
     let old = place_of g.W.Wire c.args.self.now in
     let fault = c.in_err-count.field-0.0 in
-    rw (is_err c.from_residual-in_err-count.result c.from_residual-in_err-count.ensures.1)
+    rw (err_is c.from_residual-in_err-count.ensures.1)
     (and_then g.W.Wire g.met.W.Wire.leads_on c.in_ok-say.ensures.sent c.in_ok-length.ensures.heard (λ said hears.
     let heard = rw c.in_ok-say.ensures.silent at (hears stat refl) in
     broke_there stat old _ (place_of g.W.Wire c.hear.new.self) fault (sent_for stat old.link _ _ said stat_bytes)

@@ -2,7 +2,7 @@ use Rattle.std.proofs.Common.{refl, sym, ◌∙◌}
 use Rattle.std.proofs.lemmas.Bool.{false≢true}
 use Rattle.pop3_client.proofs.TalkLemmas.{fetched}
 use Rattle.pop3_wire.proofs.LinkLemmas.{and_then}
-use Rattle.mail_terms.proofs.ErrLemmas.{is_err}
+use Rattle.mail_terms.proofs.ErrLemmas.{err_is}
 use Rattle.pop3_client.proofs.client.Client.drop_rest.Goals as goal
 
 pub returns-then-has_ended-clause-completes : goal.returns-then-has_ended-clause-completes
@@ -11,7 +11,7 @@ returns-then-has_ended-clause-completes g c = λ s.
 
 pub returns-in_err-piece-clause-completes : goal.returns-in_err-piece-clause-completes
 returns-in_err-piece-clause-completes g c =
-    rw (is_err c.from_residual.result c.from_residual.ensures.1)
+    rw (err_is c.from_residual.ensures.1)
     (and_then g.W.Wire g.met.W.Wire.leads_on c.pieces.invariant.3 c.in_err-piece.ensures.takes
     (λ before took number start text now.
     let mid = before number start text now in took number start mid.0 mid.1))

@@ -1,11 +1,11 @@
 use Rattle.pop3_client.proofs.TalkLemmas.{heard_none, heard_refused, heard_bad}
 use Rattle.pop3_wire.proofs.LinkLemmas.{in_words}
-use Rattle.mail_terms.proofs.ErrLemmas.{is_err}
+use Rattle.mail_terms.proofs.ErrLemmas.{err_is}
 use Rattle.pop3_client.proofs.client.Client.hear.Goals as goal
 
 pub returns-in_err-length-clause-heard : goal.returns-in_err-length-clause-heard
 returns-in_err-length-clause-heard g c =
-    rw (is_err c.from_residual.result c.from_residual.ensures.1) (in_words g.W.Wire c.in_err-length.ensures.waits
+    rw (err_is c.from_residual.ensures.1) (in_words g.W.Wire c.in_err-length.ensures.waits
     (λ waits turn names. heard_none c.in_err-length.field-0.0 waits.0.1 waits.1))
 
 pub returns-in-Ok-Positive-default-clause-heard : goal.returns-in-Ok-Positive-default-clause-heard

@@ -2,7 +2,7 @@ use Rattle.std.proofs.Common.{◌∙◌, ◌∷◌, [], ap, refl, List, ℕ}
 use Rattle.pop3_client.specs.Turns.{turn_bytes, greeting, user, pass}
 use Rattle.pop3_client.proofs.TalkLemmas.{asks_completes, completes_talks, completes_then, talked_line, stopped_first, stopped_behind}
 use Rattle.pop3_wire.proofs.LinkLemmas.{and_then}
-use Rattle.mail_terms.proofs.ErrLemmas.{is_err}
+use Rattle.mail_terms.proofs.ErrLemmas.{err_is}
 use Rattle.pop3_client.proofs.client.Client.log_in.Goals as goal
 
 pub returns-in_err-ask-clause-talks : goal.returns-in_err-ask-clause-talks
@@ -11,7 +11,7 @@ returns-in_err-ask-clause-talks g c =
     let password = c.args.password.now in
     let is = c.deref.ensures.value ∙ c.in_ok-name_line.ensures.ok
     ∙ ap (λ (n : List ℕ). turn_bytes (user n)) (c.from_vec-name.ensures ∙ c.in_ok-from_slice.ensures.items) in
-    rw (is_err c.from_residual-in_err-ask.result c.from_residual-in_err-ask.ensures.1)
+    rw (err_is c.from_residual-in_err-ask.ensures.1)
     (and_then g.W.Wire g.met.W.Wire.leads_on c.in_ok-greet.ensures.asks c.in_err-ask.ensures.asks (λ first second.
     stopped_behind (greeting ∷ []) (user name ∷ pass password ∷ []) _ _ _ _ c.in_err-ask.field-0.0
     (talked_line greeting first.0 _ _ first.1 refl)

@@ -1,7 +1,7 @@
 use Rattle.std.proofs.Common.{◌∙◌, inl, inr, length, take, refl, arith, sym, ap}
 use Rattle.pop3_client.proofs.TalkLemmas.{not_end, took_none, took_on, took_row, row_behind, rows_full, rows_stop, rows_cause, rows_end}
 use Rattle.pop3_wire.proofs.LinkLemmas.{and_then}
-use Rattle.mail_terms.proofs.ErrLemmas.{is_err}
+use Rattle.mail_terms.proofs.ErrLemmas.{err_is}
 use Rattle.pop3_client.proofs.client.Client.rows.Goals as goal
 
 pub rows-init : goal.rows-init
@@ -18,7 +18,7 @@ rows-init g c = rw c.no_rows-rows.ensures (
 
 pub returns-in_err-length-clause-takes : goal.returns-in_err-length-clause-takes
 returns-in_err-length-clause-takes g c =
-    rw (is_err c.from_residual.result c.from_residual.ensures.1)
+    rw (err_is c.from_residual.ensures.1)
     (and_then g.W.Wire g.met.W.Wire.leads_on c.rows.invariant.2 c.in_err-length.ensures.waits (λ now waits.
     rows_cause now c.in_err-length.field-0.0 waits.0.1 waits.1))
 
@@ -37,7 +37,7 @@ pub returns-in_err-add-clause-takes : goal.returns-in_err-add-clause-takes
 returns-in_err-add-clause-takes g c =
     let row = take c.in_ok-length.length c.next_line.new.self.reader in
     let rows = g.R.ListedRows.rows c.rows.rows in
-    rw (is_err c.from_residual-in_err-add.result c.from_residual-in_err-add.ensures.1)
+    rw (err_is c.from_residual-in_err-add.ensures.1)
     (and_then g.W.Wire g.met.W.Wire.leads_on c.rows.invariant.2 c.in_ok-length.ensures.waits (λ before waits.
     let now = took_on before waits.0.1 waits.1.1 in
     let there = row_behind now waits.1.0 (not_end _ c.waiting.ensures.value c.if-is_end_mark.ensures.1) in

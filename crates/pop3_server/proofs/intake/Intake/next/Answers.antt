@@ -4,7 +4,7 @@ use Rattle.pop3_server.specs.Got.{Waiting}
 use Rattle.pop3_server.proofs.ServeLemmas.{dropped_line, reads_long, reads_more, reads_end, reads_cut}
 use Rattle.pop3_server.proofs.intake.Intake.next.Goals.{then-not-is_long, else-not-is_long}
 use Rattle.pop3_wire.proofs.LinkLemmas.{in_words, and_then}
-use Rattle.mail_terms.proofs.ErrLemmas.{is_err}
+use Rattle.mail_terms.proofs.ErrLemmas.{err_is}
 use Rattle.pop3_server.proofs.intake.Intake.next.Goals as goal
 
 pub returns-then-is_long-clause-hears : goal.returns-then-is_long-clause-hears
@@ -15,7 +15,7 @@ returns-then-is_long-clause-hears g c =
 pub returns-in_err-more-clause-hears : goal.returns-in_err-more-clause-hears
 returns-in_err-more-clause-hears g c =
     let takes = c.in_err-more.ensures.takes in
-    rw (is_err c.from_residual.result c.from_residual.ensures.1)
+    rw (err_is c.from_residual.ensures.1)
     (and_then g.W.Wire g.met.W.Wire.leads_on c.loop-length.invariant.3 takes.5 (λ before more. (
       c.in_err-more.ensures.err,
       reads_cut _ _ _ _ _ more.0 takes.2 takes.1 c.loop-length.is_long

@@ -2,7 +2,7 @@ use Rattle.std.proofs.Common.{ap, sym, subst, arith}
 use Rattle.pop3_wire.specs.Place.{at}
 use Rattle.pop3_wire.specs.Bodies.{Rest, UnderWay}
 use Rattle.pop3_wire.proofs.BodiesLemmas.{under_way_on, under_way_ends, under_way_too_long}
-use Rattle.mail_terms.proofs.ErrLemmas.{is_err}
+use Rattle.mail_terms.proofs.ErrLemmas.{err_is}
 use Rattle.pop3_wire.proofs.body_reader.BodyReader.next.Goals as goal
 
 pub returns-then-self-eq0-clause-takes : goal.returns-then-self-eq0-clause-takes
@@ -15,7 +15,7 @@ returns-then-self-eq0-clause-takes g c = λ s.
 
 pub returns-in_err-draw-clause-takes : goal.returns-in_err-draw-clause-takes
 returns-in_err-draw-clause-takes g c =
-    rw (is_err c.from_residual.result c.from_residual.ensures.1) (λ s.
+    rw (err_is c.from_residual.ensures.1) (λ s.
     let left = ap (λ (b : Rest). b.left) c.self.view_is in
     let nothing = c.in_err-draw.ensures.err in
     let after = nothing.2 s in (
