@@ -6,22 +6,22 @@ use Rattle.std.proofs.Common.{◌∙◌, ◌∷◌, ◌≡◌, ◌≢◌, ◌≤
 use Rattle.mail_terms.specs.Numeral.{greatest_size, is_numeral, numeral_value}
 use Rattle.mail_terms.specs.UniqueId.{IsLegalId}
 use Rattle.mail_terms.proofs.IdLemmas.{id_characters}
-use Rattle.std.proofs.lemmas.Bool.{and_from, and_parts, cases_eq, le-leb, leb-true, lt-ltb}
+use Rattle.std.proofs.lemmas.Bool.{and_parts, cases_eq, leb-true}
 use Rattle.std.proofs.lemmas.Bool.Decides.{Decides-eqb}
 use Rattle.std.proofs.lemmas.Fmt.{decimal-digits_value, decimal_digit, decimal_injective, decimal_is_IsNumeral}
-use Rattle.std.proofs.lemmas.Fmt.{digits_decimal, first_decimal, length-decimal-le}
-use Rattle.std.proofs.lemmas.List.Elements.{All-from_get_or, recursion_from_All}
+use Rattle.std.proofs.lemmas.Fmt.{first_decimal}
+use Rattle.std.proofs.lemmas.List.Elements.{recursion_from_All}
 use Rattle.std.proofs.lemmas.Option.{cond_some, none-some}
 use Rattle.std.proofs.lemmas.Slice.Eq.{strip_prefix_is}
-use Rattle.std.proofs.lemmas.Str.Parse.{IsNumeralModel, digit_at, not_in_digits, numerals_by_value, tells_all_ascii_digits, tells_digits}
+use Rattle.std.proofs.lemmas.Str.Parse.{digit_at}
 use Rattle.std.specs.Char.{is_ascii_digit}
 use Rattle.std.specs.Cmp.Lexicographic.{pointwise}
 use Rattle.std.specs.List.{AllByRecursion, list_all}
-use Rattle.std.specs.Str.{all_ascii_digits}
-use Rattle.std.specs.Str.Parse.{AllDigits, digits_value}
+use Rattle.std.specs.Str.Parse.{digits_value}
 use Rattle.fetch_record.specs.Record.{Intent, Row}
 use Rattle.fetch_record.specs.RecordFile.{GroupLine, IntentLine, IsRecordLine, Line, RowLine, group_line, intent_line}
 use Rattle.fetch_record.specs.RecordFile.{record_row_line, delivered_octets, record_line}
+use Rattle.mail_terms.proofs.NumeralLemmas.{HasNo, HasNo-decimal, by_test, digits_same, numeral_value-decimal}
 
 -- ---- numerals without leading zeros
 
@@ -39,13 +39,6 @@ begins_as_numeral n fits = elim (cases_eq n 0) [
       (numeral.0, first.0, first.1, λ same. absurd (omega (arith, same, above)))
 ]
 
-digits_same : (ds : List ℕ) → list_all is_ascii_digit ds ≡ all_ascii_digits ds
-digits_same [] = refl
-digits_same (d ∷ ds) = rw (digits_same ds) refl
-
-by_test : IsNumeralModel (λ (ds : List ℕ). all_ascii_digits ds ≡ true) (digits_value 10)
-by_test = numerals_by_value (λ (ds : List ℕ). all_ascii_digits ds ≡ true) tells_all_ascii_digits
-
 -- what is read from a numeral without leading zeros is the number that it writes
 decimal_from_numeral : (field : List ℕ) (number : ℕ) → BeginsAsNumeral field → numeral_value field ≡ Some number → field ≡ decimal number
 decimal_from_numeral field number begins read =
@@ -54,17 +47,6 @@ decimal_from_numeral field number begins read =
     let digits = (and_parts (nat_lt 0 (length field) && nat_le (length field) 20) (list_all is_ascii_digit field) tests.0).1 in
     sym (decimal-digits_value by_test field (sym (digits_same field) ∙ digits) begins.0 begins.3
     (omega (arith, leb-true (digits_value 10 field) greatest_size tests.1))) ∙ ap decimal found.1
-
--- and each number of 64 bits is read from the numeral that writes it
-numeral_value-decimal : (number : ℕ) → number < 2 ^ 64 → numeral_value (decimal number) ≡ Some number
-numeral_value-decimal number fits =
-    let numeral = decimal_is_IsNumeral number fits in
-    let test : is_numeral (decimal number) ≡ true = and_from _ _
-    (and_from _ _ (lt-ltb 0 (length (decimal number)) numeral.0.0)
-    (le-leb (length (decimal number)) 20 (length-decimal-le 20 number (omega arith) (omega (arith, fits)) fits)))
-    (digits_same (decimal number) ∙ digits_decimal by_test number fits) in
-    rw (test, ap (λ (n : ℕ). nat_le n greatest_size) numeral.1 ∙ le-leb number greatest_size (omega (arith, fits)))
-    (ap (λ (n : ℕ). Some n) numeral.1)
 
 pub number_found : (field : List ℕ) (read : Option ℕ) → BeginsAsNumeral field → read ≡ numeral_value field
     → IfSome read (λ number. field ≡ decimal number)
@@ -77,9 +59,6 @@ no_number field None same = λ number fits is. none-some number (same ∙ ap num
 no_number field (Some number) same = tt
 
 -- ---- what is cut at a byte that doesn't occur
-
-abbrev pub HasNo : ℕ → List ℕ → Type 0
-HasNo byte bytes = AllByRecursion (λ other. other ≢ byte) bytes
 
 pub same_cons : {c d : ℕ} {a b : List ℕ} → c ∷ a ≡ d ∷ b → (c ≡ d) × (a ≡ b)
 same_cons e = (cc, cc)
@@ -101,11 +80,6 @@ uncut s (c ∷ a) y none = uncut s a y none.1
 HasNo-id : (s : ℕ) → s < 0x21 → (uid : List ℕ) → IsLegalId uid → HasNo s uid
 HasNo-id s below uid legal =
     recursion_from_All _ uid (λ k d inside same. omega (arith, (id_characters uid legal k d inside).0, same, below))
-
-HasNo-decimal : (s : ℕ) → s < 48 → (n : ℕ) → n < 2 ^ 64 → HasNo s (decimal n)
-HasNo-decimal s below n fits = recursion_from_All (λ other. other ≢ s) (decimal n) (All-from_get_or (λ other. other ≢ s) (decimal n) 0
-    (not_in_digits (numerals_by_value (AllDigits 10) tells_digits) (decimal n) s (decimal_is_IsNumeral n fits).0.1
-    (λ range. omega (arith, range.0, below))))
 
 -- ---- the fields of a line
 

@@ -26,9 +26,10 @@ use Rattle.fetch_record.specs.RecordMeaning.{with_taken}
 use Rattle.fetch_record.specs.RecordTorn.{IsPartOf, TornIsIgnoredOrSeen, ends_at_zero}
 use Rattle.fetch_record.specs.declared.seen.SeenFault.{SeenFault}
 use Rattle.fetch_record.specs.declared.seen.SeenFault.TheVariants.{RepeatedId, BadRow}
-use Rattle.fetch_record.proofs.LineLemmas.{text_unique, HasNo, body, body_text, clean_body, cut_unique, no_line, same_cons}
+use Rattle.fetch_record.proofs.LineLemmas.{text_unique, body, body_text, clean_body, cut_unique, no_line, same_cons}
 use Rattle.fetch_record.proofs.RowLemmas.{fresh}
 use Rattle.mail_terms.proofs.ListLemmas.{both_none}
+use Rattle.mail_terms.proofs.NumeralLemmas.{HasNo}
 
 judged_fails : (version : Version) (n : ℕ) (fault : SeenFault) (lines : List Line)
     → judged version n (Fails fault) lines ≡ Fails fault

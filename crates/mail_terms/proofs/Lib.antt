@@ -3,5 +3,5 @@ pub mod IdLemmas
 pub mod ListLemmas
 pub mod ListingLemmas
 mod NumberingLemmas
-mod NumeralLemmas
+pub mod NumeralLemmas
 mod TextLemmas

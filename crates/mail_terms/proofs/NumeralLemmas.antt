@@ -1,16 +1,20 @@
--- The value of the digits that were read so far.
-use Rattle.std.proofs.Common.{◌≡◌, ℕ, ◌+◌, ◌*◌, ◌-◌, ◌<◌, ◌≤◌, ◌==◌, List, length, take, get_or, Bool, true, false}
-use Rattle.std.proofs.Common.{◌&&◌, Some, None, ap, sym, ◌∙◌, arith, if◌then◌else◌, take_all}
+-- The value of the digits that were read so far, and the numeral of a number.
+use Rattle.std.proofs.Common.{◌≡◌, ℕ, ◌+◌, ◌*◌, ◌-◌, ◌<◌, ◌≤◌, ◌==◌, List, [], ◌∷◌, length, take, get_or, Bool, true, false}
+use Rattle.std.proofs.Common.{◌&&◌, ◌^◌, ◌≢◌, Some, None, ap, decimal, nat_le, refl, sym, ◌∙◌, arith, if◌then◌else◌, take_all}
 use Rattle.std.proofs.Math.Bool.{and-false}
-use Rattle.std.proofs.lemmas.Bool.{le-leb, lt-leb, lt-ltb}
+use Rattle.std.proofs.lemmas.Bool.{and_from, le-leb, lt-leb, lt-ltb}
 use Rattle.std.proofs.lemmas.Bool.Decides.{nat_tests}
+use Rattle.std.proofs.lemmas.Fmt.{decimal_is_IsNumeral, digits_decimal, length-decimal-le}
+use Rattle.std.proofs.lemmas.List.Elements.{All-from_get_or, recursion_from_All}
 use Rattle.std.proofs.lemmas.List.Folds.{list_all_more}
 use Rattle.std.proofs.lemmas.Int.Digits.{digits_value_more}
-use Rattle.std.proofs.lemmas.Str.Parse.{digits_value-take-le}
+use Rattle.std.proofs.lemmas.Str.Parse.{IsNumeralModel, digits_value-take-le, not_in_digits, numerals_by_value, tells_all_ascii_digits}
+use Rattle.std.proofs.lemmas.Str.Parse.{tells_digits}
 use Rattle.std.specs.Char.{is_ascii_digit, digit_value}
-use Rattle.std.specs.List.{list_all}
-use Rattle.std.specs.Str.Parse.{digits_value}
-use Rattle.mail_terms.specs.Numeral.{is_numeral, numeral_value}
+use Rattle.std.specs.List.{AllByRecursion, list_all}
+use Rattle.std.specs.Str.{all_ascii_digits}
+use Rattle.std.specs.Str.Parse.{AllDigits, digits_value}
+use Rattle.mail_terms.specs.Numeral.{greatest_size, is_numeral, numeral_value}
 
 -- these octets are digits, and this is their value, which isn't too large
 pub record HasDigits (octets : List ℕ) (value : ℕ) : Type 0 where
@@ -59,3 +63,32 @@ whole_value text i value some short whole read =
       le-leb
           (digits_value 10 text) 18446744073709551615 (omega (arith, read.fits, is)),
     ) (ap (λ (n : ℕ). Some n) is)
+
+-- ---- each number of 64 bits is read from the numeral without leading zeros that writes it
+
+pub digits_same : (ds : List ℕ) → list_all is_ascii_digit ds ≡ all_ascii_digits ds
+digits_same [] = refl
+digits_same (d ∷ ds) = rw (digits_same ds) refl
+
+pub by_test : IsNumeralModel (λ (ds : List ℕ). all_ascii_digits ds ≡ true) (digits_value 10)
+by_test = numerals_by_value (λ (ds : List ℕ). all_ascii_digits ds ≡ true) tells_all_ascii_digits
+
+pub numeral_value-decimal : (number : ℕ) → number < 2 ^ 64 → numeral_value (decimal number) ≡ Some number
+numeral_value-decimal number fits =
+    let numeral = decimal_is_IsNumeral number fits in
+    let test : is_numeral (decimal number) ≡ true = and_from _ _
+    (and_from _ _ (lt-ltb 0 (length (decimal number)) numeral.0.0)
+    (le-leb (length (decimal number)) 20 (length-decimal-le 20 number (omega arith) (omega (arith, fits)) fits)))
+    (digits_same (decimal number) ∙ digits_decimal by_test number fits) in
+    rw (test, ap (λ (n : ℕ). nat_le n greatest_size) numeral.1 ∙ le-leb number greatest_size (omega (arith, fits)))
+    (ap (λ (n : ℕ). Some n) numeral.1)
+
+-- ---- what isn't in it
+
+abbrev pub HasNo : ℕ → List ℕ → Type 0
+HasNo byte bytes = AllByRecursion (λ other. other ≢ byte) bytes
+
+pub HasNo-decimal : (s : ℕ) → s < 48 → (n : ℕ) → n < 2 ^ 64 → HasNo s (decimal n)
+HasNo-decimal s below n fits = recursion_from_All (λ other. other ≢ s) (decimal n) (All-from_get_or (λ other. other ≢ s) (decimal n) 0
+    (not_in_digits (numerals_by_value (AllDigits 10) tells_digits) (decimal n) s (decimal_is_IsNumeral n fits).0.1
+    (λ range. omega (arith, range.0, below))))

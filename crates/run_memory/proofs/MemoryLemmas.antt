@@ -1,25 +1,20 @@
 -- What is written is read back as the same.
 use Rattle.std.proofs.Common.{All, Bool, Err, None, Ok, OnErr, OnOk, Result, List, Option, Some, [], ap, append-nil}
 use Rattle.std.proofs.Common.{append_assoc, arith, bytes_eq, decimal, drop, false, flat_map, inl, inr, length}
-use Rattle.std.proofs.Common.{length-append, nat_le, nat_lt, refl, remove, subst, suc, sym, take, true, ℕ, ◌++◌, ◌+◌}
+use Rattle.std.proofs.Common.{length-append, nat_lt, refl, remove, subst, suc, sym, take, true, ℕ, ◌++◌, ◌+◌}
 use Rattle.std.proofs.Common.{◌<◌, ◌==◌, ◌^◌, ◌∙◌, ◌∷◌, ◌≡◌, ◌≢◌, ◌≤◌, option_map, if◌then◌else◌}
-use Rattle.mail_terms.specs.Numeral.{greatest_size, is_numeral, numeral_value}
 use Rattle.mail_terms.specs.Text.{lines_of_text}
 use Rattle.std.proofs.Math.Seq.{take-append_seam}
-use Rattle.std.proofs.lemmas.Bool.{and_from, cases_lt, le-leb, le-ltb, lt-ltb}
+use Rattle.std.proofs.lemmas.Bool.{cases_lt, le-ltb, lt-ltb}
 use Rattle.std.proofs.lemmas.Bool.Decides.{eqb_tells, nat_tests}
-use Rattle.std.proofs.lemmas.Fmt.{decimal_is_IsNumeral, digits_decimal, length-decimal-le}
+use Rattle.std.proofs.lemmas.Fmt.{length-decimal-le}
 use Rattle.std.proofs.lemmas.List.Concat.{flat_map-cons, length-flat_map}
-use Rattle.std.proofs.lemmas.List.Elements.{All-append, All-drop, All-from_get_or, All-push, All-take, recursion_from_All}
+use Rattle.std.proofs.lemmas.List.Elements.{All-append, All-drop, All-push, All-take, recursion_from_All}
 use Rattle.std.proofs.lemmas.List.{length-drop}
 use Rattle.std.proofs.lemmas.List.Edits.{length-remove}
 use Rattle.std.proofs.lemmas.List.Sums.{list_all-from_AllPass, sum_by-le}
-use Rattle.std.proofs.lemmas.Str.Parse.{IsNumeralModel, not_in_digits, numerals_by_value, tells_all_ascii_digits, tells_digits}
-use Rattle.std.specs.Char.{is_ascii_digit}
-use Rattle.std.specs.List.{AllByRecursion, after_first, before_first, list_all, position_or_len}
+use Rattle.std.specs.List.{AllByRecursion, after_first, before_first, position_or_len}
 use Rattle.std.specs.Option.{option_map_or}
-use Rattle.std.specs.Str.{all_ascii_digits}
-use Rattle.std.specs.Str.Parse.{AllDigits, digits_value}
 use Rattle.run_memory.specs.Fields.{IsFaultKey, is_digit, key_in, numbers_in}
 use Rattle.run_memory.specs.Lines.{AreNumbers, IsReadableFault, counts_of, known_fault_in, known_fault_line, left_line}
 use Rattle.run_memory.specs.Lines.{line_in, notice_line, numbers_text}
@@ -29,6 +24,7 @@ use Rattle.run_memory.specs.declared.line.KnownFault.{KnownFault}
 use Rattle.run_memory.specs.declared.line.Line.{Line}
 use Rattle.run_memory.specs.declared.line.Line.TheVariants.{Left, Fault, Notice}
 use Rattle.run_memory.specs.declared.times.Counts.{Counts}
+use Rattle.mail_terms.proofs.NumeralLemmas.{HasNo, HasNo-decimal, numeral_value-decimal}
 
 -- ---- a line that is read
 
@@ -52,17 +48,9 @@ text_over told (octet ∷ text) over = absurd (grind (arith, nat_tests, over))
 
 -- ---- octets that don't occur
 
-abbrev HasNo : ℕ → List ℕ → Type 0
-HasNo octet octets = AllByRecursion (λ other. other ≢ octet) octets
-
 HasNo-append : (s : ℕ) (a b : List ℕ) → HasNo s a → HasNo s b → HasNo s (a ++ b)
 HasNo-append s [] b p q = q
 HasNo-append s (x ∷ a) b p q = (p.0, HasNo-append s a b p.1 q)
-
-HasNo-decimal : (s : ℕ) → s < 48 → (n : ℕ) → n < 2 ^ 64 → HasNo s (decimal n)
-HasNo-decimal s below n fits = recursion_from_All (λ other. other ≢ s) (decimal n) (All-from_get_or (λ other. other ≢ s) (decimal n) 0
-    (not_in_digits (numerals_by_value (AllDigits 10) tells_digits) (decimal n) s (decimal_is_IsNumeral n fits).0.1
-    (λ range. omega (arith, range.0, below))))
 
 digit_above : (octet s : ℕ) → is_digit octet ≡ true → s < 48 → octet ≢ s
 digit_above octet s digit below same = grind (arith, nat_tests, digit, below, same)
@@ -106,24 +94,8 @@ first_line (octet ∷ line) rest none = elim (eqb_tells octet 10) [
 
 -- ---- numbers and keys
 
-digits_same : (ds : List ℕ) → list_all is_ascii_digit ds ≡ all_ascii_digits ds
-digits_same [] = refl
-digits_same (d ∷ ds) = rw (digits_same ds) refl
-
-by_test : IsNumeralModel (λ (ds : List ℕ). all_ascii_digits ds ≡ true) (digits_value 10)
-by_test = numerals_by_value (λ (ds : List ℕ). all_ascii_digits ds ≡ true) tells_all_ascii_digits
-
 length-number : (number : ℕ) → number < 2 ^ 64 → length (decimal number) ≤ 20
 length-number number fits = length-decimal-le 20 number (omega arith) (omega (arith, fits)) fits
-
-numeral_value-decimal : (number : ℕ) → number < 2 ^ 64 → numeral_value (decimal number) ≡ Some number
-numeral_value-decimal number fits =
-    let numeral = decimal_is_IsNumeral number fits in
-    let test : is_numeral (decimal number) ≡ true = and_from _ _
-    (and_from _ _ (lt-ltb 0 (length (decimal number)) numeral.0.0) (le-leb (length (decimal number)) 20 (length-number number fits)))
-    (digits_same (decimal number) ∙ digits_decimal by_test number fits) in
-    rw (test, ap (λ (n : ℕ). nat_le n greatest_size) numeral.1 ∙ le-leb number greatest_size (omega (arith, fits)))
-    (ap (λ (n : ℕ). Some n) numeral.1)
 
 numbers_read : (a b c : ℕ) → AreNumbers a b c → numbers_in (numbers_text a b c) ≡ Some (a, b, c)
 numbers_read a b c are =
