@@ -7,7 +7,6 @@ use Rattle.std.proofs.lemmas.List.Concat.{flat_map-append}
 use Rattle.mail_terms.specs.Listing.{Item}
 use Rattle.rc_file.specs.declared.settings.Settings.{Settings}
 use Rattle.fetch_record.specs.Record.{Row, marked, RecordState, none_open, Intent}
-use Rattle.mail_store.specs.Maildir.{Maildir}
 use Rattle.fetch_session.specs.Task.{Task, stores, rereads, Done, IsAnswered, tasks_of, texts_in, done_texts}
 use Rattle.fetch_session.specs.Target.{Stores, no_maildir, AsEntries, mail_in, closed_file, closed_rows_in}
 use Rattle.pop3_wire.specs.Reading.{WholeReply}

@@ -1,5 +1,5 @@
 -- What a session leaves of an account with a Maildir, for each way that its tasks can take.
-use Rattle.std.proofs.Common.{◌≡◌, ◌+◌, ℕ, false, List, ◌∷◌, ◌++◌, map, Option, refl, sym, ap, append_assoc}
+use Rattle.std.proofs.Common.{◌≡◌, ℕ, false, List, ◌∷◌, ◌++◌, map, Option, refl, sym, ap, append_assoc}
 use Rattle.std.proofs.Common.{arith, ◌∙◌, ⊎_elim, ◌⊎◌, inl, inr, None, Result, Ok, Err, []}
 use Rattle.std.proofs.lemmas.List.{append-nil, map-append}
 use Rattle.std.proofs.lemmas.List.Concat.{flat_map-append}

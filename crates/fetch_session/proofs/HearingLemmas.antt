@@ -1,5 +1,5 @@
 -- What a listener was told of a plan, before and after other calls.
-use Rattle.std.proofs.Common.{List, [], ◌∷◌, ◌++◌, ◌⊎◌, inl, inr}
+use Rattle.std.proofs.Common.{List, [], ◌∷◌, ◌++◌, inl, inr}
 use Rattle.fetch_session.specs.Hearing.{HearsOne}
 use Rattle.fetch_session.specs.declared.message_preview.MessagePreview.{MessagePreview}
 

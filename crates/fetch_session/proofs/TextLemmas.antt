@@ -14,7 +14,7 @@ use Rattle.pop3_wire.specs.Bodies.{Rest}
 use Rattle.fetch_session.specs.Store.{Gained, MayGain, begun_with, EndsFile, StopsStoring, StoresText, StopsReading, ReadsText, Appended}
 use Rattle.pop3_wire.specs.Place.{Place}
 use Rattle.fetch_record.specs.Record.{Row, none_open, marked, RecordState, Intent, Loaded}
-use Rattle.mail_store.specs.FlatFile.{Stored, holding, file_refused, Measures}
+use Rattle.mail_store.specs.FlatFile.{Stored, holding, Measures}
 use Rattle.pop3_client.specs.Turns.{Turn, retr}
 use Rattle.pop3_client.specs.Conversation.{Talked, Broke}
 use Rattle.fetch_session.specs.declared.report.ReportLine.{ReportLine}

@@ -3,7 +3,7 @@ use Rattle.std.specs.Prelude.{◌≡◌, ◌⊎◌, ◌<◌, ℕ, Bool, true, fa
 use Rattle.std.specs.Prelude.{Result, Ok, Err, Vec}
 use Rattle.std.specs.List.{AllByRecursion}
 use Rattle.mail_terms.specs.Listing.{Item}
-use Rattle.fetch_record.specs.Record.{Row, Intent, RecordState, IsRecord, Loaded, has_row, is_delivered, none_open}
+use Rattle.fetch_record.specs.Record.{Row, RecordState, IsRecord, Loaded, has_row, is_delivered, none_open}
 use Rattle.fetch_record.specs.Record.{merged}
 use Rattle.fetch_record.specs.RecordFile.{file_of}
 use Rattle.fetch_rules.specs.Plan.{IsQuiet, planned}

@@ -1,5 +1,5 @@
 -- What a rehearsal holds, and what it shows of the commands that it sends.
-use Rattle.std.specs.Prelude.{◌≡◌, ℕ, Bool, true, false, List, ◌==◌, codes, if◌then◌else◌}
+use Rattle.std.specs.Prelude.{◌≡◌, ℕ, true, false, List, ◌==◌, codes, if◌then◌else◌}
 use Rattle.std.specs.List.{starts_with}
 use Rattle.pop3_wire.specs.declared.wire.Wire.{Ghosts as WireGhosts}
 use Rattle.mail_store.specs.declared.maildir.disk.MaildirDisk.{Ghosts as DiskGhosts}

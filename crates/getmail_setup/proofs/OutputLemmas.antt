@@ -1,5 +1,5 @@
 -- What one write after another has written.
-use Rattle.std.proofs.Common.{◌≡◌, ◌∙◌, ℕ, List, Option, ◌++◌}
+use Rattle.std.proofs.Common.{◌∙◌, ℕ, List, Option, ◌++◌}
 use Rattle.std.proofs.KnownBytes.{Appends-trans}
 use Rattle.getmail_setup.specs.declared.output.Output.{Output}
 use Rattle.getmail_setup.specs.Output.{Puts}

@@ -450,20 +450,20 @@ loose_cut kept flushed left front t =
     (t.each i after below)) (cases_lt i (length kept))))) t.most
 
 -- the same of a file whose bytes, flushed or not, begin with these, which weren't cut off since
-left_back : (b : Blob) (len : ℕ) (kept xs ys : List ℕ) (left : Option (List ℕ)) → b.content ≡ kept ++ xs
-    → b.flushed ≡ kept ++ ys → length kept ≡ min len b.uncut → take len b.content ≡ kept → IsLeftOf (Some (cut b len)) left
+left_back : (b : Blob) (len : ℕ) (kept ys : List ℕ) (left : Option (List ℕ)) → b.flushed ≡ kept ++ ys
+    → length kept ≡ min len b.uncut → take len b.content ≡ kept → IsLeftOf (Some (cut b len)) left
     → (left ≡ Some b.flushed) ⊎ (left ≡ Some kept)
-left_back b len kept xs ys None content flushed size front h = absurd h
-left_back b len kept xs ys (Some left) content flushed size front (inl e) = inl (ap Some e)
-left_back b len kept xs ys (Some left) content flushed size front (inr (inl e)) = inr (ap Some (e ∙ front))
-left_back b len kept xs ys (Some left) content flushed size front (inr (inr t)) =
+left_back b len kept ys None flushed size front h = absurd h
+left_back b len kept ys (Some left) flushed size front (inl e) = inl (ap Some e)
+left_back b len kept ys (Some left) flushed size front (inr (inl e)) = inr (ap Some (e ∙ front))
+left_back b len kept ys (Some left) flushed size front (inr (inr t)) =
     ⊎_elim (λ e. inl (ap Some e)) (λ e. inr (ap Some e)) (loose_cut kept b.flushed left
     (ap (take (length kept)) flushed ∙ take-append_seam kept ys) (rw (front, ← size) at t))
 
 left_cut : (was : List ℕ) (len : ℕ) (left : Option (List ℕ)) → IsLeftOf (Some (cut (secured was) len)) left
     → (left ≡ Some was) ⊎ (left ≡ Some (take len was))
-left_cut was len left h = left_back (secured was) len (take len was) (drop len was) (drop len was) left
-    (sym (take-append-drop len was)) (sym (take-append-drop len was)) (length-take len was) refl h
+left_cut was len left h = left_back (secured was) len (take len was) (drop len was) left
+    (sym (take-append-drop len was)) (length-take len was) refl h
 
 front_left : (old new : Disk) (was : List ℕ) (len : ℕ) (left : Option (List ℕ)) → seen_on old ≡ Some was
     → Becomes (λ b c. MayBeFlushed (cut b len) c) old new → MayLeave new left
@@ -578,7 +578,7 @@ cut_back old mid new was bytes r on has appends cuts = (
         ⊎_elim (λ e. pieces_behind was bytes first front rest c left parts part
         (subst (λ (o : Option (List ℕ)). IsLeftOf (Some c) o) (sym e) (inl refl)))
         (nothing left)
-        (left_back c (length was) was (first ++ front) ys left content flushed (omega (arith, uncut))
+        (left_back c (length was) was ys left flushed (omega (arith, uncut))
         (ap (take (length was)) content ∙ take-append_seam was (first ++ front))
         (subst (λ (x : Blob). IsLeftOf (Some (cut x (length was))) left) same (no_more (cut b (length was)) d is left now)))
 

@@ -2,7 +2,7 @@
 use Rattle.std.proofs.Common.{◌≡◌, ◌∙◌, ⊎_elim, ℕ, List, [], ◌∷◌, ◌++◌, length, Option, Some, None, refl, sym, inl, inr}
 use Rattle.std.proofs.Common.{ap, subst, arith, length-append, append-nil, ◌≤◌, option_map}
 use Rattle.std.proofs.Math.Seq.{take-length}
-use Rattle.mail_store.specs.Durable.{Blob, Crashes, CrashesHappen, Disk, DurableIsLeft, IsDurable, IsFlushed, IsLeft}
+use Rattle.mail_store.specs.Durable.{Blob, CrashesHappen, DurableIsLeft, IsDurable, IsFlushed, IsLeft}
 use Rattle.mail_store.specs.Durable.{IsLeftOf, MayLeave, all_durable, content_in, secured, seen_on}
 
 pub no_rest : (xs rest : List ℕ) → length (xs ++ rest) ≤ length xs → xs ++ rest ≡ xs

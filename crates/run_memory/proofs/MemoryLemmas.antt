@@ -1,7 +1,7 @@
 -- What is written is read back as the same.
 use Rattle.std.proofs.Common.{All, Bool, Err, None, Ok, OnErr, OnOk, Result, List, Option, Some, [], ap, append-nil}
 use Rattle.std.proofs.Common.{append_assoc, arith, bytes_eq, decimal, drop, false, flat_map, inl, inr, length}
-use Rattle.std.proofs.Common.{length-append, nat_lt, refl, remove, subst, suc, sym, take, true, ℕ, ◌++◌, ◌+◌}
+use Rattle.std.proofs.Common.{length-append, nat_lt, refl, remove, subst, suc, take, true, ℕ, ◌++◌, ◌+◌}
 use Rattle.std.proofs.Common.{◌<◌, ◌==◌, ◌^◌, ◌∙◌, ◌∷◌, ◌≡◌, ◌≢◌, ◌≤◌, option_map, if◌then◌else◌}
 use Rattle.mail_terms.specs.Text.{lines_of_text}
 use Rattle.std.proofs.Math.Seq.{take-append_seam}
@@ -18,7 +18,7 @@ use Rattle.std.specs.Option.{option_map_or}
 use Rattle.run_memory.specs.Fields.{IsFaultKey, is_digit, key_in, numbers_in}
 use Rattle.run_memory.specs.Lines.{AreNumbers, IsReadableFault, counts_of, known_fault_in, known_fault_line, left_line}
 use Rattle.run_memory.specs.Lines.{line_in, notice_line, numbers_text}
-use Rattle.run_memory.specs.Memory.{IsKept, IsReadBack, Told, end, with_lf, told_header, nothing, room, memory_text}
+use Rattle.run_memory.specs.Memory.{IsKept, IsReadBack, Told, end, with_lf, nothing, room, memory_text}
 use Rattle.run_memory.specs.Memory.{told_after, told_in, with_line}
 use Rattle.run_memory.specs.declared.line.KnownFault.{KnownFault}
 use Rattle.run_memory.specs.declared.line.Line.{Line}

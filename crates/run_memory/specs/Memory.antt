@@ -1,5 +1,5 @@
 -- What earlier runs told, and the file that keeps it.
-use Rattle.std.specs.Prelude.{◌≡◌, ◌≤◌, ◌<◌, ℕ, List, [], ◌∷◌, ◌++◌, length, take, drop, flat_map, nat_lt, position}
+use Rattle.std.specs.Prelude.{◌≡◌, ◌≤◌, ℕ, List, [], ◌∷◌, ◌++◌, length, take, drop, flat_map, nat_lt, position}
 use Rattle.std.specs.Prelude.{remove, codes, All}
 use Rattle.std.specs.Prelude.{bytes_eq, if◌then◌else◌}
 use Rattle.std.specs.Option.{option_map_or}

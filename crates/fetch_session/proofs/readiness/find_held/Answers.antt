@@ -1,4 +1,4 @@
-use Rattle.std.proofs.Common.{◌∙◌, refl}
+use Rattle.std.proofs.Common.{refl}
 use Rattle.fetch_session.proofs.TalkLemmas.{err_is}
 use Rattle.mail_store.proofs.MaildirLemmas.{none_taken}
 use Rattle.fetch_session.proofs.readiness.find_held.Goals as goal
