@@ -1,5 +1,5 @@
 -- Which files of a Maildir a session leaves.
-use Rattle.std.proofs.Common.{◌≡◌, ℕ, List, [], ◌∷◌, ◌++◌, Result, Ok, Err, refl, sym, ap, ◌∙◌, inl, inr, append_assoc}
+use Rattle.std.proofs.Common.{◌≡◌, ℕ, List, [], ◌∷◌, ◌++◌, Result, Ok, Err, refl, sym, ap, arith, ◌∙◌, inl, inr, append_assoc}
 use Rattle.std.proofs.lemmas.List.{append-nil}
 use Rattle.pop3_wire.specs.Place.{Place, at}
 use Rattle.pop3_wire.specs.Bodies.{Rest}
@@ -46,12 +46,8 @@ refused_grew old stem text rest fault new (inr (is, inr (ended, (is_named, one))
 
 pub unready_same : (fault : Fault) (old : Maildir) (file : Stored) (new : Maildir) (file' : Stored)
     → UnreadyCause fault old file new file' → new.files ≡ old.files
-unready_same SeenRefused old file new file' is = ap (λ (m : Maildir). m.files) is.1
-unready_same (BadSeen line) old file new file' is = ap (λ (m : Maildir). m.files) is.1
-unready_same (StoreRefused Missing) old file new file' is = ap (λ (m : Maildir). m.files) is.1
-unready_same (StoreRefused Refused) old file new file' is = ap (λ (m : Maildir). m.files) is
-unready_same NoMemory old file new file' is = ap (λ (m : Maildir). m.files) is
-unready_same _ old file new file' never = absurd never
+unready_same (StoreRefused Refused) old file new file' is = rw is refl
+unready_same fault old file new file' is = grind arith
 
 unready_grew : (fault : Fault) (old : Maildir) (file : Stored) (new : Maildir) (file' : Stored)
     → UnreadyCause fault old file new file' → Grew old new
