@@ -21,39 +21,17 @@ use Rattle.pop3_wire.specs.declared.command.Command.TheVariants.{Dele, ListAll, 
 use Rattle.pop3_client.specs.Turns.{Turn, asking, dele, pass as pass_turn, quit, user as user_turn}
 use Rattle.pop3_server.specs.AnswersLines.{AnswersLines}
 use Rattle.pop3_server.specs.Maildrop.{DropMail, there}
-use Rattle.pop3_server.specs.ServerMachine.{Action, DoesAction, Empties, Give, Leave, Machine, Open, Say, action_of, is_open}
+use Rattle.pop3_server.specs.ServerMachine.{DoesAction, Empties, Machine, action_of, is_open}
 use Rattle.pop3_server.specs.ServerMachine.{left_count, left_total, listed, mark_at, message_row, row_numbered, said, scan_line, uid_line}
 use Rattle.pop3_server.specs.ServerMachine.{unless_marked}
 use Rattle.pop3_server.specs.declared.rows.MessageRow.{MessageRow}
 use Rattle.pop3_server.specs.declared.state.State.{State}
 use Rattle.pop3_server.specs.declared.state.State.TheVariants.{Authorization, Transaction}
-use Rattle.pop3_server.proofs.HonestLemmas.{AreServed, IsServed, are_served, fresh_count, fresh_rows, left_of, run_sound}
-use Rattle.pop3_server.proofs.RemovalLemmas.{few_left, some_refused}
+use Rattle.pop3_server.proofs.HonestLemmas.{AreServed, IsServed, are_served, did_sound, fresh_count, fresh_rows, left_of, run_sound}
+use Rattle.pop3_server.proofs.RemovalLemmas.{some_refused}
 use Rattle.fetch_runs.proofs.Turns.{CanBeSaid}
 use Rattle.local_fetch.specs.Good.{IsWithin}
 use Rattle.local_fetch.proofs.ReplyLemmas.{IsGoodAnswer, IsSaid, given, plain, sizes_listed, stated, uids_listed}
-
--- ---- a count of refused calls doesn't fall
-
-module _ {D : Type 0} (sound : D → Type 0) (mail : D → DropMail) where
-  did_rise : (asked : Action) (old : D) (answer : List ℕ) (next : State) (new : D) → DoesAction sound mail asked old answer next new
-      → sound new → (mail old).failures ≤ (mail new).failures
-  did_rise (Say bytes state) old answer next new does s = rw does.2 (omega arith)
-  did_rise Open old answer next new (inl (is, state, known)) s = omega (arith, ap (λ (m : DropMail). m.failures) (known s).1)
-  did_rise Open old answer next new (inr (rows, limits, is, state, known)) s =
-      omega (arith, ap (λ (m : DropMail). m.failures) (known s).1.0)
-  did_rise (Give rows i line top) old answer next new (state, inl (is, known)) s =
-      omega (arith, ap (λ (m : DropMail). m.failures) (known s).1)
-  did_rise (Give rows i line top) old answer next new (state, inr (text, is, known)) s =
-      omega (arith, ap (λ (m : DropMail). m.failures) (known s).1.0)
-  did_rise (Leave rows) old answer next new (state, (all, is, known)) s = omega (arith, few_left (known s).1)
-
-  run_rises : (old new : Machine D) (lines : List (List ℕ)) (answers : List ℕ) → AnswersLines sound mail old lines answers new
-      → sound new.drop → (mail old.drop).failures ≤ (mail new.drop).failures
-  run_rises old new [] answers (none, same) s = rw same (omega arith)
-  run_rises old new (line ∷ lines) answers (first, rest, next, is, turn, run) s =
-      let now = run_sound sound mail next new lines rest run s in
-      omega (arith, did_rise _ old.drop first next.state next.drop turn.answers.does now, run_rises next new lines rest run s)
 
 -- ---- plans
 
@@ -317,9 +295,8 @@ module _ {D : Type 0} (sound : D → Type 0) (mail : D → DropMail) (name word 
       (first, rest, next, is, turn, run) still =
       let same = one_line line (line_of c) (flat_map ended lines ++ waiting) (asking turns ++ more) each.0 (is_line c can.0.1 can.0.0)
       (sym (append_assoc (ended line) (flat_map ended lines) waiting) ∙ sent ∙ append_assoc (ended (line_of c)) (asking turns) more) in
-      let now = run_sound sound mail next new lines rest run s in
-      let up = did_rise sound mail _ old.drop first next.state next.drop turn.answers.does now in
-      let on = run_rises sound mail next new lines rest run s in
+      let (now, on) = run_sound sound mail next new lines rest run s in
+      let up = (did_sound sound mail _ old.drop first next.state next.drop turn.answers.does now).1 in
       let does = rw (same.0, round_trip c can.0.1 can.0.0) at turn.answers.does in
       let (good, stands') = step stage c old next first stands plan.0 user pass does now (omega (arith, up, on, still)) in
       let later = all_replied new waiting more none s (after stage c) turns next lines rest stands' (turn.user ∙ user)

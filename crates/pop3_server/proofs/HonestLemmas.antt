@@ -20,7 +20,7 @@ use Rattle.pop3_wire.specs.World.{Message, IsMessage}
 use Rattle.pop3_wire.specs.Honest.{SaysAnything, IsScanRow, IsUidRow, ListsAll, Reply, no_marks, Honest, Grants, Replies}
 use Rattle.pop3_wire.specs.Rows.{scan_row}
 use Rattle.pop3_server.specs.declared.rows.MessageRow.{MessageRow}
-use Rattle.pop3_server.proofs.RemovalLemmas.{none_gone, left_by_quit}
+use Rattle.pop3_server.proofs.RemovalLemmas.{few_left, none_gone, left_by_quit}
 use Rattle.pop3_server.proofs.RowLemmas.{row_with, rows_with}
 use Rattle.pop3_server.specs.Maildrop.{max_count, max_size, DropMail, there}
 use Rattle.pop3_server.specs.ServerMachine.{said, is_unmarked, left_count, left_size, left_total, unless_marked}
@@ -395,20 +395,27 @@ module _ {D : Type 0} (sound : D → Type 0) (mail : D
 -- ---- all answers in order
 
 module _ {D : Type 0} (sound : D → Type 0) (mail : D → DropMail) where
-  did_sound : (asked : Action) (old : D) (answer : List ℕ) (next : State) (new : D)
-      → DoesAction sound mail asked old answer next new → sound new → sound old
-  did_sound (Say bytes state) old answer next new does s = rw does.2 at s
-  did_sound Open old answer next new (inl (is, state, known)) s = (known s).0
-  did_sound Open old answer next new (inr (rows, limits, is, state, known)) s = (known s).0
-  did_sound (Give rows i line top) old answer next new (state, inl (is, known)) s = (known s).0
-  did_sound (Give rows i line top) old answer next new (state, inr (text, is, known)) s = (known s).0
-  did_sound (Leave rows) old answer next new (state, (all, is, known)) s = (known s).0
+  -- a device that is sound was so before, and its count of refused calls didn't fall
+  pub did_sound : (asked : Action) (old : D) (answer : List ℕ) (next : State) (new : D)
+      → DoesAction sound mail asked old answer next new → sound new → sound old × ((mail old).failures ≤ (mail new).failures)
+  did_sound (Say bytes state) old answer next new does s = (rw does.2 at s, rw does.2 (omega arith))
+  did_sound Open old answer next new (inl (is, state, known)) s =
+      ((known s).0, omega (arith, ap (λ (m : DropMail). m.failures) (known s).1))
+  did_sound Open old answer next new (inr (rows, limits, is, state, known)) s =
+      ((known s).0, omega (arith, ap (λ (m : DropMail). m.failures) (known s).1.0))
+  did_sound (Give rows i line top) old answer next new (state, inl (is, known)) s =
+      ((known s).0, omega (arith, ap (λ (m : DropMail). m.failures) (known s).1))
+  did_sound (Give rows i line top) old answer next new (state, inr (text, is, known)) s =
+      ((known s).0, omega (arith, ap (λ (m : DropMail). m.failures) (known s).1.0))
+  did_sound (Leave rows) old answer next new (state, (all, is, known)) s = ((known s).0, omega (arith, few_left (known s).1))
 
   pub run_sound : (old new : Machine D) (lines : List (List ℕ)) (answers : List ℕ)
-      → AnswersLines sound mail old lines answers new → sound new.drop → sound old.drop
-  run_sound old new [] answers (none, same) s = rw same at s
+      → AnswersLines sound mail old lines answers new → sound new.drop
+      → sound old.drop × ((mail old.drop).failures ≤ (mail new.drop).failures)
+  run_sound old new [] answers (none, same) s = (rw same at s, rw same (omega arith))
   run_sound old new (line ∷ lines) answers (first, rest, next, is, turn, run) s =
-      did_sound _ old.drop first next.state next.drop turn.answers.does (run_sound next new lines rest run s)
+      let later = run_sound next new lines rest run s in
+      let now = did_sound _ old.drop first next.state next.drop turn.answers.does later.0 in (now.0, omega (arith, now.1, later.1))
 
   -- after the answer to a command, and the answers to others
   closed_by : {c : Command} {commands : List Command} (next last : State) → (is_open next ≡ true) ⊎ (c ≡ Quit)
@@ -430,7 +437,7 @@ module _ {D : Type 0} (sound : D → Type 0) (mail : D → DropMail) where
   all_replied ms marks (c ∷ commands) old new answers messages asked (first, rest, next, is, turn, run) s stands =
       let does = rw (round_trip c asked.0.numbers asked.0.sendable) at turn.answers.does in
       let one = replied sound mail ms messages old.drop first next.state next.drop
-      (run_sound next new (command_lines commands) rest run s) marks old.user old.pass old.state c turn.was_open
+      (run_sound next new (command_lines commands) rest run s).0 marks old.user old.pass old.state c turn.was_open
       stands asked.0.of_session does in
       let more = all_replied ms one.after commands next new rest messages asked.1 run s one.stands in
       (more.0, (first, rest, one.after, is, one.reply, more.1), more.2, λ _. closed_by next.state new.state one.closes more.3)
