@@ -5,7 +5,7 @@
 #   make            proves and builds the programs into bin/: twenty minutes on four cores the first time, thirty on two,
 #                   seconds if nothing has changed
 #   make check      the gate: every proof, then every test; its last line is 'N passed, 0 failed'
-#   make quick      what can be checked in seconds: the layout, the wrong bodies' texts, the documents, these two texts
+#   make quick      what can be checked in seconds: the layout, the mutants' texts, the documents, these two texts
 #   make statement  prints what is promised with all definitions, from the sources: docs/STATEMENT.txt
 #   make axioms     prints what is trusted, from the sources: docs/AXIOMS.txt
 #   make test       builds the programs and the tests of the libraries, and runs these and the tests from outside;

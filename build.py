@@ -4,7 +4,7 @@
     ./build.py getmail popd               # `make` then copies each program, and its checksum, into bin/
     ./build.py --unchanged getmail popd   # fails if bin/ has programs that were proved from other sources than these
 
-`rt ci` does both, in a copy that has these crates without their wrong bodies: as many at once as there are processors and memory.
+`rt ci` does both, in a copy that has these crates without their mutants: as many at once as there are processors and memory.
 It keeps what it has proved beside the kit, for the next run here and for the gate. `tests` builds and runs the tests of the
 libraries.
 """

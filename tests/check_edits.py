@@ -1,7 +1,7 @@
 #!/usr/bin/env python3
 """Finds in a second what the gate would report after many minutes, or not at all.
 
-- Each wrong body, `crates/NAME/must-fail/*.edit`, can be applied: its file is there, and each text that it replaces
+- Each mutant, `crates/NAME/must-fail/*.edit`, can be applied: its file is there, and each text that it replaces
   occurs there exactly once, after the replacements before it. Its name has only small letters, digits and hyphens.
 - Its first two lines say which promise it breaks and which clause refuses it, and docs/PROVED.md has the table of these.
 - There are at most sixty of them, since each takes the gate half a minute.
@@ -15,7 +15,7 @@ from pathlib import Path
 TOP = Path(__file__).resolve().parent.parent
 sys.path[:0] = [str(TOP / "tools")]
 
-import wrong_bodies  # noqa: E402 (the path has to be there first)
+import mutants  # noqa: E402 (the path has to be there first)
 
 CRATES = TOP / "crates"
 TEST_CRATE = "tests"
@@ -26,7 +26,7 @@ def faults_of_edit(edit):
     """Why the edit can't be applied, a line for each reason."""
     if not re.fullmatch(r"[a-z0-9]+(-[a-z0-9]+)*\.edit", edit.name):
         yield "its name is not of small letters, digits and hyphens"
-    if not wrong_bodies.HEAD.match(edit.read_text()):
+    if not mutants.HEAD.match(edit.read_text()):
         yield "its first two lines don't say which promise it breaks, and which clause refuses it"
     crate, texts, path, old = edit.parent.parent, {}, None, None
     for line in edit.read_text().splitlines():
@@ -58,15 +58,15 @@ def faults_of_edit(edit):
 def edit_faults():
     edits = sorted(CRATES.glob("*/must-fail/*.edit"))
     if len(edits) > MOST_EDITS:
-        yield f"there are {len(edits)} wrong bodies, and at most {MOST_EDITS} are wanted"
+        yield f"there are {len(edits)} mutants, and at most {MOST_EDITS} are wanted"
     for edit in edits:
         for fault in faults_of_edit(edit):
             yield f"{edit.relative_to(CRATES)}: {fault}"
 
 
 def table_faults():
-    if wrong_bodies.table() not in (TOP / "docs" / "PROVED.md").read_text():
-        yield "docs/PROVED.md lacks the table of wrong bodies that `python3 tools/wrong_bodies.py` prints"
+    if mutants.table() not in (TOP / "docs" / "PROVED.md").read_text():
+        yield "docs/PROVED.md lacks the table of mutants that `python3 tools/mutants.py` prints"
 
 
 def test_faults():

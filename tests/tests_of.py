@@ -1,6 +1,6 @@
 #!/usr/bin/env python3
 """Prints what tests a crate: the files of the libraries' tests that use it, the tests from outside of the programs that are
-built on it, and its wrong bodies.
+built on it, and its mutants.
 
     python3 tests/tests_of.py pop3_wire      # without a name, of every crate
 """

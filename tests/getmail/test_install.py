@@ -231,7 +231,7 @@ class Install(Copied):
         self.assertEqual({path: path.stat().st_mode for path in self.place.rglob("*")}, usual)
 
     def test_programs_of_other_sources_are_refused(self):
-        """Those that were proved from other files, or of which nothing says so; wrong bodies and other crates don't count."""
+        """Those that were proved from other files, or of which nothing says so; mutants and other crates don't count."""
         for left in ("mail_store/must-fail/x.edit", "mail_store/out/x", "fetch_runs/src/more.rt"):
             (self.top / "crates" / left).parent.mkdir(exist_ok=True)
             (self.top / "crates" / left).touch()
@@ -454,7 +454,7 @@ class Demo(Copied):
         self.check_demo(self.path_with(TRY), "aren't proved yet", "`make` proves them")
 
     def test_make_proves_the_crates_of_the_programs(self):
-        """Those alone, without their wrong bodies and what was built before. It says how far it is."""
+        """Those alone, without their mutants and what was built before. It says how far it is."""
         for name in ("getmail", "popd"):
             (self.top / "bin" / name).rename(self.top / f"{name}.built")
             (self.top / "bin" / f"{name}.sources").unlink()

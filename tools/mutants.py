@@ -1,5 +1,5 @@
 #!/usr/bin/env python3
-"""Prints the table of wrong bodies that docs/PROVED.md has: what each breaks, and which clause refuses it, out of
+"""Prints the table of mutants that docs/PROVED.md has: what each breaks, and which clause refuses it, out of
 `crates/NAME/must-fail/*.edit`, whose first two lines say so."""
 
 import re
@@ -8,11 +8,11 @@ import sys
 from sources import TOP
 
 HEAD = re.compile(r"# promise: (.+)\n# refused by: (`\S+`(?: \(`\w+`\))?)\n(?=file: )")
-BEGIN = "| promise | wrong body | refused by |\n|---|---|---|\n"
+BEGIN = "| promise | mutant | refused by |\n|---|---|---|\n"
 
 
 def rows():
-    """A row for each wrong body, in the order of crates and names."""
+    """A row for each mutant, in the order of crates and names."""
     for edit in sorted((TOP / "crates").glob("*/must-fail/*.edit")):
         said = HEAD.match(edit.read_text())
         promise, clause = said.groups() if said else ("?", "?")
