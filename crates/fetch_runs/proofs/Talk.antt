@@ -45,7 +45,7 @@ use Rattle.pop3_wire.specs.Reply.{indicator, without_space}
 use Rattle.mail_terms.specs.Credential.{is_credential}
 use Rattle.mail_terms.specs.declared.listing.ScanRow.{ScanRow}
 use Rattle.fetch_session.specs.Opening.{opening, SessionOpened, Enters}
-use Rattle.pop3_client.specs.declared.fault.Asked.TheVariants.{Greeting as ByGreeting}
+use Rattle.pop3_wire.specs.declared.note.Asked.TheVariants.{Greeting as ByGreeting}
 use Rattle.fetch_session.specs.declared.fault.Fault.{Fault}
 use Rattle.fetch_session.specs.declared.fault.Fault.TheVariants.{Refused}
 use Rattle.fetch_runs.proofs.Lists.{all_append, all_back, all_front}

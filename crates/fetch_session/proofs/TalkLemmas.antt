@@ -31,8 +31,8 @@ use Rattle.fetch_session.specs.Fault.{cut_of, fault_of}
 use Rattle.fetch_session.specs.Refusal.{RefusesNone, RefusesAtMostOne, RefusesBefore, RefusesTillCut, RefusesByOutcome}
 use Rattle.fetch_session.specs.Refusal.{session_limit, step_limit, opening_limit, tail_limit, GotAtMost, Took}
 use Rattle.fetch_session.specs.Refusal.{TookBefore, TookTillCut, TookWithTail}
-use Rattle.pop3_client.specs.declared.fault.Asked.{Asked}
-use Rattle.pop3_client.specs.declared.fault.Asked.TheVariants.{User as ByUser, Pass as ByPass, Quit as ByQuit}
+use Rattle.pop3_wire.specs.declared.note.Asked.{Asked}
+use Rattle.pop3_wire.specs.declared.note.Asked.TheVariants.{User as ByUser, Pass as ByPass, Quit as ByQuit}
 use Rattle.fetch_session.specs.Mbox.{TakesText}
 use Rattle.fetch_session.specs.declared.fault.Fault.TheVariants.{Refused}
 use Rattle.fetch_session.specs.declared.tail.Tail.{Tail}

@@ -5,7 +5,7 @@ use Rattle.pop3_wire.specs.declared.unstuffer.Spot.TheVariants.{Done}
 use Rattle.pop3_client.specs.Texts.{Fetching, TakesRest}
 use Rattle.fetch_session.specs.declared.fault.Cut.{Cut}
 use Rattle.pop3_wire.specs.Place.{Place}
-use Rattle.pop3_client.specs.declared.fault.Asked.TheVariants.{Quit}
+use Rattle.pop3_wire.specs.declared.note.Asked.TheVariants.{Quit}
 use Rattle.pop3_client.specs.Turns.{Turn, asking, quit, rset, retr}
 use Rattle.pop3_client.specs.Conversation.{Talks}
 use Rattle.pop3_client.specs.declared.fault.ClientFault.{ClientFault}

@@ -3,9 +3,9 @@ use Rattle.std.specs.Prelude.{ℕ, List, [], ◌++◌, ◌==◌, flat_map, if◌
 use Rattle.std.specs.Fmt.{decimal}
 use Rattle.std.specs.String.{string_bytes}
 use Rattle.rc_file.specs.declared.settings.Settings.{Settings}
-use Rattle.pop3_client.specs.declared.fault.Asked.{Asked}
-use Rattle.pop3_client.specs.declared.fault.Asked.TheVariants.{Greeting, User, Pass, Stat, Uidl, List as ListAsked}
-use Rattle.pop3_client.specs.declared.fault.Asked.TheVariants.{Retr, Dele, Rset, Quit}
+use Rattle.pop3_wire.specs.declared.note.Asked.{Asked}
+use Rattle.pop3_wire.specs.declared.note.Asked.TheVariants.{Greeting, User, Pass, Stat, Uidl, List as ListAsked}
+use Rattle.pop3_wire.specs.declared.note.Asked.TheVariants.{Retr, Dele, Rset, Quit}
 use Rattle.fetch_session.specs.declared.fault.Why.{Why}
 use Rattle.fetch_session.specs.declared.fault.Why.TheVariants as why
 use Rattle.fetch_session.specs.declared.fault.Fault.{Fault}

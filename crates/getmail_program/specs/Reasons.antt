@@ -38,7 +38,7 @@ reason_text ReadFailed found = or_else found.refused.items (codes "it failed " +
 reason_text WriteFailed found = or_else found.refused.items (codes "it failed " ++ place_in found.said)
 reason_text ReplyTooLong found = codes "2048 octets hold no whole line, " ++ place_in found.said
 reason_text BadReply found = codes "the server said: " ++ found.said.answer.items
-reason_text (Refused asked) found = codes "the server said: " ++ found.said.denial.items
+reason_text (Refused asked) found = codes "the server said: " ++ found.said.answer.items
 reason_text BadListing found =
     codes "the reply to " ++ (found.said.command.items ++ (codes " has the row: " ++ found.said.row.items))
 reason_text ListingsDisagree found = codes "the answer to STAT is " ++ (found.said.count.items ++ rows_text found.said)

@@ -96,8 +96,7 @@ fn reason_text(alloc: Global, fault: &Fault, found: &Findings) -> Result<Vec<u8>
             or_else(alloc, &found.refused, at_place(alloc, b"it failed ", said)?)
         }
         Fault::ReplyTooLong => at_place(alloc, b"2048 octets hold no whole line, ", said),
-        Fault::BadReply => concat(alloc, b"the server said: ", &said.answer),
-        Fault::Refused(_) => concat(alloc, b"the server said: ", &said.denial),
+        Fault::BadReply | Fault::Refused(_) => concat(alloc, b"the server said: ", &said.answer),
         Fault::BadListing => {
             concat_four(
                 alloc,

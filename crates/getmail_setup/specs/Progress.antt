@@ -1,14 +1,14 @@
 -- What the line of progress says.
-use Rattle.std.specs.Prelude.{◌/◌, ℕ, List, ◌++◌, codes}
+use Rattle.std.specs.Prelude.{◌/◌, ℕ, List, Option, Some, ◌++◌, codes}
 use Rattle.std.specs.Fmt.{decimal}
-use Rattle.getmail_setup.specs.declared.progress.Asked.{Asked}
-use Rattle.getmail_setup.specs.declared.progress.Asked.TheVariants.{Message}
+use Rattle.pop3_wire.specs.declared.note.Asked.{Asked}
+use Rattle.pop3_wire.specs.declared.note.Asked.TheVariants.{Retr}
 use Rattle.getmail_setup.specs.declared.progress.Progress.{Progress}
 
 -- of a message its number and how much of it has come; else how many messages both listings had rows for
-abbrev pub text_for : Asked → Progress → List ℕ
-text_for Message p =
-    codes "message " ++ (decimal p.number ++
+abbrev pub text_for : Option Asked → Progress → List ℕ
+text_for (Some (Retr number)) p =
+    codes "message " ++ (decimal number ++
     (codes " of " ++ (decimal p.total ++ (codes ", " ++ (decimal p.octets ++ codes " octets")))))
 text_for asked p = codes "listed " ++ (decimal (p.rows / 2) ++ (codes " of " ++ (decimal p.total ++ codes " messages")))
 

@@ -45,7 +45,7 @@ impl<W: Wire, S: Write> ShownWire<W, S> {
         ensures { self.new.wire ≡ self.old.wire }
     {
         if let Some(screen) = &mut self.screen {
-            self.progress.note(self.alloc, part);
+            self.progress.note(part);
             if self.progress.is_due() {
                 self.is_shown = true;
                 if let Ok(text) = self.progress.text(self.alloc) {

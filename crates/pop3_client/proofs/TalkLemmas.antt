@@ -14,7 +14,7 @@ use Rattle.std.proofs.lemmas.Grind.{flat_map-append}
 use Rattle.pop3_wire.specs.declared.reply.Status.TheVariants.{Positive, Negative}
 use Rattle.pop3_wire.specs.Commands.{line_of}
 use Rattle.pop3_wire.specs.Place.{Place, at, GoesOn, Gains, HasLine, HasNoLine}
-use Rattle.pop3_client.specs.declared.fault.Asked.{Asked}
+use Rattle.pop3_wire.specs.declared.note.Asked.{Asked}
 use Rattle.pop3_client.specs.declared.fault.ClientFault.{ClientFault}
 use Rattle.pop3_client.specs.declared.fault.ClientFault.TheVariants.{ConnectionEnded, ReplyTooLong, ReadFailed}
 use Rattle.pop3_client.specs.declared.fault.ClientFault.TheVariants.{BadReply, Refused, TooMany, BadListing}

@@ -13,11 +13,11 @@ use Rattle.pop3_wire.specs.Commands.{line_of}
 use Rattle.pop3_wire.specs.declared.command.Command.{Command}
 use Rattle.pop3_wire.specs.declared.command.Command.TheVariants.{User, Pass, Stat, UidlAll, ListAll, Retr, Dele, Rset}
 use Rattle.pop3_wire.specs.declared.command.Command.TheVariants.{Quit}
-use Rattle.pop3_client.specs.declared.fault.Asked.{Asked}
-use Rattle.pop3_client.specs.declared.fault.Asked.TheVariants.{Greeting as ByGreeting, User as ByUser, Pass as ByPass}
-use Rattle.pop3_client.specs.declared.fault.Asked.TheVariants.{Stat as ByStat, Uidl as ByUidl, Retr as ByRetr}
-use Rattle.pop3_client.specs.declared.fault.Asked.TheVariants.{Dele as ByDele}
-use Rattle.pop3_client.specs.declared.fault.Asked.TheVariants.{Rset as ByRset, Quit as ByQuit, List as ByList}
+use Rattle.pop3_wire.specs.declared.note.Asked.{Asked}
+use Rattle.pop3_wire.specs.declared.note.Asked.TheVariants.{Greeting as ByGreeting, User as ByUser, Pass as ByPass}
+use Rattle.pop3_wire.specs.declared.note.Asked.TheVariants.{Stat as ByStat, Uidl as ByUidl, Retr as ByRetr}
+use Rattle.pop3_wire.specs.declared.note.Asked.TheVariants.{Dele as ByDele}
+use Rattle.pop3_wire.specs.declared.note.Asked.TheVariants.{Rset as ByRset, Quit as ByQuit, List as ByList}
 
 -- a turn: the command that is sent, or none for the greeting
 abbrev pub Turn : Type 0

@@ -1,33 +1,9 @@
-//! What a client asks for, and what can go wrong in a conversation.
+//! What can go wrong in a conversation.
 ghost use Rattle.std.specs.Prelude.{◌≡◌};
 ghost use Rattle.pop3_client.specs.declared.fault.ClientFault.TheVariants.{NoMemory};
 
+use pop3_wire::Asked;
 use std::alloc::{AllocError, AllocFailed};
-
-/// What a reply answers.
-#[derive(Clone, Copy, Debug, PartialEq, Eq)]
-pub enum Asked {
-    /// Nothing: the greeting comes unasked.
-    Greeting,
-    /// `USER`
-    User,
-    /// `PASS`
-    Pass,
-    /// `STAT`
-    Stat,
-    /// `UIDL`
-    Uidl,
-    /// `LIST`
-    List,
-    /// `RETR`, with a message's number
-    Retr(u32),
-    /// `DELE`, with a message's number
-    Dele(u32),
-    /// `RSET`
-    Rset,
-    /// `QUIT`
-    Quit,
-}
 
 /// What can go wrong in a conversation.
 #[derive(Clone, Copy, Debug, PartialEq, Eq)]

@@ -12,5 +12,6 @@ mod talk;
 mod text;
 
 pub use client::Client;
-pub use fault::{Asked, ClientFault};
+pub use fault::ClientFault;
 pub use laws::{conversations_are_paced, turns_join};
+pub use pop3_wire::Asked;

@@ -5,9 +5,9 @@ ghost use Rattle.pop3_client.specs.Client.{HasSameLink, CountsRefusals, WhereLin
 ghost use Rattle.pop3_client.specs.Conversation.{login, Talks};
 
 use crate::client::Client;
-use crate::fault::{Asked, ClientFault};
+use crate::fault::ClientFault;
 use crate::talk::command_line;
-use pop3_wire::{Bytes, Command, Wire};
+use pop3_wire::{Asked, Bytes, Command, Wire};
 use std::alloc::Global;
 use std::vec::Vec;
 

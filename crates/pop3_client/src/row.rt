@@ -6,9 +6,9 @@ ghost use Rattle.mail_terms.specs.declared.listing.ScanRow.{ScanRow as SizeRow};
 ghost use Rattle.pop3_wire.specs.Reading.{IsScanLine, IsUidLine};
 ghost use Rattle.pop3_client.specs.Turns.{Turn, AsksListing, IsListingRow, Names, list, turn_bytes, uidl};
 
-use crate::fault::{Asked, ClientFault};
+use crate::fault::ClientFault;
 use mail_terms::{ScanRow, UidRows};
-use pop3_wire::{read_scan, read_uid, without_dot};
+use pop3_wire::{Asked, read_scan, read_uid, without_dot};
 use std::alloc::Global;
 use std::vec::Vec;
 

@@ -4,8 +4,8 @@ ghost use Rattle.pop3_client.specs.Turns.{rset};
 ghost use Rattle.pop3_client.specs.Conversation.{Completes, Talks, undoing};
 
 use crate::client::Client;
-use crate::fault::{Asked, ClientFault};
-use pop3_wire::Wire;
+use crate::fault::ClientFault;
+use pop3_wire::{Asked, Wire};
 
 impl<'a, W: Wire> Client<'a, W> {
     /// Unmarks what was marked as deleted (RSET).

@@ -10,10 +10,11 @@ ghost use Rattle.pop3_client.specs.Turns.{Turn, Names, turn_bytes, gives_count, 
 ghost use Rattle.pop3_client.specs.Conversation.{Waits, Heard, Sent, AsksTurn, CountsMessages, Completes, GivesFew};
 
 use crate::client::Client;
-use crate::fault::{Asked, ClientFault};
+use crate::fault::ClientFault;
 use mail_terms::MESSAGE_LIMIT;
 use pop3_wire::{
-    Command, LineFault, Note, Status, Wire, command_bytes, is_end_mark, read_stat, read_status,
+    Asked, Command, LineFault, Note, Status, Wire, command_bytes, is_end_mark, read_stat,
+    read_status,
 };
 use std::alloc::Global;
 use std::vec::Vec;
@@ -113,13 +114,13 @@ impl<'a, W: Wire> Client<'a, W> {
     }
 
     /// Sends a command, its CR LF included.
-    fn say(&mut self, bytes: &[u8]) -> Result<(), ClientFault>
+    fn say(&mut self, asked: Asked, bytes: &[u8]) -> Result<(), ClientFault>
         ensures link { HasSameLink self.old self.new }
         ensures counted { CountsRefusals W.Wire self.old result self.new }
         ensures silent { self.new.reader ≡ self.old.reader }
         ensures sent { WhereLinkSound W.Wire self.old self.new (λ old new. Sent bytes.now old.link result new.link) }
     {
-        self.tell(Note::Command(&bytes[..bytes.len().saturating_sub(2)]));
+        self.tell(Note::Command(Some(asked), &bytes[..bytes.len().saturating_sub(2)]));
         match self.wire.send(bytes) {
             Ok(()) => Ok(()),
             Err(_) => Err(ClientFault::WriteFailed),
@@ -142,6 +143,7 @@ impl<'a, W: Wire> Client<'a, W> {
             Ok((Status::Positive, _)) => Ok(length),
             Ok((Status::Negative, _)) => {
                 self.reader.skip(length + 2);
+                self.tell(Note::Refused);
                 Err(ClientFault::Refused(asked))
             }
             Err(_) => Err(ClientFault::BadReply),
@@ -170,7 +172,7 @@ impl<'a, W: Wire> Client<'a, W> {
             (λ old new. (turn : Turn) → Names asked turn → gives_count turn ≡ false → bytes.now ≡ turn_bytes turn
             → AsksTurn turn old result new) }
     {
-        self.say(bytes)?;
+        self.say(asked, bytes)?;
         let length = self.hear(asked)?;
         self.reader.skip(length + 2);
         Ok(())
@@ -183,10 +185,11 @@ impl<'a, W: Wire> Client<'a, W> {
         ensures few { IfOk result (λ n. n ≤ message_limit) }
         ensures counts { WhereLinkSound W.Wire self.old self.new (λ old new. CountsMessages old result new) }
     {
-        self.say(b"STAT\r\n")?;
+        self.say(Asked::Stat, b"STAT\r\n")?;
         let length = self.hear(Asked::Stat)?;
         let count = count_of(&self.reader.waiting()[..length])?;
         self.reader.skip(length + 2);
+        self.tell(Note::Count(count));
         Ok(count)
     }
 

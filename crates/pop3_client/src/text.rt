@@ -7,9 +7,9 @@ ghost use Rattle.pop3_client.specs.Turns.{retr, text_limit};
 ghost use Rattle.pop3_client.specs.Texts.{Fetching, OpensText, TookPiece, FetchesPiece, TakesRest};
 
 use crate::client::Client;
-use crate::fault::{Asked, ClientFault};
+use crate::fault::ClientFault;
 use crate::talk::command_line;
-use pop3_wire::{BodyFault, BodyReader, Command, Note, PIECE_ROOM, Piece, Wire};
+use pop3_wire::{Asked, BodyFault, BodyReader, Command, Note, PIECE_ROOM, Piece, Wire};
 use std::alloc::Global;
 
 /// The greatest body of RETR in octets, end mark included.

@@ -133,7 +133,7 @@ impl Intake {
             }
             if !is_long {
                 let waiting = self.waiting();
-                wire.note(Note::Command(&waiting[..MAX_LINE.min(waiting.len())]));
+                wire.note(Note::Command(None, &waiting[..MAX_LINE.min(waiting.len())]));
             }
             is_long = true;
             self.skip(MAX_LINE - 1);

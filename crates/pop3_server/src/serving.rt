@@ -89,7 +89,7 @@ fn answer_line<D: Maildrop, W: Wire, J: Journal>(
     ensures answers { WhereSound W.sound W.leads_to wire.old wire.new
         (SendsAnswer D.sound D.mail server.old line.now (W.history wire.old) result server.new (W.history wire.new)) }
 {
-    wire.note(Note::Command(line));
+    wire.note(Note::Command(None, line));
     let Begun { answer, mut rest } = server.begin(line, CHUNK)?;
     if let Some(event) = answer.event {
         journal.note(event);

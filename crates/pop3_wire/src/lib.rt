@@ -31,7 +31,7 @@ pub use fields::{
 pub use line::{cut_line, only_one_line};
 pub use line_reader::{LineFault, LineReader};
 pub use mail_terms::{Bytes, is_legal_id};
-pub use note::Note;
+pub use note::{Asked, Note};
 pub use reply::{
     Status, only_one_list_of_lines, only_one_reading, read_status, replies_are_read_as_written,
 };

@@ -2,7 +2,7 @@
 use Rattle.std.specs.Prelude.{◌≡◌, ◌==◌, ◌+◌, ◌-◌, ◌^◌, ℕ, true, false, List, Option, None, Some, IsSome, MatchOption}
 use Rattle.std.specs.Prelude.{codes, count_by, min, option_map, take}
 use Rattle.pop3_wire.specs.declared.note.Note.{Note}
-use Rattle.pop3_wire.specs.declared.note.Note.TheVariants.{Command, Reply, Body}
+use Rattle.pop3_wire.specs.declared.note.Note.TheVariants.{Command, Reply, Refused, Count, Body}
 use Rattle.trace.specs.Command.{shown_command}
 use Rattle.system_calls.specs.Line.{HasTraceLine}
 use Rattle.trace.specs.Line.{count_text, most_shown}
@@ -32,16 +32,18 @@ Counts old text octets new = (new.lines ≡ min (old.lines + count_by (λ octet.
 -- the first line of an answer was shown, in which the password is hidden; nothing of a body came yet
 abbrev pub ShowsAnswer : {E : Type 0} → (E → Option (List ℕ)) → Trace E → List ℕ → Trace E → Type 0
 ShowsAnswer contents old answer new =
-    (shown : List ℕ) × IsShown (hidden_in old) old.to_login answer shown
+    (shown : List ℕ) × IsShown (hidden_in old) (is_login old.asked) answer shown
     × AddsTraceLine contents old.err new.err (codes "S: ") (take most_shown shown)
     × (new.lines ≡ 0) × (new.octets ≡ 0)
 
 -- a part of a conversation was shown: of a body, how many lines and octets came, at its end
 abbrev pub ShowsPart : {E : Type 0} → (E → Option (List ℕ)) → Trace E → Note → Trace E → Type 0
-ShowsPart contents old (Command command) new =
-    (new.to_login ≡ is_login command.now)
+ShowsPart contents old (Command asked command) new =
+    (new.asked ≡ asked)
     × AddsTraceLine contents old.err new.err (codes "C: ") (take most_shown (shown_command command.now))
 ShowsPart contents old (Reply answer) new = ShowsAnswer contents old answer.now new
+ShowsPart contents old Refused new = new ≡ record old { talk = new.talk }
+ShowsPart contents old (Count count) new = new ≡ old
 ShowsPart contents old (Body text octets false) new = (new.err ≡ old.err)
     × (IsSome old.err → Counts old text.now octets new)
 ShowsPart contents old (Body text octets true) new = AddsTraceLine contents old.err new.err (codes "S: ")

@@ -6,19 +6,22 @@ ghost use Rattle.trace.specs.Masking.{hidden_answer, is_login, octet_at, passwor
 ghost use Rattle.trace.specs.Masking.{symbol_at};
 ghost use Rattle.trace.specs.Masking.{symbols};
 
-use crate::command::is_word;
 use crate::line::cut;
 use memchr::memmem;
+use pop3_wire::Asked;
 use std::alloc::{AllocError, Global};
 
 /// So many octets of a password in a row aren't shown.
 const ROW: usize = 4;
 
-/// Whether the answer to a command may repeat what was typed as a name or a password.
-pub fn is_login(command: &[u8]) -> bool
-    ensures { result ≡ is_login command.now }
+/// Whether the answer may repeat what was typed as a name or a password.
+pub fn is_login(asked: Option<Asked>) -> bool
+    ensures { result ≡ is_login asked }
 {
-    is_word(command, b"USER") || is_word(command, b"PASS")
+    match asked {
+        Some(Asked::User | Asked::Pass) => true,
+        _ => false,
+    }
 }
 
 /// The base64 character of a number.

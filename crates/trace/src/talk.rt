@@ -1,6 +1,6 @@
 //! What was said in a conversation, to tell where it went wrong.
-use crate::command::is_word;
 use crate::masking::Shown;
+use pop3_wire::Asked;
 use std::alloc::Global;
 use std::cell::Cell;
 use system_calls::shown;
@@ -14,8 +14,6 @@ pub struct Said {
     pub answer: Vec<u8>,
     /// The last row of the listing that it asked for.
     pub row: Vec<u8>,
-    /// The first answer that wasn't positive: what the peer says later isn't the reason of a fault.
-    pub denial: Vec<u8>,
     /// The answer to STAT.
     pub count: Vec<u8>,
     /// How many rows answered UIDL.
@@ -31,7 +29,6 @@ impl Said {
             command: Vec::new(alloc),
             answer: Vec::new(alloc),
             row: Vec::new(alloc),
-            denial: Vec::new(alloc),
             count: Vec::new(alloc),
             uids: 0,
             sizes: 0,
@@ -46,25 +43,19 @@ impl Said {
     }
 
     /// An answer came.
-    fn hear(&mut self, alloc: Global, answer: Shown<'_>) {
+    fn hear(&mut self, alloc: Global, asked: Option<Asked>, answer: Shown<'_>) {
         let answer = answer.front();
         self.answer = text_of(alloc, answer);
-        if self.denial.is_empty() && !answer.starts_with(b"+OK") {
-            self.denial = text_of(alloc, answer);
-        }
-        if is_word(&self.command, b"STAT") {
+        if let Some(Asked::Stat) = asked {
             self.count = text_of(alloc, answer);
         }
     }
 
-    /// A row of a listing came, unless what came is a part of a message.
-    fn list(&mut self, alloc: Global, row: Shown<'_>) {
-        if is_word(&self.command, b"UIDL") {
-            self.uids = self.uids.saturating_add(1);
-        } else if is_word(&self.command, b"LIST") {
-            self.sizes = self.sizes.saturating_add(1);
-        } else {
-            return;
+    /// A row of a listing came.
+    fn list(&mut self, alloc: Global, asked: Option<Asked>, row: Shown<'_>) {
+        match asked {
+            Some(Asked::Uidl) => self.uids = self.uids.saturating_add(1),
+            _ => self.sizes = self.sizes.saturating_add(1),
         }
         self.row = text_of(alloc, row.front().trim_ascii_end());
     }
@@ -102,16 +93,16 @@ impl Talk {
     }
 
     /// An answer came.
-    pub(crate) fn hear(&self, answer: Shown<'_>) {
+    pub(crate) fn hear(&self, asked: Option<Asked>, answer: Shown<'_>) {
         let mut said = self.take();
-        said.hear(self.alloc, answer);
+        said.hear(self.alloc, asked, answer);
         self.said.set(said);
     }
 
-    /// A row of a listing came, or a part of a message.
-    pub(crate) fn list(&self, row: Shown<'_>) {
+    /// A row of a listing came.
+    pub(crate) fn list(&self, asked: Option<Asked>, row: Shown<'_>) {
         let mut said = self.take();
-        said.list(self.alloc, row);
+        said.list(self.alloc, asked, row);
         self.said.set(said);
     }
 

@@ -2,14 +2,13 @@
 ghost use Rattle.std.specs.Prelude.{◌≡◌, ◌-◌, ℕ, List, Some, IsSome, OnOk, codes, option_map, take};
 ghost use Rattle.trace.specs.Command.{shown_command};
 ghost use Rattle.trace.specs.Line.{count_text, most_shown};
-ghost use Rattle.trace.specs.Masking.{is_login};
 ghost use Rattle.trace.specs.Wire.{AddsTraceLine, Counts, Hides, ShowsAnswer, ShowsPart};
 
-use crate::command::{is_word, shown_command};
+use crate::command::shown_command;
 use crate::line::{count_text, cut};
 use crate::masking::{Shown, is_login};
 use crate::talk::Talk;
-use pop3_wire::{Note, Wire, WireDown};
+use pop3_wire::{Asked, Note, Wire, WireDown};
 use std::alloc::Global;
 use std::io::{self, Write};
 use system_calls::write_line;
@@ -26,10 +25,8 @@ struct Trace<'a, E> {
     talk: Option<&'a Talk>,
     /// The password, if answers are searched for it.
     password: Option<Vec<u8>>,
-    /// Whether the last command was one for whose answer the password is searched row by row.
-    to_login: bool,
-    /// Whether the last command was one whose answer has rows that are kept.
-    to_list: bool,
+    /// What the last command asked for.
+    asked: Option<Asked>,
     /// How much has come of the body under way.
     lines: u64,
     octets: u64,
@@ -52,9 +49,10 @@ impl<'a, E: Write> Trace<'a, E> {
     {
         self.lines = 0;
         self.octets = 0;
-        let answer = Shown::new(self.alloc, self.to_login, answer, self.password.as_deref())?;
+        let to_login = is_login(self.asked);
+        let answer = Shown::new(self.alloc, to_login, answer, self.password.as_deref())?;
         if let Some(talk) = self.talk {
-            talk.hear(answer);
+            talk.hear(self.asked, answer);
         }
         self.show("S: ", answer.front())
     }
@@ -87,22 +85,24 @@ impl<'a, E: Write> Trace<'a, E> {
     /// all of a row, and in no part of a message.
     fn keep_row(&self, text: &[u8]) -> io::Result<()> {
         if let Some(talk) = self.talk {
-            if self.to_list {
-                talk.list(Shown::new(self.alloc, false, text, self.password.as_deref())?);
+            if let Some(Asked::Uidl | Asked::List) = self.asked {
+                talk.list(
+                    self.asked,
+                    Shown::new(self.alloc, false, text, self.password.as_deref())?,
+                );
             }
         }
         Ok(())
     }
 
     /// Shows a command.
-    fn show_command(&mut self, command: &[u8]) -> io::Result<()>
-        ensures shown { OnOk result ((self.new.to_login ≡ is_login command.now)
+    fn show_command(&mut self, asked: Option<Asked>, command: &[u8]) -> io::Result<()>
+        ensures shown { OnOk result ((self.new.asked ≡ asked)
             × AddsTraceLine E.contents self.old.err self.new.err (codes "C: ")
             (take most_shown (shown_command command.now))) }
         ensures same { self.new.password ≡ self.old.password }
     {
-        self.to_login = is_login(command);
-        self.to_list = is_word(command, b"UIDL") || is_word(command, b"LIST");
+        self.asked = asked;
         let command = cut(shown_command(command));
         if let Some(talk) = self.talk {
             talk.ask(command);
@@ -116,8 +116,14 @@ impl<'a, E: Write> Trace<'a, E> {
         ensures same { self.new.password ≡ self.old.password }
     {
         match part {
-            Note::Command(command) => self.show_command(command),
+            Note::Command(asked, command) => self.show_command(asked, command),
             Note::Reply(answer) => self.show_answer(answer),
+            // What the peer says later isn't the reason of a fault.
+            Note::Refused => {
+                self.talk = None;
+                Ok(())
+            }
+            Note::Count(_) => Ok(()),
             Note::Body {
                 text,
                 octets,
@@ -164,8 +170,7 @@ impl<'a, W: Wire, E: Write + Drop> TracedWire<'a, W, E> {
             err,
             talk,
             password,
-            to_login: false,
-            to_list: false,
+            asked: None,
             lines: 0,
             octets: 0,
         });

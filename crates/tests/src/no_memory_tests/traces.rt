@@ -38,7 +38,7 @@ fn refusal_text_row(rt: HostRuntime) {
 /// Notes and sends a command.
 fn send<W: Wire>(rt: &HostRuntime, wire: &mut W) {
     begin(rt);
-    wire.note(Note::Command(b"NOOP".as_slice()));
+    wire.note(Note::Command(None, b"NOOP".as_slice()));
     let answer = wire.send(b"NOOP\r\n");
     end(rt);
     tell(rt, if answer.is_ok() { "sent" } else { "refused" });

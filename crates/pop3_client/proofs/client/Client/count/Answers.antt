@@ -4,7 +4,7 @@ use Rattle.pop3_client.specs.Client.{place_of}
 use Rattle.pop3_client.specs.Turns.{stat}
 use Rattle.pop3_client.specs.Conversation.{GivesFew}
 use Rattle.pop3_client.proofs.TalkLemmas.{stat_bytes, sent_for, opened, broke_saying, broke_there, few_heard, talked_line}
-use Rattle.pop3_wire.proofs.LinkLemmas.{and_then}
+use Rattle.pop3_wire.proofs.LinkLemmas.{and_then, and_then_two}
 use Rattle.mail_terms.proofs.ErrLemmas.{err_is}
 use Rattle.pop3_client.proofs.client.Client.count.Goals as goal
 
@@ -19,10 +19,11 @@ returns-clause-counts g c =
     let old = place_of g.W.Wire c.args.self.now in
     let here = place_of g.W.Wire c.hear.new.self in
     let gives = rw c.waiting.ensures.value at c.in_ok-count.ensures in
-    and_then g.W.Wire g.met.W.Wire.leads_on c.in_ok-say.ensures.sent c.in_ok-length.ensures.heard (λ said hears.
+    and_then_two g.W.Wire g.met.W.Wire.leads_on c.in_ok-say.ensures.sent c.in_ok-length.ensures.heard c.tell.ensures.kept
+    (λ said hears same.
     let heard = rw c.in_ok-say.ensures.silent at (hears stat refl) in
     let begun = opened {old = old} stat said stat_bytes (heard.0, heard.1, heard.2, heard.3, (gives.0, gives.2))
-    (λ is. (c.in_ok-count.count, gives.1, gives.3, gives.4)) in (
+    (λ is. (c.in_ok-count.count, gives.1, gives.3, gives.4)) in rw same (
       record { first = take c.in_ok-length.length here.waiting; body = None },
       talked_line stat _ old (at here.link c.skip.new.self) (rw (← c.skip.ensures) at begun) refl,
       (gives.0, gives.1, gives.2, gives.3),

@@ -1,5 +1,5 @@
 use Rattle.pop3_client.proofs.TalkLemmas.{heard_none, heard_refused, heard_bad}
-use Rattle.pop3_wire.proofs.LinkLemmas.{in_words}
+use Rattle.pop3_wire.proofs.LinkLemmas.{in_words, and_then}
 use Rattle.mail_terms.proofs.ErrLemmas.{err_is}
 use Rattle.pop3_client.proofs.client.Client.hear.Goals as goal
 
@@ -30,7 +30,8 @@ returns-in-Ok-Positive-default-clause-positive g c = (
 pub returns-in-Ok-Negative-default-clause-heard : goal.returns-in-Ok-Negative-default-clause-heard
 returns-in-Ok-Negative-default-clause-heard g c =
     let first = rw (c.in-Ok-Negative-default.field-0-0-is, c.waiting.ensures.value) at c.in-Ok-Negative-default.ensures.ok in
-    in_words g.W.Wire c.in_ok-length.ensures.waits (λ waits turn names. rw c.skip.ensures
+    and_then g.W.Wire g.met.W.Wire.leads_on c.in_ok-length.ensures.waits c.tell.ensures.kept
+    (λ waits same turn names. rw (same, c.skip.ensures)
     (heard_refused waits.0.1 waits.1.0 turn c.args.asked c.in-Ok-Negative-default.field-0-1.now names first))
 
 pub returns-in-Err-clause-heard : goal.returns-in-Err-clause-heard
