@@ -34,31 +34,6 @@ impl Said {
             sizes: 0,
         }
     }
-
-    /// A command was sent, which is shown in this way.
-    fn ask(&mut self, alloc: Global, command: &[u8]) {
-        self.command = text_of(alloc, command);
-        self.answer = Vec::new(alloc);
-        self.row = Vec::new(alloc);
-    }
-
-    /// An answer came.
-    fn hear(&mut self, alloc: Global, asked: Option<Asked>, answer: Shown<'_>) {
-        let answer = answer.front();
-        self.answer = text_of(alloc, answer);
-        if let Some(Asked::Stat) = asked {
-            self.count = text_of(alloc, answer);
-        }
-    }
-
-    /// A row of a listing came.
-    fn list(&mut self, alloc: Global, asked: Option<Asked>, row: Shown<'_>) {
-        match asked {
-            Some(Asked::Uidl) => self.uids = self.uids.saturating_add(1),
-            _ => self.sizes = self.sizes.saturating_add(1),
-        }
-        self.row = text_of(alloc, row.front().trim_ascii_end());
-    }
 }
 
 /// What is shown of octets; nothing if there is no memory for it.
@@ -88,21 +63,30 @@ impl Talk {
     /// A command was sent, which is shown in this way.
     pub(crate) fn ask(&self, command: &[u8]) {
         let mut said = self.take();
-        said.ask(self.alloc, command);
+        said.command = text_of(self.alloc, command);
+        said.answer = Vec::new(self.alloc);
+        said.row = Vec::new(self.alloc);
         self.said.set(said);
     }
 
     /// An answer came.
     pub(crate) fn hear(&self, asked: Option<Asked>, answer: Shown<'_>) {
         let mut said = self.take();
-        said.hear(self.alloc, asked, answer);
+        said.answer = text_of(self.alloc, answer.front());
+        if let Some(Asked::Stat) = asked {
+            said.count = text_of(self.alloc, answer.front());
+        }
         self.said.set(said);
     }
 
     /// A row of a listing came.
     pub(crate) fn list(&self, asked: Option<Asked>, row: Shown<'_>) {
         let mut said = self.take();
-        said.list(self.alloc, asked, row);
+        match asked {
+            Some(Asked::Uidl) => said.uids = said.uids.saturating_add(1),
+            _ => said.sizes = said.sizes.saturating_add(1),
+        }
+        said.row = text_of(self.alloc, row.front().trim_ascii_end());
         self.said.set(said);
     }
 
