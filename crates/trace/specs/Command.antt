@@ -12,3 +12,7 @@ shown_command command =
     else if is_word command (codes "AUTH") then codes "AUTH *"
     else if is_word command (codes "APOP") then codes "APOP *"
     else command
+
+-- how many octets of a command or of an answer are shown
+abbrev pub most_shown : ℕ
+most_shown = 512

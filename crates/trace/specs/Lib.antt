@@ -1,4 +1,3 @@
 pub mod Command
-pub mod Line
 pub mod Masking
 pub mod Wire

@@ -1,11 +1,11 @@
 -- What a trace shows of a conversation.
-use Rattle.std.specs.Prelude.{◌≡◌, ◌==◌, ◌+◌, ◌-◌, ◌^◌, ℕ, true, false, List, Option, None, Some, IsSome, MatchOption}
-use Rattle.std.specs.Prelude.{codes, count_by, min, option_map, take}
+use Rattle.std.specs.Prelude.{◌≡◌, ◌==◌, ◌+◌, ◌-◌, ◌^◌, ◌++◌, ℕ, true, false, List, Option, None, Some, IsSome}
+use Rattle.std.specs.Prelude.{MatchOption, codes, count_by, min, option_map, take}
+use Rattle.std.specs.Fmt.{decimal}
 use Rattle.pop3_wire.specs.declared.note.Note.{Note}
 use Rattle.pop3_wire.specs.declared.note.Note.TheVariants.{Command, Reply, Refused, Count, Body}
-use Rattle.trace.specs.Command.{shown_command}
+use Rattle.trace.specs.Command.{most_shown, shown_command}
 use Rattle.system_calls.specs.Line.{HasTraceLine}
-use Rattle.trace.specs.Line.{count_text, most_shown}
 use Rattle.trace.specs.Masking.{IsShown, is_login}
 use Rattle.trace.specs.declared.wire.Trace.{Trace}
 use Rattle.trace.specs.declared.wire.TracedWire.{TracedWire}
@@ -35,6 +35,10 @@ ShowsAnswer contents old answer new =
     (shown : List ℕ) × IsShown (hidden_in old) (is_login old.asked) answer shown
     × AddsTraceLine contents old.err new.err (codes "S: ") (take most_shown shown)
     × (new.lines ≡ 0) × (new.octets ≡ 0)
+
+-- what is shown of a body
+abbrev pub count_text : ℕ → ℕ → List ℕ
+count_text lines octets = codes "(" ++ (decimal lines ++ (codes " lines, " ++ (decimal octets ++ codes " octets)")))
 
 -- a part of a conversation was shown: of a body, how many lines and octets came, at its end
 abbrev pub ShowsPart : {E : Type 0} → (E → Option (List ℕ)) → Trace E → Note → Trace E → Type 0

@@ -1,6 +1,6 @@
 //! What is shown of a command.
-ghost use Rattle.std.specs.Prelude.{◌≡◌, ◌++◌, ℕ, List, codes};
-ghost use Rattle.trace.specs.Command.{is_word, shown_command};
+ghost use Rattle.std.specs.Prelude.{◌≡◌, ◌++◌, ℕ, List, codes, take};
+ghost use Rattle.trace.specs.Command.{is_word, most_shown, shown_command};
 
 /// Whether a command begins with this word of four octets, in upper or lower case.
 fn is_word(command: &[u8], word: &[u8]) -> bool
@@ -24,6 +24,13 @@ pub fn shown_command(command: &[u8]) -> &[u8]
         return b"APOP *";
     }
     command
+}
+
+/// The front of an answer or a command that is shown.
+pub fn cut(octets: &[u8]) -> &[u8]
+    ensures { result.now ≡ take most_shown octets.now }
+{
+    &octets[..512_usize.min(octets.len())]
 }
 
 /// Whatever the password is, a PASS command is shown in the same way.

@@ -2,7 +2,6 @@
 #![tactic(auto)]
 
 mod command;
-mod line;
 mod masking;
 mod talk;
 mod wire;

@@ -1,12 +1,11 @@
 //! What is shown of an answer that tells of the password.
 ghost use Rattle.std.specs.Prelude.{◌≡◌, ◌≤◌, ◌<◌, ◌⊎◌, ◌+◌, ◌++◌, ◌↔◌, IfOk, OnOk, IsTrue, length, option_map, take};
-ghost use Rattle.trace.specs.Line.{most_shown};
+ghost use Rattle.trace.specs.Command.{most_shown};
 ghost use Rattle.trace.specs.Masking.{IsShown, Occurs, OccursInBase64, Tells, TellsARow};
 ghost use Rattle.trace.specs.Masking.{hidden_answer, is_login, octet_at, password_row, row_length, sextet, symbol};
-ghost use Rattle.trace.specs.Masking.{symbol_at};
-ghost use Rattle.trace.specs.Masking.{symbols};
+ghost use Rattle.trace.specs.Masking.{symbol_at, symbols};
 
-use crate::line::cut;
+use crate::command::cut;
 use memchr::memmem;
 use pop3_wire::Asked;
 use std::alloc::{AllocError, Global};

@@ -1,11 +1,9 @@
 //! A link that is traced.
 ghost use Rattle.std.specs.Prelude.{◌≡◌, ◌-◌, ℕ, List, Some, IsSome, OnOk, codes, option_map, take};
-ghost use Rattle.trace.specs.Command.{shown_command};
-ghost use Rattle.trace.specs.Line.{count_text, most_shown};
-ghost use Rattle.trace.specs.Wire.{AddsTraceLine, Counts, Hides, ShowsAnswer, ShowsPart};
+ghost use Rattle.trace.specs.Command.{most_shown, shown_command};
+ghost use Rattle.trace.specs.Wire.{AddsTraceLine, Counts, Hides, ShowsAnswer, ShowsPart, count_text};
 
-use crate::command::shown_command;
-use crate::line::{count_text, cut};
+use crate::command::{cut, shown_command};
 use crate::masking::{Shown, is_login};
 use crate::talk::Talk;
 use pop3_wire::{Asked, Note, Wire, WireDown};
@@ -64,7 +62,7 @@ impl<'a, E: Write> Trace<'a, E> {
         ensures same { self.new ≡ record self.old { err = self.new.err } }
     {
         let octets = self.octets.saturating_sub(END_MARK);
-        let text = count_text(self.alloc, self.lines, octets)?;
+        let text = format!(in self.alloc; "({} lines, {octets} octets)", self.lines)?;
         self.show("S: ", text.as_bytes())
     }
 

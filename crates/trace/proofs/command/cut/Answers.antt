@@ -1,6 +1,6 @@
 use Rattle.std.proofs.Common.{◌∙◌, ℕ, ap, take}
 use Rattle.std.proofs.lemmas.List.{take_min}
-use Rattle.trace.proofs.line.cut.Goals as goal
+use Rattle.trace.proofs.command.cut.Goals as goal
 
 pub returns : goal.returns
 returns c = ap (λ (n : ℕ). take n c.args.octets.now) c.min.ensures ∙ take_min 512 c.args.octets.now
