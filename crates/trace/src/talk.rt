@@ -5,7 +5,8 @@ use std::alloc::Global;
 use std::cell::Cell;
 use system_calls::shown;
 
-/// What was said, as a trace shows it; what wasn't said is empty. Without memory less is kept.
+/// What was said until a command was refused, as a trace shows it; what wasn't said is empty. Without memory
+/// less is kept.
 #[derive(Drop)]
 pub struct Said {
     /// The last command.
