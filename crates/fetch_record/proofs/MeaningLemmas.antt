@@ -1,8 +1,8 @@
 -- What the bytes of a record's file stand for, and what an appended group or intent does to that: whole, cut short, or
 -- after a loss of power.
-use Rattle.std.proofs.Common.{Bool, List, None, Option, Some, ap, append-nil, append_assoc, ap₂, arith, cond, drop}
+use Rattle.std.proofs.Common.{Bool, List, None, Option, Some, ap, append-nil, append_assoc, ap₂, arith, cond}
 use Rattle.std.proofs.Common.{false, flat_map, get_or, inl, inr, length, length-append, not, refl, subst, suc, sym}
-use Rattle.std.proofs.Common.{true, true≢false, zero, ℕ, ◌&&◌, ◌++◌, ◌+◌, ◌==◌, ◌||◌, ◌∙◌, ◌∷◌, ◌≡◌, ◌≢◌, map, ne_eqb}
+use Rattle.std.proofs.Common.{true, true≢false, zero, ℕ, ◌++◌, ◌+◌, ◌==◌, ◌||◌, ◌∙◌, ◌∷◌, ◌≡◌, ◌≢◌, map, ne_eqb}
 use Rattle.std.proofs.Common.{◌-◌, ◌<◌, ◌≤◌, ◌⊎◌, []}
 use Rattle.std.proofs.Math.Bool.{or-false, or-true}
 use Rattle.std.proofs.lemmas.Bool.{and_from, and_parts, cases_Bool, cond_both, or_cases, or_left, or_right, eq-eqb}
@@ -13,7 +13,7 @@ use Rattle.std.proofs.lemmas.List.Elements.{All-append, All-from_recursion, All-
 use Rattle.std.proofs.lemmas.List.Folds.{Any-from_list_any, list_any-from_Any, flat_map-map, list_any-append}
 use Rattle.std.specs.List.{AllByRecursion}
 use Rattle.fetch_record.specs.Intents.{IsNoneOrOf}
-use Rattle.fetch_record.specs.Record.{Intent, IntentHasRow, IsIntent, Row, has_row, is_of, IsRecord, IsRow}
+use Rattle.fetch_record.specs.Record.{Intent, IntentHasRow, IsIntent, Row, has_row, IsRecord, IsRow}
 use Rattle.fetch_record.specs.RecordFile.{GroupLine, IntentLine, IsRecordLine, Line, One, RowLine, Two, Version, header}
 use Rattle.fetch_record.specs.RecordFile.{record_line, file_of, group_line, group_of, intent_line, record_row_line}
 use Rattle.fetch_record.specs.RecordGrowth.{OneIsRead, OneMeaning, OneRecord, OpenHasRow, AppendedCounts, BytesStand}
@@ -31,17 +31,16 @@ use Rattle.fetch_record.proofs.RowLemmas.{fresh}
 use Rattle.mail_terms.proofs.ListLemmas.{both_none}
 use Rattle.mail_terms.proofs.NumeralLemmas.{HasNo}
 
-judged_fails : (version : Version) (n : ℕ) (fault : SeenFault) (lines : List Line)
-    → judged version n (Fails fault) lines ≡ Fails fault
-judged_fails version n fault [] = refl
-judged_fails version n fault (line ∷ lines) = refl
+judged_fails : (version : Version) (n : ℕ) (fault : SeenFault) (lines : List Line) → judged version n (Fails fault) lines ≡ Fails fault
+judged_fails _ n _ [] = refl
+judged_fails _ n _ (_ ∷ lines) = refl
 
 pub judged_append : (version : Version) (n : ℕ) (so_far : Judged) (xs ys : List Line)
     → judged version n so_far (xs ++ ys) ≡ judged version (n + length xs) (judged version n so_far xs) ys
 judged_append version n so_far [] ys = ap (λ (k : ℕ). judged version k so_far ys) (omega arith)
-judged_append version n (Fails fault) (x ∷ xs) ys = sym (judged_fails version (n + length (x ∷ xs)) fault ys)
+judged_append _ n (Fails _) (x ∷ _) ys = sym (judged_fails _ _ _ ys)
 judged_append version n (Stands progress) (x ∷ xs) ys =
-    judged_append version (n + 1) (after_line version n progress x) xs ys
+    judged_append _ (n + 1) (after_line version n progress x) xs ys
     ∙ ap (λ (k : ℕ). judged version k (judged version (n + 1) (after_line version n progress x) xs) ys) (omega arith)
 
 pub rows_no_fault : {version : Version} {rows : List Row} {intent : Option Intent} {torn : Bool} {fault : SeenFault}
@@ -56,55 +55,50 @@ same_rows e = (cc, cc, cc, cc)
 
 -- the same bytes, cut twice
 same_ends : (version : Version) (n j k : ℕ) (so_far : Judged) (ls ms : List Line) (r s : List ℕ) (a b : Meaning)
-    → AllByRecursion IsRecordLine ls → AllByRecursion IsRecordLine ms
-    → flat_map record_line ls ++ r ≡ flat_map record_line ms ++ s
+    → AllByRecursion IsRecordLine ls → AllByRecursion IsRecordLine ms → flat_map record_line ls ++ r ≡ flat_map record_line ms ++ s
     → j ≡ n + length ls → k ≡ n + length ms → Ends version j (judged version n so_far ls) r a
     → Ends version k (judged version n so_far ms) s b → a ≡ b
-same_ends version n j k (Fails fault) ls ms r s a b p q e j_is k_is x y = (rw judged_fails at x)
-    ∙ sym (rw judged_fails at y)
+same_ends _ n j k (Fails _) _ _ r s a b p q e _ _ x y = (rw judged_fails at x) ∙ sym (rw judged_fails at y)
 same_ends version n j k (Stands progress) [] [] r s a b p q e j_is k_is x y = x.1
     ∙ ap₂ (λ (l : ℕ) (rest : List ℕ). at_end version l progress rest) (omega (arith, j_is, k_is)) e ∙ sym y.1
-same_ends version n j k (Stands progress) [] (m ∷ ms) r s a b p q e j_is k_is x y =
+same_ends _ n j k (Stands progress) [] (m ∷ ms) r s a b p q e _ _ x y =
     absurd (x.0 m (flat_map record_line ms ++ s) q.0 (e ∙ append_assoc (record_line m) (flat_map record_line ms) s))
-same_ends version n j k (Stands progress) (l ∷ ls) [] r s a b p q e j_is k_is x y =
+same_ends _ n j k (Stands progress) (l ∷ ls) [] r s a b p q e _ _ x y =
     absurd (y.0 l (flat_map record_line ls ++ r) p.0 (sym e ∙ append_assoc (record_line l) (flat_map record_line ls) r))
 same_ends version n j k (Stands progress) (l ∷ ls) (m ∷ ms) r s a b p q e j_is k_is x y =
-    let first = text_unique l m (flat_map record_line ls ++ r) (flat_map record_line ms ++ s) p.0 q.0
-    (sym (append_assoc (record_line l) (flat_map record_line ls) r) ∙ e
+    let first = text_unique l m _ _ p.0 q.0 (sym (append_assoc (record_line l) (flat_map record_line ls) r) ∙ e
     ∙ append_assoc (record_line m) (flat_map record_line ms) s) in
     same_ends version (n + 1) j k (after_line version n progress m) ls ms r s a b p.1 q.1 first.1 (omega (arith, j_is))
     (omega (arith, k_is)) (rw first.0 at x) y
 
 pub same_lines : (v w : Version) (xs ys : List ℕ) → header v ++ xs ≡ header w ++ ys → (v ≡ w) × (xs ≡ ys)
-same_lines One Two xs ys e = absurd (omega (arith, ap (λ (l : List ℕ). get_or l 13 0) e))
-same_lines Two One xs ys e = absurd (omega (arith, ap (λ (l : List ℕ). get_or l 13 0) e))
-same_lines v w xs ys e = (refl, ap (drop 15) e)
+same_lines One Two _ _ e = absurd (omega (arith, ap (λ l. get_or l 13 0) e))
+same_lines Two One _ _ e = absurd (omega (arith, ap (λ (l : List ℕ). get_or l 13 0) e))
+same_lines v w _ _ e = (refl, cc)
 
 no_header : (version : Version) (xs : List ℕ) → header version ++ xs ≡ [] → ⊥
-no_header One xs e = cc
-no_header Two xs e = cc
+no_header One _ e = cc
+no_header Two _ e = cc
 
 by_lines_same : (bytes : List ℕ) (m n : Meaning) → ByLines bytes m → ByLines bytes n → m ≡ n
-by_lines_same bytes m n a b =
-    let parts = same_lines a.version b.version (flat_map record_line a.lines ++ a.rest)
-    (flat_map record_line b.lines ++ b.rest) (sym a.cut.whole ∙ b.cut.whole) in
-    same_ends b.version 0 (length a.lines) (length b.lines) (Stands (InBase [])) a.lines b.lines a.rest b.rest m n
-    (recursion_from_All IsRecordLine a.lines a.cut.each) (recursion_from_All IsRecordLine b.lines b.cut.each)
+by_lines_same _ m n a b =
+    let parts = same_lines _ _ _ _ (sym a.cut.whole ∙ b.cut.whole) in
+    same_ends _ 0 _ _ _ _ _ _ _ m n (recursion_from_All _ a.lines a.cut.each) (recursion_from_All _ b.lines b.cut.each)
     parts.1 (omega arith) (omega arith) (rw parts.0 at a.ends) b.ends
 
 pub one_meaning : OneMeaning
-one_meaning bytes m n (inl a) (inl b) = a.1 ∙ sym b.1
-one_meaning bytes m n (inl a) (inr (inl b)) = absurd (b.0 a.0)
-one_meaning bytes m n (inl a) (inr (inr b)) = absurd (no_header b.version _ (sym b.cut.whole ∙ a.0))
-one_meaning bytes m n (inr (inl a)) (inl b) = absurd (a.0 b.0)
-one_meaning bytes m n (inr (inl a)) (inr (inl b)) = a.2 ∙ sym b.2
-one_meaning bytes m n (inr (inl a)) (inr (inr b)) = absurd (a.1 b.version _ b.cut.whole)
-one_meaning bytes m n (inr (inr a)) (inl b) = absurd (no_header a.version _ (sym a.cut.whole ∙ b.0))
-one_meaning bytes m n (inr (inr a)) (inr (inl b)) = absurd (b.1 a.version _ a.cut.whole)
-one_meaning bytes m n (inr (inr a)) (inr (inr b)) = by_lines_same bytes m n a b
+one_meaning _ m n (inl a) (inl b) = cc
+one_meaning _ m n (inl a) (inr (inl b)) = absurd (b.0 a.0)
+one_meaning _ m n (inl a) (inr (inr b)) = absurd (no_header _ _ (sym b.cut.whole ∙ a.0))
+one_meaning _ m n (inr (inl a)) (inl b) = absurd (a.0 b.0)
+one_meaning _ m n (inr (inl a)) (inr (inl b)) = cc
+one_meaning _ m n (inr (inl a)) (inr (inr b)) = absurd (a.1 b.version _ b.cut.whole)
+one_meaning _ m n (inr (inr a)) (inl b) = absurd (no_header _ _ (sym a.cut.whole ∙ b.0))
+one_meaning _ m n (inr (inr a)) (inr (inl b)) = absurd (b.1 a.version _ a.cut.whole)
+one_meaning _ m n (inr (inr a)) (inr (inr b)) = by_lines_same _ m n a b
 
 pub one_record : OneRecord
-one_record None a b i j x y = (x.0 ∙ sym y.0, x.1 ∙ sym y.1)
+one_record None a b i j x y = (cc, cc)
 one_record (Some bytes) a b i j x y = let same =
     same_rows (one_meaning bytes (Rows x.0 a i x.1) (Rows y.0 b j y.1) x.2 y.2) in (same.1, same.2)
 
@@ -117,17 +111,15 @@ pub record IsBehind (version : Version) (bytes : List ℕ) (n : ℕ) (progress :
   pub count : length lines ≡ n
   pub stands : judged version 0 (Stands (InBase [])) lines ≡ Stands progress
 
-pub behind_header : (version : Version) (bytes rest : List ℕ) → bytes ≡ header version ++ rest
-    → IsBehind version bytes 0 (InBase []) rest
-behind_header version bytes rest is =
-    record { lines = []; cut = record { each = All-nil IsRecordLine; whole = is }; count = refl; stands = refl }
+pub behind_header : (version : Version) (bytes rest : List ℕ) → bytes ≡ header version ++ rest → IsBehind version bytes 0 (InBase []) rest
+behind_header _ _ rest is = record { lines = []; cut = record { each = All-nil IsRecordLine; whole = is }; count = refl; stands = refl }
 
 module _ {version : Version} {bytes : List ℕ} {n : ℕ} {progress : Progress} {rest : List ℕ}
     (was : IsBehind version bytes n progress rest) where
   pub behind_tail : (tail : List ℕ) → IsBehind version (bytes ++ tail) n progress (rest ++ tail)
   behind_tail tail = record {
     lines = was.lines;
-    cut = record { each = was.cut.each; whole = ap (λ (xs : List ℕ). xs ++ tail) was.cut.whole ∙ simp append_assoc };
+    cut = record { each = was.cut.each; whole = ap (λ xs. xs ++ tail) was.cut.whole ∙ simp append_assoc };
     count = was.count;
     stands = was.stands;
   }
@@ -135,45 +127,40 @@ module _ {version : Version} {bytes : List ℕ} {n : ℕ} {progress : Progress} 
   cut_more : (more : List Line) (behind : List ℕ) → AllByRecursion IsRecordLine more
       → rest ≡ flat_map record_line more ++ behind → IsCut version bytes (was.lines ++ more) behind
   cut_more more behind each rest_is = record {
-    each = All-append IsRecordLine was.lines more was.cut.each (All-from_recursion IsRecordLine more each);
-    whole = was.cut.whole ∙ ap (λ (xs : List ℕ). header version ++ (flat_map record_line was.lines ++ xs)) rest_is
+    each = All-append IsRecordLine _ more was.cut.each (All-from_recursion _ more each);
+    whole = was.cut.whole ∙ ap (λ xs. header version ++ (flat_map record_line was.lines ++ xs)) rest_is
         ∙ simp (flat_map-append, append_assoc);
   }
 
-  judged_more : (more : List Line)
-      → judged version 0 (Stands (InBase [])) (was.lines ++ more) ≡ judged version n (Stands progress) more
-  judged_more more = judged_append version 0 (Stands (InBase [])) was.lines more
-      ∙ ap₂ (λ (k : ℕ) (j : Judged). judged version k j more) (omega (arith, was.count)) was.stands
+  judged_more : (more : List Line) → judged version 0 (Stands (InBase [])) (was.lines ++ more) ≡ judged version n (Stands progress) more
+  judged_more more = judged_append _ 0 _ was.lines _ ∙ ap₂ (λ k j. judged version k j more) (omega (arith, was.count)) was.stands
 
   pub behind_lines : (more : List Line) (behind : List ℕ) (next : Progress) → AllByRecursion IsRecordLine more
       → rest ≡ flat_map record_line more ++ behind → judged version n (Stands progress) more ≡ Stands next
       → IsBehind version bytes (n + length more) next behind
-  behind_lines more behind next each rest_is after = record {
+  behind_lines more behind _ each rest_is after = record {
     lines = was.lines ++ more;
-    cut = cut_more more behind each rest_is;
+    cut = cut_more _ _ each rest_is;
     count = omega (arith, was.count, length-append was.lines more);
-    stands = judged_more more ∙ after;
+    stands = judged_more _ ∙ after;
   }
 
   pub behind_more : (line : Line) (behind : List ℕ) (next : Progress) → IsRecordLine line
-      → rest ≡ record_line line ++ behind → after_line version n progress line ≡ Stands next
-      → IsBehind version bytes (n + 1) next behind
-  behind_more line behind next is rest_is after = behind_lines (line ∷ []) behind next (is, tt)
-      (rw append-nil rest_is) after
+      → rest ≡ record_line line ++ behind → after_line version n progress line ≡ Stands next → IsBehind version bytes (n + 1) next behind
+  behind_more line behind next is rest_is after = behind_lines (line ∷ []) _ _ (is, tt) (rw append-nil rest_is) after
 
   pub behind_fails : (line : Line) (behind : List ℕ) (fault : SeenFault) → IsRecordLine line
       → rest ≡ record_line line ++ behind → after_line version n progress line ≡ Fails fault → Means bytes (Fault fault)
-  behind_fails line behind fault is rest_is after = inr (inr (record {
+  behind_fails line behind _ is rest_is after = inr (inr (record {
     version = version;
     lines = was.lines ++ line ∷ [];
     rest = behind;
-    cut = cut_more (line ∷ []) behind (is, tt) (rw append-nil rest_is);
-    ends = rw (judged_more (line ∷ []), after) refl;
+    cut = cut_more _ _ (is, tt) (rw append-nil rest_is);
+    ends = rw (judged_more, after) refl;
   }))
 
-  pub means_behind : (meaning : Meaning) → BeginsWithNoLine rest
-      → meaning ≡ at_end version n progress rest → Means bytes meaning
-  means_behind meaning none is =
+  pub means_behind : (meaning : Meaning) → BeginsWithNoLine rest → meaning ≡ at_end version n progress rest → Means bytes meaning
+  means_behind _ none is =
       inr (inr (record {
         version = version;
         lines = was.lines;
@@ -201,9 +188,8 @@ stood_by : (version : Version) (bytes : List ℕ) (rows : List Row) (intent : Op
 stood_by version bytes rows intent torn by = go (judged by.version 0 (Stands (InBase [])) by.lines) refl by.ends
   where
     go : (so_far : Judged) → judged by.version 0 (Stands (InBase [])) by.lines ≡ so_far
-        → Ends by.version (length by.lines) so_far by.rest (Rows version rows intent torn)
-        → Stood version bytes rows intent torn
-    go (Fails fault) is e = absurd (rows_no_fault e)
+        → Ends by.version (length by.lines) so_far by.rest (Rows version rows intent torn) → Stood version bytes rows intent torn
+    go (Fails _) _ e = absurd (rows_no_fault e)
     go (Stands progress) is e = elim (cases_Bool (has_line_feed by.rest)) [
       | inl feed ↦ absurd (rows_no_fault (rw feed at e.1))
       | inr plain ↦
@@ -212,8 +198,7 @@ stood_by version bytes rows intent torn by = go (judged by.version 0 (Stands (In
             n = length by.lines;
             progress = progress;
             rest = by.rest;
-            behind = subst (λ (v : Version). IsBehind v bytes (length by.lines) progress by.rest) (sym same.0)
-                (record { lines = by.lines; cut = by.cut; count = refl; stands = is });
+            behind = rw same.0 (record { lines = by.lines; cut = by.cut; count = refl; stands = is });
             none = e.0;
             feedless = plain;
             rows_are = same.1;
@@ -224,57 +209,53 @@ stood_by version bytes rows intent torn by = go (judged by.version 0 (Stands (In
 
 pub stood : (version : Version) (bytes : List ℕ) (rows : List Row) (intent : Option Intent) (torn : Bool) → bytes ≢ []
     → Means bytes (Rows version rows intent torn) → Stood version bytes rows intent torn
-stood version bytes rows intent torn some (inl none) = absurd (some none.0)
-stood version bytes rows intent torn some (inr (inl wrong)) = absurd (rows_no_fault wrong.2)
-stood version bytes rows intent torn some (inr (inr by)) = stood_by version bytes rows intent torn by
+stood _ _ _ _ _ some (inl none) = absurd (some none.0)
+stood _ _ _ _ _ some (inr (inl wrong)) = absurd (rows_no_fault wrong.2)
+stood _ _ _ _ _ some (inr (inr by)) = stood_by _ _ _ _ _ by
 
 -- ---- an open intent has a legal id and numbers of 64 bits, and its id has a row
 
 abbrev IsHeld : Judged → Type 0
 IsHeld (Stands progress) = IntentHasRow (counted progress) (left_open progress)
-IsHeld (Fails fault) = Unit {0}
+IsHeld (Fails _) = Unit {0}
 
 opened : (version : Version) (n : ℕ) (rows : List Row) (before : Option Intent) (intent : Intent) → IsIntent intent
     → IsHeld (after_intent version n rows before intent)
 opened Two n rows None intent is = cond_both (has_row rows intent.uid) _ _ IsHeld (λ has. (is, has)) (λ _. tt)
-opened version n rows before intent is = tt
+opened _ n _ _ _ _ = tt
 
 step_held : (version : Version) (n : ℕ) (p : Progress) (line : Line) → IsRecordLine line → IsHeld (Stands p)
     → IsHeld (after_line version n p line)
-step_held version n (InBase rows) (RowLine row) is held =
-    cond_both (has_row rows row.uid) _ _ IsHeld (λ _. tt) (λ _. tt)
-step_held version n (InBase rows) (IntentLine intent) is held = opened version n rows None intent is
-step_held version n (BetweenGroups rows before) (GroupLine count) is held = held
-step_held version n (BetweenGroups rows before) (IntentLine intent) is held = opened version n rows before intent is
-step_held version n (InGroup old before rows zero) (RowLine row) is held =
-    cond_both (may_take version rows row) _ _ IsHeld (λ _. tt) (λ _. tt)
-step_held version n (InGroup old before rows (suc more)) (RowLine row) is held =
-    cond_both (may_take version rows row) _ _ IsHeld (λ _. held) (λ _. tt)
-step_held version n p line is held = tt
+step_held _ n (InBase rows) (RowLine row) _ _ = cond_both (has_row rows row.uid) _ _ IsHeld (λ _. tt) (λ _. tt)
+step_held _ n (InBase rows) (IntentLine intent) is _ = opened _ n rows _ intent is
+step_held _ n (BetweenGroups _ _) (GroupLine count) _ held = held
+step_held _ n (BetweenGroups rows _) (IntentLine intent) is _ = opened _ n rows _ intent is
+step_held version n (InGroup _ _ rows zero) (RowLine row) _ _ = cond_both (may_take version rows row) _ _ IsHeld (λ _. tt) (λ _. tt)
+step_held version n (InGroup _ _ rows (suc _)) (RowLine row) _ held = cond_both (may_take version rows row) _ _ IsHeld (λ _. held) (λ _. tt)
+step_held _ n p _ _ _ = tt
 
 lines_held : (version : Version) (n : ℕ) (j : Judged) (lines : List Line) → AllByRecursion IsRecordLine lines → IsHeld j
     → IsHeld (judged version n j lines)
-lines_held version n j [] each held = held
-lines_held version n (Fails fault) (line ∷ lines) each held = tt
-lines_held version n (Stands p) (line ∷ lines) each held = lines_held version (n + 1) (after_line version n p line)
+lines_held _ n j [] each held = held
+lines_held _ n (Fails _) (_ ∷ lines) each _ = tt
+lines_held version n (Stands p) (line ∷ lines) each held = lines_held _ (n + 1) (after_line version n p line)
     lines each.1 (step_held version n p line each.0 held)
 
 held_of : {version : Version} {bytes : List ℕ} {rows : List Row} {intent : Option Intent} {torn : Bool}
     → Stood version bytes rows intent torn → IntentHasRow rows intent
-held_of {version} s = rw (s.rows_are, s.intent_is)
-    (subst IsHeld s.behind.stands (lines_held version 0 (Stands (InBase [])) s.behind.lines
-    (recursion_from_All IsRecordLine s.behind.lines s.behind.cut.each) tt))
+held_of {version} s = rw (s.rows_are, s.intent_is) (subst IsHeld s.behind.stands (lines_held _ 0 _ _
+    (recursion_from_All _ s.behind.lines s.behind.cut.each) tt))
 
 pub open_has_row : OpenHasRow
-open_has_row bytes v rows intent torn (inl none) = rw (same_rows none.1).2 tt
-open_has_row bytes v rows intent torn (inr (inl wrong)) = absurd (rows_no_fault wrong.2)
-open_has_row bytes v rows intent torn (inr (inr by)) = held_of (stood_by v bytes rows intent torn by)
+open_has_row _ v _ _ _ (inl none) = rw (same_rows none.1).2 tt
+open_has_row _ v _ _ _ (inr (inl wrong)) = absurd (rows_no_fault wrong.2)
+open_has_row _ v _ _ _ (inr (inr by)) = held_of (stood_by v _ _ _ _ by)
 
 -- if the id has no row, its intent isn't open
 pub none_without_row : (rows : List Row) (uid : List ℕ) (intent : Option Intent) → IntentHasRow rows intent
     → IsNoneOrOf uid intent → has_row rows uid ≡ false → intent ≡ None
-none_without_row rows uid None held one none = refl
-none_without_row rows uid (Some intent) held one none = absurd (true≢false (sym held.1 ∙ ap (has_row rows) one ∙ none))
+none_without_row _ _ None _ _ none = refl
+none_without_row rows _ (Some _) held one none = absurd (true≢false (cc none))
 
 -- ---- the lines of a file of version 1 after the header of version 2
 
@@ -284,49 +265,42 @@ may_take_more rows row e = elim (or_cases (not (has_row rows row.uid)) (delivers
   | inl new ↦ or_left _ _ new
   | inr old ↦
       let parts = and_parts row.delivered _ old in
-      let some = Any-from_list_any
-      (λ (o : Row). is_of row.uid o && (not o.delivered && (o.first_seen == row.first_seen))) rows parts.1 in
-      or_right _ _ (and_from row.delivered _ parts.0
-      (list_any-from_Any (λ (o : Row). is_of row.uid o && (true && (o.first_seen == row.first_seen))) rows
-      (some.0, some.1, some.2, some.3, let e = some.4 in grind (arith, e))))
+      let some = Any-from_list_any _ rows parts.1 in
+      or_right _ _ (and_from _ _ parts.0 (list_any-from_Any _ rows (some.0, some.1, some.2, some.3, let e = some.4 in grind (arith, e))))
 ]
 
 -- where the first stands with no intent open, so does the second
 abbrev IsNewer : Judged → Judged → Type 0
-IsNewer (Fails fault) new = Unit {0}
+IsNewer (Fails _) _ = Unit {0}
 IsNewer (Stands q) new = (new ≡ Stands q) × (left_open q ≡ None)
 
 newer_group : (rows : List Row) (row : Row) (q : Progress) (fault : SeenFault) → left_open q ≡ None
-    → IsNewer (cond (may_take One rows row) (Stands q) (Fails fault))
-    (cond (may_take Two rows row) (Stands q) (Fails fault))
-newer_group rows row q fault none = elim (cases_Bool (may_take One rows row)) [
-  | inl h ↦ rw (h, may_take_more rows row h) (refl, none)
+    → IsNewer (cond (may_take One rows row) (Stands q) (Fails fault)) (cond (may_take Two rows row) (Stands q) (Fails fault))
+newer_group rows row q _ none = elim (cases_Bool (may_take One rows row)) [
+  | inl h ↦ rw (h, may_take_more) (refl, none)
   | inr h ↦ rw h tt
 ]
 
-step : (n : ℕ) (p : Progress) (line : Line) → left_open p ≡ None
-    → IsNewer (after_line One n p line) (after_line Two n p line)
-step n (InBase rows) (RowLine row) none = cond_both (has_row rows row.uid) _ _ (λ j. IsNewer j j)
-    (λ _. tt) (λ _. (refl, refl))
-step n (InBase rows) (GroupLine count) none = (refl, refl)
-step n (BetweenGroups rows before) (GroupLine count) none = (refl, none)
-step n (InGroup old before rows zero) (RowLine row) none =
+step : (n : ℕ) (p : Progress) (line : Line) → left_open p ≡ None → IsNewer (after_line One n p line) (after_line Two n p line)
+step n (InBase rows) (RowLine row) none = cond_both (has_row rows row.uid) _ _ (λ j. IsNewer j j) (λ _. tt) (λ _. (refl, refl))
+step n (InBase _) (GroupLine count) none = (refl, refl)
+step n (BetweenGroups _ _) (GroupLine count) none = (refl, none)
+step n (InGroup _ _ rows zero) (RowLine row) none =
     newer_group rows row (BetweenGroups (with_taken rows row) None) (RepeatedId (line_after n)) refl
 step n (InGroup old before rows (suc more)) (RowLine row) none =
     newer_group rows row (InGroup old before (with_taken rows row) more) (RepeatedId (line_after n)) none
-step n p line none = tt
+step n p _ none = tt
 
 steps : (n : ℕ) (j k : Judged) (lines : List Line) → IsNewer j k → IsNewer (judged One n j lines) (judged Two n k lines)
 steps n j k [] newer = newer
-steps n (Fails fault) k (line ∷ lines) newer = tt
-steps n (Stands p) k (line ∷ lines) newer =
-    rw newer.0 (steps (n + 1) (after_line One n p line) (after_line Two n p line) lines (step n p line newer.1))
+steps n (Fails _) k (_ ∷ lines) _ = tt
+steps n (Stands p) k (line ∷ lines) newer = rw newer.0 (steps (n + 1) (after_line One n p line) _ lines (step n p line newer.1))
 
 older_read : (rest : List ℕ) (version : Version) (rows : List Row) (intent : Option Intent) (torn : Bool)
     → Stood version (header One ++ rest) rows intent torn
     → (version ≡ One) × (intent ≡ None) × Means (header Two ++ rest) (Rows Two rows None torn)
-older_read rest Two rows intent torn s = absurd (let e = (same_lines One Two rest _ s.behind.cut.whole).0 in cc)
-older_read rest One rows intent torn s =
+older_read rest Two _ _ _ s = absurd (let e = (same_lines One Two rest _ s.behind.cut.whole).0 in cc)
+older_read rest One _ _ _ s =
     let two = rw s.behind.stands at (steps 0 (Stands (InBase [])) (Stands (InBase [])) s.behind.lines (refl, refl)) in
     let whole = ap (λ (xs : List ℕ). header Two ++ xs) (same_lines One One rest _ s.behind.cut.whole).1 in
     let now : IsBehind Two (header Two ++ rest) s.n s.progress s.rest =
@@ -340,81 +314,73 @@ older_read rest One rows intent torn s =
     (refl, s.intent_is ∙ two.1, means_behind now _ s.none (rw (s.feedless, two.1, s.rows_are, s.torn_is) refl))
 
 pub one_is_read : OneIsRead
-one_is_read rest version rows intent torn means = older_read rest version rows intent torn
-    (stood version (header One ++ rest) rows intent torn (no_header One rest) means)
+one_is_read rest _ _ _ _ means = older_read _ _ _ _ _ (stood _ _ _ _ _ (no_header One rest) means)
 
 -- a front of a group
 group_open : (n : ℕ) (before : List Row) (intent : Option Intent) (rows : List Row) (more : ℕ) (xs : List Row)
-    → MayFollow rows xs → length xs ≤ more
-    → judged Two n (Stands (InGroup before intent rows more)) (map RowLine xs)
+    → MayFollow rows xs → length xs ≤ more → judged Two n (Stands (InGroup before intent rows more)) (map RowLine xs)
     ≡ Stands (InGroup before intent (taken_all rows xs) (more - length xs))
-group_open n before intent rows more [] follows short =
-    ap (λ (k : ℕ). Stands (InGroup before intent rows k)) (omega arith)
-group_open n before intent rows zero (x ∷ xs) follows short = absurd (omega (arith, short))
+group_open n before intent rows _ [] follows _ = ap (λ (k : ℕ). Stands (InGroup before intent rows k)) (omega arith)
+group_open n _ _ _ zero (x ∷ _) follows short = absurd (omega (arith, short))
 group_open n before intent rows (suc more) (x ∷ xs) follows short =
-    rw (judged, follows.0)
-    (group_open (n + 1) before intent (with_taken rows x) more xs follows.1 (omega (arith, short))
+    rw (judged, follows.0) (group_open (n + 1) _ _ (with_taken rows x) more xs follows.1 (omega (arith, short))
     ∙ ap (λ (k : ℕ). Stands (InGroup before intent (taken_all (with_taken rows x) xs) k)) (omega (arith, short)))
 
 -- and a whole one
 group_whole : (n : ℕ) (before : List Row) (intent : Option Intent) (rows : List Row) (more : ℕ) (xs : List Row)
-    → MayFollow rows xs → length xs ≡ more + 1
-    → judged Two n (Stands (InGroup before intent rows more)) (map RowLine xs)
+    → MayFollow rows xs → length xs ≡ more + 1 → judged Two n (Stands (InGroup before intent rows more)) (map RowLine xs)
     ≡ Stands (BetweenGroups (taken_all rows xs) None)
-group_whole n before intent rows more [] follows full = absurd (omega (arith, full))
-group_whole n before intent rows zero (x ∷ []) follows full = rw follows.0 refl
-group_whole n before intent rows zero (x ∷ (y ∷ xs)) follows full = absurd (omega (arith, full))
+group_whole n _ _ _ _ [] follows full = absurd (omega (arith, full))
+group_whole n _ _ _ zero (x ∷ []) follows _ = rw follows.0 refl
+group_whole n _ _ _ zero (x ∷ (y ∷ _)) follows full = absurd (omega (arith, full))
 group_whole n before intent rows (suc more) (x ∷ xs) follows full =
-    rw (judged, follows.0) (group_whole (n + 1) before intent (with_taken rows x) more xs
-    follows.1 (omega (arith, full)))
+    rw (judged, follows.0) (group_whole (n + 1) _ _ (with_taken rows x) more xs follows.1 (omega (arith, full)))
 
-group_begins : (n : ℕ) (progress : Progress) (count : ℕ) → lacks_rows progress ≡ false
-    → after_line Two n progress (GroupLine count)
+group_begins : (n : ℕ) (progress : Progress) (count : ℕ) → lacks_rows progress ≡ false → after_line Two n progress (GroupLine count)
     ≡ Stands (InGroup (counted progress) (left_open progress) (counted progress) (count - 1))
-group_begins n (InGroup before intent rows more) count free = absurd (true≢false free)
+group_begins n (InGroup _ _ _ _) count free = absurd (true≢false free)
 group_begins n progress count free = refl
 
 intent_opens : (n : ℕ) (progress : Progress) (intent : Intent) → lacks_rows progress ≡ false → left_open progress ≡ None
     → has_row (counted progress) intent.uid ≡ true
     → after_line Two n progress (IntentLine intent) ≡ Stands (BetweenGroups (counted progress) (Some intent))
-intent_opens n (InBase rows) intent free none has = rw has refl
-intent_opens n (BetweenGroups rows before) intent free none has = rw (none, has) refl
-intent_opens n (InGroup before open' rows more) intent free none has = absurd (true≢false free)
+intent_opens n (InBase _) _ free none has = rw has refl
+intent_opens n (BetweenGroups _ _) _ free none has = rw (none, has) refl
+intent_opens n (InGroup _ _ _ _) _ free none _ = absurd (true≢false free)
 
 no_bytes : (within : Bool) (rest : List ℕ) → false ≡ within || has_bytes rest → (within ≡ false) × (rest ≡ [])
-no_bytes within [] e = (sym (e ∙ or-false within), refl)
-no_bytes within (x ∷ xs) e = absurd (true≢false (sym (e ∙ or-true within)))
+no_bytes within [] e = (cc (or-false within), refl)
+no_bytes within (x ∷ _) e = absurd (true≢false (cc (or-true within)))
 
 feedless : (rest : List ℕ) → HasNo 10 rest → has_line_feed rest ≡ false
 feedless [] plain = refl
 feedless (x ∷ xs) plain = rw (ne_eqb x 10 plain.0) (feedless xs plain.1)
 
 has_bytes_behind : (front : List ℕ) (byte : ℕ) (more : List ℕ) → has_bytes (front ++ byte ∷ more) ≡ true
-has_bytes_behind [] byte more = refl
-has_bytes_behind (c ∷ front) byte more = refl
+has_bytes_behind [] _ _ = refl
+has_bytes_behind (c ∷ front) _ _ = refl
 
 -- a front of bytes that ends before the first LF, or after it
 split_at_feed : (body tail front behind : List ℕ) → HasNo 10 body → front ++ behind ≡ body ++ 10 ∷ tail
     → HasNo 10 front ⊎ ((more : List ℕ) × (front ≡ body ++ 10 ∷ more) × (more ++ behind ≡ tail))
-split_at_feed body tail [] behind plain e = inl tt
-split_at_feed [] tail (c ∷ front) behind plain e =
+split_at_feed body _ [] behind plain e = inl tt
+split_at_feed [] _ (c ∷ front) behind plain e =
     let parts = same_cons e in
-    inr (front, ap (λ (k : ℕ). k ∷ front) parts.0, parts.1)
+    inr (front, cc, parts.1)
 split_at_feed (d ∷ body) tail (c ∷ front) behind plain e =
     let parts = same_cons e in
     elim (split_at_feed body tail front behind plain.1 parts.1) [
-      | inl none ↦ inl ((λ same. plain.0 (sym parts.0 ∙ same)), none)
-      | inr more ↦ inr (more.0, ap₂ (λ (k : ℕ) (xs : List ℕ). k ∷ xs) parts.0 more.1, more.2)
+      | inl none ↦ inl ((λ same. plain.0 (cc)), none)
+      | inr more ↦ inr (more.0, ap₂ (λ k xs. k ∷ xs) parts.0 more.1, more.2)
     ]
 
 -- a front of a line and more
-split_at_line : (line : Line) → IsRecordLine line → (tail front behind : List ℕ)
-    → front ++ behind ≡ record_line line ++ tail
+split_at_line : (line : Line) → IsRecordLine line → (tail front behind : List ℕ) → front ++ behind ≡ record_line line ++ tail
     → HasNo 10 front ⊎ ((more : List ℕ) × (front ≡ record_line line ++ more) × (more ++ behind ≡ tail))
 split_at_line line is tail front behind e =
     elim (split_at_feed (body line) tail front behind (clean_body line is 10 (omega arith)) (e ∙ body_text line tail)) [
       | inl none ↦ inl none
-      | inr more ↦ inr (more.0, more.1 ∙ sym (body_text line more.0), more.2)
+      | inr more ↦ inr (more.0, cc (body_text line more.0), more.2)
     ]
 
 -- the lines of a group that a front of its bytes holds
@@ -460,49 +426,41 @@ rows_front before (row ∷ rows) front behind each follows e some =
 
 module _ {bytes : List ℕ} {rows : List Row} {intent : Option Intent} (was : Stood Two bytes rows intent false) where
   free : (lacks_rows was.progress ≡ false) × (was.rest ≡ [])
-  free = no_bytes (lacks_rows was.progress) was.rest was.torn_is
+  free = no_bytes _ _ was.torn_is
 
   -- more lines and a torn piece
   grown : (more : List Line) (rest tail : List ℕ) (progress : Progress) (meaning : Meaning)
       → AllByRecursion IsRecordLine more → HasNo 10 rest → tail ≡ flat_map record_line more ++ rest
       → judged Two was.n (Stands was.progress) more ≡ Stands progress
-      → meaning ≡ Rows Two (counted progress) (left_open progress) (lacks_rows progress || has_bytes rest)
-      → Means (bytes ++ tail) meaning
+      → meaning ≡ Rows Two (counted progress) (left_open progress) (lacks_rows progress || has_bytes rest) → Means (bytes ++ tail) meaning
   grown more rest tail progress meaning each plain tail_is judged_is meaning_is =
       means_behind (behind_lines (behind_tail was.behind tail) more rest progress each (rw free.1 tail_is) judged_is)
       meaning (no_line rest plain) (rw (feedless rest plain) meaning_is)
 
-  group_counts : (group : List Row) → IsGroup rows group
-      → Means (bytes ++ group_of group) (Rows Two (taken_all rows group) None false)
+  group_counts : (group : List Row) → IsGroup rows group → Means (bytes ++ group_of group) (Rows Two (taken_all rows group) None false)
   group_counts group is = grown (GroupLine (length group) ∷ map RowLine group) [] (group_of group)
       (BetweenGroups (taken_all rows group) None) _
-      (is.count, recursion_from_All IsRecordLine (map RowLine group) (All-map IsRecordLine RowLine group is.each)) tt
+      (is.count, recursion_from_All _ (map RowLine group) (All-map IsRecordLine _ group is.each)) tt
       (rw (append-nil, flat_map-map record_line RowLine group) refl)
-      (rw (judged, group_begins was.n was.progress (length group) free.0, ← was.rows_are)
-      (group_whole (was.n + 1) rows (left_open was.progress) rows (length group - 1) group is.follows
-      (omega (arith, is.count.0))))
-      refl
+      (rw (judged, group_begins was.n was.progress (length group) free.0, ← was.rows_are) (group_whole _ _ _ _ _ _ is.follows
+      (omega (arith, is.count.0)))) refl
 
   torn_piece : (front : List ℕ) → HasNo 10 front → Means (bytes ++ front) (Rows Two rows intent (has_bytes front))
-  torn_piece front none = grown [] front front was.progress _ tt none refl refl
-      (rw (← was.rows_are, ← was.intent_is, free.0) refl)
+  torn_piece front none = grown [] front front was.progress _ tt none refl refl (rw (← was.rows_are, ← was.intent_is, free.0) refl)
 
   group_cut : (group : List Row) (front behind : List ℕ) → IsGroup rows group → front ++ behind ≡ group_of group
       → behind ≢ [] → Means (bytes ++ front) (Rows Two rows intent (has_bytes front))
   group_cut group front behind is e left =
       elim (split_at_line (GroupLine (length group)) is.count (flat_map record_row_line group) front behind e) [
-        | inl none ↦ torn_piece front none
+        | inl none ↦ torn_piece _ none
         | inr more ↦
-            let f = rows_front rows group more.0 behind (recursion_from_All IsRow group is.each) is.follows more.2 left in
-            grown (GroupLine (length group) ∷ map RowLine f.done) f.rest front
-            (InGroup rows (left_open was.progress) (taken_all rows f.done) (length group - 1 - length f.done)) _
-            (is.count, f.each) f.plain
+            let f = rows_front _ _ _ _ (recursion_from_All _ group is.each) is.follows more.2 left in
+            grown (GroupLine (length group) ∷ map RowLine f.done) _ front
+            (InGroup rows (left_open was.progress) (taken_all rows f.done) (length group - 1 - length f.done)) _ (is.count, f.each) f.plain
             (more.1 ∙ ap (λ (xs : List ℕ). group_line (length group) ++ xs) f.front_is
             ∙ sym (append_assoc (group_line (length group)) (flat_map record_line (map RowLine f.done)) f.rest))
-            (rw (judged, group_begins was.n was.progress (length group) free.0, ← was.rows_are)
-            (group_open (was.n + 1) rows (left_open was.progress) rows (length group - 1) f.done f.follows
-            (omega (arith, f.some))))
-            (rw (was.intent_is, more.1) refl)
+            (rw (judged, group_begins was.n was.progress (length group) free.0, ← was.rows_are) (group_open _ _ _ _ _ _ f.follows
+            (omega (arith, f.some)))) (rw (was.intent_is, more.1) refl)
       ]
 
   -- a front of an intent's line that isn't the whole line has no LF
@@ -515,25 +473,20 @@ module _ {bytes : List ℕ} {rows : List Row} {intent : Option Intent} (was : St
       ]
 
 intent_counts : (bytes : List ℕ) (rows : List Row) (intent : Intent) → Stood Two bytes rows None false → IsIntent intent
-    → has_row rows intent.uid ≡ true
-    → Means (bytes ++ intent_line intent) (Rows Two rows (Some intent) false)
-intent_counts bytes rows intent was is has = grown was (IntentLine intent ∷ []) [] (intent_line intent)
-    (BetweenGroups rows (Some intent)) _
-    (is, tt) tt (sym (append-nil (intent_line intent ++ []) ∙ append-nil (intent_line intent)))
-    (rw (
+    → has_row rows intent.uid ≡ true → Means (bytes ++ intent_line intent) (Rows Two rows (Some intent) false)
+intent_counts _ rows intent was is has = grown was (IntentLine intent ∷ []) [] (intent_line intent) (BetweenGroups rows (Some intent)) _
+    (is, tt) tt (sym (append-nil (intent_line intent ++ []) ∙ append-nil (intent_line intent))) (rw (
       intent_opens was.n was.progress intent (free was).0 (sym was.intent_is) (rw (← was.rows_are) has),
       ←
           was.rows_are,
     ) refl) refl
 
 pub appended_counts : AppendedCounts
-appended_counts bytes added old new before after some means (inl (inl none)) =
-    rw (none.0, none.1, none.2, append-nil bytes) means
-appended_counts bytes added old new before after some means (inl (inr one)) =
-    rw (one.2, one.3, one.4) (group_counts (stood Two bytes old before false some means) one.0 one.1)
-appended_counts bytes added old new before after some means (inr opens) =
-    rw (opens.bytes_are, opens.same, opens.opened)
-    (intent_counts bytes old opens.intent (stood Two bytes old None false some (rw opens.closed at means))
+appended_counts bytes _ _ _ _ _ some means (inl (inl none)) = rw (none.0, none.1, none.2, append-nil) means
+appended_counts bytes _ old _ before _ some means (inl (inr one)) =
+    rw (one.2, one.3, one.4) (group_counts (stood _ _ _ _ _ some means) one.0 one.1)
+appended_counts bytes _ old _ _ _ some means (inr opens) =
+    rw (opens.bytes_are, opens.same, opens.opened) (intent_counts _ _ _ (stood _ _ _ _ _ some (rw opens.closed at means))
     opens.is_one opens.row)
 
 pub cut_is_ignored : CutIsIgnored
@@ -549,52 +502,43 @@ cut_is_ignored bytes added front behind old new before after some means (inr ope
 
 judged_base : (n : ℕ) (front rows : List Row) → IsRecord (front ++ rows)
     → judged Two n (Stands (InBase front)) (map RowLine rows) ≡ Stands (InBase (front ++ rows))
-judged_base n front [] is = rw append-nil refl
+judged_base n front [] _ = rw append-nil refl
 judged_base n front (row ∷ rows) is =
     let whole = append_assoc front (row ∷ []) rows in
-    rw (judged, fresh front rows row is) (judged_base (n + 1) (front ++ row ∷ []) rows (rw whole is)
-    ∙ ap (λ (xs : List Row). Stands (InBase xs)) whole)
+    rw (judged, fresh front rows row is) (cc (judged_base (n + 1) (front ++ row ∷ []) rows (rw whole is)))
 
 base_stands : (rows : List Row) → IsRecord rows → Means (file_of rows None) (Rows Two rows None false)
-base_stands rows is = means_behind (behind_lines (behind_header Two (file_of rows None) _ refl)
-    (map RowLine rows) [] (InBase rows)
+base_stands rows is = means_behind (behind_lines (behind_header _ _ _ refl) (map RowLine rows) [] (InBase rows)
     (recursion_from_All IsRecordLine (map RowLine rows) (All-map IsRecordLine RowLine rows is.each))
     (rw (flat_map-map record_line RowLine rows) refl) (judged_base 0 [] rows is)) _ (no_line [] tt) refl
 
 pub bytes_stand : BytesStand
-bytes_stand rows None is held = base_stands rows is
+bytes_stand _ None is _ = base_stands _ is
 bytes_stand rows (Some intent) is held =
     let whole : file_of rows None ++ intent_line intent ≡ file_of rows (Some intent) = simp append-nil in
-    subst (λ (bytes : List ℕ). Means bytes (Rows Two rows (Some intent) false)) whole
-    (intent_counts (file_of rows None) rows intent (stood Two (file_of rows None) rows None false
+    rw whole at (intent_counts (file_of rows None) rows intent (stood Two (file_of rows None) rows None false
     (λ e. cc) (base_stands rows is)) held.0 held.1)
 
 -- ---- a zero in what is left after a loss of power
 
 no_feed : (rest : List ℕ) → has_line_feed rest ≡ false → HasNo 10 rest
 no_feed [] e = tt
-no_feed (byte ∷ rest) e = let parts = or_parts (byte == 10) (has_line_feed rest) e
-    in ((λ same. true≢false (sym (eq-eqb byte 10 same) ∙ parts.0)), no_feed rest parts.1)
+no_feed (byte ∷ rest) e = let parts = or_parts _ _ e in ((λ same. true≢false (cc (eq-eqb byte 10 same))), no_feed rest parts.1)
 
 module _ {bytes : List ℕ} {rows : List Row} {intent : Option Intent} {torn : Bool}
     (p : Stood Two bytes rows intent torn) (more : List ℕ) where
-  ended_by : (meaning : Meaning) → meaning ≡ at_end Two p.n p.progress (p.rest ++ 0 ∷ more)
-      → Means (bytes ++ 0 ∷ more) meaning
-  ended_by meaning is = means_behind (behind_tail p.behind (0 ∷ more)) meaning
-      (λ line behind is' e. absurd
-      (omega (
-        arith,
-        (cut_unique 0 10 p.rest (body line) more behind (no_feed p.rest p.feedless)
-            (clean_body line is' 0 (omega arith)) (e ∙ body_text line behind)).1,
-      ))) is
+  ended_by : (meaning : Meaning) → meaning ≡ at_end Two p.n p.progress (p.rest ++ 0 ∷ more) → Means (bytes ++ 0 ∷ more) meaning
+  ended_by meaning is = means_behind (behind_tail p.behind (0 ∷ more)) meaning (λ line behind is' e. absurd (omega (
+    arith,
+    (cut_unique 0 10 p.rest (body line) more behind (no_feed p.rest p.feedless)
+        (clean_body line is' 0 (omega arith)) (e ∙ body_text line behind)).1,
+  ))) is
 
   feeds_behind : has_line_feed (p.rest ++ 0 ∷ more) ≡ has_line_feed more
-  feeds_behind = list_any-append (λ byte. byte == 10) p.rest (0 ∷ more)
-      ∙ ap (λ (b : Bool). b || has_line_feed more) p.feedless
+  feeds_behind = cc (list_any-append (λ byte. byte == 10) p.rest (0 ∷ more))
 
   zero_ignored : has_line_feed more ≡ false → Means (bytes ++ 0 ∷ more) (Rows Two rows intent true)
-  zero_ignored none = ended_by _
-      (rw (p.rows_are, p.intent_is, feeds_behind, none, has_bytes_behind p.rest 0 more, or-true) refl)
+  zero_ignored none = ended_by _ (rw (p.rows_are, p.intent_is, feeds_behind, none, has_bytes_behind, or-true) refl)
 
   zero_seen : has_line_feed more ≡ true → (line : ℕ) × Means (bytes ++ 0 ∷ more) (Fault (BadRow line))
   zero_seen feed = (line_after p.n, ended_by _ (rw (feeds_behind, feed) refl))
@@ -609,8 +553,8 @@ record IsSplit (added left : List ℕ) : Type 0 where
       × (ends_at_zero left ≡ not (has_line_feed more)))
 
 split_at_zero : (added left : List ℕ) → IsPartOf added left → left ≢ added → IsSplit added left
-split_at_zero [] [] part other = absurd (other refl)
-split_at_zero (word ∷ added) [] part other = record {
+split_at_zero [] [] _ other = absurd (other refl)
+split_at_zero (word ∷ added) [] _ _ = record {
   front = [];
   behind = word ∷ added;
   added_is = refl;
@@ -618,7 +562,7 @@ split_at_zero (word ∷ added) [] part other = record {
       λ e. cc;
   kind = inl (refl, refl);
 }
-split_at_zero [] (byte ∷ left) part other = absurd part
+split_at_zero [] (_ ∷ _) part _ = absurd part
 split_at_zero (word ∷ added) (byte ∷ left) part other = elim (eqb_tells byte 0) [
   | inl p ↦ record {
     front = [];
@@ -626,7 +570,7 @@ split_at_zero (word ∷ added) (byte ∷ left) part other = elim (eqb_tells byte
     added_is = refl;
     some = λ e. cc;
     kind =
-        inr (left, ap (λ (b : ℕ). b ∷ left) p.1, rw p.0 refl);
+        inr (left, cc, rw p.0 refl);
   }
   | inr p ↦ elim part.0 [
     | inr none ↦ absurd (p.1 none)

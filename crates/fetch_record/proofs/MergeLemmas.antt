@@ -31,10 +31,10 @@ use Rattle.mail_terms.proofs.ListLemmas.{any_map}
 -- ---- the ids of a listing that have no row yet
 
 pub has_id-kept : (p : List ℕ → Bool) (ids : List (List ℕ)) (uid : List ℕ) → has_id (filter p ids) uid ≡ (has_id ids uid && p uid)
-has_id-kept p ids uid = is_member-filter nat_list_eq_equiv p uid (alike_from_same bytes_eq-Decides p uid) ids
+has_id-kept p ids uid = is_member-filter nat_list_eq_equiv p uid (alike_from_same bytes_eq-Decides p _) ids
 
 has_id-distinct_ids : (uid : List ℕ) (ids : List (List ℕ)) → has_id (distinct_ids ids) uid ≡ has_id ids uid
-has_id-distinct_ids uid [] = refl
+has_id-distinct_ids _ [] = refl
 has_id-distinct_ids uid (id ∷ ids) =
     rw (
       has_id-kept (λ o. not (bytes_eq id o)) (distinct_ids ids) uid,
@@ -44,15 +44,14 @@ has_id-distinct_ids uid (id ∷ ids) =
 
 distinct_ids-push : (ids : List (List ℕ)) (uid : List ℕ)
     → distinct_ids (ids ++ uid ∷ []) ≡ cond (has_id ids uid) (distinct_ids ids) (distinct_ids ids ++ uid ∷ [])
-distinct_ids-push [] uid = refl
+distinct_ids-push [] _ = refl
 distinct_ids-push (id ∷ ids) uid = elim (cases_Bool (has_id ids uid)) [
   | inl old ↦ rw (distinct_ids-push ids uid, old, or-true) refl
   | inr new ↦ elim (cases_Bool (bytes_eq uid id)) [
     | inl hit ↦ rw (
       distinct_ids-push ids uid,
       new,
-      filter-append (λ o. not (bytes_eq id o)) (distinct_ids ids)
-          (uid ∷ []),
+      filter-append (λ o. not (bytes_eq id o)) (distinct_ids ids) (uid ∷ []),
       nat_list_eq_equiv.symm id uid,
       hit,
       append-nil,
@@ -60,8 +59,7 @@ distinct_ids-push (id ∷ ids) uid = elim (cases_Bool (has_id ids uid)) [
     | inr miss ↦ rw (
       distinct_ids-push ids uid,
       new,
-      filter-append (λ o. not (bytes_eq id o)) (distinct_ids ids)
-          (uid ∷ []),
+      filter-append (λ o. not (bytes_eq id o)) (distinct_ids ids) (uid ∷ []),
       nat_list_eq_equiv.symm id uid,
       miss,
     ) refl
@@ -74,8 +72,7 @@ new_of rows ids = filter (λ uid. not (has_row rows uid)) (distinct_ids ids)
 
 has_id-new_of : (rows : List Row) (ids : List (List ℕ)) (uid : List ℕ)
     → has_id (new_of rows ids) uid ≡ (has_id ids uid && not (has_row rows uid))
-has_id-new_of rows ids uid = has_id-kept (λ id. not (has_row rows id)) (distinct_ids ids) uid
-    ∙ ap (λ (b : Bool). b && not (has_row rows uid)) (has_id-distinct_ids uid ids)
+has_id-new_of rows ids uid = cc (has_id-kept (λ id. not (has_row rows id)) (distinct_ids ids) uid, has_id-distinct_ids uid ids)
 
 has_id-new_ids : (rows : List Row) (listing : List Item) (uid : List ℕ)
     → has_id (new_ids rows listing) uid ≡ (has_item listing uid && not (has_row rows uid))
@@ -83,15 +80,13 @@ has_id-new_ids rows listing uid = has_id-new_of rows (ids_of listing) uid
     ∙ ap (λ (b : Bool). b && not (has_row rows uid)) (any_map (bytes_eq uid) (λ (item : Item). item.uid) listing)
 
 new_of-push : (rows : List Row) (ids : List (List ℕ)) (uid : List ℕ)
-    → new_of rows (ids ++ uid ∷ []) ≡ cond (has_row rows uid || has_id ids uid) (new_of rows ids)
-    (new_of rows ids ++ uid ∷ [])
-new_of-push rows ids uid = rw (distinct_ids-push ids uid) (elim (cases_Bool (has_id ids uid)) [
+    → new_of rows (ids ++ uid ∷ []) ≡ cond (has_row rows uid || has_id ids uid) (new_of rows ids) (new_of rows ids ++ uid ∷ [])
+new_of-push rows ids uid = rw distinct_ids-push (elim (cases_Bool (has_id ids uid)) [
   | inl old ↦ rw (old, or-true) refl
-  | inr new ↦ rw (new, or-false, filter-append (λ id. not (has_row rows id)) (distinct_ids ids) (uid ∷ []))
-      (elim (cases_Bool (has_row rows uid)) [
-        | inl has ↦ rw (has, append-nil) refl
-        | inr none ↦ rw none refl
-      ])
+  | inr new ↦ rw (new, or-false, filter-append) (elim (cases_Bool (has_row rows uid)) [
+    | inl has ↦ rw (has, append-nil) refl
+    | inr none ↦ rw none refl
+  ])
 ])
 
 -- a loop that adds rows: the items before the i-th have rows
@@ -108,27 +103,23 @@ has_row-longer rows ids now uid =
 pub added_next : (rows : List Row) (listing : List Item) (now i : ℕ) (new : List Row) (uid : List ℕ)
     → HasAdded rows listing now i new → ((d : Item) → uid ≡ (get_or listing i d).uid) → i < length listing
     → rows ++ map (undelivered now) (new_ids rows (take (i + 1) listing)) ≡ cond (has_row new uid) new (new ++ undelivered now uid ∷ [])
-added_next rows listing now i new uid were at inside =
-    ap (λ (ids : List (List ℕ)). rows ++ map (undelivered now) (new_of rows ids))
-    (map_more (λ (item : Item). item.uid) listing i nobody inside
-    ∙ ap (λ (id : List ℕ). ids_of (take i listing) ++ id ∷ []) (sym (at nobody)))
-    ∙ rw (
-      new_of-push rows (ids_of (take i listing)) uid,
-      ap (λ (rs : List Row). has_row rs uid) were
-          ∙ has_row-longer rows (ids_of (take i listing)) now uid,
-    )
-    (elim (cases_Bool (has_row rows uid || has_id (ids_of (take i listing)) uid)) [
+added_next rows listing now i _ uid were at inside =
+    ap (λ ids. rows ++ map (undelivered now) (new_of rows ids)) (map_more _ _ i nobody inside
+    ∙ ap (λ id. ids_of (take i listing) ++ id ∷ []) (sym (at nobody))) ∙ rw (
+      new_of-push,
+      ap (λ rs. has_row rs uid) were ∙ has_row-longer rows (ids_of (take i listing)) now uid,
+    ) (elim (cases_Bool (has_row rows uid || has_id (ids_of (take i listing)) uid)) [
       | inl old ↦ rw old (sym were)
-      | inr none ↦ rw (none, were, map-append (undelivered now) (new_of rows (ids_of (take i listing))) (uid ∷ []), append_assoc) refl
+      | inr none ↦ rw (none, were, map-append, append_assoc) refl
     ])
 
 -- ---- which rows are delivered after a merge or a mark
 
 delivered-with : (t : List ℕ → Bool) (rows : List Row) (uid : List ℕ)
     → is_delivered (map (λ row. with_delivered (t row.uid) row) rows) uid ≡ (is_delivered rows uid || (has_row rows uid && t uid))
-delivered-with t [] uid = refl
+delivered-with t [] _ = refl
 delivered-with t (row ∷ rows) uid =
-    let same : bytes_eq uid row.uid ≡ true → t row.uid ≡ t uid = λ e. ap t (sym (same_from_test uid row.uid e)) in
+    let same : bytes_eq uid row.uid ≡ true → t row.uid ≡ t uid = λ e. ap t (sym (same_from_test _ _ e)) in
     rw (delivered-with t rows uid) (grind (arith, same))
 
 pub delivered-marked : (rows : List Row) (uid other : List ℕ)
@@ -139,11 +130,11 @@ pub has_row-marked : (rows : List Row) (uid other : List ℕ) → has_row (marke
 has_row-marked rows uid other = any_map _ _ rows
 
 none_new : (now : ℕ) (ids : List (List ℕ)) (uid : List ℕ) → is_delivered (map (undelivered now) ids) uid ≡ false
-none_new now [] uid = refl
-none_new now (id ∷ ids) uid = rw and-false (none_new now ids uid)
+none_new _ [] _ = refl
+none_new now (_ ∷ ids) uid = rw and-false (none_new _ ids _)
 
 flagged_listed : (listing : List Item) (held : List Bool) (uid : List ℕ) → is_flagged listing held uid ≡ true → has_item listing uid ≡ true
-flagged_listed [] held uid flagged = cc
+flagged_listed [] _ _ flagged = cc
 flagged_listed (item ∷ listing) [] uid flagged = cc
 flagged_listed (item ∷ listing) (flag ∷ held) uid flagged =
     elim (or_cases (flag && bytes_eq item.uid uid) (is_flagged listing held uid) flagged) [
@@ -155,10 +146,11 @@ flagged_listed (item ∷ listing) (flag ∷ held) uid flagged =
 pub merged_steps : (rows : List Row) (listing : List Item) (held : List Bool) (now : ℕ)
     → with_held listing held (rows ++ map (undelivered now) (new_ids rows listing)) ≡ merged rows listing held now
 merged_steps rows listing held now =
-    map-append (λ (row : Row). with_delivered (is_flagged listing held row.uid) row) rows (map (undelivered now) (new_ids rows listing))
-    ∙ ap (λ (xs : List Row). with_held listing held rows ++ xs)
-    (map-map (λ (row : Row). with_delivered (is_flagged listing held row.uid) row) (undelivered now)
-    (new_ids rows listing))
+    cc (
+      map-append (λ (row : Row). with_delivered (is_flagged listing held row.uid) row) rows (map (undelivered now) (new_ids rows listing)),
+      map-map (λ (row : Row). with_delivered (is_flagged listing held row.uid) row) (undelivered now)
+          (new_ids rows listing),
+    )
 
 pub delivered-merged : (rows : List Row) (listing : List Item) (held : List Bool) (now : ℕ) (uid : List ℕ)
     → is_delivered (merged rows listing held now) uid ≡ is_delivered rows uid || is_flagged listing held uid
@@ -186,27 +178,24 @@ has_row-merged rows listing held now uid =
 
 ids_among : (P : List ℕ → Type 0) (old new : List Row) → AllByRecursion P (map uid_of new) → AllByRecursion P (map uid_of (changed old new))
 ids_among P (row ∷ old) (next ∷ new) each = cond_both (next.delivered && not row.delivered) _ _
-    (λ (rs : List Row). AllByRecursion P (map uid_of rs)) (λ now. (each.0, ids_among P old new each.1))
-    (λ same. ids_among P old new each.1)
-ids_among P (row ∷ old) [] each = tt
-ids_among P [] new each = each
+    (λ rs. AllByRecursion P (map uid_of rs)) (λ _. (each.0, ids_among P old new each.1)) (λ _. ids_among P old new each.1)
+ids_among P (_ ∷ _) [] _ = tt
+ids_among P [] _ each = each
 
 changed_are : (old new : List Row) → AllByRecursion IsRow new × IsDistinct bytes_eq (map uid_of new)
     → AllByRecursion IsRow (changed old new) × IsDistinct bytes_eq (map uid_of (changed old new))
 unfolding IsDistinct
 changed_are (row ∷ old) (next ∷ new) are =
     let rest = changed_are old new (are.0.1, are.1.1) in
-    cond_both (next.delivered && not row.delivered) _ _ (λ (rs : List Row). AllByRecursion IsRow rs
-    × IsDistinct bytes_eq (map uid_of rs))
-    (λ now. ((are.0.0, rest.0), (ids_among (λ y. bytes_eq next.uid y ≡ false) old new are.1.0, rest.1)))
-    (λ same. rest)
-changed_are old new are = are
+    cond_both (next.delivered && not row.delivered) _ _ (λ (rs : List Row). AllByRecursion IsRow rs × IsDistinct bytes_eq (map uid_of rs))
+    (λ _. ((are.0.0, rest.0), (ids_among _ old new are.1.0, rest.1))) (λ _. rest)
+changed_are _ _ are = are
 
 -- the id of each row that a merge changes is listed
 changed_listed : (listing : List Item) (held : List Bool) (old more : List Row) (uid : List ℕ)
     → (has_row more uid ≡ true → has_item listing uid ≡ true)
     → has_row (changed old (with_held listing held old ++ more)) uid ≡ true → has_item listing uid ≡ true
-changed_listed listing held [] more uid new there = new there
+changed_listed _ _ [] more _ new there = new there
 changed_listed listing held (row ∷ old) more uid new there =
     let further = changed_listed listing held old more uid new in
     cond_both ((row.delivered || is_flagged listing held row.uid) && not row.delivered) _ _
@@ -215,7 +204,7 @@ changed_listed listing held (row ∷ old) more uid new there =
     in elim (or_cases (is_of uid row) (has_row (changed old (with_held listing held old ++ more)) uid) at) [
       | inl here ↦ rw (same_from_test uid row.uid here) (flagged_listed listing held row.uid flagged)
       | inr behind ↦ further behind
-    ]) (λ same at. further at) there
+    ]) (λ _ at. further at) there
 
 -- the row of an id that is new
 abbrev new_row : List Item → List Bool → ℕ → List ℕ → Row
@@ -242,35 +231,32 @@ merge_is_short rows listing held now is = omega (
 -- ---- a listing whose ids are all recorded as delivered changes nothing, whatever is held
 
 pub known_has_row : (rows : List Row) (uid : List ℕ) → is_delivered rows uid ≡ true → has_row rows uid ≡ true
-known_has_row rows uid is = true_from_ne_false _ (λ none. true≢false (sym is ∙ none_of (λ state. state.delivered) uid rows none))
+known_has_row rows uid is = true_from_ne_false _ (λ none. true≢false (cc (none_of (λ state. state.delivered) uid rows none)))
 
 -- rows that are delivered if they are chosen stay as they are
-with_known : (t : List ℕ → Bool) (rows : List Row) → IsRecord rows
-    → ((uid : List ℕ) → t uid ≡ true → is_delivered rows uid ≡ true)
+with_known : (t : List ℕ → Bool) (rows : List Row) → IsRecord rows → ((uid : List ℕ) → t uid ≡ true → is_delivered rows uid ≡ true)
     → map (λ row. with_delivered (t row.uid) row) rows ≡ rows
-with_known t rows is all = map_fixed (λ (row : Row). with_delivered (t row.uid) row) rows
-    (λ k d inside. elim (cases_Bool (t (get_or rows k d).uid)) [
-      | inl chosen ↦ same_row _ _ (sym (is_delivered-at rows k d is inside) ∙ all _ chosen)
-      | inr left ↦ rw left (with_delivered-false (get_or rows k d))
-    ])
+with_known t rows is all = map_fixed _ _ (λ k d inside. elim (cases_Bool (t (get_or rows k d).uid)) [
+  | inl chosen ↦ same_row _ _ (sym (is_delivered-at _ k d is inside) ∙ all _ chosen)
+  | inr left ↦ rw left (with_delivered-false _)
+])
 
 no_ids : (ids : List (List ℕ)) → ((uid : List ℕ) → has_id ids uid ≡ false) → ids ≡ []
-no_ids [] none = refl
-no_ids (id ∷ ids) none = absurd (true≢false (sym (or_left _ _ (test_from_same id id refl)) ∙ none id))
+no_ids [] _ = refl
+no_ids (id ∷ _) none = absurd (true≢false (sym (or_left _ _ (test_from_same id id refl)) ∙ none id))
 
 pub known_merge : (rows : List Row) (items : List Item) (held : List Bool) (now : ℕ) → IsRecord rows
     → All (λ (item : Item). is_delivered rows item.uid ≡ true) items → merged rows items held now ≡ rows
-known_merge rows items held now is all =
+known_merge rows items held _ is all =
     rw (
       with_known (is_flagged items held) rows is (λ uid flagged. known uid (flagged_listed items held uid flagged)),
       no_ids (new_ids rows items) (λ uid.
-          let has : has_item items uid ≡ true
-          → has_row rows uid ≡ true = λ listed. known_has_row rows uid (known uid listed)
+          let has : has_item items uid ≡ true → has_row rows uid ≡ true = λ listed. known_has_row rows uid (known uid listed)
           in has_id-new_ids rows items uid ∙ grind (arith, has)),
     ) (append-nil rows)
   where
     known : (uid : List ℕ) → has_item items uid ≡ true → is_delivered rows uid ≡ true
-    known uid listed = let there = Any-from_list_any (λ (item : Item). bytes_eq uid item.uid) items listed in
+    known uid listed = let there = Any-from_list_any _ items listed in
         rw (same_from_test uid there.1.uid there.4) (rw there.3 at (all there.0 there.1 there.2))
 
 -- ---- a merge of flags that are alike for all other ids is the same
@@ -289,21 +275,24 @@ module _ (f g : List ℕ → Bool) (rows : List Row) (is : IsRecord rows) (alike
       ext_get_or none (map by_f rows) (map by_g rows) (length-map rows by_f ∙ sym (length-map rows by_g)) (λ i inside.
       let within : i < length rows = omega (arith, inside, length-map rows by_f) in
       let row = get_or rows i none in
-      get_or-map by_f rows i none none within ∙ same_with row (is_delivered-at rows i none is within)
-      ∙ sym (get_or-map by_g rows i none none within))
+      cc (
+        get_or-map by_f rows i none none within,
+        same_with row (is_delivered-at rows i none is within),
+        get_or-map by_g rows i none none within,
+      ))
     where
       same_with : (row : Row) → is_delivered rows row.uid ≡ row.delivered → with_delivered (f row.uid) row ≡ with_delivered (g row.uid) row
       same_with row shown = elim (cases_Bool row.delivered) [
         | inl done ↦ rw done refl
-        | inr new ↦ ap (λ (also : Bool). with_delivered also row) (alike row.uid (shown ∙ new))
+        | inr new ↦ cc (alike row.uid (shown ∙ new))
       ]
 
   new_alike : (now : ℕ) (ids : List (List ℕ))
       → map (λ (uid : List ℕ). undelivered_or f now uid) (filter (λ uid. not (has_row rows uid)) ids)
       ≡ map (λ (uid : List ℕ). undelivered_or g now uid) (filter (λ uid. not (has_row rows uid)) ids)
-  new_alike now [] = refl
+  new_alike _ [] = refl
   new_alike now (id ∷ ids) = elim (cases_Bool (has_row rows id)) [
-    | inl has ↦ rw has (new_alike now ids)
+    | inl has ↦ rw has (new_alike _ ids)
     | inr none ↦ rw (none, alike id (none_of (λ state. state.delivered) id rows none), new_alike now ids) refl
   ]
 
@@ -311,9 +300,8 @@ pub merged_alike : (rows : List Row) (listing : List Item) (held others : List B
     → ((uid : List ℕ) → is_delivered rows uid ≡ false → is_flagged listing held uid ≡ is_flagged listing others uid)
     → merged rows listing held now ≡ merged rows listing others now
 merged_alike rows listing held others now is alike =
-    ap₂ (λ (front behind : List Row). front ++ behind) (with_alike (is_flagged listing held) (is_flagged listing others) rows is alike)
-    (new_alike (is_flagged listing held) (is_flagged listing others) rows is alike now
-    (distinct_ids (map (λ (item : Item). item.uid) listing)))
+    ap₂ (λ front behind. front ++ behind) (with_alike (is_flagged listing held) (is_flagged listing others) rows is alike)
+    (new_alike _ _ rows is alike now (distinct_ids (map (λ item. item.uid) listing)))
 
 -- ---- a loop over the flagged items
 
@@ -328,24 +316,22 @@ with_flagged flagged rows = map (λ row. with_delivered (list_any (stands_for ro
 flagged_more : (flagged : List (Item × Bool)) (i : ℕ) (d : Item × Bool) → i < length flagged → (rows : List Row)
     → with_flagged (take (i + 1) flagged) rows ≡ map
     (λ row. with_delivered (stands_for row.uid (get_or flagged i d)) row) (with_flagged (take i flagged) rows)
-flagged_more flagged i d inside [] = refl
+flagged_more _ i d _ [] = refl
 flagged_more flagged i d inside (row ∷ rest) =
     rw (
       list_any_more (stands_for row.uid) flagged i d inside,
       flagged_more flagged i d inside rest,
-      or_assoc
-          row.delivered (list_any (stands_for row.uid) (take i flagged)) (stands_for row.uid (get_or flagged i d)),
+      or_assoc,
     ) refl
 
 -- what two marks leave as it is the first one leaves too
-first_keeps : (f : Row → Bool) (uid : List ℕ) (rows : List Row)
-    → marked (map (λ row. with_delivered (f row) row) rows) uid ≡ rows
+first_keeps : (f : Row → Bool) (uid : List ℕ) (rows : List Row) → marked (map (λ row. with_delivered (f row) row) rows) uid ≡ rows
     → map (λ row. with_delivered (f row) row) rows ≡ rows
-first_keeps f uid [] e = refl
+first_keeps f _ [] e = refl
 first_keeps f uid (row ∷ rows) e =
     let here : ((row.delivered || f row) || is_of uid row) ≡ row.delivered = cc in
     let same : (row.delivered || f row) ≡ row.delivered = grind arith in
-    ap₂ (λ (b : Bool) (others : List Row). record row { delivered = b } ∷ others) same (first_keeps f uid rows cc)
+    ap₂ (λ b others. record row { delivered = b } ∷ others) same (first_keeps f uid rows cc)
 
 -- the ids of these are marked
 pub record HasMarked (flagged : List (Item × Bool)) (before : List Row) (changed : Bool) (rows : List Row) : Type 0 where
@@ -355,15 +341,15 @@ pub record HasMarked (flagged : List (Item × Bool)) (before : List Row) (change
   pub good : IsRecord rows
 
 unflagged : (rows : List Row) → map (λ row. with_delivered false row) rows ≡ rows
-unflagged rows = map_fixed (λ (row : Row). with_delivered false row) rows (λ k d inside. with_delivered-false (get_or rows k d))
+unflagged _ = map_fixed _ _ (λ k d _. with_delivered-false _)
 
 pub HasMarked-none : (before : List Row) → IsRecord before → HasMarked [] before false before
-HasMarked-none before good = record { rows_are = sym (unflagged before); more = λ e. cc; same = λ _. refl; good = good }
+HasMarked-none before good = record { rows_are = sym (unflagged _); more = λ e. cc; same = λ _. refl; good = good }
 
 pub HasMarked-all : (listing : List Item) (held : List Bool) (i : ℕ) (before : List Row) (changed : Bool)
     (rows : List Row) → length listing ≤ i
     → HasMarked (take i (zip listing held)) before changed rows → rows ≡ with_held listing held before
-HasMarked-all listing held i before changed rows past has =
+HasMarked-all listing held i _ changed _ past has =
     rw (← take_all i (zip listing held) (omega (arith, length-zip listing held))) has.rows_are
 
 -- the ids of those that are held and not delivered before are collected
@@ -374,44 +360,40 @@ HasHeldAnew rows listing held i ids = (uid : List ℕ)
 pub HasHeldAnew-all : (rows : List Row) (listing : List Item) (held : List Bool) (i : ℕ) (ids : List (List ℕ))
     → HasHeldAnew rows listing held i ids → length listing ≤ i
     → (uid : List ℕ) → has_id ids uid ≡ (is_flagged listing held uid && not (is_delivered rows uid))
-HasHeldAnew-all rows listing held i ids were past =
-    λ uid. rw (← take_all i (zip listing held) (omega (arith, past, length-zip listing held))) (were uid)
+HasHeldAnew-all _ listing held i _ were past = λ uid. rw (← take_all i (zip listing held) (omega (arith, past, length-zip))) (were uid)
 
 module _ (listing : List Item) (held : List Bool) (i : ℕ) (same : length held ≡ length listing) (inside : i < length listing) where
   within : i < length (zip listing held)
-  within = omega (arith, length-zip listing held)
+  within = omega (arith, length-zip)
 
   next_is : get_or (zip listing held) i (nobody, false) ≡ (get_or listing i nobody, get_or held i false)
-  next_is = get_or-zip listing held i (nobody, false) inside (omega arith)
+  next_is = get_or-zip _ _ i _ inside (omega arith)
 
   pub HasMarked-held : (uid : List ℕ) (before : List Row) (changed : Bool) (rows : List Row) (now_changed : Bool)
       (new : List Row) → ((d : Item) → uid ≡ (get_or listing i d).uid) → get_or held i false ≡ true
       → HasMarked (take i (zip listing held)) before changed rows → new ≡ marked rows uid
       → OnTrue now_changed (new ≢ rows) → OnFalse now_changed (new ≡ rows) → IsRecord new
       → HasMarked (take (i + 1) (zip listing held)) before (changed || now_changed) new
-  HasMarked-held uid before changed rows now_changed new at is has new_is differs agrees good = record {
+  HasMarked-held uid before changed _ now_changed _ at is has new_is differs agrees good = record {
     rows_are = rw (flagged_more (zip listing held) i (nobody, false) within before, next_is, is, new_is, has.rows_are, at nobody) refl;
     more = λ e done.
-        let old = has.rows_are ∙ first_keeps (λ (row : Row). list_any (stands_for row.uid) (take i (zip listing held)))
-        uid before (sym (new_is ∙ ap (λ (rs : List Row). marked rs uid) has.rows_are) ∙ done) in
+        let old = has.rows_are ∙ first_keeps _ _ _ (sym (new_is ∙ ap (λ rs. marked rs uid) has.rows_are) ∙ done) in
         elim (or_cases changed now_changed e) [
           | inl before' ↦ has.more before' old
-          | inr now ↦ OnTrue_at now differs (done ∙ sym old)
+          | inr now ↦ OnTrue_at now differs (cc)
         ];
-    same = λ e. let parts = or_parts changed now_changed e in OnFalse_at parts.1 agrees ∙ has.same parts.0;
+    same = λ e. let parts = or_parts _ _ e in OnFalse_at parts.1 agrees ∙ has.same parts.0;
     good = good;
   }
 
   pub HasMarked-free : (before : List Row) (changed : Bool) (rows : List Row) → get_or held i false ≡ false
-      → HasMarked (take i (zip listing held)) before changed rows
-      → HasMarked (take (i + 1) (zip listing held)) before changed rows
-  HasMarked-free before changed rows is has = record {
+      → HasMarked (take i (zip listing held)) before changed rows → HasMarked (take (i + 1) (zip listing held)) before changed rows
+  HasMarked-free before changed _ is has = record {
     rows_are = rw (
       flagged_more (zip listing held) i (nobody, false) within before,
       next_is,
       is,
-      unflagged
-          (with_flagged (take i (zip listing held)) before),
+      unflagged,
     ) has.rows_are;
     more = has.more;
     same = has.same;
@@ -422,23 +404,21 @@ module _ (listing : List Item) (held : List Bool) (i : ℕ) (same : length held 
       → HasHeldAnew rows listing held i ids → ((d : Item) → uid ≡ (get_or listing i d).uid)
       → b ≡ (get_or held i false && not (is_delivered rows uid))
       → ((id : List ℕ) → has_id new id ≡ ((b && bytes_eq id uid) || has_id ids id)) → HasHeldAnew rows listing held (i + 1) new
-  HasHeldAnew-more rows ids new uid b were at b_is added = λ id.
+  HasHeldAnew-more rows _ _ uid b were at b_is added = λ id.
       let same : bytes_eq id uid ≡ true
-      → is_delivered rows id ≡ is_delivered rows uid = λ e. ap (is_delivered rows) (same_from_test id uid e) in
+      → is_delivered rows id ≡ is_delivered rows uid = λ e. ap (is_delivered rows) (same_from_test id _ e) in
       added id ∙ rw (
         were id,
         list_any_more (stands_for id) (zip listing held) i (nobody, false) within,
         next_is,
-        ← at
-            nobody,
+        ← at nobody,
         nat_list_eq_equiv.symm uid id,
-      )
-      (grind (arith, same, b_is))
+      ) (grind (arith, same, b_is))
 
 -- a record's first rows are those of an older one, some of them delivered since
 abbrev pub GrewFrom : List Row → List Row → Type 0
-GrewFrom [] new = Unit {0}
-GrewFrom (row ∷ old) [] = ⊥
+GrewFrom [] _ = Unit {0}
+GrewFrom (_ ∷ _) [] = ⊥
 GrewFrom (row ∷ old) (next ∷ new) = (next.uid ≡ row.uid) × (next.first_seen ≡ row.first_seen)
     × (row.delivered ≡ true → next.delivered ≡ true) × GrewFrom old new
 
@@ -448,7 +428,7 @@ delivered_by f rows = map (λ row. with_delivered (f row) row) rows
 
 GrewFrom-more : (f : Row → Bool) (rows more : List Row) → GrewFrom rows (delivered_by f rows ++ more)
 GrewFrom-more f [] more = tt
-GrewFrom-more f (row ∷ rows) more = (refl, refl, (λ old. or_left _ _ old), GrewFrom-more f rows more)
+GrewFrom-more f (_ ∷ rows) more = (refl, refl, (λ old. or_left _ _ old), GrewFrom-more f rows _)
 
 -- a group's rows lead from the older record to the newer one
 record Leads (rows group new : List Row) : Type 0 where
@@ -457,34 +437,34 @@ record Leads (rows group new : List Row) : Type 0 where
 
 leads_first : (rows : List Row) (row : Row) (group new then : List Row) → may_take Two rows row ≡ true
     → with_taken rows row ≡ then → Leads then group new → Leads rows (row ∷ group) new
-leads_first rows row group new then may is leads = record { follows = (may, rw is leads.follows); ends = rw is leads.ends }
+leads_first _ _ group _ then may is leads = record { follows = (may, rw is leads.follows); ends = rw is leads.ends }
 
 leads_new : (rows new : List Row) → IsRecord (rows ++ new) → Leads rows new (rows ++ new)
-leads_new rows [] is = record { follows = tt; ends = sym (append-nil rows) }
+leads_new rows [] _ = record { follows = tt; ends = sym (append-nil rows) }
 leads_new rows (row ∷ new) is =
-    let none = fresh rows new row is in
+    let none = fresh _ new row is in
     let whole = append_assoc rows (row ∷ []) new in
-    leads_first rows row new (rows ++ row ∷ new) (rows ++ row ∷ []) (rw none refl) (rw none refl)
+    leads_first _ _ new (rows ++ row ∷ new) (rows ++ row ∷ []) (rw none refl) (rw none refl)
     (rw whole at (leads_new (rows ++ row ∷ []) new (rw whole is)))
 
 behind_rows : (front rows : List Row) → IsRecord (front ++ rows) → IsRecord rows
-behind_rows [] rows is = is
-behind_rows (row ∷ front) rows is = behind_rows front rows (rest_of row (front ++ rows) is)
+behind_rows [] _ is = is
+behind_rows (_ ∷ front) _ is = behind_rows front _ (rest_of _ _ is)
 
 -- the older rows have no id that the newer ones lack
 older_lack : (uid : List ℕ) (old new : List Row) → GrewFrom old new → has_row new uid ≡ false → has_row old uid ≡ false
-older_lack uid [] new grew lack = refl
-older_lack uid (row ∷ old) [] grew lack = absurd grew
-older_lack uid (row ∷ old) (next ∷ new) grew lack =
-    let parts = or_parts (is_of uid next) (has_row new uid) lack in
-    rw (← grew.0) (or_from _ _ parts.0 (older_lack uid old new grew.3 parts.1))
+older_lack _ [] _ _ _ = refl
+older_lack _ (_ ∷ _) [] grew _ = absurd grew
+older_lack uid (_ ∷ old) (next ∷ new) grew lack =
+    let parts = or_parts _ _ lack in
+    rw (← grew.0) (or_from _ _ parts.0 (older_lack _ old new grew.3 parts.1))
 
 -- the row that was delivered since
 module _ (front : List Row) (row : Row) (old : List Row) (next : Row) (new : List Row)
     (grew : GrewFrom (row ∷ old) (next ∷ new)) (now : next.delivered ≡ true) where
   marked_row : IsRecord (front ++ next ∷ new) → marked (front ++ row ∷ old) next.uid ≡ front ++ next ∷ old
   marked_row is = rw (
-    map-append (λ (r : Row). with_delivered (is_of next.uid r) r) front (row ∷ old),
+    map-append,
     unmarked next.uid front (fresh front new next is),
     test_from_same next.uid row.uid grew.0,
     or-true,
@@ -493,22 +473,20 @@ module _ (front : List Row) (row : Row) (old : List Row) (next : Row) (new : Lis
   ) (λ i. front ++ record { uid = sym grew.0 i; first_seen = sym grew.1 i; delivered = sym now i } ∷ old)
 
   has_it : has_row (front ++ row ∷ old) next.uid ≡ true
-  has_it = list_any-append (is_of next.uid) front (row ∷ old) ∙ or_right _ _ (or_left _ _ (test_from_same next.uid row.uid grew.0))
+  has_it = list_any-append (is_of next.uid) front (row ∷ old) ∙ or_right _ _ (or_left _ _ (test_from_same _ _ grew.0))
 
   delivers_it : delivers Two (front ++ row ∷ old) next ≡ true
-  delivers_it = and_from _ _ now
-      (list_any-append (λ other. is_of next.uid other && (true && (other.first_seen == next.first_seen))) front
-      (row ∷ old)
-      ∙ or_right _ _ (or_left _ _ (and_from _ _ (test_from_same next.uid row.uid grew.0)
+  delivers_it = and_from _ _ now (list_any-append (λ other. is_of next.uid other && (true && (other.first_seen == next.first_seen))) front
+      (row ∷ old) ∙ or_right _ _ (or_left _ _ (and_from _ _ (test_from_same _ _ grew.0)
       (eq-eqb row.first_seen next.first_seen (sym grew.1)))))
 
 -- the states of a row that stayed
 stayed : (before now : Bool) → (before ≡ true → now ≡ true) → (now && not before) ≡ false → now ≡ before
-stayed before now stays none = grind arith
+stayed _ _ stays none = grind arith
 
 leads : (front old new : List Row) → IsRecord (front ++ new) → GrewFrom old new → Leads (front ++ old) (changed old new) (front ++ new)
-leads front [] new is grew = rw append-nil (leads_new front new is)
-leads front (row ∷ old) [] is grew = absurd grew
+leads front [] new is _ = rw append-nil (leads_new _ new is)
+leads _ (_ ∷ _) [] _ grew = absurd grew
 leads front (row ∷ old) (next ∷ new) is grew =
     let whole = append_assoc front (next ∷ []) new in
     let rest = rw (append_assoc front (next ∷ []) old, whole) at (leads (front ++ next ∷ []) old new (rw whole is) grew.3) in
@@ -517,8 +495,7 @@ leads front (row ∷ old) (next ∷ new) is grew =
     leads_first (front ++ row ∷ old) next (changed old new) (front ++ next ∷ new) (front ++ next ∷ old)
     (or_right _ _ (delivers_it front row old next new grew now))
     (rw (has_it front row old next new grew now) (marked_row front row old next new grew now is)) rest)
-    (λ none. subst (λ (r : Row). Leads (front ++ r ∷ old) (changed old new) (front ++ next ∷ new))
-    (λ i. record {
+    (λ none. subst (λ (r : Row). Leads (front ++ r ∷ old) (changed old new) (front ++ next ∷ new)) (λ i. record {
       uid = grew.0 i;
       first_seen = grew.1 i;
       delivered =
@@ -527,11 +504,11 @@ leads front (row ∷ old) (next ∷ new) is grew =
 
 updates : (old new : List Row) → IsRecord new → GrewFrom old new → length (changed old new) ≤ 100000
     → Updates old None (written (changed old new)) new None
-updates old new is grew short = by (changed old new) short (leads [] old new is grew)
-    (All-from_recursion IsRow _ (changed_are old new (recursion_from_All IsRow _ is.each, ids_distinct _ is)).0)
+updates old new is grew short = by _ short (leads [] old new is grew)
+    (All-from_recursion _ _ (changed_are _ _ (recursion_from_All _ _ is.each, ids_distinct _ is)).0)
   where
     by : (group : List Row) → length group ≤ 100000 → Leads old group new → All IsRow group → Updates old None (written group) new None
-    by [] short' leads' each = inl (refl, sym leads'.ends, refl)
+    by [] _ leads' _ = inl (refl, sym leads'.ends, refl)
     by (row ∷ rows) short' leads' each =
         inr (
           row ∷ rows,
@@ -544,7 +521,7 @@ updates old new is grew short = by (changed old new) short (leads [] old new is 
 -- one more row, as a loop goes over the rows
 changed-nil : (rows : List Row) → changed rows [] ≡ []
 changed-nil [] = refl
-changed-nil (row ∷ rows) = refl
+changed-nil (_ ∷ _) = refl
 
 abbrev now_of : (Row → Bool) → Row → Row
 now_of f row = with_delivered (f row) row
@@ -552,17 +529,17 @@ now_of f row = with_delivered (f row) row
 changed-skips : (count : ℕ) (f : Row → Bool) (front : List Row) (row : Row) → length front < count
     → ((now_of f row).delivered && not row.delivered) ≡ false
     → changed (take count (front ++ row ∷ [])) (delivered_by f (front ++ row ∷ [])) ≡ changed (take count front) (delivered_by f front)
-changed-skips zero f front row inside none = absurd (omega (arith, inside))
-changed-skips (suc count) f [] row inside none = rw none (changed-nil (take count []))
-changed-skips (suc count) f (first ∷ front) row inside none = rw (changed-skips count f front row (omega (arith, inside)) none) refl
+changed-skips zero f _ _ inside _ = absurd (omega (arith, inside))
+changed-skips (suc count) f [] _ _ none = rw none (changed-nil _)
+changed-skips (suc count) f (_ ∷ front) row inside none = rw (changed-skips count f front row (omega (arith, inside)) none) refl
 
 changed-adds : (count : ℕ) (f : Row → Bool) (front : List Row) (row : Row) → (count ≤ length front)
     ⊎ (((now_of f row).delivered && not row.delivered) ≡ true)
     → changed (take count (front ++ row ∷ [])) (delivered_by f (front ++ row ∷ [])) ≡ changed (take count front)
     (delivered_by f front) ++ now_of f row ∷ []
-changed-adds zero f front row either = map-append (now_of f) front (row ∷ [])
-changed-adds (suc count) f [] row (inl past) = absurd (omega (arith, past))
-changed-adds (suc count) f [] row (inr now) = rw (now, changed-nil (take count [])) refl
+changed-adds zero f front row _ = map-append (now_of f) front (row ∷ [])
+changed-adds (suc _) f [] _ (inl past) = absurd (omega (arith, past))
+changed-adds (suc count) f [] _ (inr now) = rw (now, changed-nil (take count [])) refl
 changed-adds (suc count) f (first ∷ front) row either =
     rw (changed-adds count f front row (elim either [ inl past ↦ inl (omega (arith, past)) | inr now ↦ inr now ]))
     (elim (cases_Bool ((now_of f first).delivered && not first.delivered)) [ inl now ↦ rw now refl | inr same ↦ rw same refl ])
@@ -571,7 +548,7 @@ changed-adds (suc count) f (first ∷ front) row either =
 
 pub next_rows : (rows : List Row) (i : ℕ) (row : Row) → i < length rows → get_or rows i row ≡ row
     → take (i + 1) rows ≡ take i rows ++ row ∷ []
-next_rows rows i row inside at = take_more rows i row inside ∙ ap (λ (r : Row). take i rows ++ r ∷ []) at
+next_rows rows i _ inside at = take_more _ i _ inside ∙ ap (λ r. take i rows ++ r ∷ []) at
 
 -- the lines of those that changed among the first i, and how many they are
 abbrev pub HasWritten : ℕ → (Row → Bool) → List Row → ℕ → ℕ → List ℕ → Type 0
@@ -586,39 +563,32 @@ module _ (count : ℕ) (f : Row
   HasWritten-skips row inside at before same =
       rw (
         next_rows rows i row inside at,
-        changed-skips count f (take i rows) row
-            (omega (arith, before, length-take i rows, inside)) (grind (arith, same)),
+        changed-skips count f (take i rows) row (omega (arith, before, length-take i rows, inside)) (grind (arith, same)),
       ) were
 
   pub HasWritten-adds : (changes' : ℕ) (lines' : List ℕ) (row : Row) → i < length rows → get_or rows i row ≡ row
       → (count ≤ i) ⊎ ((row.delivered || f row) ≢ row.delivered) → changes' ≡ changes + 1
-      → lines' ≡ lines ++ record_row_line (with_delivered (f row) row)
-      → HasWritten count f rows (i + 1) changes' lines'
-  HasWritten-adds changes' lines' row inside at either changes_are lines_are =
-      let group : List Row = changed (take count (take i rows)) (delivered_by f (take i rows)) in
+      → lines' ≡ lines ++ record_row_line (with_delivered (f row) row) → HasWritten count f rows (i + 1) changes' lines'
+  HasWritten-adds _ _ row inside at either changes_are lines_are =
+      let group = changed (take count (take i rows)) (delivered_by f (take i rows)) in
       rw (
         next_rows rows i row inside at,
-        changed-adds count f (take i rows) row
-            (elim either [
-              | inl past ↦ inl (omega (arith, past, length-take i rows, inside))
-              | inr other ↦ inr
-                  (grind (arith, other))
-            ]),
+        changed-adds count f (take i rows) row (elim either [
+          | inl past ↦ inl (omega (arith, past, length-take i rows, inside))
+          | inr other ↦ inr (grind (arith, other))
+        ]),
       ) (
-        changes_are ∙ ap (λ (k : ℕ). k + 1) were.0 ∙ sym (length-append group (now_of f row ∷ [])),
+        cc (length-append group (now_of f row ∷ [])),
         lines_are ∙ ap (λ (xs : List ℕ). xs ++ record_row_line (now_of f row)) were.1
             ∙ flat_map_more record_row_line [] group (now_of f row),
       )
 
 pub merge_updates : (rows longer new : List Row) (listing : List Item) (held : List Bool) (now : ℕ)
     → longer ≡ rows ++ map (undelivered now) (new_ids rows listing) → new ≡ with_held listing held longer → IsRecord new
-    → length listing ≤ 100000
-    → Updates rows None (written (changed rows new)) new None
-merge_updates rows longer new listing held now longer_is new_is is short =
-    let all = new_is ∙ ap (with_held listing held) longer_is ∙ merged_steps rows listing held now in
-    let good : IsRecord (merged rows listing held now) = subst IsRecord all is in
-    rw all (updates rows (merged rows listing held now) good
-    (GrewFrom-more (λ (row : Row). is_flagged listing held row.uid) rows _)
-    (omega (arith, short, merge_is_short rows listing held now good)))
+    → length listing ≤ 100000 → Updates rows None (written (changed rows new)) new None
+merge_updates rows _ _ listing held now longer_is new_is is short =
+    let all = new_is ∙ ap (with_held listing held) longer_is ∙ merged_steps _ _ _ _ in
+    let good = subst IsRecord all is in
+    rw all (updates _ _ good (GrewFrom-more _ _ _) (omega (arith, short, merge_is_short)))
 
 pub ruleset merge_laws = (delivered-merged, merged_alike, has_row-merged, known_merge, known_has_row, delivered-marked, has_row-marked)

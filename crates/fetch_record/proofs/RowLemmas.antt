@@ -6,7 +6,7 @@ use Rattle.std.proofs.Common.{true≢false, zero, ℕ, ◌&&◌, ◌++◌, ◌<�
 use Rattle.indexmap.proofs.MapLemmas.{absent_from_lookup, insert_entry-absent}
 use Rattle.indexmap.specs.IndexMap.{insert_entry, set_value_at}
 use Rattle.mail_terms.specs.Distinct.{AreDistinct}
-use Rattle.mail_terms.specs.Listing.{Item, is_flagged}
+use Rattle.mail_terms.specs.Listing.{Item}
 use Rattle.mail_terms.specs.UniqueId.{IsLegalId}
 use Rattle.mail_terms.proofs.IdLemmas.{same_from_test, test_from_other, test_from_same}
 use Rattle.std.proofs.Math.Bool.{and-not_self, or-false, or-true}
@@ -39,7 +39,7 @@ use Rattle.fetch_record.specs.declared.row_map.State.{State}
 use Rattle.mail_terms.proofs.ListLemmas.{any_map}
 
 pub with_delivered-false : (row : Row) → with_delivered false row ≡ row
-with_delivered-false row = ap (λ (b : Bool). record row { delivered = b }) (or-false row.delivered)
+with_delivered-false row = ap (λ b. record row { delivered = b }) (or-false _)
 
 abbrev pub uid_of : Row → List ℕ
 uid_of row = row.uid
@@ -49,7 +49,7 @@ pub rows_differ : (rows : List Row) → IsRecord rows → (i j : ℕ) (d : Row) 
     → (get_or rows i d).uid ≢ (get_or rows j d).uid
 rows_differ rows is i j d below inside same =
     is.distinct i j [] below (omega (arith, inside, length-map rows uid_of))
-    (get_or-map uid_of rows i d [] (omega (arith, below, inside)) ∙ same ∙ sym (get_or-map uid_of rows j d [] inside))
+    (get_or-map _ _ i d [] (omega (arith, below, inside)) ∙ same ∙ sym (get_or-map _ _ j d [] inside))
 
 pub ids_distinct : (rows : List Row) → IsRecord rows → IsDistinct bytes_eq (map uid_of rows)
 ids_distinct rows is = IsDistinct-from_AllPairs bytes_eq-Decides (map uid_of rows) is.distinct
@@ -71,7 +71,7 @@ IsRecord-push rows row is is_row none = record {
 pub IsRecord-take : (n : ℕ) (rows : List Row) → IsRecord rows → IsRecord (take n rows)
 IsRecord-take n rows is = record {
   each = All-take IsRow n rows is.each;
-  distinct = rw (← take-map uid_of n rows) (λ i j d below inside same.
+  distinct = rw (← take-map) (λ i j d below inside same.
       let bound : j < n = omega (arith, inside, length-take n (map uid_of rows)) in
       is.distinct i j d below (omega (arith, inside, length-take n (map uid_of rows)))
       (sym (get_or-take n (map uid_of rows) i d (omega (arith, below, bound))) ∙ same ∙ get_or-take n (map uid_of rows) j d bound));
@@ -80,86 +80,82 @@ IsRecord-take n rows is = record {
 -- a mark leaves the ids
 pub IsRecord-marked : (uid : List ℕ) (rows : List Row) → IsRecord rows → IsRecord (marked rows uid)
 IsRecord-marked uid rows is = record {
-  each = All-map IsRow (λ row. with_delivered (is_of uid row) row) rows
-      (All-weaker IsRow (λ row. IsRow (with_delivered (is_of uid row) row))
-      (λ row row_is. record { legal = row_is.legal; fits = row_is.fits }) rows is.each);
-  distinct = rw (map-map uid_of (λ (row : Row). with_delivered (is_of uid row) row) rows) is.distinct;
+  each = All-map IsRow _ rows (All-weaker IsRow (λ row. IsRow (with_delivered (is_of uid row) row))
+      (λ _ row_is. record { legal = row_is.legal; fits = row_is.fits }) rows is.each);
+  distinct = rw map-map is.distinct;
 }
 
 -- ---- rows that are all recorded as delivered
 
 pub same_row : (row : Row) (also : Bool) → row.delivered ≡ true → with_delivered also row ≡ row
-same_row row also is = ap (λ (d : Bool). let r : Row = record row { delivered = d } in r) (ap (λ (d : Bool). d || also) is ∙ sym is)
+same_row row also is = ap (λ d. let r : Row = record row { delivered = d } in r) (ap (λ d. d || also) is ∙ sym is)
 
 -- nothing is left to be set
 pub with_held_same : (listing : List Item) (held : List Bool) (rows : List Row)
     → All (λ (row : Row). row.delivered ≡ true) rows → with_held listing held rows ≡ rows
-with_held_same listing held rows all = map_fixed (λ (row : Row). with_delivered (is_flagged listing held row.uid) row)
-    rows (λ k d inside. same_row _ _ (all k d inside))
+with_held_same _ _ _ all = map_fixed _ _ (λ k d inside. same_row _ _ (all k d inside))
 
 pub changed_same : (rows : List Row) → changed rows rows ≡ []
 changed_same [] = refl
-changed_same (row ∷ rows) = rw and-not_self (changed_same rows)
+changed_same (_ ∷ rows) = rw and-not_self (changed_same rows)
 
 -- ---- the rows of an id
 
 -- no row before another has its id
 pub fresh : (front rows : List Row) (row : Row) → IsRecord (front ++ row ∷ rows) → has_row front row.uid ≡ false
-fresh front rows row is = list_any_none (is_of row.uid) front (λ k d inside. test_from_other row.uid (get_or front k d).uid (λ same.
-    rows_differ (front ++ row ∷ rows) is k (length front) d inside (omega (arith, length-append front (row ∷ rows)))
+fresh front rows row is = list_any_none _ front (λ k d inside. test_from_other _ _ (λ same.
+    rows_differ _ is k _ d inside (omega (arith, length-append front (row ∷ rows)))
     (ap uid_of (get_or_append_left front (row ∷ rows) d k inside) ∙ sym same ∙ ap uid_of (sym (get_or-append_seam front row rows d)))))
 
 -- nor after it
 pub apart : (uid : List ℕ) (row : Row) (rows : List Row) → IsRecord (row ∷ rows) → is_of uid row ≡ true → has_row rows uid ≡ false
-apart uid row rows is here = list_any_none (is_of uid) rows (λ k d inside. test_from_other uid (get_or rows k d).uid (λ same.
-    rows_differ (row ∷ rows) is 0 (suc k) d (omega arith) (omega (arith, inside)) (sym (same_from_test uid row.uid here) ∙ same)))
+apart uid row rows is here = list_any_none _ rows (λ k d inside. test_from_other _ _ (λ same.
+    rows_differ _ is 0 (suc k) d (omega arith) (omega (arith, inside)) (sym (same_from_test uid row.uid here) ∙ same)))
 
 pub unmarked : (uid : List ℕ) (rows : List Row) → has_row rows uid ≡ false → marked rows uid ≡ rows
-unmarked uid [] none = refl
-unmarked uid (row ∷ rows) none = let parts = or_parts (is_of uid row) (has_row rows uid) none
-    in rw (parts.0, or-false, unmarked uid rows parts.1) refl
+unmarked _ [] _ = refl
+unmarked uid (row ∷ rows) none = let parts = or_parts _ (has_row rows uid) none in rw (parts.0, or-false, unmarked uid rows parts.1) refl
 
 none_kept : (uid : List ℕ) (rows : List Row) → has_row rows uid ≡ false → filter (is_of uid) rows ≡ []
-none_kept uid [] none = refl
-none_kept uid (row ∷ rows) none = let parts = or_parts (is_of uid row) (has_row rows uid) none in rw parts.0 (none_kept uid rows parts.1)
+none_kept _ [] _ = refl
+none_kept uid (row ∷ rows) none = let parts = or_parts _ (has_row rows uid) none in rw parts.0 (none_kept uid rows parts.1)
 
 pub none_of : (q : State → Bool) (uid : List ℕ) (rows : List Row) → has_row rows uid ≡ false
     → list_any (λ row. is_of uid row && q (state_of row)) rows ≡ false
-none_of q uid [] none = refl
-none_of q uid (row ∷ rows) none = let parts = or_parts (is_of uid row) (has_row rows uid) none in rw parts.0 (none_of q uid rows parts.1)
+none_of q _ [] _ = refl
+none_of q uid (row ∷ rows) none = let parts = or_parts _ (has_row rows uid) none in rw parts.0 (none_of q uid rows parts.1)
 
 pub state_in_none : (uid : List ℕ) (rows : List Row) → has_row rows uid ≡ false → state_in rows uid ≡ None
-state_in_none uid [] none = refl
-state_in_none uid (row ∷ rows) none = let parts = or_parts (is_of uid row) (has_row rows uid) none
-    in rw parts.0 (state_in_none uid rows parts.1)
+state_in_none _ [] _ = refl
+state_in_none uid (row ∷ rows) none = let parts = or_parts _ (has_row rows uid) none in rw parts.0 (state_in_none uid rows parts.1)
 
 pub is_some_state_in : (uid : List ℕ) (rows : List Row) → is_some (state_in rows uid) ≡ has_row rows uid
-is_some_state_in uid [] = refl
+is_some_state_in _ [] = refl
 is_some_state_in uid (row ∷ rows) = elim (cases_Bool (is_of uid row)) [
   | inl here ↦ rw here refl
-  | inr other ↦ rw other (is_some_state_in uid rows)
+  | inr other ↦ rw other (is_some_state_in _ rows)
 ]
 
 pub has_row-some : (uid : List ℕ) (rows : List Row) (state : State) → state_in rows uid ≡ Some state → has_row rows uid ≡ true
-has_row-some uid rows state found = sym (is_some_state_in uid rows) ∙ ap is_some found
+has_row-some uid rows _ found = cc (is_some_state_in uid rows)
 
 pub has_row_none : (uid : List ℕ) (rows : List Row) → state_in rows uid ≡ None → has_row rows uid ≡ false
-has_row_none uid rows none = sym (is_some_state_in uid rows) ∙ ap is_some none
+has_row_none uid rows none = cc (is_some_state_in uid rows)
 
 -- the id of a row is legal
 pub legal_of : (rows : List Row) (uid : List ℕ) → IsRecord rows → has_row rows uid ≡ true → IsLegalId uid
 legal_of rows uid is has =
-    let there = Any-from_list_any (is_of uid) rows has in
+    let there = Any-from_list_any _ rows has in
     rw (same_from_test uid there.1.uid there.4) (rw there.3 at (is.each there.0 there.1 there.2)).legal
 
 pub illegal : (uid : List ℕ) (rows : List Row) → IsRecord rows → (IsLegalId uid → ⊥) → has_row rows uid ≡ false
-illegal uid rows is bad = false_from_ne_true _ (λ has. bad (legal_of rows uid is has))
+illegal _ _ is bad = false_from_ne_true _ (λ has. bad (legal_of _ _ is has))
 
 pub unmarked_none : (uid : List ℕ) (rows : List Row) → state_in rows uid ≡ None → marked rows uid ≡ rows
 unmarked_none uid rows none = unmarked uid rows (has_row_none uid rows none)
 
 pub is_delivered_none : (uid : List ℕ) (rows : List Row) → state_in rows uid ≡ None → is_delivered rows uid ≡ false
-is_delivered_none uid rows none = none_of (λ state. state.delivered) uid rows (has_row_none uid rows none)
+is_delivered_none uid rows none = none_of (λ state. state.delivered) _ rows (has_row_none uid rows none)
 
 abbrev pub now_delivered : List ℕ → State → Row
 now_delivered uid state = record { uid = uid; first_seen = state.first_seen; delivered = true }
@@ -169,28 +165,27 @@ by_row : (P : List Row → Type 0) (uid : List ℕ) (state : State)
     → ((rows : List Row) → has_row rows uid ≡ false → P (row_from uid state ∷ rows))
     → ((row : Row) (rows : List Row) → is_of uid row ≡ false → P rows → P (row ∷ rows)) → (rows : List Row)
     → IsRecord rows → state_in rows uid ≡ Some state → P rows
-by_row P uid state here later [] is found = absurd (none-some state found)
+by_row P _ state _ _ [] _ found = absurd (none-some state found)
 by_row P uid state here later (row ∷ rows) is found = elim (cases_Bool (is_of uid row)) [
-  | inl test ↦ subst P (ap₂ (λ (u : List ℕ) (s : State). row_from u s ∷ rows) (same_from_test uid row.uid test)
-      (sym (same_Some (state_of row) state (rw test at found))))
-      (here rows (apart uid row rows is test))
-  | inr test ↦ later row rows test (by_row P uid state here later rows (rest_of row rows is) (rw test at found))
+  | inl test ↦ subst P (ap₂ (λ u s. row_from u s ∷ rows) (same_from_test _ _ test)
+      (sym (same_Some (state_of row) state (rw test at found)))) (here rows (apart _ row rows is test))
+  | inr test ↦ later row rows test (by_row P _ _ here later rows (rest_of _ _ is) (rw test at found))
 ]
 
 module _ (uid : List ℕ) (rows : List Row) (state : State) (is : IsRecord rows) (found : state_in rows uid ≡ Some state) where
   same : bytes_eq uid uid ≡ true
-  same = test_from_same uid uid refl
+  same = test_from_same uid _ refl
 
   -- what a mark changes
   changed-marked : state.delivered ≡ false → changed rows (marked rows uid) ≡ now_delivered uid state ∷ []
   changed-marked fresh' = by_row (λ rs. changed rs (marked rs uid) ≡ now_delivered uid state ∷ []) uid state
       (λ rs none. rw (same, fresh', unmarked uid rs none, changed_same rs) refl)
-      (λ row rs test more. rw (test, or-false, and-not_self) more) rows is found
+      (λ _ _ test more. rw (test, or-false, and-not_self) more) rows is found
 
   -- the one row of an id after a mark
   filter-marked : filter (is_of uid) (marked rows uid) ≡ now_delivered uid state ∷ []
   filter-marked = by_row (λ rs. filter (is_of uid) (marked rs uid) ≡ now_delivered uid state ∷ []) uid state
-      (λ rs none. rw (same, or-true, unmarked uid rs none, none_kept uid rs none) refl) (λ row rs test more. rw test more) rows is found
+      (λ rs none. rw (same, or-true, unmarked uid rs none, none_kept uid rs none) refl) (λ _ _ test more. rw test more) rows is found
 
   -- an id that was delivered stays as it is
   pub marked_delivered : state.delivered ≡ true → marked rows uid ≡ rows
@@ -207,12 +202,11 @@ module _ (uid : List ℕ) (rows : List Row) (state : State) (is : IsRecord rows)
       → marking intent uid rows (marked rows uid) ≡ now_delivered uid state ∷ []
   mark_is_written None (inl fresh') = changed-marked fresh'
   mark_is_written None (inr some) = absurd (some refl)
-  mark_is_written (Some intent) why = filter-marked
+  mark_is_written (Some _) _ = filter-marked
 
   -- what a mark answers
   pub mark_changes : state.delivered ≡ false → marked rows uid ≢ rows
-  mark_changes new = λ same'. let e : now_delivered uid state ∷ [] ≡ [] = sym (changed-marked new)
-      ∙ ap (changed rows) same' ∙ changed_same rows in cc
+  mark_changes new = λ same'. let e : now_delivered uid state ∷ [] ≡ [] = cc (changed-marked new, changed_same rows) in cc
 
   pub is_delivered_some : is_delivered rows uid ≡ state.delivered
   is_delivered_some = any_of (λ s. s.delivered)
@@ -220,13 +214,11 @@ module _ (uid : List ℕ) (rows : List Row) (state : State) (is : IsRecord rows)
   -- what a mark writes is a group, and the rows after it are the marked ones
   pub IsGroup-mark : IsGroup rows (now_delivered uid state ∷ []) × (taken_all rows (now_delivered uid state ∷ []) ≡ marked rows uid)
   IsGroup-mark =
-      let known = by_row (λ rs. All IsRow rs
-      → IsRow (row_from uid state)) uid state (λ rs none each. All-head IsRow _ rs each)
+      let known = by_row (λ rs. All IsRow rs → IsRow (row_from uid state)) uid state (λ rs none each. All-head IsRow _ rs each)
       (λ row rs test more each. more (All-tail IsRow row rs each)) rows is found is.each in
       let there = any_of (λ s. true && (s.first_seen == state.first_seen)) ∙ eq-eqb state.first_seen state.first_seen refl in (
         record {
-          each = All-cons IsRow (now_delivered uid state) [] (record { legal = known.legal; fits = known.fits })
-              (All-nil IsRow);
+          each = All-cons IsRow (now_delivered uid state) [] (record { legal = known.legal; fits = known.fits }) (All-nil IsRow);
           count = (omega arith, omega arith);
           follows = (or_right _ _ there, tt);
         },
@@ -234,51 +226,49 @@ module _ (uid : List ℕ) (rows : List Row) (state : State) (is : IsRecord rows)
       )
 
 pub none_written : (intent : Option Intent) (uid : List ℕ) (rows : List Row) → intent ≡ None → written (marking intent uid rows rows) ≡ []
-none_written intent uid rows none = rw (none, changed_same rows) refl
+none_written _ _ rows none = rw (none, changed_same) refl
 
 -- a row says of its id whether it was delivered
 pub is_delivered-at : (rows : List Row) (i : ℕ) (d : Row) → IsRecord rows → i < length rows
     → is_delivered rows (get_or rows i d).uid ≡ (get_or rows i d).delivered
-is_delivered-at [] i d is inside = absurd (omega (arith, inside))
-is_delivered-at (row ∷ rows) zero d is inside =
-    let same = test_from_same row.uid row.uid refl in
+is_delivered-at [] i d _ inside = absurd (omega (arith, inside))
+is_delivered-at (row ∷ rows) zero d is _ =
+    let same = test_from_same _ row.uid refl in
     rw (same, none_of (λ state. state.delivered) row.uid rows (apart row.uid row rows is same), or-false) refl
 is_delivered-at (row ∷ rows) (suc i) d is inside =
     rw (test_from_other (get_or rows i d).uid row.uid (λ same. rows_differ (row ∷ rows) is 0 (suc i) d (omega arith)
-    (omega (arith, inside)) (sym same)))
-    (is_delivered-at rows i d (rest_of row rows is) (omega (arith, inside)))
+    (omega (arith, inside)) (sym same))) (is_delivered-at rows i d (rest_of row rows is) (omega (arith, inside)))
 
 -- and what is known of its message
 pub state_in-at : (rows : List Row) (i : ℕ) (d : Row) → IsRecord rows → i < length rows
     → state_in rows (get_or rows i d).uid ≡ Some (state_of (get_or rows i d))
-state_in-at [] i d is inside = absurd (omega (arith, inside))
-state_in-at (row ∷ rows) zero d is inside = rw (test_from_same row.uid row.uid refl) refl
+state_in-at [] i d _ inside = absurd (omega (arith, inside))
+state_in-at (row ∷ _) zero d _ _ = rw test_from_same refl
 state_in-at (row ∷ rows) (suc i) d is inside =
     rw (test_from_other (get_or rows i d).uid row.uid (λ same. rows_differ (row ∷ rows) is 0 (suc i) d (omega arith)
-    (omega (arith, inside)) (sym same)))
-    (state_in-at rows i d (rest_of row rows is) (omega (arith, inside)))
+    (omega (arith, inside)) (sym same))) (state_in-at rows i d (rest_of _ _ is) (omega (arith, inside)))
 
 -- what was read at the place of an id is known of it
 pub state_found : (rows : List Row) (uid : List ℕ) (place : ℕ) (read : Row) → IsRecord rows → (place < length rows)
     × HoldsAt (λ (row : Row). row.uid ≡ uid) rows place
     → HoldsAt (λ (row : Row). row ≡ read) rows place → state_in rows uid ≡ Some (state_of read)
-state_found rows uid place read is found at =
-    ap (state_in rows) (sym (found.1 read)) ∙ state_in-at rows place read is found.0 ∙ ap (λ (r : Row). Some (state_of r)) (at read)
+state_found rows _ _ read is found at =
+    ap (state_in rows) (sym (found.1 read)) ∙ state_in-at _ _ _ is found.0 ∙ ap (λ r. Some (state_of r)) (at read)
 
 -- ---- the rows as the entries of a map
 
 pub lookup_state : (uid : List ℕ) (es : List (String Global × State))
     → lookup (λ key. bytes_eq uid (string_bytes key)) es ≡ state_in (rows_of_states es) uid
-lookup_state uid [] = refl
+lookup_state _ [] = refl
 lookup_state uid (e ∷ es) = elim (cases_Bool (bytes_eq uid (string_bytes e.0))) [
   | inl here ↦ rw here refl
-  | inr other ↦ rw other (lookup_state uid es)
+  | inr other ↦ rw other (lookup_state _ es)
 ]
 
 pub set_here : (uid : List ℕ) (es : List (String Global × State)) (state new : State) → IsRecord (rows_of_states es)
     → lookup (λ key. bytes_eq uid (string_bytes key)) es ≡ Some state → new ≡ record state { delivered = true }
     → rows_of_states (set_value (λ key. bytes_eq uid (string_bytes key)) es new) ≡ marked (rows_of_states es) uid
-set_here uid [] state new is found new_is = refl
+set_here _ [] _ _ _ _ _ = refl
 set_here uid (e ∷ es) state new is found new_is = elim (cases_Bool (bytes_eq uid (string_bytes e.0))) [
   | inl test ↦ rw (
     test,
@@ -290,8 +280,7 @@ set_here uid (e ∷ es) state new is found new_is = elim (cases_Bool (bytes_eq u
   | inr test ↦ rw (
     test,
     or-false,
-    set_here uid es state new (rest_of (row_of_state e) (rows_of_states es) is)
-        (rw test at found) new_is,
+    set_here uid es state new (rest_of (row_of_state e) (rows_of_states es) is) (rw test at found) new_is,
   ) refl
 ]
 
@@ -299,13 +288,12 @@ set_here uid (e ∷ es) state new is found new_is = elim (cases_Bool (bytes_eq u
 pub set_at : (es : List (String Global × State)) (i : ℕ) (d : Row) (state new : State) → IsRecord (rows_of_states es)
     → i < length (rows_of_states es) → slice_get (values_of es) i ≡ Some state → new ≡ record state { delivered = true }
     → rows_of_states (set_value_at es i new) ≡ marked (rows_of_states es) (get_or (rows_of_states es) i d).uid
-set_at [] i d state new is inside found new_is = absurd (omega (arith, inside))
-set_at (e ∷ es) zero d state new is inside found new_is =
-    let test = test_from_same (string_bytes e.0) (string_bytes e.0) refl in
+set_at [] i d _ _ _ inside _ _ = absurd (omega (arith, inside))
+set_at (e ∷ es) zero d state _ is _ found new_is =
+    let test = test_from_same _ (string_bytes e.0) refl in
     rw (
       test,
-      unmarked (string_bytes e.0) (rows_of_states es)
-          (apart (string_bytes e.0) (row_of_state e) (rows_of_states es) is test),
+      unmarked (string_bytes e.0) (rows_of_states es) (apart (string_bytes e.0) (row_of_state e) (rows_of_states es) is test),
       or-true,
       new_is,
       ←
@@ -313,20 +301,18 @@ set_at (e ∷ es) zero d state new is inside found new_is =
     ) refl
 set_at (e ∷ es) (suc i) d state new is inside found new_is =
     let other = test_from_other (get_or (rows_of_states es) i d).uid (string_bytes e.0)
-    (λ same. rows_differ (row_of_state e ∷ rows_of_states es) is 0 (suc i) d (omega arith)
-    (omega (arith, inside)) (sym same)) in
+    (λ same. rows_differ (row_of_state e ∷ rows_of_states es) is 0 (suc i) d (omega arith) (omega (arith, inside)) (sym same)) in
     rw (
       other,
       or-false,
-      set_at es i d state new (rest_of (row_of_state e) (rows_of_states es) is)
-          (omega (arith, inside)) found new_is,
+      set_at es i d state new (rest_of (row_of_state e) (rows_of_states es) is) (omega (arith, inside)) found new_is,
     ) refl
 
 pub place_found : (uid : List ℕ) (es : List (String Global × State)) (place : Option ℕ)
     → place ≡ position (λ key. bytes_eq uid (string_bytes key)) (keys_of es)
     → IfSome place (λ i. (i < length (rows_of_states es)) × HoldsAt (λ (row : Row). row.uid ≡ uid) (rows_of_states es) i)
-place_found uid es None is = tt
-place_found uid [] (Some i) is = absurd (none-some i (sym is))
+place_found _ _ None _ = tt
+place_found _ [] (Some i) is = absurd (none-some i (sym is))
 place_found uid (e ∷ es) (Some i) is =
     let at = position-Some (λ key. bytes_eq uid (string_bytes key)) (keys_of (e ∷ es)) i e.0 (sym is) in
     let inside : i < length (e ∷ es) = omega (arith, at.0, length-map (e ∷ es) (λ (entry : String Global × State). entry.0)) in (
@@ -337,10 +323,9 @@ place_found uid (e ∷ es) (Some i) is =
     )
 
 pub no_place : (uid : List ℕ) (es : List (String Global × State)) (place : Option ℕ)
-    → is_some place ≡ is_some (lookup (λ key. bytes_eq uid (string_bytes key)) es)
-    → IfNone place (has_row (rows_of_states es) uid ≡ false)
-no_place uid es (Some i) is = tt
-no_place uid es None is = sym (is ∙ ap is_some (lookup_state uid es) ∙ is_some_state_in uid (rows_of_states es))
+    → is_some place ≡ is_some (lookup (λ key. bytes_eq uid (string_bytes key)) es) → IfNone place (has_row (rows_of_states es) uid ≡ false)
+no_place _ _ (Some i) _ = tt
+no_place uid es None is = cc (lookup_state uid es, is_some_state_in uid (rows_of_states es))
 
 -- ---- a row that is added or replaced
 
@@ -349,7 +334,7 @@ is_key key other = bytes_eq (string_bytes key) (string_bytes other)
 
 insert_is_set : (key : String Global) (old new : State) (es : List (String Global × State))
     → lookup (is_key key) es ≡ Some old → insert_entry is_key es key new ≡ set_value (is_key key) es new
-insert_is_set key old new [] found = absurd (none-some old found)
+insert_is_set key old _ [] found = absurd (none-some old found)
 insert_is_set key old new (e ∷ es) found = elim (cases_Bool (is_key key e.0)) [
   | inl here ↦ rw here refl
   | inr other ↦ rw (other, insert_is_set key old new es (rw other at found)) refl
@@ -357,16 +342,16 @@ insert_is_set key old new (e ∷ es) found = elim (cases_Bool (is_key key e.0)) 
 
 each_set : (test : String Global → Bool) (new : State) (es : List (String Global × State)) → new.first_seen < 2 ^ 64
     → AllByRecursion IsRow (rows_of_states es) → AllByRecursion IsRow (rows_of_states (set_value test es new))
-each_set test new [] fits each = tt
-each_set test new (e ∷ es) fits each = cond_both (test e.0) _ _ (λ fs. AllByRecursion IsRow (rows_of_states fs))
-    (λ here. (record { legal = each.0.legal; fits = fits }, each.1)) (λ other. (each.0, each_set test new es fits each.1))
+each_set _ _ [] _ _ = tt
+each_set test _ (e ∷ es) fits each = cond_both (test e.0) _ _ (λ fs. AllByRecursion IsRow (rows_of_states fs))
+    (λ _. (record { legal = each.0.legal; fits = fits }, each.1)) (λ _. (each.0, each_set _ _ es fits each.1))
 
 ids_kept : (test : String Global → Bool) (new : State) (es : List (String Global × State))
     → map uid_of (rows_of_states (set_value test es new)) ≡ map uid_of (rows_of_states es)
-ids_kept test new [] = refl
+ids_kept _ _ [] = refl
 ids_kept test new (e ∷ es) =
     cond_both (test e.0) _ _ (λ fs. map uid_of (rows_of_states fs) ≡ map uid_of (rows_of_states (e ∷ es)))
-    (λ here. refl) (λ other. rw (ids_kept test new es) refl)
+    (λ _. refl) (λ _. rw (ids_kept test new es) refl)
 
 -- the map is changed by one row
 pub record Puts (uid : List ℕ) (state : State) (es fs : List (String Global × State)) (rows : List Row) : Type 0 where
@@ -377,38 +362,33 @@ pub record Puts (uid : List ℕ) (state : State) (es fs : List (String Global ×
 
 module _ {uid : List ℕ} {state : State} {es fs : List (String Global × State)} {rows : List Row} (puts : Puts uid state es fs rows) where
   pub known_at : lookup (is_key puts.key) es ≡ state_in rows uid
-  known_at = lookup_state (string_bytes puts.key) es ∙ rw (puts.rows_are, puts.key_is) refl
+  known_at = lookup_state _ es ∙ rw (puts.rows_are, puts.key_is) refl
 
   pub put_added : (found : Option State) → found ≡ state_in rows uid → IfNone found (rows_of_states fs ≡ rows ++ row_from uid state ∷ [])
-  put_added (Some old) found_is = tt
+  put_added (Some _) _ = tt
   put_added None found_is =
       rw (
         puts.fs_is,
-        insert_entry-absent is_key puts.key state es (absent_from_lookup (is_key puts.key) es (known_at
-            ∙ sym found_is)),
-        map-append row_of_state es ((puts.key, state) ∷ []),
+        insert_entry-absent is_key puts.key state es (absent_from_lookup (is_key puts.key) es (known_at ∙ sym found_is)),
+        map-append,
         puts.rows_are,
         puts.key_is,
       ) refl
 
   pub put_marked : (found : Option State) → IsRecord rows → found ≡ state_in rows uid
       → IfSome found (λ old. state ≡ record old { delivered = true } → rows_of_states fs ≡ marked rows uid)
-  put_marked None is found_is = tt
-  put_marked (Some old) is found_is = λ state_is.
+  put_marked None _ _ = tt
+  put_marked (Some _) is found_is = λ state_is.
       let at = known_at ∙ sym found_is in
-      ap rows_of_states (puts.fs_is ∙ insert_is_set puts.key old state es at)
-      ∙ set_here (string_bytes puts.key) es old state (subst IsRecord (sym puts.rows_are) is) at state_is
+      ap rows_of_states (puts.fs_is ∙ insert_is_set _ _ _ es at) ∙ set_here _ es _ _ (subst IsRecord (sym puts.rows_are) is) at state_is
       ∙ ap₂ marked puts.rows_are puts.key_is
 
   pub put_is_record : (found : Option State) → IsRecord rows → IsRow (row_from uid state) → found ≡ state_in rows uid
       → IsRecord (rows_of_states fs)
-  put_is_record None is row_is found_is =
-      rw (put_added None found_is) (IsRecord-push rows (row_from uid state) is row_is
-      (has_row_none uid rows (sym found_is)))
+  put_is_record None is row_is found_is = rw (put_added None found_is) (IsRecord-push _ _ is row_is (has_row_none uid rows (sym found_is)))
   put_is_record (Some old) is row_is found_is =
       let before = subst IsRecord (sym puts.rows_are) is in
-      subst (λ (entries : List (String Global × State)). IsRecord (rows_of_states entries))
-      (sym (puts.fs_is ∙ insert_is_set puts.key old state es (known_at ∙ sym found_is))) (record {
+      rw (puts.fs_is ∙ insert_is_set puts.key old state es (known_at ∙ sym found_is)) (record {
         each = All-from_recursion IsRow _ (each_set (is_key puts.key) state es row_is.fits
             (recursion_from_All IsRow (rows_of_states es) before.each));
         distinct = subst AreDistinct (sym (ids_kept (is_key puts.key) state es)) before.distinct;
@@ -424,8 +404,7 @@ delivers-known true rows row state is found =
 delivers-known false rows row state is found = rw (any_of row.uid rows state is found (λ s. true && (s.first_seen == row.first_seen))) refl
 
 pub delivered_again : (older : Bool) (old new : State)
-    → (new.delivered && (not (older && old.delivered) && (old.first_seen == new.first_seen))) ≡ true
-    → new ≡ record old { delivered = true }
+    → (new.delivered && (not (older && old.delivered) && (old.first_seen == new.first_seen))) ≡ true → new ≡ record old { delivered = true }
 delivered_again older old new so =
     let parts = and_parts new.delivered (not (older && old.delivered) && (old.first_seen == new.first_seen)) so in
     let seconds = eqb-true old.first_seen new.first_seen
@@ -434,21 +413,21 @@ delivered_again older old new so =
 
 pub takes_new : (older : Bool) (part : Part) (rows : List Row) (row : Row) → part ≢ Between
     → has_row rows row.uid ≡ false → TakesRow older part rows row (after_row part) (rows ++ row ∷ [])
-takes_new older Between rows row other none = absurd (other refl)
-takes_new older (Within zero) rows row other none = λ n before intent. rw none refl
-takes_new older part rows row other none = λ n before intent. rw none refl
+takes_new _ Between _ _ other _ = absurd (other refl)
+takes_new _ (Within zero) _ _ _ none = λ n _ _. rw none refl
+takes_new _ _ _ _ _ none = λ n _ _. rw none refl
 
 pub takes_old : (older : Bool) (part : Part) (rows : List Row) (row : Row) → is_in_group part ≡ true
     → has_row rows row.uid ≡ true → delivers (version_of older) rows row ≡ true
     → TakesRow older part rows row (after_row part) (marked rows row.uid)
-takes_old older (Within zero) rows row within has now = λ n before intent. rw (has, now) refl
-takes_old older (Within (suc more)) rows row within has now = λ n before intent. rw (has, now) refl
-takes_old older part rows row within has now = absurd (true≢false (sym within))
+takes_old _ (Within zero) _ _ _ has now = λ n _ _. rw (has, now) refl
+takes_old _ (Within (suc _)) _ _ _ has now = λ n _ _. rw (has, now) refl
+takes_old _ _ _ _ within _ _ = absurd (true≢false (sym within))
 
 pub refuses_old : (older : Bool) (part : Part) (rows : List Row) (row : Row) (number : ℕ) → part ≢ Between
     → has_row rows row.uid ≡ true → (is_in_group part ≡ true → delivers (version_of older) rows row ≡ false)
     → RefusesRow older part rows row number (RepeatedId number)
-refuses_old older Base rows row number other has later = λ n before intent is. rw (has, is) refl
-refuses_old older Between rows row number other has later = absurd (other refl)
-refuses_old older (Within zero) rows row number other has later = λ n before intent is. rw (has, later refl, is) refl
-refuses_old older (Within (suc more)) rows row number other has later = λ n before intent is. rw (has, later refl, is) refl
+refuses_old _ Base _ _ _ _ has _ = λ n _ _ is. rw (has, is) refl
+refuses_old _ Between _ _ _ other _ _ = absurd (other refl)
+refuses_old _ (Within zero) _ _ _ _ has later = λ n _ _ is. rw (has, later refl, is) refl
+refuses_old _ (Within (suc _)) _ _ _ _ has later = λ n _ _ is. rw (has, later refl, is) refl

@@ -1,7 +1,7 @@
 -- Each call of `session` is a session over accounts, and lists of calls and what else happens keep what is promised;
 -- what is promised of any list, and the order of the maildrops, give the headlines.
 use Rattle.std.proofs.Common.{◌≡◌, ◌⊎◌, inl, inr, ℕ, true, List, [], ◌∷◌, ◌++◌, refl, sym, ap, subst, ◌∙◌, arith}
-use Rattle.std.proofs.Common.{length, false, Bool, length-append, not, ◌||◌, map}
+use Rattle.std.proofs.Common.{length, false, Bool, length-append, ◌||◌, map}
 use Rattle.std.proofs.Math.Logic.{⊎_elim}
 use Rattle.pop3_wire.specs.declared.wire.Wire.{Ghosts as WireGhosts}
 use Rattle.mail_store.specs.declared.maildir.disk.MaildirDisk.{Ghosts as DiskGhosts}
@@ -43,7 +43,7 @@ use Rattle.std.specs.List.{AllByRecursion}
 use Rattle.std.proofs.lemmas.Bool.{both_ways, false_from_ne_true, or_left, cases_Bool}
 use Rattle.std.proofs.lemmas.List.{append-nil}
 use Rattle.mail_terms.specs.UniqueId.{is_legal_id, has_id}
-use Rattle.fetch_record.specs.Record.{RecordState, is_delivered}
+use Rattle.fetch_record.specs.Record.{is_delivered}
 use Rattle.fetch_runs.specs.Headline.{World, IsSound, HoldsAPrefix, EmptyFrontsBegin, NoneTaken, StaysAway, selected_of, MboxStartsInOrder}
 use Rattle.fetch_runs.specs.Headline.{EntriesMeanTexts, IsInOrder, world_without, Headline, MboxHeadline, HoldsAMboxPrefix, IsUnbegun}
 use Rattle.fetch_runs.proofs.Core.{next_here, prefix_left, done_legal, done_distinct}
@@ -77,8 +77,7 @@ calls_leave laws link disk file mail account devices call shows account_is is =
     let left : Maildir = met.4.0 in
     let s = (session_is_a_step laws call.settings (digits_of call.settings) call.now (link.history call.wire)
     (account_files left (file.stored devices.file)) account.rows call.report (link.history call.wire')
-    (account_files (disk.maildir call.after.store) (file.stored call.after.file)) is.made.0
-    (shows.intent, shows.record_is) met.4.2.0).0 in
+    (account_files (disk.maildir call.after.store) (file.stored call.after.file)) is.made.0 (shows.intent, shows.record_is) met.4.2.0).0 in
     let after : AccountMail = holds s.rows' (disk.maildir call.after.store) in
     let mid : AccountMail = holds account.rows left in
     let here : mid ≡ record account { maildir = left } = refl in
@@ -94,32 +93,27 @@ calls_leave laws link disk file mail account devices call shows account_is is =
         maildrop = is.maildrop;
         served = is.served s.sent s.got s.sent_is s.got_is;
         effect = s.effect;
-        session = subst (λ (k : AccountMail). SessionOverLink call.settings mail.account k s.sent s.got
-            call.report s.effect after) here
-            (subst (λ (a : List ℕ). SessionOverLink call.settings a mid s.sent s.got call.report s.effect after)
-            account_is s.session);
+        session = subst (λ (k : AccountMail). SessionOverLink call.settings mail.account k s.sent s.got call.report s.effect after) here
+            (subst (λ (a : List ℕ). SessionOverLink call.settings a mid s.sent s.got call.report s.effect after) account_is s.session);
       };
       taken_is = (laws.kept call.settings (digits_of call.settings) call.now (link.history call.wire)
           (account_files left (file.stored devices.file)) call.report
-          (link.history call.wire') (account_files (disk.maildir call.after.store) (file.stored call.after.file))
-          met.4.2.0).2;
+          (link.history call.wire') (account_files (disk.maildir call.after.store) (file.stored call.after.file)) met.4.2.0).2;
       leaves = subst (λ (a : List ℕ). LeavesDurably file a devices.file call.after.file mid after) account_is
           (leaves_durably laws file devices.store call.after.store call.settings (digits_of call.settings)
           (laws.digits (string_bytes call.settings.server) call.settings.port (string_bytes call.settings.username))
           call.now (link.history call.wire)
           left devices.file call.after.file call.report (link.history call.wire') (disk.maildir call.after.store)
-          met.4.2.0 account.rows s.rows'
-          (shows.intent, shows.record_is) s.keeps met.4.2.1);
+          met.4.2.0 account.rows s.rows' (shows.intent, shows.record_is) s.keeps met.4.2.1);
     }
 
 -- readers that take files away are others that do so between two sessions
 left_between : (mail : Mail) (state : State) (left : Maildir) → Kept mail state → WereTaken state.account.maildir left
     → IsBetween mail state.account (record state.account { maildir = left })
 left_between mail state left kept taken = record {
-  holds = λ id l. ⊎_elim (λ same. rw same (kept.holds id l)) (λ (none, some). inl none)
-      (left_or_none (stem_of mail.account id) (files state.account) left.files (taken.gone, taken.files)
+  holds = λ id l. ⊎_elim (λ same. rw same (kept.holds id l)) (λ (none, _). inl none) (left_or_none _ _ _ (taken.gone, taken.files)
       (none_or_one (kept.holds id l)));
-  shows_no_more = λ id d. d;
+  shows_no_more = λ _ d. d;
 }
 
 pub calls_keep_promises : Below → {W D F : Type 0} (link : WireGhosts W) (disk : DiskGhosts D) (file : FileGhosts F)
@@ -137,12 +131,10 @@ calls_keep_promises laws {W} {D} {F} link disk file = keep
       λ account_is is.
           let it = calls_leave laws link disk file mail state.account devices call shows account_is is in
           let here : Kept mail (with_left mail state it.left) =
-          others_leave_kept mail state (record state.account { maildir = it.left }) kept
-          (left_between mail state it.left kept it.taken) in
+          others_leave_kept mail state (record state.account { maildir = it.left }) kept (left_between mail state it.left kept it.taken) in
           let account = subst IsAccountText account_is
           (laws.digits (string_bytes call.settings.server) call.settings.port (string_bytes call.settings.username)) in
-          let done = sessions_keep_promises laws mail (with_left mail state it.left) call it.sent it.after
-          account here it.session in (
+          let done = sessions_keep_promises laws mail (with_left mail state it.left) call it.sent it.after account here it.session in (
             record {
               left = it.left;
               taken = it.taken;
@@ -155,8 +147,7 @@ calls_keep_promises laws {W} {D} {F} link disk file = keep
               safe = λ sure safe. calls_keep_safe laws file devices.file call.after.file mail
                   (with_left mail state it.left) call it.sent it.after here it.session
                   it.leaves sure (left_keeps_safe (file.disk devices.file) mail state it.left kept it.taken safe);
-              in_order = λ all legal front next. calls_keep_order mail (own mail.account account) file
-                  devices.file call.after.file
+              in_order = λ all legal front next. calls_keep_order mail (own mail.account account) file devices.file call.after.file
                   (with_left mail state it.left) call it.sent it.after done.0 it.leaves all legal
                   (left_keeps_front mail state it.left kept it.taken all legal front) next;
             },
@@ -168,21 +159,16 @@ calls_keep_promises laws {W} {D} {F} link disk file = keep
       kept,
       λ then between. (
         λ keeps. (
-          λ safe. others_keep_safe laws file devices.file left.file mail state account then.intent kept
-              then.record_is between keeps safe,
-          λ back all legal front. others_keep_order file devices.file left.file mail state account
-              keeps back all legal front,
+          λ safe. others_keep_safe laws file devices.file left.file mail state account then.intent kept then.record_is between keeps safe,
+          λ back all legal front. others_keep_order file devices.file left.file mail state account keeps back all legal front,
         ),
         keep mail (state_with mail state [] account) left later then (others_leave_kept mail state account kept between),
       ),
       λ safe lost.
-          let loses : LosesPower state.account.maildir account.maildir =
-          rw (shows.maildir, lost.shows.maildir) lost.maildir in
+          let loses : LosesPower state.account.maildir account.maildir = rw (shows.maildir, lost.shows.maildir) lost.maildir in
           let now = losses_leave_kept (file.disk devices.file) mail state account (file.stored left.file).content
-          lost.shows.intent kept safe
-          loses lost.record_is.is lost.shows.record_is in (
-            durable_is_safe laws file left.file mail (record state { account = account }) lost.shows.intent
-                now lost.shows.record_is
+          lost.shows.intent kept safe loses lost.record_is.is lost.shows.record_is in (
+            durable_is_safe laws file left.file mail (record state { account = account }) lost.shows.intent now lost.shows.record_is
                 (all_left_durable mail.account state.account.maildir account.maildir loses) lost.record_is.durable,
             λ all legal front. losses_keep_order mail state account all legal front loses,
             keep mail (record state { account = account }) left later lost.shows now,
@@ -190,9 +176,9 @@ calls_keep_promises laws {W} {D} {F} link disk file = keep
     )
 
 pub empty_is_kept : EmptyAccountsAreKept
-empty_is_kept mail state none none_gone no_file = record {
+empty_is_kept _ _ none none_gone no_file = record {
   holds = λ id l. inl (no_file id l);
-  recorded = λ id d. absurd (let never = rw none at d in cc);
+  recorded = λ _ d. absurd (let never = rw none at d in cc);
   gone = rw none_gone tt;
 }
 
@@ -206,21 +192,19 @@ pub mbox_calls_append : Below → {W D F : Type 0} (link : WireGhosts W) (disk :
     → IsCall link disk file InMbox file.sound base.text devices call → (sent : List ℕ) × (after : MboxMail)
     × ((link.history call.wire').sent ≡ (link.history call.wire).sent ++ sent)
     × ShowsMbox file call.after after × AppendsMail base holds call sent after
-mbox_calls_append laws link disk file sessions base done account devices call shows holds only_new is =
+mbox_calls_append laws link _ file sessions base _ account devices call shows holds only_new is =
     let met = sessions call.now (record { settings = call.settings; store = _; file = devices.file })
-    (record { settings = call.settings; store = _; file = call.after.file }) call.wire call.wire'
-    call.report is.made.1 is.made.2
+    (record { settings = call.settings; store = _; file = call.after.file }) call.wire call.wire' call.report is.made.1 is.made.2
     is.link_sound is.store_sound is.file_sound in
     let s = (mbox_session_is_a_step laws call.settings call.now (link.history call.wire)
     (mbox_account_files (file.stored devices.store) (file.stored devices.file))
     (record { rows = account.rows; intent = account.intent }) call.report (link.history call.wire')
-    (mbox_account_files (file.stored call.after.store) (file.stored call.after.file)) is.made.0 shows.record_is met.4.0).0
-    in (
+    (mbox_account_files (file.stored call.after.store) (file.stored call.after.file)) is.made.0 shows.record_is met.4.0).0 in (
       s.sent,
       _,
       s.sent_is,
       record { record_is = s.keeps; bytes = refl },
-      appends base laws holds (open_row laws (file.stored devices.file).content account.rows account.intent
+      appends _ laws holds (open_row laws _ _ _
           shows.record_is) call s.sent _ s.effect is.maildrop only_new (is.served s.sent s.got s.sent_is s.got_is)
           (rw (← shows.bytes) at s.session),
     )
@@ -236,11 +220,10 @@ mbox_calls_keep_safe : Below → {W D F : Type 0} (link : WireGhosts W) (disk : 
     → IsCall link disk file InMbox file.sound base.text devices call → ShowsMbox file call.after after
     → Holds base Among done' after → AreMboxSure file devices call.after
     → IsMboxSafe (Holds base Among) file devices → IsMboxSafe (Holds base Among) file call.after
-mbox_calls_keep_safe laws {D = D} link disk file shown sessions base Among done done' account after devices call shows holds fronts
+mbox_calls_keep_safe laws {D = D} link _ file shown sessions base Among done done' account after devices call shows holds fronts
     only_new is shows' kept sure safe =
     let met = sessions call.now (record { settings = call.settings; store = _; file = devices.file })
-    (record { settings = call.settings; store = _; file = call.after.file }) call.wire call.wire'
-    call.report is.made.1 is.made.2
+    (record { settings = call.settings; store = _; file = call.after.file }) call.wire call.wire' call.report is.made.1 is.made.2
     is.link_sound is.store_sound is.file_sound in
     let both = subst (λ (bytes : List ℕ). (h : HoldsEntries base done (record account { file = bytes }))
     × ((all : List Message) → Among all → (front : IsMboxFront base h all)
@@ -253,11 +236,11 @@ mbox_calls_keep_safe laws {D = D} link disk file shown sessions base Among done 
 
 -- what calls see of both files is left
 pub durable_is_mbox_safe : Below → {F : Type 0} (file : FileGhosts F) → DurableMboxesAreSafe file
-durable_is_mbox_safe laws file base done account devices shows holds held_is mbox_is rows intent left bytes may keeps also =
-    let same = same_held laws.one (file.stored devices.file).content (record_state rows intent)
+durable_is_mbox_safe laws file _ done account devices shows holds held_is mbox_is rows intent left bytes may keeps also =
+    let same = same_held laws.one _ (record_state rows intent)
     (record_state account.rows account.intent) (rw (held_is left may) at keeps) shows.record_is in
-    let rows_are : rows ≡ account.rows = ap (λ (r : RecordState). r.rows) same in
-    let intent_is : intent ≡ account.intent = ap (λ (r : RecordState). r.intent) same in
+    let rows_are = ap (λ r. r.rows) same in
+    let intent_is = ap (λ r. r.intent) same in
     (done, rw (rows_are, intent_is, mbox_is bytes also, ← shows.bytes) holds)
 
 -- what a loss of power left holds entries, if whatever it might leave does
@@ -272,14 +255,12 @@ mbox_losses_leave file Holds devices left now shows safe mbox held = (
       (first, subst (λ (bytes : List ℕ). Holds first (record now { file = bytes })) (sym shows.bytes) holds),
 )
 
-pub mbox_calls_keep_promises : Below
-    → {W D F : Type 0} (link : WireGhosts W) (disk : DiskGhosts D) (file : FileGhosts F)
-    → ((f : F) → seen_on (file.disk f) ≡ (file.stored f).content) → MboxSessions link disk file
-    → MboxCallsKeepPromises link disk file
+pub mbox_calls_keep_promises : Below → {W D F : Type 0} (link : WireGhosts W) (disk : DiskGhosts D) (file : FileGhosts F)
+    → ((f : F) → seen_on (file.disk f) ≡ (file.stored f).content) → MboxSessions link disk file → MboxCallsKeepPromises link disk file
 mbox_calls_keep_promises laws link disk file shown sessions = keep
   where
     keep : MboxCallsKeepPromises link disk file
-    keep base done account devices [] shows holds = (shows, holds)
+    keep _ _ _ _ [] shows holds = (shows, holds)
     keep base done account devices (Called call ∷ later) shows holds = (
       shows,
       holds,
@@ -292,17 +273,16 @@ mbox_calls_keep_promises laws link disk file shown sessions = keep
             shows',
             one,
             λ sure safe rows intent left bytes may keeps also.
-                let (first, there) = mbox_calls_keep_safe laws link disk file shown sessions base (λ all. ⊥) done (done ++ one.more)
-                account after devices call shows holds (λ all never. absurd never) only_new is shows'
-                (one.kept, λ all never. absurd never) sure
-                (λ rows intent left bytes may keeps also.
-                let (first, there) = safe rows intent left bytes may keeps also in (first, (there, λ all never. absurd never)))
+                let (first, there) = mbox_calls_keep_safe laws link disk file shown sessions base (λ _. ⊥) done (done ++ one.more)
+                account after devices call shows holds (λ _ never. absurd never) only_new is shows'
+                (one.kept, λ _ never. absurd never) sure (λ rows intent left bytes may keeps also.
+                let (first, there) = safe rows intent left bytes may keeps also in (first, (there, λ _ never. absurd never)))
                 rows intent left bytes may keeps also in
                 (first, there.0),
             keep base (done ++ one.more) after call.after later shows' one.kept,
           ),
     )
-    keep base done account devices (Left left now ∷ later) shows holds = (
+    keep base _ _ devices (Left left now ∷ later) shows holds = (
       shows,
       holds,
       λ then. (
@@ -315,29 +295,27 @@ mbox_calls_keep_promises laws link disk file shown sessions = keep
 
 -- all mail is a world
 pub as_world : (text : List ℕ → List ℕ) (all : List Message) → IsMaildrop text all → IsWorld all
-as_world text all is = record {
-  messages = all_map all is.each (λ m h. record { legal = h.legal; whole = h.whole });
+as_world _ _ is = record {
+  messages = all_map _ is.each (λ m h. record { legal = h.legal; whole = h.whole });
   distinct = is.distinct;
 }
 
 -- what is left of it is
 pub withdrawn : (text : List ℕ → List ℕ) (ids : List (List ℕ)) (all : List Message) → IsMaildrop text all
     → IsMaildrop text (without ids all)
-withdrawn text ids all is = record {
-  each = all_filter _ (λ (m : Message). not (has_id ids m.uid)) all is.each;
-  distinct = are_distinct _ (distinct_filter (λ (m : Message). not (has_id ids m.uid)) all
-      (distinct_is all is.distinct));
+withdrawn _ _ _ is = record {
+  each = all_filter _ _ _ is.each;
+  distinct = are_distinct _ (distinct_filter _ _ (distinct_is _ is.distinct));
 }
 
 module _ (world : World Mail) (state : State) (sound : IsSound world) (front : IsFront world.start state (selected_of world)) where
   open world use {start as mail, max_size, all}
 
   mail_is : IsWorld all
-  mail_is = as_world mail.text all sound.all
+  mail_is = as_world _ _ sound.all
 
   done_safe : (id : List ℕ) → has_id (message_ids front.done) id ≡ true → IsSafe mail state id
-  done_safe id e = let l = done_legal max_size front.done front.rest mail_is front.prefix id e
-      in (l, sym (front.is_done id l) ∙ e)
+  done_safe id e = let l = done_legal _ front.done front.rest mail_is front.prefix id e in (l, sym (front.is_done id l) ∙ e)
 
   safe_done : (id : List ℕ) → IsSafe mail state id → has_id (message_ids front.done) id ≡ true
   safe_done id (l, safe) = front.is_done id l ∙ safe
@@ -369,20 +347,20 @@ module _ (world : World Mail) (state : State) (sound : IsSound world) (front : I
   }
 
 pub empty_fronts_begin : EmptyFrontsBegin
-empty_fronts_begin mail state all none = record { done = []; rest = all; prefix = refl; is_done = λ id l. sym (none id l) }
+empty_fronts_begin _ _ all none = record { done = []; rest = all; prefix = refl; is_done = λ id l. sym (none id l) }
 
 -- so it is without messages that are neither held nor were taken away
 withdrawn_leave_fronts : (world : World Mail) (state : State) (ids : List (List ℕ)) → IsSound world
     → (front : IsFront world.start state (selected_of world)) → AllByRecursion (λ id. is_safe world.start state id ≡ false) ids
     → IsSound (world_without ids world) × (later : IsFront world.start state (selected_of (world_without ids world)))
     × (later.done ≡ front.done)
-withdrawn_leave_fronts world state ids sound front none = (
-  record { account = sound.account; all = withdrawn world.start.text ids world.all sound.all },
+withdrawn_leave_fronts _ state ids sound front none = (
+  record { account = sound.account; all = withdrawn _ _ _ sound.all },
   record {
     done = front.done;
     rest = without ids front.rest;
-    prefix = prefix_left world.max_size world.all front.done front.rest ids front.prefix
-        (λ id done gone. both_ways _ (all_ids_at _ _ none gone) (done_safe world state sound front id done).1);
+    prefix = prefix_left _ _ _ _ _ front.prefix
+        (λ id done gone. both_ways _ (all_ids_at _ _ none gone) (done_safe _ state sound front id done).1);
     is_done = front.is_done;
   },
   refl,
@@ -392,28 +370,24 @@ withdrawn_leave_fronts world state ids sound front none = (
 order_shows_next : (text_of : List ℕ → List ℕ) (limit : ℕ) (all done rest : List Message) (settings : Settings)
     (maildrop : List Message) → IsMaildrop text_of all → selected limit all ≡ done ++ rest
     → IsInOrder limit all (λ id. has_id (message_ids done) id ≡ true) settings maildrop → ShowsNext settings maildrop done rest
-order_shows_next text_of limit all done rest settings maildrop are prefix order =
-    rw (order.max_size, order.shown) (next_here limit order.come order.gone done rest
-    (as_world text_of all are) prefix order.done)
+order_shows_next text_of limit all done rest _ _ are prefix order =
+    rw (order.max_size, order.shown) (next_here _ _ _ _ _ (as_world _ _ are) prefix order.done)
 
 -- ---- what is taken away
 
 pub none_taken : NoneTaken
-none_taken mail state after none stays id = grind (arith, none id, stays id)
+none_taken _ _ after none stays id = grind (arith, none id, stays id)
 
 pub stays_away : Below → {W D F : Type 0} (link : WireGhosts W) (disk : DiskGhosts D) (file : FileGhosts F) → StaysAway link disk file
-stays_away laws link disk file mail state devices call id account drop is new legal recorded unheld =
+stays_away laws _ _ _ mail state _ call id account drop is new legal recorded unheld =
     let promises = is.promises in
     let legal_came = all_map _ promises.new
     (λ m h. all_at (λ x. is_legal_id x ≡ true) call.maildrop (all_map _ drop.each (λ n k. k.legal)) h.shown) in
-    let unlike = no_texts promises.came id (none_has promises.came (all_map _ promises.new (λ m h. h.unrecorded new)))
-    in
+    let unlike = no_texts promises.came id (none_has promises.came (all_map _ promises.new (λ m h. h.unrecorded new))) in
     let before = copies is.left.files (stem_of mail.account id) in (
       promises.recorded id recorded,
-      held_copies mail.account is.after id
-          ∙ ap is_some (copies_came is.left.files (files is.after) _ (stem_of mail.account id)
-          (promises.added ∙ ap (λ fs. without_flags is.left.files ++ fs)
-          (sym (named_messages laws mail.account account promises.came)))
+      held_copies mail.account is.after id ∙ ap is_some (copies_came is.left.files (files is.after) _ (stem_of mail.account id)
+          (promises.added ∙ ap (λ fs. without_flags is.left.files ++ fs) (sym (named_messages laws mail.account account promises.came)))
           ∙ ap (λ c. before ++ c) (copies_messages laws mail.account account promises.came id legal legal_came ∙ unlike)
           ∙ append-nil before) ∙ sym (held_copies mail.account (record state.account { maildir = is.left }) id) ∙ unheld,
     )
@@ -434,14 +408,12 @@ withdrawn_leave_prefixes world done account ids sound is unbegun = (
     first = is.front.first;
     rest = without ids is.front.rest;
     prefix = prefix_left max_size all (is.front.first ++ done) is.front.rest ids is.front.prefix
-        (λ id there gone. both_ways (is_delivered account.rows id) (all_ids_at _ _ unbegun gone).0
-        (recorded_is id ∙ there));
+        (λ id there gone. both_ways (is_delivered account.rows id) (all_ids_at _ _ unbegun gone).0 (recorded_is id ∙ there));
     had = is.front.had;
     next = λ o e.
         let (more, first) = is.front.next o e in
         let out : has_id ids o.next.uid ≡ false =
-        false_from_ne_true _ (λ gone. both_ways _ ((all_ids_at _ _ unbegun gone).1 _ o.intent)
-        (bytes_self o.next.uid)) in
+        false_from_ne_true _ (λ gone. both_ways _ ((all_ids_at _ _ unbegun gone).1 _ o.intent) (bytes_self o.next.uid)) in
         (without ids more, ap (without ids) first ∙ rw out refl);
   },
 )
@@ -480,38 +452,34 @@ in_order f order = record {
   max_size = order.max_size;
   come = order.come;
   gone = order.gone;
-  done = all_map order.gone order.done f;
+  done = all_map _ order.done f;
   shown = order.shown;
 }
 
 legal_selected : (world : World Mail) → IsSound world → AllByRecursion (λ (m : Message). is_legal_id m.uid ≡ true) (selected_of world)
-legal_selected world sound = all_filter (λ (m : Message). is_legal_id m.uid ≡ true) (is_selected world.max_size)
-    world.all (all_map world.all sound.all.each (λ m is. is.legal))
+legal_selected _ sound = all_filter _ _ _ (all_map _ sound.all.each (λ m is. is.legal))
 
 pub headline : {W D F : Type 0} (link : WireGhosts W) (disk : DiskGhosts D) (file : FileGhosts F)
     → CallsKeepPromises link disk file → Headline link disk file
 headline link disk file promised = all_hold
   where
     all_hold : Headline link disk file
-    all_hold world state devices [] sound shows kept front = (shows, holds_a_prefix world state sound front kept)
+    all_hold world state _ [] sound shows kept front = (shows, holds_a_prefix world state sound front kept)
     all_hold world state devices (Called call ∷ later) sound shows kept front = (
       shows,
       holds_a_prefix world state sound front kept,
       λ withdrawn none order account_is is.
-          let (promises, (after_shows, after_kept)) =
-          (promised world.start state devices (Called call ∷ []) shows kept).2 account_is is in
+          let (promises, (after_shows, after_kept)) = (promised world.start state devices (Called call ∷ []) shows kept).2 account_is is in
           let (sound', front', same) = withdrawn_leave_fronts world state withdrawn sound front none in
           let legal = legal_selected (world_without withdrawn world) sound' in
           let shown : (f : IsFront world.start state (selected_of (world_without withdrawn world)))
           → ShowsNext call.settings call.maildrop f.done f.rest =
           λ f. order_shows_next world.start.text world.max_size (world_without withdrawn world).all f.done f.rest
-          call.settings call.maildrop sound'.all f.prefix
-          (in_order (λ id (l, safe). f.is_done id l ∙ safe) order) in (
+          call.settings call.maildrop sound'.all f.prefix (in_order (λ id (l, safe). f.is_done id l ∙ safe) order) in (
             promises,
             λ durable.
                 let (sound'', is', done_is) = withdrawn_leave_fronts world state withdrawn sound durable.is none in
-                promises.in_order (selected_of (world_without withdrawn world)) legal
-                (record {
+                promises.in_order (selected_of (world_without withdrawn world)) legal (record {
                   is = is';
                   first = durable.first;
                   last = durable.last;
@@ -530,12 +498,10 @@ headline link disk file promised = all_hold
           holds_a_prefix world state sound front kept,
           λ then between back.
               let (safe, (after_shows, after_kept)) = others then between in
-              all_hold world _ left later sound after_shows after_kept
-              (front_stays world.start state account _ front back),
+              all_hold world _ left later sound after_shows after_kept (front_stays world.start state account _ front back),
           λ safe durable lost.
               let (safe', fronts, (after_shows, after_kept)) = loss safe lost in
-              all_hold world _ left later sound after_shows after_kept
-              (fronts (selected_of world) (legal_selected world sound) durable).is,
+              all_hold world _ left later sound after_shows after_kept (fronts (selected_of world) (legal_selected world sound) durable).is,
         )
 
 pub mbox_headline : Below → {W D F : Type 0} (link : WireGhosts W) (disk : DiskGhosts D) (file : FileGhosts F)
@@ -543,7 +509,7 @@ pub mbox_headline : Below → {W D F : Type 0} (link : WireGhosts W) (disk : Dis
 mbox_headline laws link disk file seen sessions = all_hold
   where
     all_hold : MboxHeadline link disk file
-    all_hold world done account devices [] sound shows is = (shows, is)
+    all_hold _ _ _ _ [] _ shows is = (shows, is)
     all_hold world done account devices (Called call ∷ later) sound shows is = (
       shows,
       is,
@@ -565,11 +531,10 @@ mbox_headline laws link disk file seen sessions = all_hold
                 → IsMboxFront world.start holds (selected_of (world_without withdrawn world))
                 → Holds world.start (λ all. all ≡ selected_of (world_without withdrawn world)) done seen =
                 λ done seen holds front.
-                (holds, λ all same. subst (λ (l : List Message). IsMboxFront world.start holds l) (sym same) front) in
+                (holds, λ _ same. subst (λ (l : List Message). IsMboxFront world.start holds l) (sym same) front) in
                 let (first, there) = mbox_calls_keep_safe laws link disk file seen sessions world.start
-                (λ all. all ≡ selected_of (world_without withdrawn world)) done (done ++ one.more) account after devices call
-                shows is.holds
-                (λ all same. subst (λ (l : List Message). (f : IsMboxFront world.start is.holds l)
+                (λ all. all ≡ selected_of (world_without withdrawn world)) done (done ++ one.more) account after devices call shows is.holds
+                (λ _ same. subst (λ (l : List Message). (f : IsMboxFront world.start is.holds l)
                 × ShowsNext call.settings call.maildrop (f.first ++ done) f.rest) (sym same) (front, shown))
                 only_new called shows' (among (done ++ one.more) after one.kept (one.in_order _ front shown)) sure
                 (λ rows intent left bytes may keeps also.
@@ -581,7 +546,7 @@ mbox_headline laws link disk file seen sessions = all_hold
                 (record { holds = one.kept; front = one.in_order _ front shown }),
           ),
     )
-    all_hold world done account devices (Left left now ∷ later) sound shows is = (
+    all_hold world _ _ devices (Left left now ∷ later) sound shows is = (
       shows,
       is,
       λ then. (

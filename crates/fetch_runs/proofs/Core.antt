@@ -58,15 +58,14 @@ abbrev pub snd : ℕ × Message → Message
 snd q = q.1
 
 at_most-map : {X Y : Type 0} (f : X → Y) (n : ℕ) (xs : List X) → at_most n (map f xs) ≡ map f (at_most n xs)
-at_most-map f n xs = grind (arith, take-map f n xs)
+at_most-map f n xs = grind (arith, take-map)
 
 module _ (settings : Settings) (rows : List Row) where
   pub candidates_are : DistinctAreFiltered → {listing : List Item} (ms : List Message) → listing ≡ listing_of ms → Distinct (message_ids ms)
       → candidates settings rows listing ≡ map num_item (offered_by_number settings rows ms)
   candidates_are filtered ms e d =
-      rw e (filtered settings rows (listing_of ms) (rw map-map (are_distinct (message_ids ms) d))
-      ∙ ap (filter (is_asked_for settings rows)) (enumerated 1 ms)
-      ∙ filter-map (is_asked_for settings rows) num_item (enumerate_from 1 ms))
+      rw e (filtered settings _ _ (rw map-map (are_distinct (message_ids ms) d))
+      ∙ ap (filter (is_asked_for settings rows)) (enumerated 1 ms) ∙ filter-map (is_asked_for settings rows) num_item (enumerate_from 1 ms))
     where
       enumerated : (n : ℕ) (ms : List Message) → enumerate_from n (listing_of ms) ≡ map num_item (enumerate_from n ms)
       enumerated n [] = refl
@@ -74,8 +73,7 @@ module _ (settings : Settings) (rows : List Row) where
 
   pub wanted_are : DistinctAreFiltered → {listing : List Item} (ms : List Message) → listing ≡ listing_of ms → Distinct (message_ids ms)
       → wanted settings rows listing ≡ map num_item (wants_by_number settings rows ms)
-  wanted_are filtered ms e d =
-      rw (candidates_are filtered ms e d) (at_most-map num_item settings.max_count (offered_by_number settings rows ms))
+  wanted_are filtered ms e d = rw (candidates_are filtered ms e d) (at_most-map _ settings.max_count (offered_by_number settings rows ms))
 
   pub offered_snd : (ms : List Message) → map snd (offered_by_number settings rows ms) ≡ offered settings rows ms
   offered_snd ms = snds 1 ms
@@ -86,8 +84,7 @@ module _ (settings : Settings) (rows : List Row) where
       snds n (m ∷ ms) = grind (arith, snds (n + 1) ms)
 
   pub wants_snd : (ms : List Message) → map snd (wants_by_number settings rows ms) ≡ wants settings rows ms
-  wants_snd ms = sym (at_most-map snd settings.max_count (offered_by_number settings rows ms))
-      ∙ ap (at_most settings.max_count) (offered_snd ms)
+  wants_snd ms = sym (at_most-map _ _ _) ∙ ap (at_most _) (offered_snd ms)
 
 -- ---- each is at its number
 
@@ -96,17 +93,17 @@ abbrev pub IsNumbered : {X : Type 0} → List X → ℕ × X → Type 0
 IsNumbered xs q = (0 < q.0) × (slice_get xs (q.0 - 1) ≡ Some q.1)
 
 pub are_numbered : {X : Type 0} (xs : List X) → AllByRecursion (IsNumbered xs) (enumerate_from 1 xs)
-are_numbered xs = recursion_from_All (IsNumbered xs) (enumerate_from 1 xs) (λ k d l.
-    let inside : k < length xs = omega (arith, l, length-enumerate_from 1 xs) in
+are_numbered xs = recursion_from_All _ (enumerate_from 1 xs) (λ k d l.
+    let inside : k < length xs = omega (arith, l, length-enumerate_from) in
     let place : 1 + k - 1 ≡ k = omega arith in
-    rw (get_or-enumerate_from 1 xs k d inside) (omega arith, ap (slice_get xs) place ∙ slice_get-get_or xs k d.1 inside))
+    rw get_or-enumerate_from (omega arith, ap (slice_get xs) place ∙ slice_get-get_or xs k _ inside))
 
 pub all_at_most : {X : Type 0} (P : X → Type 0) (n : ℕ) (xs : List X) → AllByRecursion P xs → AllByRecursion P (at_most n xs)
-all_at_most P n xs h = cond_both (n == 0) xs (take n xs) (AllByRecursion P) (λ e. h) (λ e. all_take P n xs h)
+all_at_most P n xs h = cond_both _ xs (take n xs) (AllByRecursion P) (λ e. h) (λ e. all_take P n xs h)
 
 pub wants_placed : (settings : Settings) (rows : List Row) (ms : List Message)
     → AllByRecursion (IsNumbered ms) (wants_by_number settings rows ms)
-wants_placed settings rows ms = all_at_most _ _ _ (all_filter _ _ _ (are_numbered ms))
+wants_placed _ _ ms = all_at_most _ _ _ (all_filter _ _ _ (are_numbered ms))
 
 -- ---- texts
 
@@ -117,13 +114,13 @@ pub first_texts : (drop' : List Message) (qs : List (ℕ × Message)) (texts : L
     → AllByRecursion (IsNumbered drop') qs → AreTexts drop' (map num_item qs) texts → n ≤ length texts
     → (zip (take n (map num_item qs)) texts ≡ map with_text (take n qs))
     × (take n texts ≡ map (λ (m : Message). m.text) (map snd (take n qs)))
-first_texts drop' qs texts zero h t l = (refl, refl)
-first_texts drop' (q ∷ qs) (text ∷ texts) (suc n) h t l =
-    let same : t.0.0 ≡ q.1 = same_Some _ _ (sym t.0.1 ∙ h.0.1) in
-    let more = first_texts drop' qs texts n h.1 t.1 (omega (arith, l)) in
+first_texts _ qs _ zero h t l = (refl, refl)
+first_texts drop' (q ∷ qs) (_ ∷ texts) (suc n) h t l =
+    let same = same_Some _ _ (sym t.0.1 ∙ h.0.1) in
+    let more = first_texts _ qs texts n h.1 t.1 (omega (arith, l)) in
     (grind (arith, same, t.0.2, more.0), grind (arith, same, t.0.2, more.1))
-first_texts drop' qs [] n h t l = absurd (omega (arith, l))
-first_texts drop' qs texts n h t l = absurd t
+first_texts _ qs [] n h t l = absurd (omega (arith, l))
+first_texts _ qs _ n h t l = absurd t
 
 -- the file of a message
 abbrev pub message_file : List ℕ → Message → File
@@ -133,7 +130,7 @@ message_file account m = mail_file account m.uid m.text
 pub stored_files : (account : List ℕ) (maildir : Maildir) (qs : List (ℕ × Message))
     → map (file_for account) (filter (is_unheld account maildir) (map with_text qs))
     ≡ map (message_file account) (filter (λ (m : Message). not (is_held account maildir m.uid)) (map snd qs))
-stored_files account maildir [] = refl
+stored_files _ _ [] = refl
 stored_files account maildir (q ∷ qs) = grind (arith, stored_files account maildir qs)
 
 -- ---- prefixes
@@ -147,30 +144,28 @@ abbrev past_limit : {X : Type 0} → ℕ → List X → List X
 past_limit limit xs = if limit == 0 then [] else drop limit xs
 
 pub both_parts : {X : Type 0} (limit : ℕ) (xs : List X) → at_most limit xs ++ past_limit limit xs ≡ xs
-both_parts limit xs = grind (arith, append-nil xs, take-append-drop limit xs)
+both_parts limit xs = grind (arith, append-nil, take-append-drop)
 
 pub begins : {X : Type 0} (n limit : ℕ) (xs : List X) → take n (at_most limit xs) ++ (drop n (at_most limit xs) ++ past_limit limit xs) ≡ xs
 begins n limit xs =
     rw (
-      ← append_assoc (take n (at_most limit xs)) (drop n (at_most limit xs)) (past_limit limit xs),
-      take-append-drop n (at_most limit xs),
+      ← append_assoc,
+      take-append-drop,
     ) (both_parts limit xs)
 
 -- the ids of the second part are distinct, and none is among those of the first
 pub parts_apart : (front rest : List Message) → Distinct (message_ids (front ++ rest))
-    → Distinct (message_ids rest) × ((m : Message) → has_id (message_ids rest) m.uid ≡ true
-    → has_id (message_ids front) m.uid ≡ false)
-parts_apart [] rest d = (d, λ m there. refl)
-parts_apart (f ∷ front) rest d = let more = parts_apart front rest d.1 in (
+    → Distinct (message_ids rest) × ((m : Message) → has_id (message_ids rest) m.uid ≡ true → has_id (message_ids front) m.uid ≡ false)
+parts_apart [] _ d = (d, λ m _. refl)
+parts_apart (f ∷ front) rest d = let more = parts_apart front _ d.1 in (
   more.0,
   λ m there. grind (
     arith,
     there,
     d.0,
-    ids_both front rest f.uid,
+    ids_both,
     more.1 m there,
-    λ (e : bytes_eq m.uid f.uid
-        ≡ true). bytes_same m.uid f.uid e,
+    λ (e : bytes_eq m.uid f.uid ≡ true). bytes_same m.uid f.uid e,
   ),
 )
 
@@ -180,10 +175,9 @@ parts_apart (f ∷ front) rest d = let more = parts_apart front rest d.1 in (
 pub bridge : (fit left : Message → Bool) (done ms later rest : List Message) → Distinct (message_ids ms)
     → filter fit ms ++ later ≡ done ++ rest → AllByRecursion (λ (m : Message). left m ≡ (fit m && not (has_id (message_ids done) m.uid))) ms
     → BeginsWith (filter left ms) rest
-bridge fit left done [] later rest d e h = (rest, refl)
-bridge fit left [] (m ∷ ms) later rest d e h =
-    let more = bridge fit left [] ms later (filter fit ms ++ later) d.1 refl h.1
-    in (more.0, grind (arith, e, h.0, more.1))
+bridge fit _ _ [] _ rest d e h = (rest, refl)
+bridge fit left [] (m ∷ ms) later _ d e h =
+    let more = bridge fit left [] ms later (filter fit ms ++ later) d.1 refl h.1 in (more.0, grind (arith, e, h.0, more.1))
 bridge fit left (x ∷ xs) (m ∷ ms) later rest d e h = elim (cases_Bool (fit m)) [
   | inl t ↦
       let e' : m ∷ (filter fit ms ++ later) ≡ x ∷ (xs ++ rest) = rw t at e in
@@ -205,12 +199,10 @@ IsLegal m = is_legal_id m.uid ≡ true
 -- they have distinct and legal ids
 module _ (limit : ℕ) {all : List Message} (done rest : List Message) (mail : IsWorld all) (prefix : selected limit all ≡ done ++ rest) where
   pub done_distinct : Distinct (message_ids done)
-  done_distinct = rw (← front_is done rest prefix) (distinct_take (length done) (selected limit all)
-      (distinct_filter (is_selected limit) all (distinct_is all mail.distinct)))
+  done_distinct = rw (← front_is done rest prefix) (distinct_take _ _ (distinct_filter _ _ (distinct_is _ mail.distinct)))
 
   pub done_legal : (id : List ℕ) → has_id (message_ids done) id ≡ true → is_legal_id id ≡ true
-  done_legal id = all_at (λ x. is_legal_id x ≡ true) done
-      (all_front _ done _ (rw prefix at
+  done_legal _ = all_at _ _ (all_front _ done _ (rw prefix at
       (all_filter _ (is_selected limit) _ (all_map _ mail.messages (λ m h. h.legal)))))
 
 -- ---- messages that are withdrawn
@@ -220,8 +212,7 @@ pub prefix_left : (limit : ℕ) (all done rest : List Message) (ids : List (List
     → ((id : List ℕ) → has_id (message_ids done) id ≡ true → has_id ids id ≡ true → ⊥)
     → selected limit (without ids all) ≡ done ++ without ids rest
 prefix_left limit all done rest ids prefix stays = let stay = λ (m : Message). not (has_id ids m.uid)
-    in filter-swap (is_selected limit) stay all
-    ∙ rw (
+    in filter-swap (is_selected limit) stay all ∙ rw (
       prefix,
       filter-append stay done rest,
       filter_all stay done (all_map _ (members done) (λ m is. ap not (false_from_ne_true _ (stays m.uid is)))),
@@ -260,22 +251,21 @@ IsPlaced p n ms m = (p m ≡ false) ⊎ (has_id (message_ids (take n (filter p m
 
 in_first : (n : ℕ) (front behind : List Message) (m : Message) → length front < n
     → has_id (message_ids (take n (front ++ m ∷ behind))) m.uid ≡ true
-in_first zero front behind m l = absurd (omega (arith, l))
+in_first zero _ behind m l = absurd (omega (arith, l))
 in_first (suc n) [] behind m l = or_left _ _ (bytes_self m.uid)
 in_first (suc n) (x ∷ front) behind m l = or_right _ _ (in_first n front behind m (omega (arith, l)))
 
 placed : (p : Message → Bool) (n : ℕ) (front ms : List Message) → AllByRecursion (IsPlaced p n (front ++ ms)) ms
-placed p n front [] = tt
+placed p n _ [] = tt
 placed p n front (m ∷ ms) = let later = placed p n (front ++ m ∷ []) ms in (
   elim (cases_Bool (p m)) [
     | inr fails ↦ inl fails
     | inl passes ↦ elim (cases_Bool (nat_le n (length (filter p front)))) [
       | inl enough ↦ inr (inr (front, ms, refl, passes, grind (arith, nat_tests, enough)))
-      | inr few ↦ inr (inl (rw (filter-append, passes)
-          (in_first n (filter p front) (filter p ms) m (grind (arith, nat_tests, few)))))
+      | inr few ↦ inr (inl (rw (filter-append, passes) (in_first n (filter p front) (filter p ms) m (grind (arith, nat_tests, few)))))
     ]
   ],
-  rw (append_assoc front (m ∷ []) ms) at later,
+  rw append_assoc at later,
 )
 
 more_pass : (p q : Message → Bool) (ms : List Message) → AllByRecursion (λ (m : Message). p m ≡ true → q m ≡ true) ms
@@ -289,8 +279,7 @@ passing_in : (p : Message → Bool) (ms : List Message)
 passing_in p [] = tt
 passing_in p (m ∷ ms) = (
   λ e. rw e (or_left _ _ (bytes_self m.uid)),
-  all_map _ (passing_in p ms)
-      (λ x h e. grind (arith, h, e)),
+  all_map _ (passing_in p ms) (λ x h e. grind (arith, h, e)),
 )
 
 module _ {settings : Settings} {rows : List Row} {drop' : List Message} {effect : Effect} (is : Fetch settings rows drop' effect) where
@@ -305,17 +294,16 @@ module _ {settings : Settings} {rows : List Row} {drop' : List Message} {effect 
 
   -- what holds of all messages of the maildrop holds of those that are wanted
   pub all_wanted : (P : Message → Type 0) → AllByRecursion P drop' → AllByRecursion P ws
-  all_wanted P h = all_at_most P settings.max_count os (all_filter P (asked settings rows) drop' h)
+  all_wanted P h = all_at_most P _ os (all_filter P _ _ h)
 
   pub distinct_wanted : (n : ℕ) → Distinct (message_ids (take n ws))
-  distinct_wanted n = let distinct = distinct_filter (asked settings rows) drop' is.distinct in
-      distinct_take n ws (cond_both (settings.max_count == 0) os (take settings.max_count os)
-      (λ l. Distinct (message_ids l)) (λ e. distinct) (λ e. distinct_take settings.max_count os distinct))
+  distinct_wanted n = let distinct = distinct_filter _ _ is.distinct in
+      distinct_take n ws (cond_both _ os (take settings.max_count os)
+      (λ l. Distinct (message_ids l)) (λ e. distinct) (λ e. distinct_take _ os distinct))
 
   -- if only what is new is read, no message that is wanted is recorded
   pub none_recorded : settings.read_all ≡ false → AllByRecursion (λ (m : Message). is_delivered rows m.uid ≡ false) ws
-  none_recorded only_new = all_at_most _ _ _ (all_map _ (all_passing (asked settings rows) drop')
-      (λ m a. grind (arith, a, only_new)))
+  none_recorded only_new = all_at_most _ _ _ (all_map _ (all_passing _ drop') (λ m a. grind (arith, a, only_new)))
 
   -- ---- numbers and texts
 
@@ -330,15 +318,14 @@ module _ {settings : Settings} {rows : List Row} {drop' : List Message} {effect 
       → (zip (take n (wanted settings rows effect.listing)) effect.texts ≡ map with_text (take n qs))
       × (take n effect.texts ≡ map (λ (m : Message). m.text) (take n ws))
   texts_are {n} l =
-      let both = first_texts drop' qs effect.texts n (wants_placed settings rows drop')
-      (rw wanted_is at is.honest.texts) l in
+      let both = first_texts drop' qs effect.texts n (wants_placed settings rows drop') (rw wanted_is at is.honest.texts) l in
       (rw wanted_is both.0, rw (← taken_is n) both.1)
 
   pub wanted_ids : (n : ℕ) → ids_wanted (take n (wanted settings rows effect.listing)) ≡ message_ids (take n ws)
-  wanted_ids n = rw (wanted_is, ← wants_snd settings rows drop') (simp (take-map, map-map))
+  wanted_ids n = rw (wanted_is, ← wants_snd) (simp (take-map, map-map))
 
   pub length_is : length (wanted settings rows effect.listing) ≡ length ws
-  length_is = rw (wanted_is, length-map, ← wants_snd settings rows drop', length-map) refl
+  length_is = rw (wanted_is, length-map, ← wants_snd, length-map) refl
 
   -- ---- what an uncut session leaves out
 
@@ -361,15 +348,14 @@ module _ {settings : Settings} {rows : List Row} {drop' : List Message} {effect 
     ]
 
     may : AllByRecursion (λ (m : Message). asked settings rows m ≡ true → may_fetch settings is_known m ≡ true) drop'
-    may = all_map drop' known (λ m h asks. grind (arith, h, asks))
+    may = all_map _ known (λ m h asks. grind (arith, h, asks))
 
     past : settings.max_count == 0 ≡ false → (m : Message) → IsPlaced (asked settings rows) settings.max_count drop' m
         → (asked settings rows m ≡ true → may_fetch settings is_known m ≡ true) → Out m
-    past some m (inl none) may_m = unasked m none
+    past _ m (inl none) _ = unasked m none
     past some m (inr (inl got)) may_m = inl (rw (all_fetched, some) got)
     past some m (inr (inr (front, behind, place, asks, enough))) may_m =
-        let more : length (filter (asked settings rows) front) ≤ length os =
-        rw (place, filter-append, length-append) (omega arith) in
+        let more : length (filter (asked settings rows) front) ≤ length os = rw (place, filter-append, length-append) (omega arith) in
         let all : length ws ≡ settings.max_count = rw (some, length-take) (omega (arith, enough, more)) in
         inr (inr (inr (record {
           may = may_m asks;
@@ -384,12 +370,11 @@ module _ {settings : Settings} {rows : List Row} {drop' : List Message} {effect 
 
     pub left_out : AllByRecursion Out drop'
     left_out = elim (cases_Bool (settings.max_count == 0)) [
-      | inl none ↦ all_map drop' (passing_in (asked settings rows) drop')
-          (λ m h. elim (cases_Bool (asked settings rows m)) [
-            | inr none' ↦ unasked m none'
-            | inl asks ↦ inl (rw (all_fetched, none) (h asks))
-          ])
-      | inr some ↦ all_both drop' (placed (asked settings rows) settings.max_count [] drop') may (past some)
+      | inl none ↦ all_map _ (passing_in _ _) (λ m h. elim (cases_Bool (asked settings rows m)) [
+        | inr none' ↦ unasked m none'
+        | inl asks ↦ inl (rw (all_fetched, none) (h asks))
+      ])
+      | inr some ↦ all_both _ (placed _ settings.max_count [] drop') may (past some)
     ]
 
 -- ---- what a session stores is the next
@@ -405,11 +390,9 @@ pub next_here : (limit : ℕ) {all : List Message} (come : ℕ) (gone : List (Li
 next_here limit {all} come gone done rest mail prefix all_gone =
     simp filter-filter (bridge fit
     (λ (m : Message). not (has_id gone m.uid) && (fit m && not (has_id (message_ids done) m.uid))) done (take come all)
-    (filter fit (drop come all)) rest
-    (distinct_take come all (distinct_is all mail.distinct))
+    (filter fit (drop come all)) rest (distinct_take come all (distinct_is all mail.distinct))
     (sym (filter-append fit (take come all) (drop come all)) ∙ ap (filter fit) (take-append-drop come all) ∙ prefix)
-    (all_map _ (all_take _ come all mail.messages)
-    (λ m _. grind (arith, λ (g : has_id gone m.uid ≡ true). all_ids_at _ _ all_gone g))))
+    (all_map _ (all_take _ come all mail.messages) (λ m _. grind (arith, λ (g : has_id gone m.uid ≡ true). all_ids_at _ _ all_gone g))))
   where
     fit : Message → Bool
     fit m = is_selected limit m
@@ -440,7 +423,7 @@ module _ {settings : Settings} {rows : List Row} {drop' : List Message} {effect 
     pub added_begins : (n : ℕ) → BeginsWith (added n) rest
     added_begins n = (
       filter undone (behind n) ++ next.0,
-      next.1 ∙ ap (λ l. l ++ next.0) (undone_offered drop' known ∙ ap (filter undone) (sym (begins n settings.max_count some'))
+      next.1 ∙ ap (λ l. l ++ next.0) (undone_offered _ known ∙ ap (filter undone) (sym (begins n settings.max_count some'))
           ∙ filter-append undone (take n (wants settings rows drop')) (behind n))
           ∙ append_assoc (added n) (filter undone (behind n)) next.0,
     )
@@ -451,5 +434,5 @@ module _ {settings : Settings} {rows : List Row} {drop' : List Message} {effect 
     -- if all that is done is recorded, and only what is new is read, none is done
     pub all_added : ((id : List ℕ) → is_delivered rows id ≡ has_id (message_ids done) id) → settings.read_all ≡ false
         → (n : ℕ) → added n ≡ take n (wants settings rows drop')
-    all_added exact only_new n = filter_all undone (take n (wants settings rows drop'))
+    all_added exact only_new n = filter_all _ _
         (all_take _ _ _ (all_map _ (none_recorded is only_new) (λ m k. ap not (sym (exact m.uid) ∙ k))))

@@ -32,7 +32,7 @@ use Rattle.fetch_session.specs.Readiness.{AreDurable, IsMerged, IsMergedAtMost, 
 use Rattle.fetch_session.specs.Scene.{Does, FileNotSaved, NoFile, Scene, Stops, Went, scene}
 use Rattle.fetch_session.specs.Session.{Keeping, Proceeds, Session, account_files, keeps_files}
 use Rattle.fetch_session.specs.Store.{RefusesText}
-use Rattle.fetch_session.specs.Target.{AsFiles, Stores, held_flags, in_maildir}
+use Rattle.fetch_session.specs.Target.{AsFiles, in_maildir}
 use Rattle.fetch_session.specs.Task.{Done, Task, file_from, files_in, files_of, ids_ahead, ids_in, marked_ids, stores}
 use Rattle.fetch_session.specs.Task.{tasks_of}
 use Rattle.fetch_session.specs.declared.account.Store.TheVariants.{Maildir as InMaildir}
@@ -61,73 +61,68 @@ abbrev AreLegal : List Row → Type 0
 AreLegal rows = AllByRecursion (λ (row : Row). is_legal_id row.uid ≡ true) rows
 
 marked_legal : (rows : List Row) (uid : List ℕ) → AreLegal rows → AreLegal (marked rows uid)
-marked_legal [] uid all = tt
-marked_legal (r ∷ rows) uid all = (all.0, marked_legal rows uid all.1)
+marked_legal [] _ _ = tt
+marked_legal (r ∷ rows) _ all = (all.0, marked_legal rows _ all.1)
 
 taken_legal : (rows : List Row) (row : Row) → AreLegal rows → is_legal_id row.uid ≡ true → AreLegal (with_taken rows row)
-taken_legal rows row all one = cond_both (has_row rows row.uid) (marked rows row.uid) (rows ++ row ∷ []) AreLegal
-    (λ there. marked_legal rows row.uid all) (λ absent. all_append _ rows (row ∷ []) all (one, tt))
+taken_legal rows row all one = cond_both _ (marked _ row.uid) (rows ++ row ∷ []) AreLegal
+    (λ _. marked_legal _ _ all) (λ _. all_append _ _ _ all (one, tt))
 
 abbrev Legal : Judged → Type 0
-Legal (Stands (InGroup before intent rows more)) = AreLegal before × AreLegal rows
+Legal (Stands (InGroup before _ rows _)) = AreLegal before × AreLegal rows
 Legal (Stands progress) = AreLegal (counted progress)
-Legal (Fails fault) = Unit {0}
+Legal (Fails _) = Unit {0}
 
 intent_legal : (version : Version) (n : ℕ) (rows : List Row) (before : Option Intent) (intent : Intent) → AreLegal rows
     → Legal (after_intent version n rows before intent)
-intent_legal Two n rows None intent all = cond_both (has_row rows intent.uid) _ _ Legal (λ there. all) (λ absent. tt)
-intent_legal version n rows before intent all = tt
+intent_legal Two n rows None intent all = cond_both (has_row rows intent.uid) _ _ Legal (λ _. all) (λ _. tt)
+intent_legal _ n _ _ _ _ = tt
 
 line_legal : (version : Version) (n : ℕ) (progress : Progress) (line : Line) → Legal (Stands progress)
     → IsRecordLine line → Legal (after_line version n progress line)
-line_legal version n (InBase rows) (RowLine row) all is = cond_both (has_row rows row.uid) _ _ Legal (λ there. tt)
-    (λ absent. all_append _ rows (row ∷ []) all (is.legal, tt))
-line_legal version n (InGroup old before rows zero) (RowLine row) all is =
-    cond_both (may_take version rows row) _ _ Legal (λ may. taken_legal rows row all.1 is.legal) (λ not. tt)
-line_legal version n (InGroup old before rows (suc more)) (RowLine row) all is =
-    cond_both (may_take version rows row) _ _ Legal (λ may. (all.0, taken_legal rows row all.1 is.legal)) (λ not. tt)
-line_legal version n (BetweenGroups rows before) (GroupLine count) all is = (all, all)
+line_legal _ n (InBase rows) (RowLine row) all is = cond_both (has_row rows row.uid) _ _ Legal (λ _. tt)
+    (λ _. all_append _ rows (row ∷ []) all (is.legal, tt))
+line_legal version n (InGroup _ _ rows zero) (RowLine row) all is =
+    cond_both (may_take version rows row) _ _ Legal (λ _. taken_legal rows row all.1 is.legal) (λ _. tt)
+line_legal version n (InGroup _ _ rows (suc _)) (RowLine row) all is =
+    cond_both (may_take version rows row) _ _ Legal (λ _. (all.0, taken_legal rows row all.1 is.legal)) (λ _. tt)
+line_legal _ n (BetweenGroups _ _) (GroupLine _) all is = (all, all)
 line_legal version n progress line all is = search intent_legal
 
 lines_legal : (version : Version) (n : ℕ) (so_far : Judged) (lines : List Line) → Legal so_far
     → AllByRecursion IsRecordLine lines → Legal (judged version n so_far lines)
-lines_legal version n so_far [] legal each = legal
-lines_legal version n (Fails fault) (line ∷ lines) legal each = tt
+lines_legal _ n _ [] legal _ = legal
+lines_legal _ n (Fails _) (_ ∷ _) _ _ = tt
 lines_legal version n (Stands progress) (line ∷ lines) legal each =
-    lines_legal version (n + 1) (after_line version n progress line) lines
-    (line_legal version n progress line legal each.0) each.1
+    lines_legal version (n + 1) (after_line version n progress line) lines (line_legal version n progress line legal each.0) each.1
 
 counted_legal : (progress : Progress) → Legal (Stands progress) → AreLegal (counted progress)
-counted_legal (InGroup before intent rows more) all = all.0
-counted_legal progress all = all
+counted_legal (InGroup _ _ _ _) all = all.0
+counted_legal _ all = all
 
 ends_legal : (version : Version) (rows : List Row) (intent : Option Intent) (torn : Bool) (of : Version) (n : ℕ)
-    (end : Judged) (rest : List ℕ) → Legal end
-    → Ends of n end rest (Rows version rows intent torn) → AreLegal rows
-ends_legal version rows intent torn of n (Fails fault) rest legal never = absurd cc
+    (end : Judged) (rest : List ℕ) → Legal end → Ends of n end rest (Rows version rows intent torn) → AreLegal rows
+ends_legal _ _ _ _ of n (Fails _) _ legal never = absurd cc
 ends_legal version rows intent torn of n (Stands progress) rest legal (none, is) =
     let same : rows ≡ counted progress = grind (arith, is) in rw same (counted_legal progress legal)
 
 means_legal : (bytes : List ℕ) (version : Version) (rows : List Row) (intent : Option Intent) (torn : Bool)
     → Means bytes (Rows version rows intent torn) → AreLegal rows
-means_legal bytes version rows intent torn (inl (none, is)) = let same : rows ≡ [] = cc in rw same tt
-means_legal bytes version rows intent torn (inr (inl (some, other, never))) = absurd cc
-means_legal bytes version rows intent torn (inr (inr by_lines)) =
-    ends_legal version rows intent torn by_lines.version _
-    (judged by_lines.version 0 (Stands (InBase [])) by_lines.lines) by_lines.rest
+means_legal _ _ rows _ _ (inl (none, is)) = let same : rows ≡ [] = cc in rw same tt
+means_legal _ _ rows intent torn (inr (inl (some, other, never))) = absurd cc
+means_legal _ version rows intent torn (inr (inr by_lines)) =
+    ends_legal version rows intent torn by_lines.version _ (judged by_lines.version 0 (Stands (InBase [])) by_lines.lines) by_lines.rest
     (lines_legal by_lines.version 0 (Stands (InBase [])) by_lines.lines tt
     (recursion_from_All IsRecordLine by_lines.lines by_lines.cut.each)) by_lines.ends
 
 delivered_legal : (rows : List Row) (id : List ℕ) → AreLegal rows → is_delivered rows id ≡ true → is_legal_id id ≡ true
 delivered_legal [] id all never = absurd cc
-delivered_legal (row ∷ rows) id all delivered =
-    grind (arith, delivered, all.0, bytes_same id row.uid, delivered_legal rows id all.1)
+delivered_legal (row ∷ rows) id all delivered = grind (arith, delivered, all.0, bytes_same id row.uid, delivered_legal rows id all.1)
 
 pub kept_legal : (content : Option (List ℕ)) (rows : List Row) → KeepsRows content rows → (id : List ℕ)
     → is_delivered rows id ≡ true → is_legal_id id ≡ true
-kept_legal None rows (intent, stands) id delivered = absurd (let never = rw stands.0 at delivered in cc)
-kept_legal (Some bytes) rows keeps id delivered =
-    delivered_legal rows id (means_legal bytes keeps.1.0 rows keeps.0 keeps.1.1 keeps.1.2) delivered
+kept_legal None _ (_, stands) _ delivered = absurd (let never = rw stands.0 at delivered in cc)
+kept_legal (Some _) _ keeps id delivered = delivered_legal _ id (means_legal _ _ _ _ _ keeps.1.2) delivered
 
 -- what a call leaves. No file came, or each name was durable before; and what the record shows as delivered, or may
 -- show after a loss of power, it showed or could show before, or it has a file whose name is durable
@@ -145,12 +140,11 @@ pub record LeavesDurably {F : Type 0} (file : FileGhosts F) (account : List ℕ)
 -- ---- what is left of an append
 
 part_of : (place : ℕ) (added left : List ℕ) → MayBeLeft place added left → IsPartOf added left
-part_of place added [] is = tt
-part_of place [] (byte ∷ left) never = absurd never
+part_of _ _ [] is = tt
+part_of _ [] (_ ∷ left) never = absurd never
 part_of place (word ∷ words) (byte ∷ left) (is, more) =
     let some : block_size - place % block_size ≡ suc (511 - place % block_size) = omega arith in
-    let zero_byte : is_lost place (byte ∷ left) ≡ true
-    → byte ≡ 0 = λ lost. grind
+    let zero_byte : is_lost place (byte ∷ left) ≡ true → byte ≡ 0 = λ lost. grind
     (arith, nat_tests, subst (λ k. list_all (λ b. b == 0) (take k (byte ∷ left)) ≡ true) some lost) in
     (⊎_map (λ same. same) zero_byte is, part_of (place + 1) words left more)
 
@@ -171,8 +165,7 @@ grown_reads one meaning counts torn was now then left is stands = elim is.file.b
             counts is.file.bytes is.added was.rows now.rows was.intent now.intent some is.file.stands grows,
           ))
       | inr apart ↦
-          let ignored = torn is.file.bytes is.added is.file.behind was.rows now.rows was.intent now.intent some
-          is.file.stands grows
+          let ignored = torn is.file.bytes is.added is.file.behind was.rows now.rows was.intent now.intent some is.file.stands grows
           (part_of (length is.file.bytes) is.added is.file.behind is.file.part)
           (λ same. both_ways _ apart ((bytes_eq-Decides is.file.behind is.added).1 same)) in
           elim (cases_Bool (ends_at_zero is.file.behind)) [
@@ -195,7 +188,7 @@ rows_in same = ap (λ (r : RecordState). r.rows) same
 
 pub left_stands : OneRecord → OneMeaning → AppendedCounts → TornIsIgnoredOrSeen
     → (rows others now : List Row) (left : Option (List ℕ)) → AreLeft rows others left → KeepsRows left now → (now ≡ rows) ⊎ (now ≡ others)
-left_stands one meaning counts torn rows others now left is (intent, stands) =
+left_stands one meaning counts torn rows _ now left is (intent, stands) =
     ⊎_elim (λ same. inl (rows_in same)) (λ same. ⊎_map (λ e. rows_in same ∙ e) (λ e. rows_in same ∙ e) is.next_is)
     (grown_reads one meaning counts torn (record_state rows is.before) (record_state is.next is.after)
     (record_state now intent) left (record { added = is.added; file = is.file; grows = inr is.grows }) stands)
@@ -208,35 +201,33 @@ no_more xs ys x same more = absurd (omega (arith, ap length same, ap length more
 -- what is flagged is held
 pub flag_held : (account : List ℕ) (maildir : Maildir) (items : List Item) (id : List ℕ)
     → is_flagged items (flags_of account maildir items) id ≡ true → is_held account maildir id ≡ true
-flag_held account maildir [] id never = absurd (both_ways false refl never)
-flag_held account maildir (i ∷ items) id flagged =
-    grind (arith, flagged, bytes_same i.uid id, flag_held account maildir items id)
+flag_held _ _ [] _ never = absurd (both_ways false refl never)
+flag_held account maildir (i ∷ items) id flagged = grind (arith, flagged, bytes_same i.uid id, flag_held account maildir items id)
 
 -- a file of the id that is there and whose name is durable
 has_file : (account : List ℕ) (maildir : Maildir) (id : List ℕ) (g : File) → Contains maildir.files g
     → names_id account id g.name ≡ true → IsNamed g → has_named account maildir id ≡ true
 has_file account maildir id g (k, below, is) names named =
-    list_any_at (λ (h : File). names_id account id h.name && h.is_named) maildir.files k g below
-    (ap (λ (h : File). names_id account id h.name && h.is_named) is ∙ grind (arith, names, named))
+    list_any_at _ _ k g below (ap (λ h. names_id account id h.name && h.is_named) is ∙ grind (arith, names, named))
 
 -- what is held has one if all names are durable
 pub all_named : (account : List ℕ) (files : List File) (id : List ℕ) → AllNamed files
     → list_any (λ (h : File). names_id account id h.name) files ≡ true
     → list_any (λ (h : File). names_id account id h.name && h.is_named) files ≡ true
-all_named account [] id named never = never
+all_named _ [] _ named never = never
 all_named account (g ∷ files) id (one, named) held = grind (arith, one, held, all_named account files id named)
 
 -- ---- a session that had nothing to fetch or to delete
 
 -- tasks that mark nothing store nothing
 pub no_files : (account : List ℕ) (dones : List Done) → ids_ahead (tasks_of dones) ≡ [] → files_of account dones ≡ []
-no_files account [] none = refl
+no_files _ [] none = refl
 no_files account (d ∷ dones) none =
     let parts = both_none (ids_in d.task) (ids_ahead (tasks_of dones)) none in
     rw (by d.task parts.0) (no_files account dones parts.1)
   where
     by : (task : Task) → ids_in task ≡ [] → files_in account task d.replies ≡ []
-    by (stores number uid) never = absurd cc
+    by (stores _ uid) never = absurd cc
     by other none = refl
 
 module _ (account : List ℕ) (settings : Settings) (items : List Item) (now : ℕ) (place : Place) (left : Maildir) (file : Stored) where
@@ -244,32 +235,29 @@ module _ (account : List ℕ) (settings : Settings) (items : List Item) (now : �
   quiet_came : (result : Result (Unit {0}) Cut) (new : Scene) (skipped : Skips)
       → (c : Carried settings (AsFiles account) items now place (in_maildir left) file [] result new skipped)
       → All IsQuiet (planned settings c.mid.rows items now) → new.store.maildir.files ≡ left.files
-  quiet_came result new skipped c quiet = by result c.does
+  quiet_came result new _ c quiet = by _ c.does
     where
       none : ids_ahead (tasks_ahead settings (AsFiles account) items now (in_maildir left) c.mid.rows) ≡ []
-      none = simp (flat_map-append, append-nil)
-          (quiet_ids (planned settings c.mid.rows items now) items
-          (held_flags (AsFiles account) (in_maildir left) items) (recursion_from_All IsQuiet _ quiet))
+      none = simp (flat_map-append, append-nil) (quiet_ids _ _ _ (recursion_from_All _ _ quiet))
 
       none_came : {later : Scene} (dones : List Done) → Went (AsFiles account) dones c.mid later
           → ids_ahead (tasks_of dones) ≡ [] → later.store.maildir.files ≡ left.files
-      none_came dones went none = went.stored.came ∙ ap (λ (s : Stores). s.maildir.files ++ files_of account dones) c.prepared.settles
-          ∙ rw (no_files account dones none) (append-nil left.files)
+      none_came dones went none = went.stored.came ∙ ap (λ s. s.maildir.files ++ files_of account dones) c.prepared.settles
+          ∙ rw no_files (append-nil left.files)
 
       by : (result : Result (Unit {0}) Cut)
           → Does (AsFiles account) (tasks_ahead settings (AsFiles account) items now (in_maildir left) c.mid.rows) c.mid
           result new → new.store.maildir.files ≡ left.files
-      by (Ok done) all = none_came all.dones all.went (rw all.all at none)
+      by (Ok _) all = none_came all.dones all.went (rw all.all at none)
       by (Err cut) fell = stopped fell.stops ∙ none_came fell.dones fell.went parts.0
         where
           parts : (ids_ahead (tasks_of fell.dones) ≡ []) × (ids_in fell.next ≡ [])
           parts =
-              let both = both_none (ids_ahead (tasks_of fell.dones)) (ids_ahead (fell.next ∷ fell.later))
-              (rw (fell.split, flat_map-append ids_in (tasks_of fell.dones) (fell.next ∷ fell.later)) at none) in
-              (both.0, (both_none (ids_in fell.next) (ids_ahead fell.later) both.1).0)
+              let both = both_none _ _ (rw (fell.split, flat_map-append) at none) in
+              (both.0, (both_none _ _ both.1).0)
 
           stopped : Stops (AsFiles account) fell.next fell.mid cut new → new.store.maildir.files ≡ fell.mid.store.maildir.files
-          stopped (inl broken) = ap (λ (s : Stores). s.maildir.files) broken.store
+          stopped (inl broken) = ap (λ s. s.maildir.files) broken.store
           stopped (inr (inl n)) = absurd (cc (rw n.is at parts.1))
           stopped (inr (inr u)) = absurd (cc (rw u.is at parts.1))
 
@@ -287,7 +275,7 @@ module _ (laws : Below) {D F : Type 0} (files : FileGhosts F) (device device' : 
       (account_files maildir (files.stored f)) text session
 
   has_is : (id : List ℕ) → HasDurable account maildir id → has_named account maildir id ≡ true
-  has_is id (g, there, names, is) = has_file account maildir id g there names is.0
+  has_is id (g, there, names, is) = has_file _ maildir id g there names is.0
 
   pub shown : (id : List ℕ) → is_delivered rows id ≡ true → (is_delivered was id ≡ true) ⊎ (has_named account maildir id ≡ true)
   shown id d = ⊎_map (λ x. x) (has_is id) (durable.shown was rows id stood keeps d)
@@ -300,38 +288,36 @@ module _ (laws : Below) {D F : Type 0} (files : FileGhosts F) (device device' : 
       → (id : List ℕ) → is_delivered then id ≡ true → Said could id
 
   by_rows : (could : Option (List ℕ)) (id : List ℕ) → is_delivered rows id ≡ true → Said could id
-  by_rows could id d = ⊎_map (λ x. x) inl (shown id d)
+  by_rows _ id d = ⊎_map (λ x. x) inl (shown id d)
 
   by_was : (could : Option (List ℕ)) (id : List ℕ) (old : List Row) → KeepsRows (files.stored from).content old
       → is_delivered old id ≡ true → Said could id
-  by_was could id old keeps_old d =
-      inl (rw (same_rows laws.one (files.stored from).content old was keeps_old stood) at d)
+  by_was _ _ old keeps_old d = inl (rw (same_rows laws.one (files.stored from).content old was keeps_old stood) at d)
 
   untouched : IsRecordUntouched files from f → Answered
-  untouched un could then may k id d = inr (inr (un.no_more could may))
+  untouched un could then may k _ d = inr (inr (un.no_more could may))
 
   module _ (sure : RecordIsSure files from f) where
     shown_by : (had others : List Row) → LeavesFile files f (AreLeft had others)
         → ((id : List ℕ) → is_delivered had id ≡ true → is_delivered rows id ≡ true)
         → ((could : Option (List ℕ)) (id : List ℕ) → is_delivered others id ≡ true → Said could id) → Answered
-    shown_by had others leaves within more could then may k id d = by (files.stored f).content refl
+    shown_by had others leaves within more could then may k id d = by _ refl
       where
         by : (content : Option (List ℕ)) → (files.stored f).content ≡ content → Said could id
         by None none = absurd (cc (rw (rw (sure.1 none could may) at k).1.0 at d))
         by (Some bytes) some = elim (left_stands laws.one laws.meaning laws.counts laws.torn had others then could
             (leaves bytes some could may) k) [
-              | inl same ↦ by_rows could id (within id (rw same at d))
+              | inl same ↦ by_rows _ id (within id (rw same at d))
               | inr same ↦ more could id (rw same at d)
             ]
 
     -- the record was written anew, and this alone may be left
     anew : (now_rows : List Row) (kept : Stored) → files.stored f ≡ kept → IsAnew now_rows (files.stored from) kept
         → IsSafeFile files f → Answered
-    anew now_rows kept same is_anew safe could then may k id d =
-        let whole : (files.stored f).content ≡ Some (file_of now_rows None) =
-        ap (λ (s : Stored). s.content) (same ∙ is_anew.2) in
-        let is : could ≡ (files.stored f).content = (safe.1 (file_of now_rows None) whole).1 could may ∙ sym whole in
-        by_rows could id (rw (same_rows laws.one (files.stored f).content then rows (rw is at k) keeps) at d)
+    anew now_rows _ same is_anew safe could then may k id d =
+        let whole = ap (λ s. s.content) (same ∙ is_anew.2) in
+        let is = (safe.1 (file_of now_rows None) whole).1 could may ∙ sym whole in
+        by_rows _ id (rw (same_rows laws.one (files.stored f).content then rows (rw is at k) keeps) at d)
 
     -- ---- it was cut while it prepared the record
 
@@ -351,14 +337,13 @@ module _ (laws : Below) {D F : Type 0} (files : FileGhosts F) (device device' : 
             laws.torn (none_open here) (none_open here) (record_state then intent) could are k))
 
         of_was : (could : Option (List ℕ)) (id : List ℕ) → is_delivered m.was.rows id ≡ true → Said could id
-        of_was could id = by_was could id m.was.rows (m.was.intent, m.stood)
+        of_was _ id = by_was _ id _ (m.was.intent, m.stood)
 
         of_merged : (could : Option (List ℕ)) (id : List ℕ) → is_delivered here id ≡ true → Said could id
         of_merged could id delivered = elim m.durable [
-          | inl same_merged ↦ of_was could id (subst (λ (some : List Row). is_delivered some id ≡ true) same_merged delivered)
-          | inr durable ↦ ⊎_elim (of_was could id)
-              (λ flagged. inr (inl (rw same
-              (all_named account left.files id durable.0 (flag_held account left items id flagged)))))
+          | inl same_merged ↦ of_was _ id (subst (λ some. is_delivered some id ≡ true) same_merged delivered)
+          | inr durable ↦ ⊎_elim (of_was _ id) (λ flagged. inr (inl (rw same
+              (all_named _ _ id durable.0 (flag_held account left items id flagged)))))
               (or_cases _ _ (sym (laws.merges m.was.rows items (flags_of account left items) now id) ∙ delivered))
         ]
 
@@ -367,15 +352,15 @@ module _ (laws : Below) {D F : Type 0} (files : FileGhosts F) (device device' : 
             → LeavesMerged Before m.was here (MayLeave (files.disk f)) → Answered
         merged_left Before of_before leaves could then may k id d = elim (leaves could may) [
           | inl before ↦ of_before could then before k id d
-          | inr are ↦ ⊎_elim (λ is. of_was could id (rw is at d)) (λ is. of_merged could id (rw is at d)) (stands could then k are)
+          | inr are ↦ ⊎_elim (λ is. of_was _ id (rw is at d)) (λ is. of_merged _ id (rw is at d)) (stands could then k are)
         ]
 
       unready : (content : IsMergedAtMost (AsFiles account) items now (in_maildir left) (files.stored from)
           (in_maildir maildir) (files.stored f)) → UnreadyLasts files (InMaildir device) from content (InMaildir device') f → Answered
-      unready (inl same_content) (leaves, mbox) = λ could then may k id d. inr (inr (leaves could may))
-      unready (inr m) (inl (closed, leaves, still)) =
-          merged_left m (MayLeave (files.disk from)) (λ could then before k id d. inr (inr before)) leaves
-      unready (inr m) (inr (leaves, whole)) = merged_left m (λ left. left ≡ (files.stored from).content)
+      unready (inl _) (leaves, _) = λ could then may k _ d. inr (inr (leaves could may))
+      unready (inr m) (inl (_, leaves, _)) =
+          merged_left m (MayLeave (files.disk from)) (λ _ then before k _ d. inr (inr before)) leaves
+      unready (inr m) (inr (leaves, _)) = merged_left m (λ left. left ≡ (files.stored from).content)
           (λ could then is k id d. by_was could id then (subst (λ (c : Option (List ℕ)). KeepsRows c then) is k) d) leaves
 
     -- ---- its tasks were begun
@@ -390,27 +375,24 @@ module _ (laws : Below) {D F : Type 0} (files : FileGhosts F) (device device' : 
 
       -- it did all its tasks
       answer_ok : (c : CarriedTo (Ok tt)) → CarriedLasts files (InMaildir device) from c (InMaildir device') f → Answered
-      answer_ok c lasts = by c.prepared.durable (lasts (tt, sure.0))
+      answer_ok c lasts = by _ (lasts (tt, sure.0))
         where
           within : (id : List ℕ) → is_delivered (marked_all c.mid.rows (marked_ids c.does.dones)) id ≡ true → is_delivered rows id ≡ true
-          within id d =
+          within _ d =
               rw (
                 same_rows laws.one (files.stored f).content rows rows' keeps
                     (None, laws.steady (files.stored f).content (none_open rows') (c.does.went.saved c.prepared.saved)),
                 c.does.went.rows,
               ) d
 
-          by : (durable : (All IsQuiet (planned settings c.mid.rows items now)
-              × IsFileKept c.mid.rows (files.stored from) c.mid.file)
+          by : (durable : (All IsQuiet (planned settings c.mid.rows items now) × IsFileKept c.mid.rows (files.stored from) c.mid.file)
               ⊎ AreDurable (AsFiles account) c.prepared.was.rows items (in_maildir left))
               → UnlessQuiet files (InMaildir device) from c.mid.rows (files.stored from) c.mid.file durable
               (Lasts files (AsFiles account) (tasks_ahead settings (AsFiles account) items now (in_maildir left)
               c.mid.rows) c.mid (Ok tt) end_with c.does (InMaildir device') f) (InMaildir device') f → Answered
-          by (inl (quiet, inl kept)) (un, mbox) = untouched un
-          by (inl (quiet, inr is_anew)) (safe, mbox) = anew c.mid.rows c.mid.file safe.0 is_anew safe.1
-          by (inr durable) lasts = shown_by (marked_all c.mid.rows (marked_ids c.does.dones))
-              (marked_all c.mid.rows (marked_ids c.does.dones)) lasts.0.left within
-              (λ could id d. by_rows could id (within id d))
+          by (inl (_, inl _)) (un, _) = untouched un
+          by (inl (_, inr is_anew)) (safe, _) = anew _ _ safe.0 is_anew safe.1
+          by (inr durable) lasts = shown_by _ _ lasts.0.left within (λ could id d. by_rows _ id (within id d))
 
       -- it was cut
       module _ {cut : Cut} (c : CarriedTo (Err cut))
@@ -424,7 +406,7 @@ module _ (laws : Below) {D F : Type 0} (files : FileGhosts F) (device device' : 
 
         -- the record's file is as it was after the tasks that were done
         same_has : files.stored f ≡ c.does.mid.file → Has rows_then
-        same_has same id d =
+        same_has same _ d =
             rw (
               same_rows laws.one c.does.mid.file.content rows c.does.mid.rows (rw same at keeps) (
                 None,
@@ -434,16 +416,15 @@ module _ (laws : Below) {D F : Type 0} (files : FileGhosts F) (device device' : 
             ) d
 
         unmarked : LeavesFile files f (AreLeft c.does.mid.rows c.does.mid.rows) → files.stored f ≡ c.does.mid.file → Answered
-        unmarked leaves same = shown_by rows_then rows_then (rw c.does.went.rows at leaves) (same_has same)
-            (λ could id d. by_rows could id (same_has same id d))
+        unmarked leaves same = shown_by _ _ (rw c.does.went.rows at leaves) (same_has same)
+            (λ could id d. by_rows _ id (same_has same id d))
 
         marked_one : (number : ℕ) (uid : List ℕ) → c.does.next ≡ stores number uid → (g : File)
             → maildir.files ≡ c.does.mid.store.maildir.files ++ g ∷ [] → names_id account uid g.name ≡ true
             → IsNamed g → Has rows_then → Answered
         marked_one number uid is g came names named within =
             shown_by rows_then (marked rows_then uid)
-            (subst (λ (t : Task). LeavesFile files f (AreLeft rows_then (marked_all rows_then (ids_in t))))
-            is lasts.0.left) within
+            (subst (λ (t : Task). LeavesFile files f (AreLeft rows_then (marked_all rows_then (ids_in t)))) is lasts.0.left) within
             (λ could id d. ⊎_elim (λ had. by_rows could id (within id had))
             (λ both. inr (inl (has_file account maildir id g (rw came (Contains-push c.does.mid.store.maildir.files g))
             (rw (bytes_same uid id (and_parts (has_row rows_then id) (bytes_eq uid id) both).1) at names) named)))
@@ -452,38 +433,34 @@ module _ (laws : Below) {D F : Type 0} (files : FileGhosts F) (device device' : 
         -- the file that came is this one
         same_one : (g h : File) → maildir.files ≡ c.does.mid.store.maildir.files ++ h ∷ []
             → maildir.files ≡ c.does.mid.store.maildir.files ++ g ∷ [] → h ≡ g
-        same_one g h came came' =
-            cc (append_cancel_left c.does.mid.store.maildir.files (h ∷ []) (g ∷ []) (sym came ∙ came'))
+        same_one g h came came' = cc (append_cancel_left c.does.mid.store.maildir.files (h ∷ []) (g ∷ []) (sym came ∙ came'))
 
         named_one : (uid written : List ℕ) → names_id account uid (sized_file (stem_of account uid) written).name ≡ true
-        named_one uid written = (bytes_eq-Decides (stem_of account uid) _).1
-            (sym (ap stem (laws.bases account uid (length written) text)
+        named_one uid written = (bytes_eq-Decides _ _).1 (sym (ap stem (laws.bases account uid (length written) text)
             ∙ laws.stems account uid (length written) text))
 
         -- nothing came
         nothing : maildir.files ≡ c.does.mid.store.maildir.files → files.stored f ≡ c.does.mid.file → Answered
         nothing same same_record = ⊎_elim (λ un. unmarked un same_record)
-            (λ (g, came, is). absurd (no_more c.does.mid.store.maildir.files maildir.files g same came)) lasts.1
+            (λ (g, came, is). absurd (no_more _ maildir.files g same came)) lasts.1
 
         refused : (n : NoFile account c.does.next c.does.mid end_with cut)
             → RefusesText c.does.mid.store.maildir (stem_of account n.uid) n.rest n.text cut.fault maildir → Answered
         refused n (inl missing) = nothing (ap (λ (m : Maildir). m.files) missing.2) n.file
         refused n (inr (is, inl same)) = nothing (ap (λ (m : Maildir). m.files) same) n.file
-        refused n (inr (is, inr (done, (is_named, there)))) = elim lasts.1 [
+        refused n (inr (is, inr (_, (is_named, there)))) = elim lasts.1 [
           | inl un ↦ unmarked un n.file
           | inr (g, came', durable) ↦
-              marked_one n.number n.uid n.is g came'
-              (rw (← same_one g (record (sized_file (stem_of account n.uid) n.text) { is_named = is_named })
-              (ap (λ (m : Maildir). m.files) there) came') (named_one n.uid n.text)) durable.0 (same_has n.file)
+              marked_one _ _ n.is g came' (rw (← same_one g (record (sized_file (stem_of account n.uid) n.text) { is_named = is_named })
+              (ap (λ (m : Maildir). m.files) there) came') (named_one _ _)) durable.0 (same_has n.file)
         ]
 
-        unsaved : (u : FileNotSaved account c.does.next c.does.mid end_with cut) → Answered
+        unsaved : FileNotSaved account c.does.next c.does.mid end_with cut → Answered
         unsaved u = marked_one u.number u.uid u.is (file_from account u.uid u.reply) u.stored.came (named_one u.uid _) refl within
           where
             within : Has rows_then
             within id d = elim (laws.unsaved c.does.mid.file (none_open c.does.mid.rows)
-                (none_open (marked c.does.mid.rows u.uid)) cut.fault (files.stored f) u.saves
-                (c.does.went.saved c.prepared.saved)) [
+                (none_open (marked c.does.mid.rows u.uid)) cut.fault (files.stored f) u.saves (c.does.went.saved c.prepared.saved)) [
                   | inl old ↦ rw (same_rows laws.one (files.stored f).content rows c.does.mid.rows keeps (None, old), c.does.went.rows) d
                   | inr new ↦ rw (
                     same_rows laws.one (files.stored f).content rows (marked c.does.mid.rows u.uid) keeps (None, new),
@@ -495,7 +472,7 @@ module _ (laws : Below) {D F : Type 0} (files : FileGhosts F) (device device' : 
 
         answer_cut : Answered
         answer_cut = elim c.does.stops [
-          | inl broken ↦ nothing (ap (λ (s : Stores). s.maildir.files) broken.store) broken.file
+          | inl broken ↦ nothing (ap (λ s. s.maildir.files) broken.store) broken.file
           | inr (inl n) ↦ refused n n.refuses
           | inr (inr u) ↦ unsaved u
         ]

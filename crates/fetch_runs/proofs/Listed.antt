@@ -15,7 +15,7 @@ use Rattle.pop3_wire.specs.declared.command.Command.TheVariants.{Stat, Retr, Uid
 use Rattle.pop3_wire.specs.declared.fault.WireFault.{WireFault}
 use Rattle.pop3_wire.specs.declared.reply.Status.TheVariants.{Positive, Negative}
 use Rattle.pop3_wire.specs.Line.{IsLine, ended, OneLine}
-use Rattle.pop3_wire.specs.Body.{IsContent, unstuffed, body_of}
+use Rattle.pop3_wire.specs.Body.{IsContent, unstuffed}
 use Rattle.mail_terms.specs.declared.listing.ScanRow.{ScanRow}
 use Rattle.pop3_wire.specs.Reply.{IsFirstLine, without_space, indicator}
 use Rattle.pop3_wire.specs.Fields.{is_space, number_and_size, number_and_id}
@@ -34,24 +34,22 @@ use Rattle.pop3_wire.proofs.BodyLemmas.{two_statuses}
 -- a reply's body is what follows its first line
 body_is : OneLine → (reply : WholeReply) (first body : List ℕ) → IsLine reply.first → SaysAnything Positive first
     → reply_bytes reply ≡ first ++ body → body ≡ body_bytes reply.body
-body_is one reply first body line says whole =
-    (one (indicator Positive ++ says.0) reply.first body (body_bytes reply.body) says.1.0 line
-    (ap (λ (l : List ℕ). l ++ body) (sym says.1.1) ∙ sym whole)).1
+body_is one reply _ body line says whole =
+    (one _ _ body (body_bytes reply.body) says.1.0 line (ap (λ l. l ++ body) (sym says.1.1) ∙ sym whole)).1
 
 -- ---- texts
 
 pub texts_are_messages : Below → (drop : List Message) (marks : List Bool) (commands : List Command) (replies : List WholeReply)
-    (found : List (ℕ × List ℕ))
-    → AreGood commands replies → AreGranted drop marks commands replies → Retrieves commands replies found
+    (found : List (ℕ × List ℕ)) → AreGood commands replies → AreGranted drop marks commands replies → Retrieves commands replies found
     → AllByRecursion (IsNumbered drop) found
-texts_are_messages laws drop marks commands [] found good are found_is = rw found_is tt
-texts_are_messages laws drop marks [] (reply ∷ replies) found good are found_is = absurd good
-texts_are_messages laws drop marks (Retr number ∷ commands) (reply ∷ replies) found good are (text, more, body, is, later) =
+texts_are_messages _ _ _ _ [] _ _ _ found_is = rw found_is tt
+texts_are_messages _ _ _ [] (reply ∷ _) _ good _ _ = absurd good
+texts_are_messages laws drop _ (Retr _ ∷ commands) (reply ∷ replies) _ good are (text, more, body, is, later) =
     let (first, rest, message, says, whole, there, body', _) = are.1 in
     let same = laws.body (body_bytes reply.body) (body_bytes reply.body) text message.text [] [] body
     (rw (body_is laws.line reply first rest good.0.line says whole) at body') refl in
-    rw is ((message, there, same.1), texts_are_messages laws drop are.0 commands replies more good.1 are.2 later)
-texts_are_messages laws drop marks (other ∷ commands) (reply ∷ replies) found good are found_is =
+    rw is ((message, there, same.1), texts_are_messages laws _ _ commands replies _ good.1 are.2 later)
+texts_are_messages laws drop _ (_ ∷ commands) (reply ∷ replies) found good are found_is =
     texts_are_messages laws drop are.0 commands replies found good.1 are.2 found_is
 
 -- ---- rows
@@ -61,7 +59,7 @@ uid_agrees : UidRowsHaveFields → (row : List ℕ) (q : ℕ × Message) (uid : 
     → number_and_id row ≡ Ok (uid.number, uid.uid) → (uid.number ≡ q.0) × (uid.uid ≡ q.1.uid)
 uid_agrees law row (n, m) uid (word, are, value) e =
     let (word', are', value') = law row uid.number (record { uid = uid.uid; size = 0; text = [] }) e in
-    let same : word' ∷ uid.uid ∷ [] ≡ word ∷ m.uid ∷ [] = sym are' ∙ are in
+    let same = sym are' ∙ are in
     let first : word' ≡ word = cc in
     (sym value' ∙ ap (digits_value 10) first ∙ value, cc)
 
@@ -69,11 +67,11 @@ scan_agrees : ScanRowsHaveFields → (row : List ℕ) (q : ℕ × Message) (scan
     → number_and_size row ≡ Ok (scan.number, scan.size) → (scan.number ≡ q.0) × (scan.size ≡ q.1.size)
 scan_agrees law row (n, m) scan (field, more, (word, are, value), size) e =
     let (field', more', (word', are', value'), size') = law row scan.number (record { uid = []; size = scan.size; text = [] }) e in
-    let same : word' ∷ field' ∷ more' ≡ word ∷ field ∷ more = sym are' ∙ are in
+    let same = sym are' ∙ are in
     let first : word' ≡ word = cc in
     let second : field' ≡ field = cc in (
       sym value' ∙ ap (digits_value 10) first ∙ value,
-      sym size' ∙ ap (λ (l : List ℕ). digits_value 10 (take_while is_ascii_digit l)) second ∙ size,
+      sym size' ∙ ap (λ l. digits_value 10 (take_while is_ascii_digit l)) second ∙ size,
     )
 
 nobody : Message
@@ -96,22 +94,21 @@ module _ {R V : Type 0} (read : List ℕ → Result (ℕ × V) WireFault) (numbe
   each_has : (numbered : List (ℕ × Message)) (lines : List (List ℕ)) (rows : List R)
       → AllZip IsRow numbered (map unstuffed lines) → AllZip IsRead lines rows
       → AllByRecursion (λ row. Has (number row) (value row)) rows → AllByRecursion (λ (q : ℕ × Message). Has q.0 (of q.1)) numbered
-  each_has [] lines rows h k a = tt
+  each_has [] _ _ h k a = tt
   each_has (q ∷ qs) (line ∷ lines) (row ∷ rows) h k a =
-      let same = agrees (unstuffed line) q row h.0 k.0 in (rw (same.0, same.1) at a.0, each_has qs lines rows h.1 k.1 a.1)
-  each_has qs lines rows h k a = search rules
+      let same = agrees _ q _ h.0 k.0 in (rw (same.0, same.1) at a.0, each_has qs lines rows h.1 k.1 a.1)
+  each_has _ _ _ h k a = search rules
 
   -- so the item at each place has the value of the message there
   value_at : OneLine → OneListOfLines → (drop : List Message) (marks : List Bool) (reply : WholeReply) (rows : List R)
       → marks ≡ no_marks drop → IsLine reply.first → (listing : HasListing IsRead reply rows) → AllByRecursion IsContent listing.0
       → ListsAll IsRow drop marks (reply_bytes reply) → All (λ row. Has (number row) (value row)) rows → (k : ℕ) → k < length drop
       → what (get_or items k (item_of nobody)) ≡ of (get_or drop k nobody)
-  value_at one lists drop marks reply rows none line (lines, is, are) content l all k inside =
+  value_at one lists drop _ reply rows none line (lines, is, are) content l all k inside =
       let same : l.lines ≡ lines =
-      (lists l.lines lines [] [] l.content content
-      (ap (λ b. b ++ []) (body_is one reply l.first (body_of l.lines) line l.says l.whole ∙ ap body_bytes is))).0 in
+      (lists _ _ [] [] l.content content (ap (λ b. b ++ []) (body_is one _ _ _ line l.says l.whole ∙ ap body_bytes is))).0 in
       let (numbered, permuted, said) = l.rows none in
-      let each = All-from_recursion _ numbered (each_has numbered lines rows (rw same at said) are (recursion_from_All _ rows all)) in
+      let each = All-from_recursion _ numbered (each_has _ lines rows (rw same at said) are (recursion_from_All _ rows all)) in
       let q : ℕ × Message = (1 + k, get_or drop k nobody) in
       let placed = get_or-enumerate_from 1 drop k q inside ∙ ap (λ (m : Message). (1 + k, m)) (get_or_default drop k q.1 nobody inside) in
       let there : Contains (enumerate_from 1 drop) q = (k, omega (arith, inside, length-enumerate_from 1 drop), placed) in
@@ -133,9 +130,8 @@ fields_without (byte ∷ rest) = elim (eqb_tells byte 32) [
 count_same : OneLine → ScanRowsHaveFields
     → (drop : List Message) (marks next : List Bool) (stat : WholeReply) (count : ℕ) → IsGoodReply Stat stat
     → Grants drop marks Stat (reply_bytes stat) next → marks ≡ no_marks drop → GivesCount stat count → count ≡ length drop
-count_same one law drop marks next stat count good (after, more, (line, said), rows, stays) none (rest, size, (after', is, rest_is), read) =
-    let first = (one (indicator Positive ++ after) stat.first [] (body_bytes stat.body) line good.line
-    (append-nil (ended (indicator Positive ++ after)) ∙ sym said)).0 in
+count_same one law _ _ _ stat count good (after, more, (line, said), rows, _) none (rest, size, (after', is, rest_is), read) =
+    let first = (one _ _ [] (body_bytes stat.body) line good.line (append-nil (ended (indicator Positive ++ after)) ∙ sym said)).0 in
     let same_after : after ≡ after' = append_cancel_left (indicator Positive) after after' (first ∙ is) in
     let (field', more', (word', are', value'), _) = law rest count (record { uid = []; size = size; text = [] }) read in
     let (word, are, value) = rows none in
@@ -153,13 +149,11 @@ pub listing_is_maildrop : Below
     (replies : List WholeReply) (items : List Item)
     → AreGood (User name ∷ Pass word ∷ Stat ∷ UidlAll ∷ ListAll ∷ commands) (user ∷ pass ∷ stat ∷ uidl ∷ list ∷ replies)
     → AreGranted drop (no_marks drop) (User name ∷ Pass word ∷ Stat ∷ UidlAll ∷ ListAll ∷ commands)
-    (user ∷ pass ∷ stat ∷ uidl ∷ list ∷ replies)
-    → IsListed stat uidl list items → items ≡ listing_of drop
+    (user ∷ pass ∷ stat ∷ uidl ∷ list ∷ replies) → IsListed stat uidl list items → items ≡ listing_of drop
 listing_is_maildrop laws drop name word commands user pass stat uidl list replies items good are listed =
     let marks : are.2.0 ≡ no_marks drop = are.2.1.1 ∙ are.1.1 in
     let stays : are.2.2.0 ≡ no_marks drop = are.2.2.1.4 ∙ marks in
-    let total = listed.joined.count
-    ∙ count_same laws.line laws.scans drop are.2.0 are.2.2.0 stat listed.count good.1.1.0
+    let total = listed.joined.count ∙ count_same laws.line laws.scans drop are.2.0 are.2.2.0 stat listed.count good.1.1.0
     are.2.2.1 marks listed.counts in
     let g = are.2.2.2.1 in
     let h = are.2.2.2.2.1 in
@@ -170,8 +164,7 @@ listing_is_maildrop laws drop name word commands user pass stat uidl list replie
     (uid_agrees laws.uids) items laws.line laws.lines drop are.2.2.0 uidl listed.uids stays good.1.1.1.0.line
     listed.named (rw listed.named.1 at good.1.1.1.0.body) g.0 listed.joined.ids k inside)
     (value_at number_and_size (λ row. row.number) (λ row. row.size) (λ m. m.size) (λ i. i.size) IsScanRow
-    (scan_agrees laws.scans) items laws.line laws.lines drop are.2.2.2.0 list listed.sizes (g.1
-    ∙ stays) good.1.1.1.1.0.line
+    (scan_agrees laws.scans) items laws.line laws.lines drop are.2.2.2.0 list listed.sizes (g.1 ∙ stays) good.1.1.1.1.0.line
     listed.sized (rw listed.sized.1 at good.1.1.1.1.0.body) h.0 listed.joined.octets k inside)
     ∙ sym (get_or-map item_of drop k nobody (item_of nobody) inside))
 
@@ -186,23 +179,23 @@ pub record Looks (command : Command) (bytes : List ℕ) : Type 0 where
 look : (command : Command) {bytes first body : List ℕ} (lines : Option (List (List ℕ)))
     → IsBodyIf (has_body command) lines → bytes ≡ first ++ body → SaysAnything Positive first → body ≡ body_bytes lines
     → Looks command bytes
-look command lines has whole (after, (line, said)) is = record {
+look _ lines has whole (after, (line, said)) is = record {
   reply = record { first = indicator Positive ++ after; body = lines };
   is = record { line = line; status = inr ((without_space after, (after, refl, refl)), has) };
   whole = whole ∙ rw (said, is);
 }
 
 plain_look : (command : Command) (bytes : List ℕ) → IsBodyIf (has_body command) None → SaysAnything Positive bytes → Looks command bytes
-plain_look command bytes none says = look command None none (sym (append-nil bytes)) says refl
+plain_look _ bytes none says = look _ _ none (sym (append-nil bytes)) says refl
 
 -- what a positive reply looks like
 looks : (drop : List Message) (marks : List Bool) (command : Command) (bytes : List ℕ) (next : List Bool)
     → Grants drop marks command bytes next → Looks command bytes
-looks drop marks UidlAll bytes next g = look UidlAll (Some g.0.lines) g.0.content g.0.whole g.0.says refl
-looks drop marks ListAll bytes next g = look ListAll (Some g.0.lines) g.0.content g.0.whole g.0.says refl
-looks drop marks (Retr number) bytes next g = look (Retr number) (Some g.6.lines) g.6.content g.4 g.3 g.6.whole
-looks drop marks Stat bytes next g = plain_look Stat bytes tt (g.0, g.2)
-looks drop marks other bytes next g = search (rules, plain_look)
+looks _ _ UidlAll _ _ g = look _ (Some g.0.lines) g.0.content g.0.whole g.0.says refl
+looks _ _ ListAll _ _ g = look _ (Some g.0.lines) g.0.content g.0.whole g.0.says refl
+looks _ _ (Retr _) _ _ g = look _ (Some g.6.lines) g.6.content g.4 g.3 g.6.whole
+looks _ _ Stat _ _ g = plain_look _ _ tt (g.0, g.2)
+looks _ _ _ _ _ g = search (rules, plain_look)
 
 module _ (law : OneReading) (drop : List Message) where
   -- what was read of a reply is what was said
@@ -210,10 +203,10 @@ module _ (law : OneReading) (drop : List Message) where
       → (look : Looks command bytes) → IsGoodReply command reply
       → bytes ++ more ≡ reply_bytes reply ++ tail → (look.reply ≡ reply) × (more ≡ tail)
   same_reply {command} reply more tail look good e =
-      let same = law (Some command ∷ []) (look.reply ∷ []) (reply ∷ []) more tail (look.is, tt)
+      let same = law (Some command ∷ []) (look.reply ∷ []) (reply ∷ []) more _ (look.is, tt)
       (record { line = good.line; status = inr ((good.rest, good.positive), good.body) }, tt)
       (rw (append-nil, append-nil, ← look.whole) e) in
-      ((let are : look.reply ∷ [] ≡ reply ∷ [] = same.0 in cc), same.1)
+      ((let are = same.0 in cc), same.1)
 
   -- a positive reply was granted
   granted : (marks : List Bool) (command : Command) (bytes : List ℕ) (next : List Bool) (reply : WholeReply) (more tail : List ℕ)
@@ -236,20 +229,20 @@ module _ (law : OneReading) (drop : List Message) where
   walk : (marks last : List Bool) (commands : List Command) (replies : List WholeReply) (bytes later tail : List ℕ)
       → Replies drop marks commands bytes last → AreGood commands replies
       → bytes ++ later ≡ flat_map reply_bytes replies ++ tail → AreGranted drop marks commands replies
-  walk marks last commands [] bytes later tail said good e = tt
-  walk marks last [] (reply ∷ replies) bytes later tail said good e = absurd good
-  walk marks last (command ∷ commands) (reply ∷ replies) bytes later tail said good e =
-      let one = granted marks command said.0 said.2 reply (said.1 ++ later) (flat_map reply_bytes replies ++ tail) said.4 good.0
-      (rw (← append_assoc said.0 said.1 later, ← said.3) (e ∙ append_assoc (reply_bytes reply) (flat_map reply_bytes replies) tail)) in
+  walk _ _ _ [] _ _ _ _ _ e = tt
+  walk _ _ [] (reply ∷ _) _ _ _ _ good e = absurd good
+  walk marks last (command ∷ commands) (reply ∷ replies) _ later tail said good e =
+      let one = granted _ _ said.0 said.2 reply (said.1 ++ later) (flat_map reply_bytes replies ++ tail) said.4 good.0
+      (rw (← append_assoc, ← said.3) (e ∙ append_assoc (reply_bytes reply) (flat_map reply_bytes replies) tail)) in
       (said.2, one.0, walk said.2 last commands replies said.1 later tail said.5 good.1 one.1)
 
 pub honest_is_granted : Below → HonestIsGranted
-honest_is_granted laws drop sent got marks commands replies honest talked =
+honest_is_granted laws drop sent _ marks commands replies honest talked =
     let same = laws.commands commands honest.commands sent talked.asked honest.asked in
     let behind = laws.line (indicator honest.status ++ honest.greets.0) talked.hello honest.replies
     ((flat_map reply_bytes replies ++ talked.rest) ++ honest.later) honest.greets.1.0 talked.line
     (rw (← honest.greets.1.1, honest.begins, talked.whole)
     (append_assoc (ended talked.hello) (flat_map reply_bytes replies ++ talked.rest) honest.later)) in
-    rw same (walk laws.reading drop (no_marks drop) marks honest.commands replies honest.replies []
+    rw same (walk laws.reading drop (no_marks _) marks honest.commands replies honest.replies []
     (talked.rest ++ honest.later) honest.replied
     (rw same at talked.good) (rw append-nil (behind.1 ∙ append_assoc (flat_map reply_bytes replies) talked.rest honest.later)))

@@ -40,32 +40,32 @@ named_any p (f ∷ fs) any = grind (arith, any, named_any p fs)
 -- a loss of power leaves them, and all that it leaves is durable
 any_left : (p : List ℕ → Bool) (fs left : List File) → AreLeftAs fs left → any_named p fs ≡ true
     → list_any (λ (f : File). p f.name) left ≡ true
-any_left p [] left is never = absurd (both_ways false refl never)
+any_left p [] _ _ never = absurd (both_ways false refl never)
 any_left p (f ∷ fs) left (inl (gone, rest)) any = grind (arith, gone, any, any_left p fs left rest)
 any_left p (f ∷ fs) left (inr (g, rest, is, like, more)) any = rw is (grind (arith, like.name, any, any_left p fs rest more))
 
 -- nothing comes by it
 any_before : (p : List ℕ → Bool) (fs left : List File) → AreLeftAs fs left
     → list_any (λ (f : File). p f.name) left ≡ true → list_any (λ (f : File). p f.name) fs ≡ true
-any_before p [] left is any = rw is at any
-any_before p (f ∷ fs) left (inl (gone, rest)) any = or_right _ _ (any_before p fs left rest any)
-any_before p (f ∷ fs) left (inr (g, rest, is, like, more)) any =
-    ⊎_elim (λ here. or_left _ _ (ap p (sym like.name) ∙ here)) (λ later. or_right _ _ (any_before p fs rest more later))
+any_before p [] _ is any = rw is at any
+any_before p (f ∷ fs) _ (inl (_, rest)) any = or_right _ _ (any_before p fs _ rest any)
+any_before p (f ∷ fs) _ (inr (g, rest, is, like, more)) any =
+    ⊎_elim (λ here. or_left _ _ (ap p (sym like.name) ∙ here)) (λ later. or_right _ _ (any_before p fs _ more later))
     (or_cases _ _ (rw is at any))
 
 left_durable : (fs left : List File) → AreLeftAs fs left → AllByRecursion IsDurableFile left
-left_durable [] left is = rw is tt
-left_durable (f ∷ fs) left (inl (gone, rest)) = left_durable fs left rest
-left_durable (f ∷ fs) left (inr (g, rest, is, like, more)) = rw is (like.durable, left_durable fs rest more)
+left_durable [] _ is = rw is tt
+left_durable (f ∷ fs) _ (inl (_, rest)) = left_durable fs _ rest
+left_durable (f ∷ fs) _ (inr (g, rest, is, like, more)) = rw is (like.durable, left_durable fs _ more)
 
 -- of an id's files, if their bytes are durable, it leaves all that they held, or less
 left_copies : (front : List ℕ) (fs left : List File) → AreLeftAs fs left
     → AllByRecursion (λ (f : File). bytes_eq front (stem f.name) ≡ true → f.is_flushed ≡ true) fs
     → (copies left front ≡ copies fs front) ⊎ (length (copies left front) < length (copies fs front))
-left_copies front [] left is flushed = inl (rw is refl)
-left_copies front (f ∷ fs) left (inl (gone, rest)) flushed = let less = left_copies front fs left rest flushed.1 in grind (arith, less)
-left_copies front (f ∷ fs) left (inr (g, rest, is, like, more)) flushed =
-    let less = left_copies front fs rest more flushed.1 in
+left_copies _ [] _ is _ = inl (rw is refl)
+left_copies front (f ∷ fs) left (inl (_, rest)) flushed = let less = left_copies _ fs _ rest flushed.1 in grind (arith, less)
+left_copies front (f ∷ fs) _ (inr (g, rest, is, like, more)) flushed =
+    let less = left_copies _ fs _ more flushed.1 in
     rw (is, like.name) (elim (cases_Bool (bytes_eq front (stem f.name))) [
       | inl its ↦ rw (its, like.content (flushed.0 its)) (grind (arith, less))
       | inr apart ↦ rw apart less
@@ -74,17 +74,16 @@ left_copies front (f ∷ fs) left (inr (g, rest, is, like, more)) flushed =
 -- what is held has one, if the account's files are durable
 durable_named : (account : List ℕ) (fs : List File) (id : List ℕ) → is_legal_id id ≡ true → AllByRecursion (IsDurableFor account) fs
     → list_any (λ (f : File). names_id account id f.name) fs ≡ true → any_named (names_id account id) fs ≡ true
-durable_named account [] id legal all never = never
+durable_named _ [] _ _ _ never = never
 durable_named account (f ∷ fs) id legal all held = let here : names_id account id f.name ≡ true
-    → f.is_named ≡ true = λ names. (all.0 id legal names).0
-    in grind (arith, here, held, durable_named account fs id legal all.1)
+    → f.is_named ≡ true = λ names. (all.0 id legal names).0 in grind (arith, here, held, durable_named account fs id legal all.1)
 
 -- ---- readers
 
 any_reached : (p : List ℕ → Bool) (fs left : List File) → AreReached fs left → any_named p fs ≡ true → any_named p left ≡ true
-any_reached p [] [] are any = any
+any_reached p [] [] _ any = any
 any_reached p (f ∷ fs) (g ∷ left) (same, are) any = grind (arith, same.name, same.named, any, any_reached p fs left are)
-any_reached p fs left never any = absurd never
+any_reached p _ _ never _ = absurd never
 
 one_fewer : (front : List ℕ) (a b : List File) (f : File) → bytes_eq front (stem f.name) ≡ true
     → length (copies (a ++ b) front) < length (copies (a ++ f ∷ b) front)
@@ -97,7 +96,7 @@ has front fs = list_any (λ (f : File). bytes_eq front (stem f.name) && f.is_nam
 -- a message that is held once, under a durable name, and still is, still has such a name
 named_stays : (front : List ℕ) (gone fs left : List File) → IsWithout fs gone left → length (copies fs front) ≤ 1 → has front fs ≡ true
     → list_any (λ (f : File). bytes_eq front (stem f.name)) left ≡ true → has front left ≡ true
-named_stays front [] fs left are once named held = any_reached (λ name. bytes_eq front (stem name)) fs left are named
+named_stays front [] fs left are _ named _ = any_reached (λ name. bytes_eq front (stem name)) fs left are named
 named_stays front (f ∷ gone) fs left (a, b, are, is) once named held =
     let mid : has front (a ++ f ∷ b) ≡ true = any_reached (λ name. bytes_eq front (stem name)) fs (a ++ f ∷ b) are named in
     let same = ap length (reached_copies front fs (a ++ f ∷ b) are) in
@@ -114,41 +113,36 @@ named_stays front (f ∷ gone) fs left (a, b, are, is) once named held =
       arith,
       mid,
       none,
-      list_any-append
-          (λ (g : File). bytes_eq front (stem g.name) && g.is_named) a (f ∷ b),
-      list_any-append
-          (λ (g : File). bytes_eq front (stem g.name) && g.is_named) a b,
+      list_any-append (λ (g : File). bytes_eq front (stem g.name) && g.is_named) a (f ∷ b),
+      list_any-append (λ (g : File). bytes_eq front (stem g.name) && g.is_named) a b,
     )
 
 flushed_reached : (account : List ℕ) (fs left : List File) → AreReached fs left
     → AllByRecursion (IsFlushedFor account) fs → AllByRecursion (IsFlushedFor account) left
-flushed_reached account [] [] are all = tt
+flushed_reached _ [] [] _ _ = tt
 flushed_reached account (f ∷ fs) (g ∷ left) (same, are) all =
-    (λ id legal names. same.flushed (all.0 id legal (rw same.name at names)), flushed_reached account fs left are all.1)
-flushed_reached account fs left never all = absurd never
+    (λ id legal names. same.flushed (all.0 id legal (rw same.name at names)), flushed_reached _ fs left are all.1)
+flushed_reached _ _ _ never _ = absurd never
 
 flushed_stays : (account : List ℕ) (gone fs left : List File) → IsWithout fs gone left
     → AllByRecursion (IsFlushedFor account) fs → AllByRecursion (IsFlushedFor account) left
-flushed_stays account [] fs left are all = flushed_reached account fs left are all
-flushed_stays account (f ∷ gone) fs left (a, b, are, is) all =
-    let reached = flushed_reached account fs (a ++ f ∷ b) are all in
-    flushed_stays account gone (a ++ b) left is
-    (all_append _ a b (all_front _ a (f ∷ b) reached) (all_back _ a (f ∷ b) reached).1)
+flushed_stays _ [] fs left are all = flushed_reached _ fs left are all
+flushed_stays _ (f ∷ gone) fs _ (a, b, are, is) all =
+    let reached = flushed_reached _ fs (a ++ f ∷ b) are all in
+    flushed_stays _ gone _ _ is (all_append _ a b (all_front _ a _ reached) (all_back _ a _ reached).1)
 
 -- ---- what lasts
 
 lasts_bits : (named held taken named' held' : Bool) → (named ≡ true → held ≡ true)
     → (named ≡ true → held' ≡ true → named' ≡ true) → (named || taken) ≡ true
     → (named' || (((held || taken) && not held') || (taken && not named'))) ≡ true
-lasts_bits named held taken named' held' is stays some = grind (arith, is, stays, some)
+lasts_bits _ _ _ _ _ is stays some = grind (arith, is, stays, some)
 
 -- it still does, if a durable name stays while the message is held
 lasts_on : (mail : Mail) (state : State) (after : AccountMail) (id : List ℕ)
     → (has_named mail.account state.account.maildir id ≡ true → is_held mail.account after.maildir id ≡ true
     → has_named mail.account after.maildir id ≡ true) → lasts mail state id ≡ true → lasts mail (state_with mail state [] after) id ≡ true
-lasts_on mail state after id stays = lasts_bits (has_named mail.account state.account.maildir id)
-    (is_held mail.account state.account.maildir id) (state.taken id)
-    (has_named mail.account after.maildir id) (is_held mail.account after.maildir id)
+lasts_on mail state after id stays = lasts_bits _ _ (state.taken id) _ _
     (named_any (names_id mail.account id) state.account.maildir.files) stays
 
 -- ---- others, and readers
@@ -186,15 +180,14 @@ module _ (mail : Mail) (state : State) (left : Maildir) (kept : Kept mail state)
   -- nothing came
   pub held_back : (id : List ℕ) → is_held mail.account left id ≡ true → is_held mail.account state.account.maildir id ≡ true
   held_back id held =
-      let part = part_copies (stem_of mail.account id) state.account.maildir.files left.files (taken.gone, taken.files) in
+      let part = part_copies (stem_of mail.account id) _ _ (taken.gone, taken.files) in
       let some = held_some (stem_of mail.account id) left.files held in
-      some_held mail.account id state.account.maildir.files
-      (λ none. some (grind (arith, none, part, nil_from_length (copies left.files (stem_of mail.account id)))))
+      some_held mail.account id state.account.maildir.files (λ none. some (grind (arith, none, part, nil_from_length)))
 
 -- readers took some files away while a call was under way; the record's device is as it was
 pub left_keeps_safe : (disk : Disk) (mail : Mail) (state : State) (left : Maildir) → Kept mail state → WereTaken state.account.maildir left
     → IsCrashSafe disk mail state → IsCrashSafe disk mail (state_with mail state [] (record state.account { maildir = left }))
-left_keeps_safe disk mail state left kept taken safe = record {
+left_keeps_safe _ mail state left kept taken safe = record {
   flushed = flushed_stays mail.account taken.gone state.account.maildir.files left.files taken.files safe.flushed;
   recorded = λ id d. on id (kept.recorded id d).0 (safe.recorded id d);
   left = λ bytes rows opened may is id d. let was = safe.left bytes rows opened may is id d in (was.0, on id was.0 was.1);
@@ -214,20 +207,19 @@ module _ {F : Type 0} (file : FileGhosts F) (from f : F) (mail : Mail) (state : 
   stays : (id : List ℕ) → has_named mail.account state.account.maildir id ≡ true → has_named mail.account after.maildir id ≡ true
   stays id named = rw (
     leaves.files,
-    list_any-append (λ (g : File). names_id mail.account id g.name && g.is_named)
-        state.account.maildir.files (leaves.came ++ leaves.last),
+    list_any-append,
   ) (or_left _ _ named)
 
   -- a file that came is there
   came_there : (id : List ℕ) → any_named (names_id mail.account id) leaves.came ≡ true → has_named mail.account after.maildir id ≡ true
   came_there id named = rw (
     leaves.files,
-    list_any-append (λ (g : File). names_id mail.account id g.name && g.is_named) state.account.maildir.files (leaves.came ++ leaves.last),
-    list_any-append (λ (g : File). names_id mail.account id g.name && g.is_named) leaves.came leaves.last,
+    list_any-append,
+    list_any-append,
   ) (or_right _ _ (or_left _ _ named))
 
   lasts_call : (id : List ℕ) → lasts mail state id ≡ true → lasts mail (state_with mail state vanished after) id ≡ true
-  lasts_call id = lasts_on mail state after id (λ named held. stays id named)
+  lasts_call id = lasts_on mail state after id (λ named _. stays id named)
 
 pub calls_keep_safe : Below → {W S F G : Type 0} (file : FileGhosts F) (from f : F) (mail : Mail) (state : State) (call : Call W S G)
     (sent : List ℕ) (now : AccountMail) → Kept mail state
@@ -253,8 +245,7 @@ calls_keep_safe laws file from f mail state call sent now kept is leaves sure sa
 
     went : (Leaves state.account is.effect now
         ⊎ (StoresTexts call.settings mail.account state.account is.effect now call.report is.session.sends.commands
-        is.session.sends.asked.part
-        × IsHonest (wanted_at call.settings mail.account state.account is.effect) call.maildrop is.effect))
+        is.session.sends.asked.part × IsHonest (wanted_at call.settings mail.account state.account is.effect) call.maildrop is.effect))
         × AllByRecursion (λ id. has_id is.effect.begun id ≡ true) call.vanished
     went = served_session laws call.settings mail.account state.account is.effect is.session is.served
 
@@ -285,13 +276,12 @@ or_on c on some = ⊎_elim (λ is. or_left _ _ (on is)) (or_right _ _) (or_cases
 -- what lasts is safe afterwards
 lasts_safe : (mail : Mail) (state : State) (after : AccountMail) → LosesPower state.account.maildir after.maildir
     → (id : List ℕ) → lasts mail state id ≡ true → is_safe mail (record state { account = after }) id ≡ true
-lasts_safe mail state after loses id = or_on _ (any_left (names_id mail.account id) state.account.maildir.files
-    after.maildir.files loses.files)
+lasts_safe _ _ after loses _ = or_on _ (any_left _ _ _ loses.files)
 
 -- what is safe lasts, if the account's files are durable
 durable_lasts : (mail : Mail) (state : State) → AllByRecursion (IsDurableFor mail.account) state.account.maildir.files
     → (id : List ℕ) → is_legal_id id ≡ true → is_safe mail state id ≡ true → lasts mail state id ≡ true
-durable_lasts mail state durable id legal = or_on _ (durable_named mail.account state.account.maildir.files id legal durable)
+durable_lasts _ _ durable id legal = or_on _ (durable_named _ _ id legal durable)
 
 pub losses_leave_kept : (disk : Disk) (mail : Mail) (state : State) (after : AccountMail) (left : Option (List ℕ))
     (intent : Option Intent) → Kept mail state
@@ -317,8 +307,7 @@ durable_is_safe laws file f mail state intent kept stands durable same = record 
   flushed = all_map state.account.maildir.files durable (λ g is id legal names. (is id legal names).1);
   recorded = λ id d. let is = kept.recorded id d in on id is.0 is.1;
   left = λ left rows opened may is id d.
-      let here = kept.recorded id
-      (rw (same_rows laws.one (file.stored f).content rows state.account.rows (opened, rw (same left may) at is)
+      let here = kept.recorded id (rw (same_rows laws.one (file.stored f).content rows state.account.rows (opened, rw (same left may) at is)
       (intent, stands)) at d) in (here.0, on id here.0 here.1);
   gone = all_map state.gone kept.gone (λ id is. on id is.0 is.1);
 }
@@ -327,13 +316,13 @@ durable_is_safe laws file f mail state intent kept stands durable same = record 
     on = durable_lasts mail state durable
 
 pub all_left_durable : (account : List ℕ) (old new : Maildir) → LosesPower old new → AllByRecursion (IsDurableFor account) new.files
-all_left_durable account old new loses = all_map new.files (left_durable old.files new.files loses.files) (λ g is id legal names. is)
+all_left_durable _ _ new loses = all_map _ (left_durable _ _ loses.files) (λ g is _ _ _. is)
 
 -- ---- in order
 
 pub safe_bits : (held taken held' named : Bool) → (held' ≡ true → (held || taken) ≡ true)
     → (held || taken) ≡ (held' || (((held || taken) && not held') || (taken && not named)))
-safe_bits held taken held' named back = grind (arith, back)
+safe_bits _ _ _ _ back = grind (arith, back)
 
 same_bits : (a b : Bool) → (a ≡ true → b ≡ true) → (b ≡ true → a ≡ true) → a ≡ b
 same_bits a b f g = grind (arith, f, g)
@@ -360,7 +349,7 @@ durable_fronts_begin mail state all legal front durable = record {
 abbrev pub front_stays : (mail : Mail) (state : State) (after : AccountMail) (all : List Message) → IsFront mail state all
     → ((id : List ℕ) → is_legal_id id ≡ true → is_held mail.account after.maildir id ≡ true
     → is_safe mail state id ≡ true) → IsFront mail (state_with mail state [] after) all
-front_stays mail state after all front back = record {
+front_stays mail state after _ front back = record {
   done = front.done;
   rest = front.rest;
   prefix = front.prefix;
@@ -381,10 +370,10 @@ module _ (mail : Mail) (state : State) (after : AccountMail) (all : List Message
     (back : (id : List ℕ) → is_legal_id id ≡ true → is_held mail.account after.maildir id ≡ true → is_safe mail state id ≡ true)
     (on : (id : List ℕ) → is_legal_id id ≡ true → lasts mail state id ≡ true → lasts mail (state_with mail state [] after) id ≡ true) where
   legal_done : AreLegal front.is.done
-  legal_done = all_front (λ (m : Message). is_legal_id m.uid ≡ true) front.is.done front.is.rest (rw front.is.prefix at legal)
+  legal_done = all_front _ _ _ (rw front.is.prefix at legal)
 
   pub legal_first : AreLegal front.first
-  legal_first = all_front (λ (m : Message). is_legal_id m.uid ≡ true) front.first front.last (rw front.done at legal_done)
+  legal_first = all_front _ _ _ (rw front.done at legal_done)
 
   abbrev pub others_keep_front : IsDurableFront mail (state_with mail state [] after) all
   others_keep_front = record {
@@ -407,19 +396,19 @@ pub others_keep_order : {F : Type 0} (file : FileGhosts F) (from f : F) (mail : 
     (after : AccountMail) → KeepsDurable file mail.account state.account from f after
     → ((id : List ℕ) → is_legal_id id ≡ true → is_held mail.account after.maildir id ≡ true → is_safe mail state id ≡ true)
     → (all : List Message) → AreLegal all → IsDurableFront mail state all → IsDurableFront mail (state_with mail state [] after) all
-others_keep_order file from f mail state after keeps back all legal front =
+others_keep_order file _ f mail state after keeps back all legal front =
     others_keep_front mail state after all legal front back (λ id l. lasts_on mail state after id (keeps.named id l))
 
 -- ---- what a call leaves
 
 split_map : {A B : Type 0} (g : A → B) (xs : List A) (front back : List B) → map g xs ≡ front ++ back → (ys : List A)
     × (zs : List A) × (xs ≡ ys ++ zs) × (map g ys ≡ front) × (map g zs ≡ back)
-split_map g xs [] back e = ([], xs, refl, refl, e)
-split_map g [] (y ∷ front) back e = absurd cc
+split_map g xs [] _ e = ([], xs, refl, refl, e)
+split_map g [] (y ∷ _) _ e = absurd cc
 split_map g (x ∷ xs) (y ∷ front) back e =
     let head : g x ≡ y = cc in
     let tail : map g xs ≡ front ++ back = cc in
-    let (ys, zs, is, first, last) = split_map g xs front back tail in
+    let (ys, zs, is, first, last) = split_map g xs front _ tail in
     (x ∷ ys, zs, ap (λ l. x ∷ l) is, ap (λ l. g x ∷ l) first ∙ ap (λ z. z ∷ front) head, last)
 
 shorter : (p : Message → Bool) (ms : List Message) → length (filter p ms) ≤ length ms
@@ -432,13 +421,13 @@ module _ (mail : Mail) (own : (m : Message) → names_id mail.account m.uid (nam
 
   has_come : (came : List File) (ms : List Message) → map its_file ms ≡ without_flags came → AllByRecursion IsDurableFile came
       → AllByRecursion (λ (m : Message). any_named (names_id mail.account m.uid) came ≡ true) ms
-  has_come came [] e all = tt
-  has_come [] (m ∷ ms) e all = absurd cc
+  has_come _ [] e _ = tt
+  has_come [] (m ∷ _) e _ = absurd cc
   has_come (g ∷ came) (m ∷ ms) e all =
       let head : its_file m ≡ file g.name g.content = cc in
       let tail : map its_file ms ≡ without_flags came = cc in
-      let name : names_id mail.account m.uid g.name ≡ true =
-      subst (λ (h : File). names_id mail.account m.uid h.name ≡ true) head (own m) in (
+      let name =
+      subst (λ h. names_id mail.account m.uid h.name ≡ true) head (own m) in (
         or_left _ _ (and_from _ _ name all.0.0),
         all_map ms (has_come came ms tail all.1) (λ x there. or_right _ _ there),
       )
@@ -454,8 +443,7 @@ module _ (mail : Mail) (own : (m : Message) → names_id mail.account m.uid (nam
     abbrev new : Message → Bool
     new m = not (has_id (message_ids front.is.done) m.uid)
 
-    later : (later : IsFront mail after all)
-        × (later.done ≡ front.is.done ++ filter
+    later : (later : IsFront mail after all) × (later.done ≡ front.is.done ++ filter
         (λ (m : Message). not (has_id (message_ids front.is.done) m.uid)) promises.came)
     later = promises.in_order all legal front.is next
 
@@ -464,23 +452,21 @@ module _ (mail : Mail) (own : (m : Message) → names_id mail.account m.uid (nam
 
     came_are : map its_file promises.came ≡ without_flags leaves.came ++ without_flags leaves.last
     came_are = append_cancel_left (without_flags state.account.maildir.files) (map its_file promises.came)
-        (without_flags leaves.came ++ without_flags leaves.last)
-        (sym promises.added ∙ came_too state.account.maildir.files now.maildir.files (leaves.came ++ leaves.last) leaves.files
-        ∙ ap (λ (l : List File). without_flags state.account.maildir.files ++ l)
-        (came_too leaves.came (leaves.came ++ leaves.last) leaves.last refl))
+        (without_flags leaves.came ++ without_flags leaves.last) (sym promises.added ∙ came_too _ _ _ leaves.files
+        ∙ ap (λ l. without_flags state.account.maildir.files ++ l) (came_too _ _ _ refl))
 
     none_came : leaves.came ++ leaves.last ≡ [] → promises.came ≡ []
-    none_came none = nil_from_length promises.came (sym (length-map promises.came its_file) ∙ ap length (came_are
-        ∙ sym (came_too leaves.came (leaves.came ++ leaves.last) leaves.last refl) ∙ ap without_flags none))
+    none_came none = nil_from_length _ (sym (length-map promises.came its_file) ∙ ap length (came_are
+        ∙ sym (came_too _ _ _ refl) ∙ ap without_flags none))
 
     by_none : leaves.came ++ leaves.last ≡ [] → IsDurableFront mail after all
     by_none none = record {
       is = later.0;
       first = front.first;
       last = front.last;
-      done = later.1 ∙ ap (λ (ms : List Message). front.is.done ++ filter new ms) (none_came none) ∙ append-nil front.is.done ∙ front.done;
+      done = later.1 ∙ ap (λ ms. front.is.done ++ filter new ms) (none_came none) ∙ append-nil front.is.done ∙ front.done;
       at_most_one = front.at_most_one;
-      named = all_map front.first front.named (λ m. on m.uid);
+      named = all_map _ front.named (λ m. on _);
     }
 
     by_named : AllNamed state.account.maildir.files → IsDurableFront mail after all
@@ -500,8 +486,7 @@ module _ (mail : Mail) (own : (m : Message) → names_id mail.account m.uid (nam
               (all_both front.is.done (all_front (λ (m : Message). is_legal_id m.uid ≡ true) front.is.done front.is.rest
               (rw front.is.prefix at legal)) (members front.is.done)
               (λ m l there. on m.uid (or_on _ (all_named mail.account state.account.maildir.files m.uid named)
-              (sym (front.is.is_done m.uid l) ∙ there))))
-              (all_filter (λ (m : Message). lasts mail after m.uid ≡ true) new first
+              (sym (front.is.is_done m.uid l) ∙ there)))) (all_filter (λ (m : Message). lasts mail after m.uid ≡ true) new first
               (all_map first (has_come leaves.came first came leaves.durable)
               (λ m there. or_left _ _ (came_there store from f mail state call.vanished now leaves m.uid there))));
         }
@@ -520,8 +505,7 @@ module _ (mail : Mail) (state : State) (after : AccountMail) (all : List Message
   safe_next id = is_held mail.account after.maildir id || state.taken id
 
   safe_before : (id : List ℕ) → safe_next id ≡ true → is_safe mail state id ≡ true
-  safe_before id = or_on _ (any_before (names_id mail.account id) state.account.maildir.files after.maildir.files
-      loses.files)
+  safe_before _ = or_on _ (any_before _ _ _ loses.files)
 
   made : (done rest : List Message) → all ≡ done ++ rest
       → ((id : List ℕ) → is_legal_id id ≡ true → has_id (message_ids done) id ≡ safe_next id) → IsDurableFront mail next_state all
@@ -537,11 +521,11 @@ module _ (mail : Mail) (state : State) (after : AccountMail) (all : List Message
   }
 
   in_first : (id : List ℕ) → has_id (message_ids front.first) id ≡ true → safe_next id ≡ true
-  in_first id there = lasts_safe mail state after loses id (all_at (λ x. lasts mail state x ≡ true) front.first front.named there)
+  in_first id there = lasts_safe mail state after loses id (all_at _ _ front.named there)
 
   in_done : (id : List ℕ) → is_legal_id id ≡ true → safe_next id ≡ true
       → (has_id (message_ids front.first) id || has_id (message_ids front.last) id) ≡ true
-  in_done id l safe = sym (ids_both front.first front.last id) ∙ ap (λ ms. has_id (message_ids ms) id) (sym front.done)
+  in_done id l safe = sym (ids_both _ _ id) ∙ ap (λ ms. has_id (message_ids ms) id) (sym front.done)
       ∙ front.is.is_done id l ∙ safe_before id safe
 
   prefix_is : all ≡ front.first ++ (front.last ++ front.is.rest)
@@ -561,11 +545,9 @@ module _ (mail : Mail) (state : State) (after : AccountMail) (all : List Message
       by [] is = without [] is (λ id never. absurd (both_ways false refl never))
       by (m ∷ []) is = elim (cases_Bool (safe_next m.uid)) [
         | inl safe ↦ made front.is.done front.is.rest front.is.prefix
-            (λ id l. same_bits (has_id (message_ids front.is.done) id) (safe_next id)
-            (λ there. ⊎_elim (in_first id)
+            (λ id l. same_bits (has_id (message_ids front.is.done) id) (safe_next id) (λ there. ⊎_elim (in_first id)
             (λ at_last. subst (λ x. safe_next x ≡ true) (sym (its_id id m (rw is at at_last))) safe)
-            (or_cases _ _ (sym (ids_both front.first front.last id)
-            ∙ ap (λ ms. has_id (message_ids ms) id) (sym front.done) ∙ there)))
+            (or_cases _ _ (sym (ids_both front.first front.last id) ∙ ap (λ ms. has_id (message_ids ms) id) (sym front.done) ∙ there)))
             (λ safe. front.is.is_done id l ∙ safe_before id safe))
         | inr lost ↦ without (m ∷ []) is (λ id there. subst (λ x. safe_next x ≡ false) (sym (its_id id m there)) lost)
       ]

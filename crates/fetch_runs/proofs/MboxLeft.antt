@@ -54,8 +54,7 @@ use Rattle.fetch_runs.proofs.Turns.{Course, effect_of}
 module _ (base : Base) (Among : List Message → Type 0) where
   -- it holds these entries, and the first messages of each of these lists have them
   abbrev pub Holds : List Message → MboxMail → Type 0
-  Holds done account = (holds : HoldsEntries base done account)
-      × ((all : List Message) → Among all → IsMboxFront base holds all)
+  Holds done account = (holds : HoldsEntries base done account) × ((all : List Message) → Among all → IsMboxFront base holds all)
 
   abbrev pub HoldsSome : MboxMail → Type 0
   HoldsSome account = (done : List Message) × Holds done account
@@ -63,7 +62,7 @@ module _ (base : Base) (Among : List Message → Type 0) where
   -- no intent is open, and the same is recorded
   closed_as : {done : List Message} {was : MboxMail} → Holds done was → (now : MboxMail) → now.intent ≡ None
       → ((id : List ℕ) → is_delivered now.rows id ≡ is_delivered was.rows id) → now.file ≡ bytes_of base done → Holds done now
-  closed_as (holds, fronts) now closed same file = (
+  closed_as (holds, fronts) _ closed same file = (
     record { are = holds.are; new = holds.new; recorded = λ id. same id ∙ holds.recorded id; stands = inl (closed, file) },
     λ all among. let front = fronts all among in record {
       first = front.first;
@@ -104,22 +103,21 @@ module _ (base : Base) (Among : List Message → Type 0) where
 
     -- nothing of it is there, and the intent is closed
     none_as : Holds done (record { rows = was.rows; intent = None; file = bytes_of base done })
-    none_as = closed_as held (record { rows = was.rows; intent = None; file = bytes_of base done }) refl (λ id. refl) refl
+    none_as = closed_as held _ refl (λ _. refl) refl
 
     -- all of it is, and the message is marked
     whole_as : Below → has_row was.rows o.next.uid ≡ true → Holds (done ++ o.next ∷ [])
         (record { rows = marked was.rows o.next.uid; intent = None; file = bytes_of base done ++ entry_of o.next.text })
     whole_as laws rowed = (
       entered base laws held.0 o rowed
-          (record { rows = marked was.rows o.next.uid; intent = None; file = bytes_of base done ++ entry_of o.next.text })
-          refl refl refl,
+          (record { rows = marked _ o.next.uid; intent = None; file = bytes_of base done ++ entry_of o.next.text }) refl refl refl,
       λ all among.
           let front = held.1 all among in
           let (more, first) = front.next o is in
           record {
             first = front.first;
             rest = more;
-            prefix = front.prefix ∙ ap (λ (l : List Message). (front.first ++ done) ++ l) first ∙ simp append_assoc;
+            prefix = front.prefix ∙ ap (λ l. (front.first ++ done) ++ l) first ∙ simp append_assoc;
             had = front.had;
             next = λ p e. absurd (let never = p.intent in cc);
           },
@@ -134,7 +132,7 @@ module _ (base : Base) (Among : List Message → Type 0) where
 
     -- its file is, and the intent is still open
     file_settled : HoldsSome (record was { file = settled_bytes })
-    file_settled = by held.0.stands refl
+    file_settled = by _ refl
       where
         by : (stands : Stands base (bytes_of base done) was) → held.0.stands ≡ stands → HoldsSome (record was { file = settled_bytes })
         by (inl (closed, file)) is =
@@ -144,7 +142,7 @@ module _ (base : Base) (Among : List Message → Type 0) where
           done,
           elim (settled_is laws listing o) [
             | inl (rows, file) ↦ subst (λ (f : List ℕ). Holds done (record was { file = f })) (sym file)
-                (part_as held o is (entry_of o.next.text) (all_left (length (bytes_of base done)) (entry_of o.next.text)))
+                (part_as held o is (entry_of o.next.text) (all_left _ (entry_of o.next.text)))
             | inr (rows, file) ↦ subst (λ (f : List ℕ). Holds done (record was { file = f })) (append-nil _ ∙ sym file)
                 (part_as held o is [] tt)
           ],
@@ -153,28 +151,24 @@ module _ (base : Base) (Among : List Message → Type 0) where
     -- the intent is closed too, and these rows show the same as delivered
     all_settled : (rows : List Row) → ((id : List ℕ) → is_delivered rows id ≡ is_delivered (settled listing was).rows id)
         → HoldsSome (record { rows = rows; intent = None; file = settled_bytes })
-    all_settled rows same = by held.0.stands refl
+    all_settled rows same = by _ refl
       where
         by : (stands : Stands base (bytes_of base done) was) → held.0.stands ≡ stands
             → HoldsSome (record { rows = rows; intent = None; file = settled_bytes })
         by (inl (closed, file)) is =
             let none : (settled listing was).rows ≡ was.rows = rw closed refl in (
               done,
-              closed_as held (record { rows = rows; intent = None; file = settled_bytes }) refl
-                  (λ id. same id ∙ ap (λ (r : List Row). is_delivered r id) none) (rw closed file),
+              closed_as held _ refl (λ id. same id ∙ ap (λ r. is_delivered r id) none) (rw closed file),
             )
         by (inr o) is = elim (settled_is laws listing o) [
           | inl (marks, file) ↦
               let whole = whole_as held o is laws (rowed _ o.intent) in (
                 done ++ o.next ∷ [],
-                closed_as whole (record { rows = rows; intent = None; file = settled_bytes }) refl
-                    (λ id. same id ∙ ap (λ (r : List Row). is_delivered r id) marks)
-                    (file ∙ ends_whole base (done ++ o.next ∷ []) _ whole.0 refl),
+                closed_as whole _ refl (λ id. same id ∙ ap (λ r. is_delivered r id) marks) (file ∙ ends_whole _ _ _ whole.0 refl),
               )
           | inr (marks, file) ↦ (
             done,
-            closed_as held (record { rows = rows; intent = None; file = settled_bytes }) refl
-                (λ id. same id ∙ ap (λ (r : List Row). is_delivered r id) marks) file,
+            closed_as held _ refl (λ id. same id ∙ ap (λ r. is_delivered r id) marks) file,
           )
         ]
 
@@ -190,28 +184,25 @@ module _ (base : Base) (Among : List Message → Type 0) where
 
   -- the account after a text's entry was appended to these bytes
   abbrev pub with_entry : List Row → List ℕ → List ℕ → List ℕ → MboxMail
-  with_entry rows bytes uid text =
-      record { rows = rows; intent = Some (intent_of bytes uid text); file = bytes ++ entry_of text }
+  with_entry rows bytes uid text = record { rows = rows; intent = Some (intent_of bytes uid text); file = bytes ++ entry_of text }
 
   module _ (laws : Below) (rows : List Row) (bytes uid text : List ℕ) (w : HoldsWhole (with_entry rows bytes uid text) text) where
     same_intent : intent_of bytes uid text ≡ entry_intent (bytes_of base w.done) w.o.next.uid w.o.next.text
     same_intent = same_Some _ _ w.o.intent
 
     bytes_are : bytes_of base w.done ≡ bytes
-    bytes_are = sym (take-append_seam (bytes_of base w.done) w.o.part)
-        ∙ ap (take (length (bytes_of base w.done))) (sym w.o.file)
-        ∙ ap (λ (n : ℕ). take n (bytes ++ entry_of text)) (sym (ap (λ (i : Intent). i.start) same_intent))
-        ∙ take-append_seam bytes (entry_of text)
+    bytes_are = sym (take-append_seam (bytes_of base w.done) w.o.part) ∙ ap (take (length (bytes_of base w.done))) (sym w.o.file)
+        ∙ ap (λ n. take n (bytes ++ entry_of text)) (sym (ap (λ i. i.start) same_intent)) ∙ take-append_seam bytes (entry_of text)
 
     uid_is : w.o.next.uid ≡ uid
-    uid_is = sym (ap (λ (i : Intent). i.uid) same_intent)
+    uid_is = sym (ap (λ i. i.uid) same_intent)
 
     -- this part of the entry is there
     with_part : (part : List ℕ) → MayBeLeft (length bytes) (entry_of text) part
         → HoldsSome (record { rows = rows; intent = Some (intent_of bytes uid text); file = bytes ++ part })
     with_part part left = (
       w.done,
-      subst (λ (b : List ℕ). Holds w.done (record { rows = rows; intent = Some (intent_of bytes uid text); file = b ++ part }))
+      subst (λ b. Holds w.done (record { rows = rows; intent = Some (intent_of bytes uid text); file = b ++ part }))
           bytes_are (part_as w.held w.o w.is part (rw (bytes_are, w.text_is) left)),
     )
 
@@ -219,8 +210,7 @@ module _ (base : Base) (Among : List Message → Type 0) where
     pub without : HoldsSome (record { rows = rows; intent = None; file = bytes })
     without = (
       w.done,
-      subst (λ (b : List ℕ). Holds w.done (record { rows = rows; intent = None; file = b })) bytes_are
-          (none_as w.held w.o w.is),
+      subst (λ b. Holds w.done (record { rows = rows; intent = None; file = b })) bytes_are (none_as w.held w.o w.is),
     )
 
     ended : has_row rows uid ≡ true → HoldsSome (record { rows = marked rows uid; intent = None; file = bytes ++ entry_of text })
@@ -233,8 +223,7 @@ module _ (base : Base) (Among : List Message → Type 0) where
 
     pub entry_left : (left mbox : Option (List ℕ)) (then : RecordState) → IsEntryLeft rows bytes uid text left mbox → Keeps left then
         → HoldsSome (record { rows = then.rows; intent = then.intent; file = mail_in mbox })
-    entry_left left mbox then (inl (grown, is)) keeps = ⊎_elim
-        (λ (same : then ≡ none_open rows). rw (same, is) without)
+    entry_left left mbox then (inl (grown, is)) keeps = ⊎_elim (λ (same : then ≡ none_open rows). rw (same, is) without)
         (λ (same : then ≡ with_open rows (intent_of bytes uid text)). rw (same, is) (subst (λ (f : List ℕ). HoldsSome (record {
           rows = rows;
           intent = Some (intent_of bytes uid text);
@@ -251,8 +240,7 @@ module _ (base : Base) (Among : List Message → Type 0) where
         let opened : RecordState = with_open rows (intent_of bytes uid text) in
         let rowed : has_row rows uid ≡ true = open_row laws (Some grown.file.bytes) rows opened.intent
         (laws.steady (Some grown.file.bytes) opened grown.file.stands) (intent_of bytes uid text) refl in
-        ⊎_elim
-        (λ (same : then ≡ with_open rows (intent_of bytes uid text)). rw (same, is)
+        ⊎_elim (λ (same : then ≡ with_open rows (intent_of bytes uid text)). rw (same, is)
         (with_part (entry_of text) (all_left (length bytes) (entry_of text))))
         (λ (same : then ≡ none_open (marked rows uid)). rw (same, is) (ended rowed))
         (grown_reads laws.one laws.meaning laws.counts laws.torn (with_open rows (intent_of bytes uid text))
@@ -263,8 +251,7 @@ module _ (base : Base) (Among : List Message → Type 0) where
 -- a loss of power may leave what calls see
 may_seen : {F : Type 0} (files : FileGhosts F) (f : F) → seen_on (files.disk f) ≡ (files.stored f).content
     → MayLeave (files.disk f) (files.stored f).content
-may_seen files f shown = subst (λ (o : Option (List ℕ)). MayLeave (files.disk f) o) shown
-    (may_now (files.disk f) (seen_on (files.disk f)) (may_arrive (files.disk f).now))
+may_seen files f shown = subst (λ o. MayLeave (files.disk f) o) shown (may_now _ _ (may_arrive _))
 
 -- ---- a session
 
@@ -294,11 +281,10 @@ module _ (laws : Below) (D : Type 0) {F : Type 0} (files : FileGhosts F)
 
   -- so it is whatever is left of both
   abbrev Leaves : Type 0
-  Leaves = (left mbox : Option (List ℕ)) → MayLeave (files.disk to.file) left → MayLeave (files.disk to.store) mbox
-      → Left left mbox
+  Leaves = (left mbox : Option (List ℕ)) → MayLeave (files.disk to.file) left → MayLeave (files.disk to.store) mbox → Left left mbox
 
   rowed : (i : Intent) → held.intent ≡ Some i → has_row held.rows i.uid ≡ true
-  rowed = open_row laws (files.stored from.file).content held.rows held.intent stood
+  rowed = open_row laws _ _ _ stood
 
   -- it could be left before
   left_before : (left mbox : Option (List ℕ)) → MayLeave (files.disk from.file) left → MayLeave (files.disk from.store) mbox
@@ -308,21 +294,19 @@ module _ (laws : Below) (D : Type 0) {F : Type 0} (files : FileGhosts F)
   -- the record that was read, with an mboxrd file that could be left
   read_before : (mbox : Option (List ℕ)) → MayLeave (files.disk from.store) mbox
       → HoldsSome base Among (record { rows = held.rows; intent = held.intent; file = mail_in mbox })
-  read_before mbox also =
-      left_before (files.stored from.file).content mbox (may_seen files from.file (shown from.file)) also held stood
+  read_before mbox also = left_before (files.stored from.file).content mbox (may_seen files from.file (shown from.file)) also held stood
 
   -- it is what calls see
   left_after : (left mbox : Option (List ℕ)) → left ≡ (files.stored to.file).content
       → mbox ≡ (files.stored to.store).content → Left left mbox
-  left_after left mbox is also then keeps =
-      let same = same_held laws.one (files.stored to.file).content then held'
-      (subst (λ (c : Option (List ℕ)). Keeps c then) is keeps) stands in
+  left_after _ _ is also then keeps =
+      let same = same_held laws.one _ then held' (subst (λ c. Keeps c then) is keeps) stands in
       rw (same, also) (done', after)
 
   -- just what calls see is left of the record's file, if it is safe
   record_left : IsSafeFile files to.file → (left : Option (List ℕ)) → MayLeave (files.disk to.file) left
       → left ≡ (files.stored to.file).content
-  record_left firm left may = by (files.stored to.file).content refl
+  record_left firm left may = by _ refl
     where
       by : (content : Option (List ℕ)) → (files.stored to.file).content ≡ content → left ≡ (files.stored to.file).content
       by None none = sure.0.1 none left may ∙ sym none
@@ -337,20 +321,18 @@ module _ (laws : Below) (D : Type 0) {F : Type 0} (files : FileGhosts F)
   -- the file was cut to the place of the intent that was read
   cut_before : (i : Intent) → held.intent ≡ Some i → (was : List ℕ) → (files.stored from.store).content ≡ Some was
       → HoldsSome base Among (record { rows = held.rows; intent = held.intent; file = take i.start was })
-  cut_before i opened was has = by before.0.stands refl
+  cut_before i opened was has = by _ refl
     where
       by : (s : Stands base (bytes_of base done) (mbox_holds held (files.stored from.store))) → before.0.stands ≡ s
           → HoldsSome base Among (record { rows = held.rows; intent = held.intent; file = take i.start was })
       by (inl closed) is = absurd (let never = sym closed.0 ∙ opened in cc)
       by (inr o) is =
-          let start : i.start ≡ length (bytes_of base done) =
-          ap (λ (j : Intent). j.start) (same_Some _ _ (sym opened ∙ o.intent)) in
-          let bytes : was ≡ bytes_of base done ++ o.part = sym (ap mail_in has) ∙ o.file in
-          let cut : bytes_of base done ++ [] ≡ take i.start was = append-nil (bytes_of base done)
-          ∙ sym (rw (start, bytes) (take-append_seam (bytes_of base done) o.part)) in (
+          let start = ap (λ j. j.start) (same_Some _ _ (sym opened ∙ o.intent)) in
+          let bytes = sym (ap mail_in has) ∙ o.file in
+          let cut = append-nil (bytes_of base done) ∙ sym (rw (start, bytes) (take-append_seam (bytes_of base done) o.part)) in (
             done,
-            subst (λ (f : List ℕ). Holds base Among done (record { rows = held.rows; intent = held.intent; file = f })) cut
-                (part_as base Among before o is [] tt),
+            subst (λ f. Holds base Among done (record { rows = held.rows; intent = held.intent; file = f })) cut
+                (part_as _ Among before o is [] tt),
           )
 
   module _ {items : List Item} {now : ℕ} (m : IsMerged AsEntries items now (in_mbox (files.stored from.store))
@@ -362,8 +344,8 @@ module _ (laws : Below) (D : Type 0) {F : Type 0} (files : FileGhosts F)
     merged_shows : (id : List ℕ)
         → is_delivered merged_rows id ≡ is_delivered (settled items (mbox_holds held (files.stored from.store))).rows id
     merged_shows id =
-        let was : m.was ≡ held = same_held laws.one (files.stored from.file).content m.was held m.stood stood in
-        rw was (delivered_unheld laws (settled items (mbox_holds held (files.stored from.store))).rows items now id)
+        let was = same_held laws.one _ m.was held m.stood stood in
+        rw was (delivered_unheld laws _ items now id)
 
     merged_reads : (left : Option (List ℕ)) (then : RecordState) → IsGrownAtMost m.was (none_open merged_rows) left
         ⊎ IsGrownAtMost (none_open merged_rows) (none_open merged_rows) left → Keeps left then
@@ -376,7 +358,7 @@ module _ (laws : Below) (D : Type 0) {F : Type 0} (files : FileGhosts F)
   unready_left : {items : List Item} {now : ℕ} (content : IsMergedAtMost AsEntries items now (in_mbox (files.stored from.store))
       (files.stored from.file) (in_mbox (files.stored to.store)) (files.stored to.file))
       → UnreadyLasts {D = D} files (InMbox from.store) from.file content (InMbox to.store) to.file → Leaves
-  unready_left (inl same) (no_more, inl still) left mbox may also = left_before left mbox (no_more left may) (still mbox also)
+  unready_left (inl _) (no_more, inl still) left mbox may also = left_before left mbox (no_more left may) (still mbox also)
   unready_left (inl same) (no_more, inr (firm, (state, keeps, settles))) left mbox may also =
       let was : state ≡ held = same_held laws.one (files.stored from.file).content state held
       (subst (λ (c : Option (List ℕ)). Keeps c state) same keeps) stood in
@@ -405,22 +387,19 @@ module _ (laws : Below) (D : Type 0) {F : Type 0} (files : FileGhosts F)
       let (first, here) = read_before mbox (still mbox also) in
       elim (leaves left may) [
         | inl could ↦ left_before left mbox could (still mbox also) then keeps
-        | inr are ↦ ⊎_elim (λ (read : then ≡ m.was). rw (read ∙ was) (first, here))
-            (λ (read : then ≡ none_open (merged_rows m)). rw read (
-              first,
-              closed_as base Among here (record {
-                rows = merged_rows m;
-                intent = None;
-                file = mail_in mbox;
-              }) refl (λ id. merged_shows m id ∙ rw none refl) (ends_whole base first _ here.0 none),
-            ))
-            (merged_reads m left then are keeps)
+        | inr are ↦ ⊎_elim (λ (read : then ≡ m.was). rw (read ∙ was) (first, here)) (λ (read : then ≡ none_open (merged_rows m)). rw read (
+          first,
+          closed_as base Among here (record {
+            rows = merged_rows m;
+            intent = None;
+            file = mail_in mbox;
+          }) refl (λ id. merged_shows m id ∙ rw none refl) (ends_whole base first _ here.0 none),
+        )) (merged_reads m left then are keeps)
       ]
   unready_left {items} (inr m) (inr (leaves, firm)) left mbox may also = λ then keeps.
       let was : m.was ≡ held = same_held laws.one (files.stored from.file).content m.was held m.stood stood in
       let (bytes, has, now_is, goes_on) = m.settles in
-      let some : (files.stored to.store).content ≡ Some (closed_file m.was.intent items bytes) =
-      ap (λ (s : Stored). s.content) now_is in
+      let some : (files.stored to.store).content ≡ Some (closed_file m.was.intent items bytes) = ap (λ (s : Stored). s.content) now_is in
       let file : mail_in mbox ≡ (settled items (mbox_holds held (files.stored from.store))).file =
       ap mail_in (mbox_left firm _ some mbox also ∙ some) ∙ rw (was, has) refl in
       elim (leaves left may) [
@@ -430,8 +409,7 @@ module _ (laws : Below) (D : Type 0) {F : Type 0} (files : FileGhosts F)
             rw (read, file) (file_settled base Among laws before rowed items)
         | inr are ↦ ⊎_elim (λ (read : then ≡ m.was). rw (read ∙ was, file) (file_settled base Among laws before rowed items))
             (λ (read : then ≡ none_open (merged_rows m)). rw (read, file) (all_settled base Among laws before rowed items
-            (merged_rows m) (merged_shows m)))
-            (merged_reads m left then are keeps)
+            (merged_rows m) (merged_shows m))) (merged_reads m left then are keeps)
       ]
 
   -- ---- it had its record ready
@@ -443,14 +421,13 @@ module _ (laws : Below) (D : Type 0) {F : Type 0} (files : FileGhosts F)
     quiet_left : (kept : IsFileKept c.mid.rows (files.stored from.file) c.mid.file)
         → KeptLasts files from.file c.mid.rows (files.stored from.file) c.mid.file kept to.file
         → LeavesStore {D = D} files (InMbox from.store) (InMbox to.store) → Leaves
-    quiet_left (inl same) un still left mbox may also = left_before left mbox (un.no_more left may) (still mbox also)
-    quiet_left (inr (kept, stale, anew)) (same, firm) still left mbox may also = λ then keeps.
+    quiet_left (inl _) un still left mbox may also = left_before _ _ (un.no_more left may) (still mbox also)
+    quiet_left (inr (kept, _, _)) (same, firm) still left mbox may also = λ then keeps.
         let now_is : Keeps (files.stored to.file).content (none_open c.mid.rows) =
         rw same (laws.steady c.mid.file.content (none_open c.mid.rows) c.prepared.saved) in
-        let read = same_held laws.one (files.stored to.file).content then (none_open c.mid.rows)
-        (subst (λ (o : Option (List ℕ)). Keeps o then) (record_left firm left may) keeps) now_is in
-        let was = same_held laws.one (files.stored from.file).content (none_open c.mid.rows) held kept stood in
-        rw (read ∙ was) (read_before mbox (still mbox also))
+        let read = same_held laws.one _ then (none_open c.mid.rows) (subst (λ o. Keeps o then) (record_left firm _ may) keeps) now_is in
+        let was = same_held laws.one _ (none_open c.mid.rows) held kept stood in
+        rw (read ∙ was) (read_before _ (still mbox also))
 
     -- or else this is left
     planned_left : (Safe : Type 0) → (Safe → Leaves) → (durable : (All IsQuiet (planned v.settings c.mid.rows items v.now)
@@ -458,11 +435,11 @@ module _ (laws : Below) (D : Type 0) {F : Type 0} (files : FileGhosts F)
         ⊎ AreDurable AsEntries c.prepared.was.rows items (in_mbox (files.stored from.store)))
         → UnlessQuiet {D = D} files (InMbox from.store) from.file c.mid.rows (files.stored from.file) c.mid.file durable Safe
         (InMbox to.store) to.file → Leaves
-    planned_left Safe leaves (inl (quiet, kept)) (keeps, still) = quiet_left kept keeps still
-    planned_left Safe leaves (inr durable) safe = leaves safe
+    planned_left Safe _ (inl (quiet, kept)) (keeps, still) = quiet_left kept keeps still
+    planned_left Safe leaves (inr _) safe = leaves safe
 
     mid_some : c.mid.store.mbox.content ≡ Some (settled items (mbox_holds held (files.stored from.store))).file
-    mid_some = (carried_starts laws v.settings v.now (keeps_entries old_files) held stood items place c).1
+    mid_some = (carried_starts laws _ _ (keeps_entries old_files) held stood items place c).1
 
   -- it did all its tasks
   ended_left : {items : List Item} {mid place : Place} {rows : List Row} {lines : List ReportLine} {skipped : Skips}
@@ -473,7 +450,7 @@ module _ (laws : Below) (D : Type 0) {F : Type 0} (files : FileGhosts F)
       → Leaves
   ended_left c lasts left mbox may also =
       let some = rw (mid_some c) at c.does.went.stored.content in
-      left_after left mbox (record_left lasts.1 left may) (mbox_left lasts.2 _ some mbox also)
+      left_after _ _ (record_left lasts.1 _ may) (mbox_left lasts.2 _ some _ also)
 
   -- ---- it was cut at a task
 
@@ -521,7 +498,7 @@ module _ (laws : Below) (D : Type 0) {F : Type 0} (files : FileGhosts F)
     abbrev bytes : List ℕ
     bytes = bytes_after laws v.settings v.now held (files.stored from.store) items c.does.dones
 
-    whole_holds : (stops : Stops AsEntries c.does.next c.does.mid cut end) {course : Course} {uid text : List ℕ}
+    whole_holds : Stops AsEntries c.does.next c.does.mid cut end → {course : Course} {uid text : List ℕ}
         → Planned v.settings AsEntries v.now (keeps_entries old_files) link link' (Err cut) notes.lines course
         → LeavesWhole laws v.settings v.now held (files.stored from.store) items starts.0 starts.1 c.does course uid text
         → HoldsWhole base Among (with_entry base Among c.does.mid.rows bytes uid text) text
@@ -567,7 +544,7 @@ module _ (laws : Below) (D : Type 0) {F : Type 0} (files : FileGhosts F)
     mid_is = mid_content laws v.settings v.now held (files.stored from.store) items starts.0 starts.1 c.does
 
     -- nothing was begun
-    unbegun : (stops : Stops AsEntries c.does.next c.does.mid cut end) (left mbox : Option (List ℕ))
+    unbegun : Stops AsEntries c.does.next c.does.mid cut end → (left mbox : Option (List ℕ))
         → IsGrownAtMost (none_open c.does.mid.rows) (none_open c.does.mid.rows) left → mbox ≡ Some bytes → Left left mbox
     unbegun stops left mbox grown is then keeps = by stops
       where
@@ -623,11 +600,11 @@ module _ (laws : Below) (D : Type 0) {F : Type 0} (files : FileGhosts F)
           (keeps_entries new_files) session.notes) → LeavesLink result session.mid link'
           → Reports (outcome_of result) session.notes.total session.notes.skipped session.notes.lines v.report
           → ProceedsLast {D = D} files (InMbox from.store) from.file _ _ _ _ _ _ _ _ _ proceeds (InMbox to.store) to.file → Leaves
-      by (Ok done) dealt leaves reports lasts =
+      by (Ok done) dealt _ _ lasts =
           let c = dealt.carries.1 in planned_left c _ (ended_left c) c.prepared.durable (lasts are_sure)
-      by (Err cut) (inl stopped) leaves reports (un, still) =
+      by (Err _) (inl _) _ _ (un, still) =
           λ left mbox may also. left_before left mbox (un.no_more left may) (still mbox also)
-      by (Err cut) (inr (inl wanting)) leaves reports (un, still) =
+      by (Err _) (inr (inl _)) _ _ (un, still) =
           λ left mbox may also. left_before left mbox (un.no_more left may) (still mbox also)
       by (Err cut) (inr (inr dealt)) leaves reports lasts = of dealt.carries lasts
         where
@@ -638,6 +615,6 @@ module _ (laws : Below) (D : Type 0) {F : Type 0} (files : FileGhosts F)
               (in_mbox (files.stored from.store)) (files.stored from.file) [] (Err cut) session.mid
               (in_mbox (files.stored to.store)) (files.stored to.file) session.notes.lines session.notes.skipped carries
               (InMbox to.store) to.file → Leaves
-          of (rows, inl (none, unprepared)) lasts = unready_left unprepared.unready.content (lasts are_sure)
+          of (_, inl (_, unprepared)) lasts = unready_left unprepared.unready.content (lasts are_sure)
           of (rows, inr c) lasts = planned_left c _ (cut_left dealt.items dealt.mid session.mid session.notes rows cut dealt.enters
               dealt.total c leaves reports) c.prepared.durable (lasts are_sure)

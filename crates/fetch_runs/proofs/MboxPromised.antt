@@ -39,26 +39,26 @@ use Rattle.std.proofs.lemmas.List.Folds.{flat_map-map}
 
 absent : (ns : List Message) (id : List ℕ) → AllByRecursion (λ (n : Message). bytes_eq n.uid id ≡ false) ns
     → has_id (message_ids ns) id ≡ false
-absent [] id h = refl
-absent (n ∷ ns) id h = grind (arith, h.0, bytes_swap n.uid id, absent ns id h.1)
+absent [] _ h = refl
+absent (n ∷ ns) id h = grind (arith, h.0, bytes_swap, absent ns id h.1)
 
 distinct_both : (ms ns : List Message) → Distinct (message_ids ms) → Distinct (message_ids ns)
     → AllByRecursion (λ (n : Message). has_id (message_ids ms) n.uid ≡ false) ns → Distinct (message_ids (ms ++ ns))
-distinct_both [] ns d e h = e
+distinct_both [] _ d e h = e
 distinct_both (m ∷ ms) ns d e h = (
-  grind (arith, d.0, ids_both ms ns m.uid, absent ns m.uid (all_map ns h (λ x k. (or_parts _ _ k).0))),
+  grind (arith, d.0, ids_both, absent ns m.uid (all_map ns h (λ x k. (or_parts _ _ k).0))),
   distinct_both ms ns d.1 e (all_map ns h (λ x k. (or_parts _ _ k).1)),
 )
 
 -- ---- entries
 
 pub entries-append : (ms ns : List Message) → entries_of (ms ++ ns) ≡ entries_of ms ++ entries_of ns
-entries-append ms ns = flat_map-append (λ (m : Message). entry_of m.text) ms ns
+entries-append ms ns = flat_map-append (λ m. entry_of m.text) ms ns
 
 -- an open intent has a row
 pub open_row : Below → (content : Option (List ℕ)) (rows : List Row) (intent : Option Intent)
     → FileStandsFor content rows intent → (i : Intent) → intent ≡ Some i → has_row rows i.uid ≡ true
-open_row laws None rows intent stands i is = absurd (let never = sym stands.1 ∙ is in cc)
+open_row _ None rows _ stands i is = absurd (let never = sym stands.1 ∙ is in cc)
 open_row laws (Some bytes) rows intent (version, torn, means) i is = (rw is at (laws.rowed bytes version rows intent torn means)).1
 
 -- what is left of an entry is all of it and counts, or is cut off
@@ -75,32 +75,31 @@ pub at_place : (drop' : List Message) (qs : List (ℕ × Message)) (texts : List
     × Item} {text : List ℕ} → AllByRecursion (IsNumbered drop') qs
     → AreTexts drop' (map num_item qs) texts → slice_get (map num_item qs) n ≡ Some message → slice_get texts n ≡ Some text
     → (q : ℕ × Message) × (message ≡ num_item q) × (text ≡ q.1.text) × (take (suc n) qs ≡ take n qs ++ q ∷ [])
-at_place drop' qs [] n h t w g = absurd cc
-at_place drop' [] (x ∷ texts) n h t w g = absurd t
-at_place drop' (q ∷ qs) (x ∷ texts) zero h t w g =
-    let same : t.0.0 ≡ q.1 = same_Some _ _ (sym t.0.1 ∙ h.0.1) in
-    (q, sym (same_Some _ _ w), sym (same_Some _ _ g) ∙ t.0.2 ∙ ap (λ (m : Message). m.text) same, refl)
-at_place drop' (q ∷ qs) (x ∷ texts) (suc n) h t w g =
-    let r = at_place drop' qs texts n h.1 t.1 w g in (r.0, r.1, r.2, ap (λ l. q ∷ l) r.3)
+at_place _ qs [] n h t w g = absurd cc
+at_place _ [] (x ∷ _) n h t w g = absurd t
+at_place _ (q ∷ qs) (x ∷ _) zero h t w g =
+    let same = same_Some _ _ (sym t.0.1 ∙ h.0.1) in
+    (q, sym (same_Some _ _ w), sym (same_Some _ _ g) ∙ t.0.2 ∙ ap (λ m. m.text) same, refl)
+at_place _ (q ∷ qs) (x ∷ texts) (suc n) h t w g = let r = at_place _ qs texts n h.1 t.1 w g in (r.0, r.1, r.2, ap (λ l. q ∷ l) r.3)
 
 -- ---- what is next
 
 -- all but one
 without_one : (n : Message) (ms later : List Message) → Distinct (message_ids ms) → BeginsWith ms (n ∷ later)
     → BeginsWith (filter (λ (m : Message). not (bytes_eq m.uid n.uid)) ms) later
-without_one n [] later d begins = (later, refl)
+without_one n [] later d _ = (later, refl)
 without_one n (x ∷ xs) later d (more, e) =
     let same : n ≡ x = cc in
     let tail : later ≡ xs ++ more = cc in
     let apart = all_map _ (members xs)
-    (λ m there. ap not (false_from_ne_true _ (λ equal. both_ways _ (other_id x xs m.uid d.0 equal) there))) in
+    (λ m there. ap not (false_from_ne_true _ (λ equal. both_ways _ (other_id x xs _ d.0 equal) there))) in
     subst (λ (k : Message). BeginsWith (filter (λ (m : Message). not (bytes_eq m.uid k.uid)) (x ∷ xs)) later) (sym same)
-    (more, rw (bytes_self x.uid) (tail ∙ ap (λ l. l ++ more) (sym (filter_all (λ (m : Message). not (bytes_eq m.uid x.uid)) xs apart))))
+    (more, rw bytes_self (tail ∙ ap (λ l. l ++ more) (sym (filter_all _ xs apart))))
 
 next_less : (limit : ℕ) (done : List Message) (n : Message) (ms : List Message)
     → next_in limit (done ++ n ∷ []) ms ≡ filter (λ (m : Message). not (bytes_eq m.uid n.uid)) (next_in limit done ms)
-next_less limit done n [] = refl
-next_less limit done n (m ∷ ms) = grind (arith, ids_both done (n ∷ []) m.uid, next_less limit done n ms)
+next_less _ _ n [] = refl
+next_less limit done n (m ∷ ms) = grind (arith, ids_both, next_less limit done n ms)
 
 -- what holds of what stands on the right
 of_right : {A B : Type 0} (P : B → Type 0) {both : A ⊎ B} {a b : B} → both ≡ inr a → P a → both ≡ inr b → P b
@@ -121,52 +120,48 @@ module _ (base : Base) where
   -- more messages that aren't recorded
   grown : (done more : List Message) → AreEntered done → AllByRecursion (IsOf base.text) more
       → Distinct (message_ids more) → AllByRecursion (λ (m : Message). is_entered base done m.uid ≡ false) more → AreEntered (done ++ more)
-  grown done more are each distinct fresh = (
+  grown _ _ are each distinct fresh = (
     record {
       each = all_append _ _ _ are.0.each each;
-      distinct = are_distinct _ (distinct_both done more (distinct_is done are.0.distinct) distinct
-          (all_map more fresh (λ m f. (or_parts _ _ f).1)));
+      distinct = are_distinct _ (distinct_both _ _ (distinct_is _ are.0.distinct) distinct (all_map _ fresh (λ m f. (or_parts _ _ f).1)));
     },
-    all_append _ _ _ are.1 (all_map more fresh (λ m f. (or_parts _ _ f).0)),
+    all_append _ _ _ are.1 (all_map _ fresh (λ m f. (or_parts _ _ f).0)),
   )
 
   abbrev pub bytes_of : List Message → List ℕ
   bytes_of done = base.start ++ entries_of done
 
   bytes_more : (done more : List Message) → bytes_of (done ++ more) ≡ bytes_of done ++ entries_of more
-  bytes_more done more = ap (λ l. base.start ++ l) (entries-append done more)
-      ∙ sym (append_assoc base.start (entries_of done) (entries_of more))
+  bytes_more done more = ap (λ l. base.start ++ l) (entries-append _ _) ∙ sym (append_assoc base.start (entries_of done) (entries_of more))
 
   pub one_more : (done : List Message) (next : Message) → bytes_of done ++ entry_of next.text ≡ bytes_of (done ++ next ∷ [])
-  one_more done next = rw (bytes_more done (next ∷ [])) (simp append-nil)
+  one_more done next = rw bytes_more (simp append-nil)
 
   -- the entry of an open intent is whole, and the intent is closed
   pub entered : Below → {done : List Message} {was : MboxMail} → HoldsEntries base done was
       → (o : IsOpenFor base (bytes_of done) was) → has_row was.rows o.next.uid ≡ true → (now : MboxMail)
       → now.rows ≡ marked was.rows o.next.uid → now.intent ≡ None → now.file ≡ bytes_of done ++ entry_of o.next.text
       → HoldsEntries base (done ++ o.next ∷ []) now
-  entered laws {done} {was} kept o rowed now rows closed file =
-      let more = grown done (o.next ∷ []) (kept.are, kept.new) (o.is, tt) (refl, tt)
-      (sym (kept.recorded o.next.uid) ∙ o.unrecorded, tt) in
+  entered laws {done} kept o rowed _ rows closed file =
+      let more = grown done _ (kept.are, kept.new) (o.is, tt) (refl, tt) (sym (kept.recorded o.next.uid) ∙ o.unrecorded, tt) in
       record {
         are = more.0;
         new = more.1;
-        recorded = λ id. ap (λ r. is_delivered r id) rows ∙ delivered_one laws was.rows o.next.uid id rowed
-            ∙ ap (λ b. b || bytes_eq id o.next.uid) (kept.recorded id)
-            ∙ ap (λ b. is_entered base done id || b) (sym (or-false (bytes_eq id o.next.uid)))
-            ∙ sym (in_more done (o.next ∷ []) id);
-        stands = inl (closed, file ∙ one_more done o.next);
+        recorded = λ id. ap (λ r. is_delivered r id) rows ∙ delivered_one laws _ o.next.uid id rowed
+            ∙ ap (λ b. b || bytes_eq id o.next.uid) (kept.recorded id) ∙ ap (λ b. is_entered base done id || b) (sym (or-false _))
+            ∙ sym (in_more _ _ id);
+        stands = inl (closed, file ∙ one_more _ o.next);
       }
 
   -- nothing more, or the message whose intent was open
   abbrev pub IsMore : (bytes : List ℕ) (account : MboxMail) → Stands base bytes account → List Message → Type 0
-  IsMore bytes account (inl closed) more = more ≡ []
-  IsMore bytes account (inr o) more = (more ≡ []) ⊎ (more ≡ o.next ∷ [])
+  IsMore _ account (inl _) more = more ≡ []
+  IsMore _ account (inr o) more = (more ≡ []) ⊎ (more ≡ o.next ∷ [])
 
   -- without an open intent the file ends after these entries
   pub ends_whole : (done : List Message) (account : MboxMail) → HoldsEntries base done account → account.intent ≡ None
       → account.file ≡ bytes_of done
-  ends_whole done account holds closed = ⊎_elim (λ c. c.1) (λ o. absurd (let never = sym closed ∙ o.intent in cc)) holds.stands
+  ends_whole _ account holds closed = ⊎_elim (λ c. c.1) (λ o. absurd (let never = sym closed ∙ o.intent in cc)) holds.stands
 
   -- an open intent is that of the first of these
   abbrev pub IsNext : (bytes : List ℕ) (account : MboxMail) → List Message → Stands base bytes account → Type 0
@@ -174,21 +169,19 @@ module _ (base : Base) where
 
   pub next_is : {bytes : List ℕ} {account : MboxMail} {rest : List Message} (o : IsOpenFor base bytes account)
       (more : List Message) → rest ≡ o.next ∷ more → IsNext bytes account rest (inr o)
-  next_is {bytes} {account} o more first = λ p same. let is : o ≡ p = cc
-      in (more, first ∙ ap (λ (q : IsOpenFor base bytes account). q.next ∷ more) is)
+  next_is {bytes} {account} o more first = λ p same. let is : o ≡ p = cc in (more, first ∙ ap (λ q. q.next ∷ more) is)
 
   -- after it was settled the next are these
   ahead : (limit : ℕ) (done ms : List Message) → Distinct (message_ids ms)
       → (bytes : List ℕ) (account : MboxMail) (stands : Stands base bytes account) (rest more : List Message)
       → IsNext bytes account rest stands → IsMore bytes account stands more → BeginsWith (next_in limit done ms) rest
       → (later : List Message) × (rest ≡ more ++ later) × BeginsWith (next_in limit (done ++ more) ms) later
-  ahead limit done ms d bytes account (inl closed) rest more next is begins = (rest, rw is refl, rw (is, append-nil) begins)
-  ahead limit done ms d bytes account (inr o) rest more next (inl is) begins = (rest, rw is refl, rw (is, append-nil) begins)
-  ahead limit done ms d bytes account (inr o) rest more next (inr is) begins = let (later, first) = next o refl in (
+  ahead _ _ _ d _ account (inl _) rest _ _ is begins = (rest, rw is refl, rw (is, append-nil) begins)
+  ahead _ _ _ d _ account (inr o) rest _ _ (inl is) begins = (rest, rw is refl, rw (is, append-nil) begins)
+  ahead limit done ms d _ account (inr o) _ _ next (inr is) begins = let (later, first) = next o refl in (
     later,
     rw is first,
-    rw (is, next_less limit done o.next ms) (without_one o.next (next_in limit done ms) later
-        (distinct_filter _ ms d) (rw first at begins)),
+    rw (is, next_less limit done o.next ms) (without_one _ _ _ (distinct_filter _ ms d) (rw first at begins)),
   )
 
   -- a closed account whose file is these bytes, with some more entries perhaps
@@ -200,14 +193,14 @@ module _ (base : Base) where
       (rowed : (i : Intent) → before.intent ≡ Some i → has_row before.rows i.uid ≡ true) where
     no_more : (listing : List Item) → (settled listing before).rows ≡ before.rows → (settled listing before).file ≡ bytes_of done
         → HoldsEntries base (done ++ []) (settled listing before) × ((settled listing before).file ≡ bytes_of (done ++ []))
-    no_more listing rows file = (
+    no_more _ rows file = (
       rw append-nil (record { are = kept.are; new = kept.new; recorded = rw rows kept.recorded; stands = inl (refl, file) }),
       rw append-nil file,
     )
 
     settle_by : (listing : List Item) (stands : Stands base (bytes_of done) before)
         → Settled done (bytes_of done) before stands (settled listing before)
-    settle_by listing (inl closed) = let same = no_more listing (rw closed.0 refl) (rw closed.0 closed.1) in ([], same.0, same.1, refl)
+    settle_by listing (inl closed) = let same = no_more _ (rw closed.0 refl) (rw closed.0 closed.1) in ([], same.0, same.1, refl)
     settle_by listing (inr o) = elim (settled_is laws listing o) [
       | inr (rows, file) ↦ let same = no_more listing rows file in ([], same.0, same.1, inl refl)
       | inl (rows, file) ↦ (
@@ -219,7 +212,7 @@ module _ (base : Base) where
     ]
 
     pub settle : (listing : List Item) → Settled done (bytes_of done) before kept.stands (settled listing before)
-    settle listing = settle_by listing kept.stands
+    settle _ = settle_by _ _
 
     -- what there is of one more entry is as it was, or a front of it
     abbrev pub IsPart : MboxMail → Message → List ℕ → Type 0
@@ -234,7 +227,7 @@ module _ (base : Base) where
         | inr cut ↦ elim (settled_is laws did.listing o) [
           | inl whole ↦ let entry = entry_of o.next.text in (
             entry,
-            all_left (length (bytes_of done)) entry,
+            all_left _ entry,
             cut ∙ whole.1,
             inr ([], sym (append-nil entry)),
           )
@@ -264,7 +257,7 @@ module _ (base : Base) where
 
       part_stands : (stands : Stands base (bytes_of done) before) (o : IsOpenFor base (bytes_of done) now)
           → left_stands stands ≡ inr o → IsPart now o.next o.part
-      part_stands (inl closed) o is = absurd cc
+      part_stands (inl _) o is = absurd cc
       part_stands (inr was) o is = of_right (λ (p : IsOpenFor base (bytes_of done) now). IsPart now p.next p.part) refl (reopened was).3 is
 
       pub left_kept : HoldsEntries base done now
@@ -272,7 +265,7 @@ module _ (base : Base) where
 
       left_part : (o : IsOpenFor base (bytes_of done) now) → left_kept.stands ≡ inr o → IsPart now o.next o.part
       unfolding left_kept
-      left_part = part_stands kept.stands
+      left_part = part_stands _
 
     -- ---- one session that stored something
 
@@ -286,13 +279,13 @@ module _ (base : Base) where
       account = settled did.listing before
 
       pub origin : Settled done (bytes_of done) before kept.stands account
-      origin = settle did.listing
+      origin = settle _
 
       abbrev pub was : List Message
       was = done ++ origin.0
 
       pub fetch : Fetch v.settings rows v.maildrop did
-      fetch = record { filtered = laws.filtered; distinct = distinct_is v.maildrop is.distinct; honest = honest }
+      fetch = record { filtered = laws.filtered; distinct = distinct_is _ is.distinct; honest = honest }
 
       abbrev pub new : ℕ → List Message
       new n = take n (wants v.settings rows v.maildrop)
@@ -307,17 +300,15 @@ module _ (base : Base) where
       fresh n = all_take _ n _ (all_map _ (none_recorded fetch only_new) (λ m k. sym (known m.uid) ∙ k))
 
       has_rows : (n : ℕ) → AllByRecursion (λ (m : Message). has_row rows m.uid ≡ true) (new n)
-      has_rows n = all_new _ n (all_map _ (members v.maildrop) (λ m e.
-          laws.listed account.rows did.listing (none_held did.listing) did.now m.uid
-          ∙ or_right _ _ (has_listed v.maildrop honest.listing m.uid ∙ e)))
+      has_rows n = all_new _ n (all_map _ (members _) (λ m e. laws.listed account.rows did.listing (none_held did.listing) did.now m.uid
+          ∙ or_right _ _ (has_listed _ honest.listing _ ∙ e)))
 
       rows_are : now.rows ≡ marked_all rows (message_ids (new s.stored))
       rows_are = s.rows ∙ ap (marked_all rows) (wanted_ids fetch s.stored)
 
       pub recorded_after : (id : List ℕ) → is_delivered now.rows id ≡ is_entered base (was ++ new s.stored) id
-      recorded_after id = ap (λ r. is_delivered r id) rows_are ∙ delivered_all laws rows (message_ids (new s.stored)) id
-          (all_mapped (λ id. has_row rows id ≡ true) _ _ (has_rows s.stored))
-          ∙ ap (λ b. b || has_id (message_ids (new s.stored)) id) (known id) ∙ sym (in_more was (new s.stored) id)
+      recorded_after id = ap (λ r. is_delivered r id) rows_are ∙ delivered_all laws _ _ id (all_mapped _ _ _ (has_rows _))
+          ∙ ap (λ b. b || has_id (message_ids (new s.stored)) id) (known id) ∙ sym (in_more _ _ id)
 
       pub bytes_are : account.file ++ entries (take s.stored did.texts) ≡ bytes_of (was ++ new s.stored)
       bytes_are = rw (
@@ -328,7 +319,7 @@ module _ (base : Base) where
 
       placed : (b : IsBroken v.settings before did s.stored now) → (q : ℕ × Message) × (b.message ≡ num_item q)
           × (b.text ≡ q.1.text) × (take (suc s.stored) (qs fetch) ≡ take s.stored (qs fetch) ++ q ∷ [])
-      placed b = at_place v.maildrop (qs fetch) did.texts s.stored (wants_placed v.settings rows v.maildrop)
+      placed b = at_place _ _ did.texts s.stored (wants_placed v.settings rows v.maildrop)
           (rw (wanted_is fetch) at honest.texts) (rw (wanted_is fetch) at b.wanted) b.got
 
       broken_taken : (b : IsBroken v.settings before did s.stored now) → new (suc s.stored) ≡ new s.stored ++ (placed b).0.1 ∷ []
@@ -383,8 +374,7 @@ module _ (base : Base) where
 
       -- an open intent is that of the text that came
       pub opened_after : (b : IsBroken v.settings before did s.stored now) → s.ending ≡ inr b
-          → (o : IsOpenFor base (bytes_of (was ++ new s.stored)) now) × (holds_after.stands ≡ inr o)
-          × (o.next.text ≡ b.text)
+          → (o : IsOpenFor base (bytes_of (was ++ new s.stored)) now) × (holds_after.stands ≡ inr o) × (o.next.text ≡ b.text)
       unfolding broken holds_after
       opened_after b is = (broken b, ap stands_at is, sym (placed b).2)
 
@@ -396,7 +386,7 @@ module _ (base : Base) where
 
       part_after : (o : IsOpenFor base (bytes_of (was ++ new s.stored)) now) → holds_after.stands ≡ inr o → IsPart now o.next o.part
       unfolding holds_after
-      part_after = part_of s.ending
+      part_after = part_of _
 
       -- an uncut session retrieved all that was wanted
       all_retrieved : did.ended ≡ true → v.report.outcome ≡ Ended → v.report.retrieved ≡ length (mbox_wanted v.settings before did)
@@ -448,19 +438,19 @@ module _ (base : Base) where
         later : (rest : List Message) × (front.rest ≡ origin.0 ++ rest)
             × BeginsWith (next_in v.settings.max_size (front.first ++ was) v.maildrop) rest
         later =
-            let l = ahead v.settings.max_size (front.first ++ done) v.maildrop (distinct_is v.maildrop is.distinct)
+            let l = ahead _ _ _ (distinct_is _ is.distinct)
             (bytes_of done) before kept.stands front.rest origin.0 front.next origin.3 next in
-            (l.0, l.1, rw (append_assoc front.first done origin.0) at l.2)
+            (l.0, l.1, rw append_assoc at l.2)
 
         prefix_was : all ≡ (front.first ++ was) ++ later.0
-        prefix_was = front.prefix ∙ ap (λ (l : List Message). (front.first ++ done) ++ l) later.1 ∙ simp append_assoc
+        prefix_was = front.prefix ∙ ap (λ l. (front.first ++ done) ++ l) later.1 ∙ simp append_assoc
 
         known_was : (id : List ℕ) → is_delivered rows id ≡ has_id (message_ids (front.first ++ was)) id
-        known_was id = known id ∙ ap (λ b. b || has_id (message_ids was) id) (front.had id) ∙ sym (ids_both front.first was id)
+        known_was id = known id ∙ ap (λ b. b || has_id (message_ids was) id) (front.had id) ∙ sym (ids_both _ _ id)
 
         done_known : AllByRecursion (λ (m : Message). is_delivered rows m.uid ≡ true
             → has_id (message_ids (front.first ++ was)) m.uid ≡ true) v.maildrop
-        done_known = all_map _ (members v.maildrop) (λ m _ d. sym (known_was m.uid) ∙ d)
+        done_known = all_map _ (members _) (λ m _ d. sym (known_was _) ∙ d)
 
         abbrev rest_after : (n : ℕ) → BeginsWith (added fetch (front.first ++ was) later.0 done_known later.2 n) later.0
         rest_after = added_begins fetch (front.first ++ was) later.0 done_known later.2
@@ -481,18 +471,18 @@ module _ (base : Base) where
             )
 
         next_after : (ending : Ending) → Next (stands_at ending)
-        next_after (inl c) = ((rest_after s.stored).0, prefix_new s.stored, λ o e. absurd cc)
+        next_after (inl c) = ((rest_after _).0, prefix_new _, λ o e. absurd cc)
         next_after (inr b) = next_open b
 
         pub front_after : IsMboxFront base holds_after all
         unfolding holds_after
-        front_after = let next' = next_after s.ending
+        front_after = let next' = next_after _
             in record { first = front.first; rest = next'.0; prefix = next'.1; had = front.had; next = next'.2 }
 
     left_front : (now : MboxMail) (did : Effect) (h : MboxLeaves before did now) (all : List Message)
         → IsMboxFront base kept all → IsMboxFront base (left_kept now did h) all
     unfolding left_kept
-    left_front now did h all front = record {
+    left_front now did h _ front = record {
       first = front.first;
       rest = front.rest;
       prefix = front.prefix;
@@ -502,7 +492,7 @@ module _ (base : Base) where
       where
         go : (stands : Stands base (bytes_of done) before) → IsNext (bytes_of done) before front.rest stands
             → IsNext (bytes_of done) now front.rest (left_stands now did h stands)
-        go (inl closed) next = λ o e. absurd cc
+        go (inl _) _ = λ o e. absurd cc
         go (inr o) next = let (more, first) = next o refl in next_is _ more first
 
     -- ---- one session
@@ -558,9 +548,9 @@ module _ (base : Base) where
           }
 
 pub starts : MboxStarts
-starts base account closed = record {
+starts _ account closed = record {
   are = record { each = tt; distinct = are_distinct [] tt };
   new = tt;
-  recorded = λ id. sym (or-false (is_delivered account.rows id));
+  recorded = λ _. sym (or-false _);
   stands = inl (closed, sym (append-nil account.file));
 }

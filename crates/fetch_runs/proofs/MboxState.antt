@@ -44,29 +44,26 @@ use Rattle.fetch_session.proofs.TextLemmas.{same_content}
 
 -- the file was only looked at
 pub same_looked : (old new : Stores) (fault : Fault) → RefusesAgain old fault new → new.mbox.content ≡ old.mbox.content
-same_looked old new fault refuses = let looked = refuses.2 in grind (arith, looked)
+same_looked _ _ _ refuses = let looked = refuses.2 in grind (arith, looked)
 
 -- ---- texts
 
 -- no message counts as held, so each text that was retrieved was to be stored
 texts_one : (items : List Item) (task : Task) (replies : List WholeReply) → IsRight [] no_maildir items task
     → texts_in task replies ≡ map text_found (found_in task replies)
-texts_one items (stores number uid) replies right =
-    sym (map-map text_found (λ (reply : WholeReply). (number, body_text reply.body)) replies)
-texts_one items (rereads number uid) replies right = absurd cc
-texts_one items other replies right = refl
+texts_one _ (stores number _) replies _ = sym (map-map text_found (λ (reply : WholeReply). (number, body_text reply.body)) replies)
+texts_one _ (rereads _ _) replies right = absurd cc
+texts_one _ _ _ _ = refl
 
 texts_same : (items : List Item) (dones : List Done) → AllByRecursion (IsRight [] no_maildir items) (tasks_of dones)
     → done_texts dones ≡ texts_by dones
-texts_same items [] right = refl
-texts_same items (d ∷ dones) right =
-    simp (map-append, texts_one items d.task d.replies right.0, texts_same items dones right.1)
+texts_same _ [] _ = refl
+texts_same items (d ∷ dones) right = simp (map-append, texts_one items d.task d.replies right.0, texts_same items dones right.1)
 
 -- ---- the next message
 
 front_texts : (texts more : List (List ℕ)) (dones : List Done) → texts ≡ texts_by dones ++ more → take (count dones) texts ≡ texts_by dones
-front_texts texts more dones are =
-    rw are (take_at (texts_by dones) more (count dones) (length-map (found_by dones) text_found))
+front_texts _ more dones are = rw are (take_at (texts_by dones) more _ (length-map (found_by dones) text_found))
 
 -- ---- what a text that wasn't appended leaves
 
@@ -86,18 +83,16 @@ module _ (steadies : SteadyFilesKeep) (unsaved : UnsavedFilesKeep) (was : List �
 
   with_nothing : (other : List ℕ) → mbox.content ≡ Some other → mbox'.content ≡ mbox.content
       → Keeps file'.content (with_open rows (intent_of other uid text)) → LeavesEntry was rows uid text mbox' file'
-  with_nothing other is same keeps = inr ([], entry_of text, refl, same ∙ there ∙ ap Some (sym (append-nil was)), open_for other is keeps)
+  with_nothing _ is same keeps = inr ([], entry_of text, refl, same ∙ there ∙ ap Some (sym (append-nil was)), open_for _ is keeps)
 
   -- no intent was saved; or it was closed again, unless that was refused
   unopened : (file' ≡ file) ⊎ IsTakenBack mbox file rows uid text file' → mbox'.content ≡ mbox.content
       → LeavesEntry was rows uid text mbox' file'
   unopened (inl is) same = inl (same ∙ there, rw is (steadies file.content (none_open rows) steady))
-  unopened (inr (other, is, opened, saves, inl closes)) same =
-      inl (same ∙ there, steadies file'.content (none_open rows) (closes.1 (saves.1 steady)))
+  unopened (inr (_, _, _, saves, inl closes)) same = inl (same ∙ there, steadies file'.content (none_open rows) (closes.1 (saves.1 steady)))
   unopened (inr (other, is, opened, saves, inr closes)) same =
-      ⊎_elim (with_nothing other is same) (λ new. inl (same ∙ there, new))
-      (unsaved opened (with_open rows (intent_of other uid text)) (none_open rows) SeenRefused file'
-      closes (saves.1 steady))
+      ⊎_elim (with_nothing _ is same) (λ new. inl (same ∙ there, new))
+      (unsaved opened (with_open rows (intent_of other uid text)) (none_open rows) SeenRefused file' closes (saves.1 steady))
 
   leaves_entry : (fault : Fault) → RefusesEntry mbox file rows uid text fault mbox' file' → LeavesEntry was rows uid text mbox' file'
   leaves_entry (StoreRefused why.Missing) (none, same, is) = unopened (inl is) (same_content same)
@@ -108,14 +103,14 @@ module _ (steadies : SteadyFilesKeep) (unsaved : UnsavedFilesKeep) (was : List �
         behind,
         entry,
         rw (now, same_Some bytes was (sym goes_on.0 ∙ there)) refl,
-        open_for other is (steadies file'.content (with_open rows (intent_of other uid text)) (saves.1 steady)),
+        open_for _ is (steadies file'.content (with_open rows (intent_of other uid text)) (saves.1 steady)),
       )
-  leaves_entry (StoreRefused why.NotMbox) (other, same, back) = unopened (inr back) (same_content same)
+  leaves_entry (StoreRefused why.NotMbox) (_, same, back) = unopened (inr back) (same_content same)
   leaves_entry SeenRefused (same, (other, is, saves)) =
-      ⊎_elim (λ old. inl (same_content same ∙ there, old)) (with_nothing other is (same_content same))
+      ⊎_elim (λ old. inl (same_content same ∙ there, old)) (with_nothing _ is (same_content same))
       (unsaved file (none_open rows) (with_open rows (intent_of other uid text)) SeenRefused file' saves steady)
   leaves_entry NoMemory (same, how) = unopened how (same_content same)
-  leaves_entry other never = absurd never
+  leaves_entry _ never = absurd never
 
 -- ---- the account that a session left, and what it found
 
@@ -185,23 +180,21 @@ module _ (laws : Below) (settings : Settings) (now : ℕ) (held : RecordState) (
     abbrev pub bytes_after : List Done → List ℕ
     bytes_after dones = bytes_settled items held mbox ++ entries (texts_by dones)
 
-    bytes_are : {result : Result (Unit {0}) Cut} {taken full noted : List Done}
-        {spare : List WholeReply} {under : List Task}
+    bytes_are : {result : Result (Unit {0}) Cut} {taken full noted : List Done} {spare : List WholeReply} {under : List Task}
         → Tally (q items) result (course items taken spare under) full noted (Unit {0}) → (more : List (List ℕ))
         → texts_by full ≡ texts_by taken ++ more
         → bytes_at (mbox_holds held mbox) (effect_of now (is_ended result) (course items taken spare under))
         (count taken) ≡ bytes_after taken
-    bytes_are {taken = taken} t more texts = ap (λ (ts : List (List ℕ)). bytes_settled items held mbox ++ entries ts)
-        (front_texts _ more taken (ap (map text_found) t.found ∙ texts))
+    bytes_are {taken = taken} t _ texts = ap (λ ts. bytes_settled items held mbox ++ entries ts)
+        (front_texts _ _ taken (ap (map text_found) t.found ∙ texts))
 
     -- no intent is open
-    lead_closed : {result : Result (Unit {0}) Cut} {taken full : List Done}
-        {spare : List WholeReply} {under : List Task}
+    lead_closed : {result : Result (Unit {0}) Cut} {taken full : List Done} {spare : List WholeReply} {under : List Task}
         → Tally (q items) result (course items taken spare under) full taken (Unit {0})
         → (mbox' : Stored) (content' : Option (List ℕ)) (more : List (List ℕ)) → texts_by full ≡ texts_by taken ++ more
         → Keeps content' (none_open (rows_after (q items) taken)) → mail_in mbox'.content ≡ bytes_after taken
         → MboxLeading result (course items taken spare under) mbox' content'
-    lead_closed t mbox' content' more texts keeps file = record {
+    lead_closed t _ content' more texts keeps file = record {
       full = _;
       noted = _;
       tally = t;
@@ -225,18 +218,18 @@ module _ (laws : Below) (settings : Settings) (now : ℕ) (held : RecordState) (
         MboxStopped c = MboxLeading (Err cut) c new.store.mbox new.file.content
 
         pub mid_content : fell.mid.store.mbox.content ≡ Some (bytes_after fell.dones)
-        mid_content = content_after fell.dones fell.mid fell.went (part_done laws (q items) starts fell)
+        mid_content = content_after _ _ fell.went (part_done laws (q items) starts fell)
 
         same_held : (content : Option (List ℕ)) (intent : Option Intent) → Keeps content (record_state fell.mid.rows intent)
             → Keeps content (record_state (rows_after (q items) fell.dones) intent)
-        same_held content intent keeps = rw (← mid_rows laws (q items) starts fell.dones fell.mid fell.went) keeps
+        same_held _ _ keeps = rw (← mid_rows laws (q items) starts fell.dones fell.mid fell.went) keeps
 
         -- nothing more was recorded or appended
         mbox_still : {spare : List WholeReply} {under : List Task}
             → Tally (q items) (Err cut) (course items fell.dones spare under) fell.dones fell.dones (Unit {0})
             → new.store.mbox.content ≡ fell.mid.store.mbox.content → new.file ≡ fell.mid.file
             → MboxStopped (course items fell.dones spare under)
-        mbox_still t same file = lead_closed t new.store.mbox new.file.content [] (sym (append-nil _))
+        mbox_still t same file = lead_closed t _ _ [] (sym (append-nil _))
             (rw file (mid_keeps laws (q items) starts fell.dones fell.mid fell.went)) (ap mail_in (same ∙ mid_content))
 
         -- the next task retrieved a text
@@ -262,17 +255,13 @@ module _ (laws : Below) (settings : Settings) (now : ℕ) (held : RecordState) (
               × (b.text ≡ text)
           opens taken spare under texts front behind entry mbox' file =
               -- its message is the next of the wanted ones
-              let next = mapped_at key (messages_on (q items)) (count fell.dones) (number, uid)
-              (rw (
+              let next = mapped_at key (messages_on (q items)) (count fell.dones) (number, uid) (rw (
                 ← wanted_are laws (q items),
                 (part_done laws (q items) starts fell).split,
                 is,
-                flat_map-append
-                    fetched_in (tasks_of fell.dones) (stores number uid ∷ fell.later),
-                ← same_length
-                    fell.dones fell.went.each,
-              )
-              (at_length (fetched (tasks_of fell.dones)) (number, uid) (fetched fell.later))) in
+                flat_map-append fetched_in (tasks_of fell.dones) (stores number uid ∷ fell.later),
+                ← same_length fell.dones fell.went.each,
+              ) (at_length (fetched (tasks_of fell.dones)) (number, uid) (fetched fell.later))) in
               let are = texts ∙ full_texts in (
                 record {
                   message = next.0;
@@ -294,8 +283,8 @@ module _ (laws : Below) (settings : Settings) (now : ℕ) (held : RecordState) (
           refused : LeavesEntry (bytes_after fell.dones) fell.mid.rows uid text new.store.mbox new.file
               → MboxStopped (course items fell.dones (reply ∷ []) (fell.next ∷ []))
           refused (inl (same, keeps)) =
-              lead_closed (tally_spare laws (q items) starts fell number uid reply is answered tt) new.store.mbox
-              new.file.content (text ∷ []) full_texts (same_held _ _ keeps) (ap mail_in same)
+              lead_closed (tally_spare laws (q items) starts fell number uid reply is answered tt) _
+              _ _ full_texts (same_held _ _ keeps) (ap mail_in same)
           refused (inr (front, behind, entry, now_is, keeps)) =
               let t = tally_spare laws (q items) starts fell number uid reply is answered tt in
               record {
@@ -321,17 +310,13 @@ module _ (laws : Below) (settings : Settings) (now : ℕ) (held : RecordState) (
               u.stored.content,
               mid_content,
               full_texts u.number u.uid u.reply u.is u.talked.good,
-              flat_map-append
-                  entry_of (texts_by fell.dones) (body_text u.reply.body ∷ []),
+              flat_map-append entry_of (texts_by fell.dones) (body_text u.reply.body ∷ []),
               append_assoc (bytes_settled items held mbox) (entries (texts_by fell.dones)) (entries (body_text u.reply.body ∷ [])),
-            )
-            refl in
+            ) refl in
             elim (laws.unsaved between (with_open fell.mid.rows (intent_of was u.uid (body_text u.reply.body)))
-            (none_open (marked fell.mid.rows u.uid)) cut.fault new.file second
-            (first.1 (fell.went.saved starts.steady))) [
+            (none_open (marked fell.mid.rows u.uid)) cut.fault new.file second (first.1 (fell.went.saved starts.steady))) [
               | inl old_one ↦
-                  let t = tally_old laws (q items) starts fell u.number u.uid u.reply u.is u.talked.good
-                  (grind (arith, second)) in
+                  let t = tally_old laws (q items) starts fell u.number u.uid u.reply u.is u.talked.good (grind (arith, second)) in
                   record {
                     full = all;
                     noted = fell.dones;
@@ -342,18 +327,15 @@ module _ (laws : Below) (settings : Settings) (now : ℕ) (held : RecordState) (
                         (ap (map text_found) t.found) (entry_of (body_text u.reply.body)) [] (sym (append-nil _)) new.store.mbox
                         (ap mail_in content ∙ rw (
                           full_texts u.number u.uid u.reply u.is u.talked.good,
-                          flat_map-append
-                              entry_of (texts_by fell.dones) (body_text u.reply.body ∷ []),
-                        )
-                        (simp (append_assoc, append-nil)))).0;
+                          flat_map-append entry_of (texts_by fell.dones) (body_text u.reply.body ∷ []),
+                        ) (simp (append_assoc, append-nil)))).0;
                     last = λ less. rw (bytes_are t [] (sym (append-nil (texts_by all)))) (ap mail_in content);
                     closed = not_ended;
                   }
               | inr new_one ↦
                   lead_closed (tally_new laws (q items) starts fell u.number u.uid u.reply u.is u.talked.good)
                   new.store.mbox new.file.content [] (sym (append-nil _))
-                  (rw (← full_rows laws (q items) starts fell u.number u.uid u.reply u.is u.talked.good) new_one)
-                  (ap mail_in content)
+                  (rw (← full_rows laws (q items) starts fell u.number u.uid u.reply u.is u.talked.good) new_one) (ap mail_in content)
             ]
 
         -- an mboxrd file with the whole entry of the text after those of the tasks that were done
@@ -362,7 +344,7 @@ module _ (laws : Below) (settings : Settings) (now : ℕ) (held : RecordState) (
 
         -- so an account with that file and the text's open intent is left by a session with this course
         abbrev pub LeavesWhole : Course → List ℕ → List ℕ → Type 0
-        LeavesWhole c uid text = (l : MboxLeads settings now held mbox (Err cut) c (whole_in text) (λ state. Unit {0}))
+        LeavesWhole c uid text = (l : MboxLeads settings now held mbox (Err cut) c (whole_in text) (λ _. Unit {0}))
             × (b : IsBroken settings (mbox_holds held mbox) (effect_of now false c) (count l.noted)
             (mbox_holds (record_state (rows_after (q c.items) l.noted) l.intent') (whole_in text)))
             × (l.ending ≡ inr b) × (b.text ≡ text) × (rows_after (q c.items) l.noted ≡ fell.mid.rows)
@@ -373,7 +355,7 @@ module _ (laws : Below) (settings : Settings) (now : ℕ) (held : RecordState) (
         whole_refused n =
             let text = body_text n.reply.body in
             let t = tally_spare laws (q items) starts fell n.number n.uid n.reply n.is n.talked.good tt in
-            let (b, same) = opens n.number n.uid n.reply n.is n.talked.good fell.dones (n.reply ∷ []) (fell.next ∷ [])
+            let (b, same) = opens _ _ n.reply n.is n.talked.good fell.dones (n.reply ∷ []) (fell.next ∷ [])
             (ap (map text_found) t.found) (entry_of text) [] (sym (append-nil _)) (whole_in text) refl in (
               record {
                 full = fell.dones ++ stored_done n.number n.uid n.reply ∷ [];
@@ -405,8 +387,7 @@ module _ (laws : Below) (settings : Settings) (now : ℕ) (held : RecordState) (
             rw (
               full_texts u.number u.uid u.reply u.is u.talked.good,
               flat_map-append entry_of (texts_by fell.dones) (text ∷ []),
-            )
-            (simp (append_assoc, append-nil)) in (
+            ) (simp (append_assoc, append-nil)) in (
               record {
                 full = all;
                 noted = fell.dones;
@@ -442,13 +423,11 @@ module _ (laws : Below) (settings : Settings) (now : ℕ) (held : RecordState) (
 
       mbox_does_leads : (result : Result (Unit {0}) Cut) (new : Scene) (does : Does AsEntries tasks old result new)
           → MboxLeading result (course_does AsEntries items tasks old new result does) new.store.mbox new.file.content
-      mbox_does_leads (Ok done) new went =
+      mbox_does_leads (Ok _) new went =
           lead_closed (tally_all laws (q items) starts went.dones new went.all went.went) new.store.mbox
-          new.file.content [] (sym (append-nil _))
-          (mid_keeps laws (q items) starts went.dones new went.went)
-          (ap mail_in (content_after went.dones new went.went
-          (part_all laws (q items) starts went.dones new went.all went.went)))
-      mbox_does_leads (Err cut) new fell = mbox_stopped fell fell.stops
+          new.file.content [] (sym (append-nil _)) (mid_keeps laws (q items) starts went.dones new went.went)
+          (ap mail_in (content_after went.dones new went.went (part_all laws (q items) starts went.dones new went.all went.went)))
+      mbox_does_leads (Err _) _ fell = mbox_stopped fell fell.stops
 
 -- ---- of a session
 
@@ -456,16 +435,15 @@ module _ (laws : Below) (settings : Settings) (now : ℕ) (before : Keeping) (he
     (keeps : Keeps before.file.content held) where
   closed_is : (was : RecordState) (bytes : List ℕ) (items : List Item) → Keeps before.file.content was
       → before.store.mbox.content ≡ Some bytes → closed_file was.intent items bytes ≡ bytes_settled items held before.store.mbox
-  closed_is was bytes items stood is = rw (same_record laws.one before.file.content was held stood keeps, is) refl
+  closed_is was _ _ stood is = rw (same_record laws.one before.file.content was held stood keeps, is) refl
 
   rows_are : (was : RecordState) (items : List Item) → Keeps before.file.content was
       → closed_rows_in AsEntries before.store was items ≡ (settled items (mbox_holds held before.store.mbox)).rows
-  rows_are was items stood = rw (same_record laws.one before.file.content was held stood keeps) refl
+  rows_are was _ stood = rw (same_record laws.one before.file.content was held stood keeps) refl
 
   settled_content : (was : RecordState) (items : List Item) (new : Stores) → Keeps before.file.content was
       → SettlesStore AsEntries was items before.store new → new.mbox.content ≡ Some (bytes_settled items held before.store.mbox)
-  settled_content was items new stood (bytes, is, settled, goes_on) =
-      rw (settled, closed_is was bytes items stood is) refl
+  settled_content was items _ stood (bytes, is, settled, _) = rw (settled, closed_is) refl
 
   -- what it had ready before its tasks
   pub carried_starts : (items : List Item) (place : _) {result : Result (Unit {0}) Cut} {new : Scene} {skipped : _}
@@ -473,11 +451,11 @@ module _ (laws : Below) (settings : Settings) (now : ℕ) (before : Keeping) (he
       → Starts (mbox_inputs settings now held before.store.mbox items)
       (tasks_for settings AsEntries items now before.store is.mid.rows) is.mid
       × (is.mid.store.mbox.content ≡ Some (bytes_settled items held before.store.mbox))
-  carried_starts items place is =
+  carried_starts items _ is =
       let rows : is.mid.rows ≡ rows_on (mbox_inputs settings now held before.store.mbox items) =
       rw (is.prepared.rows, rows_are is.prepared.was items is.prepared.stood) refl in (
         record { tasks_are = ap (tasks_for settings AsEntries items now before.store) rows; rows = rows; steady = is.prepared.saved },
-        settled_content is.prepared.was items is.mid.store is.prepared.stood is.prepared.settles,
+        settled_content _ _ is.mid.store is.prepared.stood is.prepared.settles,
       )
 
   abbrev Left : Result (Unit {0}) Cut → Course → Stored → Option (List ℕ) → Type 0
@@ -489,8 +467,7 @@ module _ (laws : Below) (settings : Settings) (now : ℕ) (before : Keeping) (he
       → CourseLeads (λ (c : Course). Left result c after.store.mbox after.file.content) result before after notes.lines
       (course_proceeded settings AsEntries now old before result new after notes is)
   course_leaves old result new after notes is =
-      by_course settings AsEntries now before (λ r c store file. Left r c store.mbox file.content)
-      (λ items place cut new is.
+      by_course settings AsEntries now before (λ r c store file. Left r c store.mbox file.content) (λ items place cut new is.
       let rests : Keeps new.file.content held → (mail_in new.store.mbox.content ≡ mail_in before.store.mbox.content)
       ⊎ (mail_in new.store.mbox.content ≡ bytes_settled items held before.store.mbox)
       → Rests now (Err cut) (course items [] [] []) held before.store.mbox new.store.mbox new.file.content =
@@ -506,19 +483,14 @@ module _ (laws : Below) (settings : Settings) (now : ℕ) (before : Keeping) (he
             grind (arith, is.unready.cause) in rests (rw content keeps) (elim by_cause [
               | inl same ↦ inl (ap mail_in same)
               | inr (was, stood, inl same) ↦ inl (ap mail_in same)
-              | inr (was, stood, inr (bytes, there, settled)) ↦ inr (ap mail_in settled
-                  ∙ closed_is was bytes items stood there)
+              | inr (was, stood, inr (bytes, there, settled)) ↦ inr (ap mail_in settled ∙ closed_is was bytes items stood there)
             ]))
         | inr m ↦
             let settled = ap mail_in (settled_content m.was items new.store m.stood m.settles) in
-            ⊎_elim (λ stays. inl (rests (rw (← same_record laws.one before.file.content m.was held m.stood keeps) stays)
-            (inr settled)))
+            ⊎_elim (λ stays. inl (rests (rw (← same_record laws.one before.file.content m.was held m.stood keeps) stays) (inr settled)))
             (λ merges. inr (lead_closed laws settings now held before.store.mbox items
-            (tally_none laws (mbox_inputs settings now held before.store.mbox items)) new.store.mbox
-            new.file.content [] refl
+            (tally_none laws (mbox_inputs settings now held before.store.mbox items)) new.store.mbox new.file.content [] refl
             (rw (← rows_are m.was items m.stood) merges) (settled ∙ sym (append-nil _)))) m.stands
-      ])
-      (λ items place result new skipped is.
+      ]) (λ items place result new skipped is.
       let (starts, same) = carried_starts items place is in
-      inr (mbox_does_leads laws settings now held before.store.mbox items starts same result new is.does)) old result new
-      after notes is
+      inr (mbox_does_leads laws settings now held before.store.mbox items starts same result new is.does)) old result new after notes is

@@ -34,22 +34,22 @@ use Rattle.fetch_runs.proofs.Safety.{served_session}
 
 pub held_copies : (account : List ℕ) (state : AccountMail) (id : List ℕ)
     → is_held account state.maildir id ≡ is_some (copies (files state) (stem_of account id))
-held_copies account state id = any_filter (λ (f : File). names_id account id f.name) (λ (f : File). f.content) (files state)
+held_copies account state id = any_filter (λ f. names_id account id f.name) (λ f. f.content) (files state)
 
 -- what is safe stays so, whatever becomes of the account
 pub still_safe : (mail : Mail) (state : State) (after : AccountMail) (id : List ℕ) → IsSafe mail state id
     → IsSafe mail (state_with mail state [] after) id
-still_safe mail state after id (l, safe) = (l, grind (arith, safe))
+still_safe _ _ after _ (l, safe) = (l, grind (arith, safe))
 
 held_safe : (mail : Mail) (state : State) (after : AccountMail) (id : List ℕ)
     → is_held mail.account after.maildir id ≡ true → is_safe mail (state_with mail state [] after) id ≡ true
-held_safe mail state after id held = or_left _ _ held
+held_safe _ _ after _ held = or_left _ _ held
 
 -- ---- copies
 
 -- whatever of the files is durable
 copies_same : (fs : List File) (front : List ℕ) → copies (without_flags fs) front ≡ copies fs front
-copies_same [] front = refl
+copies_same [] _ = refl
 copies_same (f ∷ fs) front = grind (arith, copies_same fs front)
 
 -- if these came
@@ -64,7 +64,7 @@ module _ (laws : Below) (account : List ℕ) (text : IsAccountText account) wher
 
   pub copies_messages : (ms : List Message) (id : List ℕ) → is_legal_id id ≡ true
       → AllByRecursion IsLegal ms → copies (map (message_file account) ms) (stem_of account id) ≡ texts_of ms id
-  copies_messages [] id l h = refl
+  copies_messages [] _ l h = refl
   copies_messages (m ∷ ms) id l h =
       let same = ap (bytes_eq (stem_of account id)) (its_stem m) ∙ same_tests (laws.differ account id m.uid l h.0) (ap (stem_of account)) in
       grind (arith, same, copies_messages ms id l h.1)
@@ -73,34 +73,33 @@ module _ (laws : Below) (account : List ℕ) (text : IsAccountText account) wher
   pub named_messages : (ms : List Message)
       → map (message_file account) ms ≡ map (λ (m : Message). file_of (name_of account m.uid (length m.text)) m.text) ms
   named_messages [] = refl
-  named_messages (m ∷ ms) = ap₂ (λ (name : List ℕ) (fs : List File). file_of name m.text ∷ fs)
-      (laws.bases account m.uid (length m.text) text) (named_messages ms)
+  named_messages (m ∷ ms) = ap₂ (λ name fs. file_of name m.text ∷ fs) (laws.bases account m.uid (length m.text) text) (named_messages ms)
 
 some_both : {X : Type 0} (xs ys : List X) → is_some (xs ++ ys) ≡ (is_some xs || is_some ys)
-some_both [] ys = refl
-some_both (x ∷ xs) ys = refl
+some_both [] _ = refl
+some_both (x ∷ _) _ = refl
 
 unheld_part : {X : Type 0} (held : Bool) (xs : List X) → (held || is_some (cond (not held) xs [])) ≡ (held || is_some xs)
-unheld_part true xs = refl
-unheld_part false xs = refl
+unheld_part true _ = refl
+unheld_part false _ = refl
 
 -- distinct messages of this mail have the texts of their ids
 pub one_text : (text_of : List ℕ → List ℕ) (ms : List Message) → Distinct (message_ids ms)
     → AllByRecursion (IsOf text_of) ms → (id : List ℕ) → has_id (message_ids ms) id ≡ true → texts_of ms id ≡ text_of id ∷ []
-one_text text_of ms d each id = all_at (λ x. texts_of ms x ≡ text_of x ∷ []) ms (all_both ms (each_text ms d) each
-    (λ m e h. e ∙ ap (λ (t : List ℕ). t ∷ []) h.text))
+one_text text_of ms d each _ = all_at (λ x. texts_of ms x ≡ text_of x ∷ []) ms (all_both ms (each_text ms d) each
+    (λ m e h. e ∙ ap (λ t. t ∷ []) h.text))
 
 filter_within : (p q : Message → Bool) (ms : List Message)
     → AllByRecursion (λ (m : Message). p m ≡ true → q m ≡ true) ms → filter p (filter q ms) ≡ filter p ms
-filter_within p q [] all = refl
+filter_within p q [] _ = refl
 filter_within p q (m ∷ ms) all = grind (arith, all.0, filter_within p q ms all.1)
 
 unsafe : (done held taken : Bool) → done ≡ (held || taken) → not done ≡ true → not held ≡ true
-unsafe done held taken e f = grind (arith, e, f)
+unsafe _ held _ e f = grind (arith, e, f)
 
 more_done : (done held got taken held' named : Bool) → done ≡ (held || taken) → held' ≡ (held || got)
     → (done || (got && not done)) ≡ (held' || (((held || taken) && not held') || (taken && not named)))
-more_done done held got taken held' named e f = grind (arith, e, f)
+more_done _ held got _ _ _ e f = grind (arith, e, f)
 
 -- ---- what was sent
 
@@ -111,8 +110,8 @@ pub for_such : (P : List ℕ → Type 0) (drop : List Message) (effect : Effect)
 for_such P drop effect (inl listed) all (Dele number) begun =
     let at = mapped_at item_of drop (number - 1) begun.0 (rw (← listed) begun.1) in
     (begun.3, at.0, at.1, subst (λ (i : Item). P i.uid) (sym at.2) (all_ids_at P effect.begun all begun.2))
-for_such P drop effect (inr none) all (Dele number) begun = absurd (let never = rw none at begun.2 in cc)
-for_such P drop effect listed all other begun = tt
+for_such P drop effect (inr none) _ (Dele _) begun = absurd (let never = rw none at begun.2 in cc)
+for_such P drop effect _ _ _ _ = tt
 
 abbrev pub sends_such : (P : List ℕ → Type 0) (drop : List Message) (effect : Effect) {sent : List ℕ}
     → (effect.listing ≡ listing_of drop) ⊎ (effect.begun ≡ []) → AllByRecursion P effect.begun
@@ -121,8 +120,7 @@ sends_such P drop effect listed all sends = record {
   commands = sends.commands;
   asked = sends.asked;
   each = all_map _ sends.each (for_such P drop effect listed all);
-  next = ⊎_map (λ none. none)
-      (λ (command, unsent, is, begun). (command, unsent, is, for_such P drop effect listed all command begun))
+  next = ⊎_map (λ none. none) (λ (command, unsent, is, begun). (command, unsent, is, for_such P drop effect listed all command begun))
       sends.next;
 }
 
@@ -154,7 +152,7 @@ module _ {W S F : Type 0} (laws : Below) {mail : Mail} (account_is : IsAccountTe
   after = state_with mail state o.vanished now
 
   fetch : Fetch o.settings rows o.maildrop e
-  fetch = record { filtered = laws.filtered; distinct = distinct_is o.maildrop is.distinct; honest = honest }
+  fetch = record { filtered = laws.filtered; distinct = distinct_is _ is.distinct; honest = honest }
 
   -- ---- what came
 
@@ -165,19 +163,19 @@ module _ {W S F : Type 0} (laws : Below) {mail : Mail} (account_is : IsAccountTe
   came = filter (λ (m : Message). not (held m.uid)) got
 
   all_got : (P : Message → Type 0) → AllByRecursion P o.maildrop → AllByRecursion P got
-  all_got P h = all_take P s.stored ws (all_wanted fetch P h)
+  all_got P h = all_take P _ ws (all_wanted fetch P h)
 
   legal_drop : AllByRecursion IsLegal o.maildrop
-  legal_drop = all_map o.maildrop is.each (λ m h. h.legal)
+  legal_drop = all_map _ is.each (λ m h. h.legal)
 
   legal_came : AllByRecursion IsLegal came
-  legal_came = all_filter IsLegal _ got (all_got IsLegal legal_drop)
+  legal_came = all_filter _ _ _ (all_got _ legal_drop)
 
   legal_got : (id : List ℕ) → has_id (message_ids got) id ≡ true → is_legal_id id ≡ true
-  legal_got id = all_at (λ x. is_legal_id x ≡ true) got (all_got IsLegal legal_drop)
+  legal_got _ = all_at (λ x. is_legal_id x ≡ true) got (all_got IsLegal legal_drop)
 
   texts_got : (id : List ℕ) → has_id (message_ids got) id ≡ true → texts_of got id ≡ mail.text id ∷ []
-  texts_got = one_text mail.text got (distinct_wanted fetch s.stored) (all_got (IsOf mail.text) is.each)
+  texts_got = one_text _ _ (distinct_wanted fetch s.stored) (all_got _ is.each)
 
   files_are : without_flags (files now) ≡ without_flags (files state.account) ++ map (message_file mail.account) came
   files_are = s.came ∙ rw ((texts_are fetch (fetched s)).0, stored_files mail.account state.account.maildir, taken_is fetch s.stored)
@@ -186,8 +184,7 @@ module _ {W S F : Type 0} (laws : Below) {mail : Mail} (account_is : IsAccountTe
       ≡ copies (files state.account) (stem_of mail.account id) ++ cond (not (held id)) (texts_of got id) []
   copies_are id l = copies_came (files state.account) (files now) (map (message_file mail.account) came) (stem_of mail.account id) files_are
       ∙ ap (λ c. copies (files state.account) (stem_of mail.account id) ++ c)
-      (copies_messages laws mail.account account_is came id l legal_came
-      ∙ texts_filtered (λ x. not (held x)) got id)
+      (copies_messages laws mail.account account_is came id l legal_came ∙ texts_filtered (λ x. not (held x)) got id)
 
   held_now : (id : List ℕ) → is_legal_id id ≡ true → is_held mail.account now.maildir id ≡ (held id || has_id (message_ids got) id)
   held_now id l = held_copies mail.account now id ∙ ap is_some (copies_are id l)
@@ -199,10 +196,9 @@ module _ {W S F : Type 0} (laws : Below) {mail : Mail} (account_is : IsAccountTe
       → (copies (files now) (stem_of mail.account id) ≡ []) ⊎ (copies (files now) (stem_of mail.account id) ≡ mail.text id ∷ [])
   holds_after id l = elim (kept.holds id l) [
     | inl none ↦
-        let all : copies (files now) (stem_of mail.account id) ≡ texts_of got id = copies_are id l
-        ∙ rw (none, held_copies mail.account state.account id) (rw none refl) in
-        ⊎_elim (λ there. inr (all ∙ texts_got id there)) (λ no. inl (all ∙ no_texts got id no)) (cases_Bool (has_id (message_ids got) id))
-    | inr text ↦ inr (copies_are id l ∙ rw (text, held_copies mail.account state.account id) (rw text refl))
+        let all = copies_are id l ∙ rw (none, held_copies) (rw none refl) in
+        ⊎_elim (λ there. inr (all ∙ texts_got id there)) (λ no. inl (all ∙ no_texts _ id no)) (cases_Bool (has_id (message_ids got) id))
+    | inr text ↦ inr (copies_are id l ∙ rw (text, held_copies) (rw text refl))
   ]
 
   got_safe : (id : List ℕ) → has_id (message_ids got) id ≡ true → IsSafe mail after id
@@ -211,20 +207,18 @@ module _ {W S F : Type 0} (laws : Below) {mail : Mail} (account_is : IsAccountTe
   -- ---- what is recorded
 
   known_parts : (id : List ℕ) → is_delivered rows id ≡ (is_delivered state.account.rows id || (has_item e.listing id && held id))
-  known_parts = delivered_merged laws mail.account state.account.maildir state.account.rows e.listing e.now
+  known_parts = delivered_merged laws mail.account state.account.maildir _ _ e.now
 
   -- what is known before is recorded after the merge, if it is listed
   abbrev known : List ℕ → Bool
   known id = is_delivered state.account.rows id || held id
 
   known_listed : AllByRecursion (λ (m : Message). known m.uid ≡ true → is_delivered rows m.uid ≡ true) o.maildrop
-  known_listed = all_map _ (members o.maildrop)
-      (λ m there before. grind (arith, before, there, known_parts m.uid, has_listed o.maildrop honest.listing m.uid))
+  known_listed = all_map _ (members o.maildrop) (λ m there before. grind (arith, before, there, known_parts, has_listed))
 
   known_safe : (id : List ℕ) → is_delivered rows id ≡ true → IsSafe mail state id
   known_safe id d = ⊎_elim (kept.recorded id) (λ now'. let parts = and_parts _ _ now' in (
-    all_at (λ x. is_legal_id x ≡ true) o.maildrop legal_drop (sym (has_listed o.maildrop honest.listing id)
-        ∙ parts.0),
+    all_at (λ x. is_legal_id x ≡ true) _ legal_drop (sym (has_listed _ honest.listing id) ∙ parts.0),
     or_left _ _ parts.1,
   )) (or_cases _ _ (sym (known_parts id) ∙ d))
 
@@ -243,22 +237,20 @@ module _ {W S F : Type 0} (laws : Below) {mail : Mail} (account_is : IsAccountTe
   stays_recorded : (id : List ℕ) → is_delivered state.account.rows id ≡ true → is_delivered now.rows id ≡ true
   stays_recorded id recorded = elim s.rows [
     | inl old ↦ rw old.0 recorded
-    | inr marks ↦ rw marks (marks_stay laws rows
-        (ids_wanted (take s.recorded (wanted_at o.settings mail.account state.account e))) id (known_parts id
-        ∙ or_left _ _ recorded))
+    | inr marks ↦ rw marks (marks_stay laws _
+        (ids_wanted (take s.recorded (wanted_at o.settings mail.account state.account e))) id (known_parts id ∙ or_left _ _ recorded))
   ]
 
   -- what isn't done isn't held
   new_unheld : (done : List Message) → ((id : List ℕ) → is_legal_id id ≡ true → has_id (message_ids done) id ≡ is_safe mail state id)
       → AllByRecursion (λ (m : Message). not (has_id (message_ids done) m.uid) ≡ true → not (held m.uid) ≡ true) got
-  new_unheld done is_done = all_map got (all_got IsLegal legal_drop)
-      (λ m l undone. unsafe (has_id (message_ids done) m.uid) (held m.uid) (state.taken m.uid) (is_done m.uid l) undone)
+  new_unheld _ is_done = all_map _ (all_got _ legal_drop) (λ m l undone. unsafe _ _ _ (is_done m.uid l) undone)
 
   -- what came is the next, if what could come is
   front_after : (all : List Message) → AllByRecursion IsLegal all → (front : IsFront mail state all)
       → ShowsNext o.settings o.maildrop front.done front.rest → (later : IsFront mail after all)
       × (later.done ≡ front.done ++ filter (λ (m : Message). not (has_id (message_ids front.done) m.uid)) came)
-  front_after all legal front next =
+  front_after _ _ front next =
       let known = all_map _ legal_drop (λ m l d. front.is_done m.uid l ∙ (known_safe m.uid d).1) in (
         record {
           done = front.done ++ added fetch front.done front.rest known next s.stored;
@@ -307,8 +299,7 @@ module _ {W S F : Type 0} (laws : Below) {mail : Mail} (account_is : IsAccountTe
           → is_delivered state.account.rows m.uid ≡ false
       new_unrecorded new m none = false_from_ne_true _ (λ d. both_ways (is_delivered rows m.uid) none (known_parts m.uid ∙ or_left _ _ d))
 
-      by_setting : (read_all : Bool) → o.settings.read_all ≡ read_all
-          → AllByRecursion (λ (m : Message). o.settings.read_all ≡ false
+      by_setting : (read_all : Bool) → o.settings.read_all ≡ read_all → AllByRecursion (λ (m : Message). o.settings.read_all ≡ false
           → is_delivered state.account.rows m.uid ≡ false) got
       by_setting false new = all_map _ (all_take _ s.stored ws (none_recorded fetch new)) (λ m none _. new_unrecorded new m none)
       by_setting true all = all_map _ (all_got _ (members o.maildrop)) (λ m there new. absurd (both_ways _ new all))
@@ -325,13 +316,13 @@ left_kept : {W S F : Type 0} {mail : Mail} {state : State} (o : Call W S F) (now
 left_kept {mail = mail} {state = state} o now e kept left ended sends vanished = (
   record {
     left_out = λ uncut. absurd (both_ways e.ended left.ended (ended.1 uncut));
-    deletes = sends_such (IsSafe mail (state_with mail state o.vanished now)) o.maildrop e (inr left.begun) (rw left.begun tt) sends;
+    deletes = sends_such _ _ e (inr left.begun) (rw left.begun tt) sends;
     retrieved = λ uncut. absurd (both_ways e.ended left.ended (ended.1 uncut));
     came = [];
     added = ap without_flags left.same ∙ sym (append-nil (without_flags (files state.account)));
     new = tt;
     recorded = λ id recorded. rw left.rows recorded;
-    in_order = λ all legal front next. (
+    in_order = λ _ _ front _. (
       record { done = front.done; rest = front.rest; prefix = front.prefix; is_done = λ id l. front.is_done id l ∙ unchanged id },
       sym (append-nil front.done),
     );
@@ -339,16 +330,16 @@ left_kept {mail = mail} {state = state} o now e kept left ended sends vanished =
   record {
     holds = λ id l. rw left.same (kept.holds id l);
     recorded = λ id d. still_safe mail state now id (kept.recorded id (rw left.rows at d));
-    gone = all_append _ _ _ (all_map _ vanished (λ id b. absurd (both_ways false refl (rw left.begun at b))))
+    gone = all_append _ _ _ (all_map _ vanished (λ _ b. absurd (both_ways false refl (rw left.begun at b))))
         (all_map _ kept.gone (still_safe mail state now));
   },
 )
   where
     same : (id : List ℕ) → is_held mail.account now.maildir id ≡ is_held mail.account state.account.maildir id
-    same id = rw left.same refl
+    same _ = rw left.same refl
 
     unchanged : (id : List ℕ) → is_safe mail state id ≡ is_safe mail (state_with mail state o.vanished now) id
-    unchanged id = grind (arith, same id)
+    unchanged id = grind (arith, same)
 
 -- ---- sessions and others
 
@@ -365,7 +356,7 @@ pub sessions_keep_promises : Below
     → {W S F : Type 0} (mail : Mail) (state : State) (call : Call W S F) (sent : List ℕ) (after : AccountMail)
     → IsAccountText mail.account → Kept mail state → IsSession mail state.account call sent after → Promises mail state call sent after
     × Kept mail (state_with mail state call.vanished after)
-sessions_keep_promises laws mail state call sent after account_is kept is =
+sessions_keep_promises laws mail state call _ after account_is kept is =
     let step = served_session laws call.settings mail.account state.account is.effect is.session is.served in
     ⊎_elim (λ left. left_kept call after is.effect kept left is.session.ended is.session.sends step.1)
     (λ (stores, honest). stored_kept laws account_is call after kept is.effect is.maildrop stores honest

@@ -12,7 +12,7 @@ use Rattle.std.proofs.lemmas.Option.{slice_get_within, get_or_from_slice_get, sa
 use Rattle.std.proofs.lemmas.Grind.{flat_map-append}
 use Rattle.std.proofs.Math.Logic.{⊎_elim, ⊎_map}
 use Rattle.mail_terms.specs.Listing.{Item, numbered, is_first}
-use Rattle.fetch_rules.specs.Wanted.{is_candidate, wanted}
+use Rattle.fetch_rules.specs.Wanted.{wanted}
 use Rattle.rc_file.specs.declared.settings.Settings.{Settings}
 use Rattle.fetch_record.specs.Record.{Row, is_delivered}
 use Rattle.mail_store.specs.FileName.{is_held, mail_file}
@@ -56,7 +56,7 @@ one_number listing m n at at' same = grind (arith, not_before m n at at' same, n
   where
     -- no message before the first with an id has that id
     not_before : (m n : ℕ × Item) → IsFirstAt listing m → IsFirstAt listing n → m.1.uid ≡ n.1.uid → m.0 < n.0 → ⊥
-    not_before (k, item) (n, other) (counted, at, first) (counted', at', first') same less =
+    not_before (k, item) (n, _) (counted, at, first) (counted', at', first') same less =
         let before : k - 1 < n - 1 = omega arith in
         true≢false (sym (rw (
           ← same,
@@ -70,13 +70,12 @@ one_number listing m n at at' same = grind (arith, not_before m n at at' same, n
 
 pub wanted_first : (settings : Settings) (rows : List Row) (listing : List Item)
     → AllByRecursion (IsFirstAt listing) (wanted settings rows listing)
-wanted_first settings rows listing =
-    all_at_most _ _ _ (all_both {P = IsPlaced listing} _ (all_filter _ _ _ (are_numbered listing))
-    (all_passing (is_candidate settings rows listing) (numbered listing))
+wanted_first _ _ listing =
+    all_at_most _ _ _ (all_both {P = IsPlaced listing} _ (all_filter _ _ _ (are_numbered listing)) (all_passing _ (numbered listing))
     (λ q h e. (h.0, h.1, (and_parts _ _ e).0)))
 
 behind_one : {X : Type 0} {x : X} (y : X) (xs : List X) → IsAmong x xs → IsAmong x (y ∷ xs)
-behind_one y xs (front, behind, is) = (y ∷ front, behind, ap (λ l. y ∷ l) is)
+behind_one y _ (front, behind, is) = (y ∷ front, behind, ap (λ l. y ∷ l) is)
 
 -- ---- the text of a wanted message
 
@@ -98,31 +97,31 @@ found_at listing (suc n) (q ∷ qs) (t ∷ ts) id first less is = elim (or_cases
     text = t;
     first = first.0;
     among = ([], _, refl);
-    id_is = sym (bytes_same id q.1.uid same);
+    id_is = sym (bytes_same id _ same);
     taken = ([], _, refl);
     listed = ([], _, refl);
   }
   | inr more ↦
-      let there = found_at listing n qs ts id first.1 (omega (arith, less)) more in
+      let there = found_at _ n qs ts id first.1 (omega (arith, less)) more in
       record {
         message = there.message;
         text = there.text;
         first = there.first;
-        among = behind_one (q, t) _ there.among;
+        among = behind_one _ _ there.among;
         id_is = there.id_is;
-        taken = behind_one (q, t) _ there.taken;
+        taken = behind_one _ _ there.taken;
         listed = behind_one t _ there.listed;
       }
 ]
-found_at listing n qs texts id first less is = absurd (grind (arith, less, is))
+found_at _ n qs texts _ first less is = absurd (grind (arith, less, is))
 
 -- what is made of an element that passes is among what is made of all that do
 among_made : {X Y : Type 0} (p : X → Bool) (f : X → Y) {x : X} (xs : List X) → IsAmong x xs → p x ≡ true
     → IsAmong (f x) (map f (filter p xs))
-among_made p f {x} xs (front, behind, is) passes = (
+among_made p f {x} _ (front, behind, is) passes = (
   map f (filter p front),
   map f (filter p behind),
-  rw (is, filter-append p front (x ∷ behind), passes, map-append f (filter p front) (x ∷ filter p behind)),
+  rw (is, filter-append, passes, map-append),
 )
 
 module _ (effect : Effect) (qs : List (ℕ × Item)) (Known : List ℕ → Type 0) (Kept : List ℕ → List ℕ → Type 0) where
@@ -143,7 +142,7 @@ module _ (effect : Effect) (qs : List (ℕ × Item)) (Known : List ℕ → Type 
   }
     where
       allowed : (command : Command) → IsBegun effect.listing effect.begun command → DeletesAllowed effect.listing MayBe command
-      allowed (Dele number) (item, at, is, counted, alone) = (
+      allowed (Dele _) (item, at, is, counted, alone) = (
         counted,
         item,
         at,
@@ -151,12 +150,12 @@ module _ (effect : Effect) (qs : List (ℕ × Item)) (Known : List ℕ → Type 
           r.0.message,
           r.0.text,
           r.0.among,
-          one_number effect.listing r.0.message (number, item) r.0.first (counted, at, (and_parts _ _ alone).0) r.0.id_is,
+          one_number _ _ _ r.0.first (counted, at, (and_parts _ _ alone).0) r.0.id_is,
           r.0.id_is,
           r.1,
         )) (all_ids_at _ _ kept is),
       )
-      allowed other is = tt
+      allowed _ _ = tt
 
 -- ---- with a Maildir
 
@@ -179,17 +178,14 @@ module _ (settings : Settings) (account : List ℕ) (before : AccountMail) (effe
     | inl old ↦ inl (inl (rw old.0 at is))
     | inr marks ↦ elim (delivered_marked laws (merged_rows account before effect) _ id (rw marks at is)) [
       | inl known ↦ inl (⊎_map (λ old. old) (λ held. (and_parts _ _ held).1)
-          (or_cases _ _ (sym (delivered_merged laws account before.maildir before.rows effect.listing effect.now id)
-          ∙ known)))
+          (or_cases _ _ (sym (delivered_merged laws account before.maildir before.rows effect.listing effect.now id) ∙ known)))
       | inr stored ↦ ⊎_map inr (λ (free : is_held account before.maildir id ≡ false).
           let t = found_at effect.listing s.stored qs effect.texts id
           (wanted_first settings (merged_rows account before effect) effect.listing)
           (fetched s) (taken_more (λ (q : ℕ × Item). q.1.uid) qs id (order s) stored) in (
             t,
-            rw t.id_is at (among_made (is_unheld account before.maildir) (file_for account) _ t.taken
-                (rw (t.id_is, free))),
-          ))
-          (cases_Bool (is_held account before.maildir id))
+            rw t.id_is at (among_made (is_unheld account before.maildir) (file_for account) _ t.taken (rw (t.id_is, free))),
+          )) (cases_Bool (is_held account before.maildir id))
     ]
   ]
 
@@ -202,24 +198,20 @@ module _ (settings : Settings) (before : MboxMail) (effect : Effect) (after : Mb
   -- what comes after the entries: nothing, or a beginning of the next one
   pub tail_of : (s : MboxStores settings before effect after report) → (rest : List ℕ)
       × (after.file ≡ old ++ (entries (take s.stored effect.texts) ++ rest))
-      × ((rest ≡ []) ⊎ ((broken : IsBroken settings before effect s.stored after)
-      × (entry_of broken.text ≡ rest ++ broken.opened.behind)))
-  tail_of s = ⊎_elim (λ closed. ([], rw append-nil closed.1, inl refl))
-      (λ broken. (
-        broken.opened.front,
-        broken.opened.file ∙ append_assoc old (entries (take s.stored effect.texts)) broken.opened.front,
-        inr (broken, broken.opened.entry),
-      )) s.ending
+      × ((rest ≡ []) ⊎ ((broken : IsBroken settings before effect s.stored after) × (entry_of broken.text ≡ rest ++ broken.opened.behind)))
+  tail_of s = ⊎_elim (λ closed. ([], rw append-nil closed.1, inl refl)) (λ broken. (
+    broken.opened.front,
+    broken.opened.file ∙ append_assoc old (entries (take s.stored effect.texts)) broken.opened.front,
+    inr (broken, broken.opened.entry),
+  )) s.ending
 
   abbrev IsRecorded : List ℕ → Type 0
   IsRecorded id = is_delivered (settled effect.listing before).rows id ≡ true
 
   entered : Below → (s : MboxStores settings before effect after report) (id : List ℕ) → is_delivered after.rows id ≡ true
-      → IsKept effect (mbox_wanted settings before effect) IsRecorded
-      (λ id. StandsAfter effect.listing before after) s.stored id
+      → IsKept effect (mbox_wanted settings before effect) IsRecorded (λ id. StandsAfter effect.listing before after) s.stored id
   entered laws s id e = elim (delivered_marked laws (mbox_rows before effect) _ id (rw s.rows at e)) [
-    | inl known ↦ inl (sym (delivered_unheld laws (settled effect.listing before).rows effect.listing effect.now id)
-        ∙ known)
+    | inl known ↦ inl (sym (delivered_unheld laws (settled effect.listing before).rows effect.listing effect.now id) ∙ known)
     | inr stored ↦
         let t = found_at effect.listing s.stored (mbox_wanted settings before effect) effect.texts id
         (wanted_first settings (mbox_rows before effect) effect.listing) (mbox_fetched s) stored in
@@ -238,12 +230,12 @@ module _ (settings : Settings) (before : MboxMail) (effect : Effect) (after : Mb
 
 set_marks : (marks : List Bool) (i place : ℕ) → slice_get (slice_set marks i true) place ≡ Some true
     → (slice_get marks place ≡ Some true) ⊎ (i ≡ place)
-set_marks [] i place e = inl e
+set_marks [] i _ e = inl e
 set_marks (b ∷ marks) (suc i) (suc place) e = grind (arith, set_marks marks i place e)
-set_marks (b ∷ marks) i place e = grind arith
+set_marks (b ∷ _) i _ e = grind arith
 
 none_true : {X : Type 0} (xs : List X) (place : ℕ) → slice_get (map (λ _. false) xs) place ≡ Some true → ⊥
-none_true {X} xs place e = grind (arith, slice_get-map (λ (x : X). false) xs place)
+none_true {X} xs place e = grind (arith, slice_get-map)
 
 -- the number was marked before, or a DELE of it is among the commands
 abbrev IsAsked : List Command → ℕ → Type 0
@@ -253,28 +245,26 @@ one_mark : (drop : List Message) (marks : List Bool) (command : Command) (comman
     (next : List Bool) (place : ℕ)
     → Grants drop marks command bytes next → slice_get next place ≡ Some true → (slice_get marks place ≡ Some true)
     ⊎ IsAsked (command ∷ commands) place
-one_mark drop marks (Dele n) commands bytes next place g e = ⊎_map (λ old. old) (λ same. ([], commands, n, refl, same))
-    (set_marks marks (n - 1) place (ap (λ (m : List Bool). slice_get m place) (sym g.1) ∙ e))
-one_mark drop marks Rset commands bytes next place g e =
-    absurd (none_true marks place (ap (λ (m : List Bool). slice_get m place) (sym g.1) ∙ e))
-one_mark drop marks other commands bytes next place g e = grind arith
+one_mark _ _ (Dele n) commands _ _ place g e = ⊎_map (λ old. old) (λ same. ([], commands, n, refl, same))
+    (set_marks _ _ _ (ap (λ m. slice_get m place) (sym g.1) ∙ e))
+one_mark _ marks Rset _ _ _ place g e = absurd (none_true marks place (ap (λ m. slice_get m place) (sym g.1) ∙ e))
+one_mark _ _ _ _ _ _ _ g e = grind arith
 
 marks_from : (drop : List Message) (marks last : List Bool) (commands : List Command) (bytes : List ℕ) (place : ℕ)
     → Replies drop marks commands bytes last → slice_get last place ≡ Some true
     → (slice_get marks place ≡ Some true) ⊎ IsAsked commands place
-marks_from drop marks last [] bytes place said e = inl (ap (λ (m : List Bool). slice_get m place) (sym said.1) ∙ e)
+marks_from _ _ _ [] _ place said e = inl (ap (λ (m : List Bool). slice_get m place) (sym said.1) ∙ e)
 marks_from drop marks last (command ∷ commands) bytes place said e =
-    ⊎_elim (λ here. ⊎_elim (λ refused. inl (cc))
-    (λ grants. one_mark drop marks command commands said.0 said.2 place grants here) said.4)
+    ⊎_elim (λ here. ⊎_elim (λ refused. inl (cc)) (λ grants. one_mark drop marks command commands said.0 said.2 place grants here) said.4)
     (λ later. inr (command ∷ later.0, later.1, later.2, ap (λ (cs : List Command). command ∷ cs) later.3, later.4))
     (marks_from drop said.2 last commands said.1 place said.5 e)
 
 -- a message that is marked at the end was asked for
 marks_are_asked : (drop : List Message) (sent got : List ℕ) (marks : List Bool) → (honest : Honest drop sent got marks)
     → (place : ℕ) → slice_get marks place ≡ Some true → IsAsked honest.commands place
-marks_are_asked drop sent got marks honest place e =
+marks_are_asked drop _ _ marks honest place e =
     ⊎_elim (λ old. absurd (none_true drop place old)) (λ asked. asked)
-    (marks_from drop (no_marks drop) marks honest.commands honest.replies place honest.replied e)
+    (marks_from _ (no_marks drop) marks honest.commands honest.replies place honest.replied e)
 
 -- ---- for each message that was removed a DELE was begun
 
@@ -287,19 +277,18 @@ item_at drop place m e = slice_get-map item_of drop place ∙ ap (option_map ite
 -- texts of a maildrop's messages, and these messages
 messages_of : (drop : List Message) (wanted : List (ℕ × Item)) (texts : List (List ℕ)) → AreTexts drop wanted texts
     → (ms : List Message) × AllByRecursion (IsIn drop) ms × (texts ≡ map (λ (m : Message). m.text) ms)
-messages_of drop wanted [] are = ([], tt, refl)
-messages_of drop [] (text ∷ texts) are = absurd are
+messages_of _ wanted [] _ = ([], tt, refl)
+messages_of _ [] (text ∷ texts) are = absurd are
 messages_of drop (w ∷ wanted) (text ∷ texts) ((m, there, is), are) =
-    let more = messages_of drop wanted texts are in (m ∷ more.0, ((w.0 - 1, there), more.1), cc (is, more.2))
+    let more = messages_of _ wanted texts are in (m ∷ more.0, ((w.0 - 1, there), more.1), cc (is, more.2))
 
 -- the text at a place is that of a message
 text_at : (drop : List Message) (wanted : List (ℕ × Item)) (texts : List (List ℕ)) (n : ℕ) (text : List ℕ)
     → AreTexts drop wanted texts → slice_get texts n ≡ Some text → (m : Message) × IsIn drop m × (text ≡ m.text)
-text_at drop wanted [] n text are e = absurd cc
-text_at drop [] (t ∷ texts) n text are e = absurd are
-text_at drop (w ∷ wanted) (t ∷ texts) zero text ((m, there, is), are) e =
-    (m, (w.0 - 1, there), sym (same_Some t text e) ∙ is)
-text_at drop (w ∷ wanted) (t ∷ texts) (suc n) text are e = text_at drop wanted texts n text are.1 e
+text_at _ wanted [] n text _ e = absurd cc
+text_at _ [] (t ∷ texts) n text are e = absurd are
+text_at _ (w ∷ wanted) (t ∷ texts) zero text ((m, there, is), _) e = (m, (w.0 - 1, there), sym (same_Some t text e) ∙ is)
+text_at _ (w ∷ wanted) (t ∷ texts) (suc n) text are e = text_at _ wanted texts n _ are.1 e
 
 -- the file is that of a message of the maildrop
 abbrev IsFileOf : List ℕ → List Message → File → Type 0
@@ -312,12 +301,12 @@ IsPair account drop pair = IsFileOf account drop (file_for account pair)
 pairs : (account : List ℕ) (drop : List Message) (wanted : List (ℕ × Item)) (texts : List (List ℕ)) (n : ℕ)
     → AllByRecursion (IsFirstAt (listing_of drop)) wanted → AreTexts drop wanted texts
     → AllByRecursion (IsPair account drop) (zip (take n wanted) texts)
-pairs account drop wanted texts zero first are = tt
-pairs account drop [] texts (suc n) first are = tt
-pairs account drop (w ∷ wanted) [] (suc n) first are = tt
+pairs _ _ wanted texts zero first _ = tt
+pairs _ _ [] texts (suc n) first _ = tt
+pairs _ _ (w ∷ wanted) [] (suc n) first _ = tt
 pairs account drop (w ∷ wanted) (text ∷ texts) (suc n) first ((m, there, is), are) =
-    let same : w.1 ≡ item_of m = same_Some _ _ (sym first.0.1 ∙ item_at drop (w.0 - 1) m there) in
-    ((m, (w.0 - 1, there), rw (same, is) refl), pairs account drop wanted texts n first.1 are)
+    let same = same_Some _ _ (sym first.0.1 ∙ item_at drop (w.0 - 1) m there) in
+    ((m, (w.0 - 1, there), rw (same, is) refl), pairs account _ wanted texts n first.1 are)
 
 module _ (laws : Below) {sent got : List ℕ} (effect : Effect) {drop : List Message} {vanished : List (List ℕ)}
     (sends : SendsOnly (IsBegun effect.listing effect.begun) sent)
@@ -327,14 +316,13 @@ module _ (laws : Below) {sent got : List ℕ} (effect : Effect) {drop : List Mes
 
   -- if the listing is the maildrop's, or nothing was begun
   vanished_begun : (effect.begun ≡ []) ⊎ (effect.listing ≡ listing_of drop) → AllByRecursion (λ id. has_id effect.begun id ≡ true) vanished
-  vanished_begun listing_is = all_map _ served.marked (λ id m.
-      let asked = marks_are_asked drop sent got served.marks served.honest m.0 m.2 in
+  vanished_begun listing_is = all_map _ served.marked (λ _ m.
+      let asked = marks_are_asked _ _ _ _ served.honest m.0 m.2 in
       let begun = (all_back _ asked.0 _ (rw (same, asked.3) at sends.each)).0 in
       elim listing_is [
         | inl none ↦ absurd (both_ways false refl (sym (ap (λ b. has_id b begun.0.uid) none) ∙ begun.2))
         | inr is ↦
-            let item : begun.0 ≡ item_of m.1 = same_Some _ _ (sym begun.1 ∙ rw (asked.4, is) (item_at drop m.0 m.1 m.3))
-            in
+            let item : begun.0 ≡ item_of m.1 = same_Some _ _ (sym begun.1 ∙ rw (asked.4, is) (item_at drop m.0 m.1 m.3)) in
             rw (item, m.4) at begun.2
       ])
 
@@ -343,8 +331,7 @@ module _ (laws : Below) {sent got : List ℕ} (effect : Effect) {drop : List Mes
       let asked = User r.name ∷ Pass r.word ∷ Stat ∷ UidlAll ∷ ListAll ∷ r.more in
       let replies = r.user ∷ r.pass ∷ r.stat ∷ r.uidl ∷ r.list ∷ r.replies in
       let granted = honest_is_granted laws drop sent got served.marks asked replies served.honest r.talked in
-      let numbered = texts_are_messages laws drop (no_marks drop) asked replies r.found
-      r.talked.good granted r.retrieves in
+      let numbered = texts_are_messages laws drop (no_marks drop) asked replies r.found r.talked.good granted r.retrieves in
       record {
         listing = listing_is_maildrop laws drop r.name r.word r.more r.user r.pass r.stat r.uidl r.list r.replies
             effect.listing r.talked.good granted r.listed;
@@ -358,8 +345,7 @@ module _ (laws : Below) {sent got : List ℕ} (effect : Effect) {drop : List Mes
       texts (f ∷ found) [] e h = absurd cc
       texts (f ∷ found) (w ∷ wanted) e h =
           let head : f.0 ≡ w.0 = cc in
-          let tail : map (λ (p : ℕ × List ℕ). p.0) found ≡ map (λ (p : ℕ × Item). p.0) (take (length found) wanted) = cc
-          in
+          let tail : map (λ (p : ℕ × List ℕ). p.0) found ≡ map (λ (p : ℕ × Item). p.0) (take (length found) wanted) = cc in
           ((h.0.0, rw (← head) h.0.1, h.0.2), texts found wanted tail h.1)
 
   -- so a step that was read is an honest one
@@ -367,7 +353,7 @@ module _ (laws : Below) {sent got : List ℕ} (effect : Effect) {drop : List Mes
       → (A → B) → (A → effect.begun ≡ [])
       → (B ⊎ (C × IsHonest wanted drop effect)) × AllByRecursion (λ id. has_id effect.begun id ≡ true) vanished
   one_visit wanted (inl left) leaves none = (inl (leaves left), vanished_begun (inl (none left)))
-  one_visit wanted (inr (stores, reads)) leaves none = let honest = session_honest wanted reads
+  one_visit wanted (inr (stores, reads)) _ _ = let honest = session_honest wanted reads
       in (inr (stores, honest), vanished_begun (inr honest.listing))
 
 -- what a session did over an honest link is what it read of the maildrop, and a DELE was begun for each message that
@@ -375,8 +361,7 @@ module _ (laws : Below) {sent got : List ℕ} (effect : Effect) {drop : List Mes
 pub served_session : Below → (settings : Settings) (account : List ℕ) (before : AccountMail) {sent got : List ℕ} {report : Report}
     (effect : Effect) {after : AccountMail} {drop : List Message} {vanished : List (List ℕ)}
     → (session : SessionOverLink settings account before sent got report effect after) → Served drop sent got vanished
-    → (Leaves before effect after
-    ⊎ (StoresTexts settings account before effect after report session.sends.commands session.sends.asked.part
+    → (Leaves before effect after ⊎ (StoresTexts settings account before effect after report session.sends.commands session.sends.asked.part
     × IsHonest (wanted_at settings account before effect) drop effect)) × AllByRecursion (λ id. has_id effect.begun id ≡ true) vanished
 served_session laws settings account before effect session served =
     one_visit laws effect session.sends served (wanted_at settings account before effect) session.step
@@ -388,8 +373,7 @@ pub mbox_served_session : Below → (settings : Settings) (before : MboxMail) {s
     → (MboxLeaves before effect after ⊎ (MboxStores settings before effect after report
     × IsHonest (mbox_wanted settings before effect) drop effect)) × AllByRecursion (λ id. has_id effect.begun id ≡ true) vanished
 mbox_served_session laws settings before effect session served =
-    one_visit laws effect session.sends served (mbox_wanted settings before effect) session.step
-    (λ left. left.0) (λ left. left.0.begun)
+    one_visit laws effect session.sends served (mbox_wanted settings before effect) session.step (λ left. left.0) (λ left. left.0.begun)
 
 -- ---- whatever the server says, and if it is honest
 
@@ -407,14 +391,14 @@ session_holds laws settings account before {sent} {got} {report} effect {after} 
         ⊎ (StoresTexts settings account before effect after report session.sends.commands session.sends.asked.part
         × ReadsReplies (wanted_at settings account before effect) session.sends.commands sent got effect)
         → Holds settings account before sent got effect after
-    by (inl (leaves, none)) = (
+    by (inl (leaves, _)) = (
       record {
         gained = [];
         came = ap without_flags leaves.same ∙ sym (append-nil (without_flags before.maildir.files));
         sends = sends_allowed effect (wanted_at settings account before effect) (IsKnown settings account before effect)
             (λ id text. IsAmong (mail_file account id text) []) 0 (rw leaves.begun tt) session.sends;
       },
-      λ drop marks honest. inl leaves,
+      λ _ _ _. inl leaves,
     )
     by (inr (stores, reads)) = (
       record {
@@ -425,16 +409,13 @@ session_holds laws settings account before {sent} {got} {report} effect {after} 
       },
       λ drop marks honest.
           let is = session_honest laws effect {drop = drop} {vanished = []} session.sends
-          (record { marks = marks; honest = honest; marked = tt }) (wanted_at settings account before effect) reads
-          in
+          (record { marks = marks; honest = honest; marked = tt }) (wanted_at settings account before effect) reads in
           let first = subst (λ (l : List Item). AllByRecursion (IsFirstAt l) (wanted_at settings account before effect))
           is.listing (wanted_first settings (merged_rows account before effect) effect.listing) in
           inr (
             is.listing,
-            all_mapped (IsFileOf account drop) (file_for account) _
-                (all_filter (IsPair account drop) (is_unheld account before.maildir) _
-                (pairs account drop (wanted_at settings account before effect) effect.texts
-                stores.stored first is.texts)),
+            all_mapped (IsFileOf account drop) (file_for account) _ (all_filter (IsPair account drop) (is_unheld account before.maildir) _
+                (pairs account drop (wanted_at settings account before effect) effect.texts stores.stored first is.texts)),
           ),
     )
 
@@ -452,10 +433,9 @@ retrieved_whole (other ∷ commands) (reply ∷ replies) found later = retrieved
 
 pub texts_stand : EntryAddsText → (file : List ℕ) (first texts : List (List ℕ)) → AllByRecursion IsWhole texts
     → MboxFile file first → MboxFile (file ++ entries texts) (first ++ texts)
-texts_stand adds file first [] whole stands = simp append-nil stands
+texts_stand _ _ first [] _ stands = simp append-nil stands
 texts_stand adds file first (text ∷ texts) whole stands =
-    let more = texts_stand adds (file ++ entry_of text) (first ++ text ∷ []) texts whole.1
-    (adds file text first stands whole.0) in
+    let more = texts_stand adds (file ++ entry_of text) (first ++ text ∷ []) texts whole.1 (adds file text first stands whole.0) in
     rw (← append_assoc file (entry_of text) (entries texts), ← append_assoc first (text ∷ []) texts) more
 
 -- ---- with an mboxrd file
@@ -471,16 +451,14 @@ pub mbox_session_holds : Below → (settings : Settings) (before : MboxMail) {se
     → MboxSessionOverLink settings before sent got report effect after → MboxHolds settings before sent got report effect after
 mbox_session_holds laws settings before {sent} {got} {report} effect {after} session = by session.step
   where
-    by : (MboxLeaves before effect after × AsksForNone session.sends.commands session.sends.asked.part
-        × (report.retrieved ≡ 0))
+    by : (MboxLeaves before effect after × AsksForNone session.sends.commands session.sends.asked.part × (report.retrieved ≡ 0))
         ⊎ (MboxStores settings before effect after report
         × ReadsReplies (mbox_wanted settings before effect) session.sends.commands sent got effect)
         → MboxHolds settings before sent got report effect after
     by (inl (leaves, none, nothing)) = (
       record {
         file = ⊎_map (λ e. e) (λ cut. ([], cut ∙ sym (append-nil (settled effect.listing before).file))) leaves.file;
-        sends = sends_allowed effect _ (IsRecorded settings before effect after report)
-            (λ id. StandsAfter effect.listing before after) 0
+        sends = sends_allowed effect _ (IsRecorded settings before effect after report) (λ id. StandsAfter effect.listing before after) 0
             (rw leaves.begun tt) session.sends;
       },
       λ ended. absurd (both_ways effect.ended leaves.ended (session.ended.1 ended)),
@@ -500,8 +478,7 @@ mbox_session_holds laws settings before {sent} {got} {report} effect {after} ses
           let all : length effect.texts ≤ stores.stored = omega (arith, same, few, least) in
           let whole : AllByRecursion IsWhole effect.texts = rw reads.texts
           (retrieved_whole (User reads.name ∷ Pass reads.word ∷ Stat ∷ UidlAll ∷ ListAll ∷ reads.more)
-          (reads.user ∷ reads.pass ∷ reads.stat ∷ reads.uidl ∷ reads.list ∷ reads.replies)
-          reads.found reads.retrieves) in
+          (reads.user ∷ reads.pass ∷ reads.stat ∷ reads.uidl ∷ reads.list ∷ reads.replies) reads.found reads.retrieves) in
           let file : after.file ≡ (settled effect.listing before).file ++ entries effect.texts = elim stores.ending [
             | inl closed ↦ rw (closed.1, take_all stores.stored effect.texts all) refl
             | inr broken ↦ absurd (let never : Some _ ≡ None = sym broken.opened.intent ∙ closed_is in cc)
@@ -509,8 +486,7 @@ mbox_session_holds laws settings before {sent} {got} {report} effect {after} ses
           record {
             all = omega (arith, same, few, least, mbox_fetched stores);
             texts =
-                λ first stands. rw file (texts_stand laws.adds (settled effect.listing before).file first
-                effect.texts whole stands);
+                λ first stands. rw file (texts_stand laws.adds (settled effect.listing before).file first effect.texts whole stands);
           },
       λ drop marks honest.
           let is = session_honest laws effect {drop = drop} {vanished = []} session.sends

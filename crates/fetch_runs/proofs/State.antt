@@ -44,7 +44,7 @@ use Rattle.fetch_session.proofs.TakenLemmas.{unready_same}
 -- the account is as it was, or as a course leads to
 abbrev pub CourseLeads : (Course → Type 0) → Result (Unit {0}) Cut → Keeping → Keeping → List ReportLine → SessionCourse → Type 0
 CourseLeads Leads result before after lines Idle = (is_ended result ≡ false) × (after ≡ before) × (lines ≡ [])
-CourseLeads Leads result before after lines (Deals c) = Leads c
+CourseLeads Leads _ _ _ _ (Deals c) = Leads c
 
 -- what holds if nothing was planned, and if what was planned was carried out
 module _ (settings : Settings) (target : Target) (now : ℕ) (before : Keeping) (Leads : Result (Unit {0}) Cut → Course
@@ -58,28 +58,23 @@ module _ (settings : Settings) (target : Target) (now : ℕ) (before : Keeping) 
     new.store new.file) where
   carries_lead : (items : List Item) (place : _) (result : Result (Unit {0}) Cut) (place' : _) (after : Keeping)
       (lines : List ReportLine) (skipped : _)
-      (is : Carries settings target items now place before.store before.file [] result place' after.store
-      after.file lines skipped)
+      (is : Carries settings target items now place before.store before.file [] result place' after.store after.file lines skipped)
       → Leads result (course_carries settings target items now place before.store before.file [] result place'
       after.store after.file lines skipped is) after.store after.file
-  carries_lead items place (Ok done) place' after lines skipped is =
-      carried items place (Ok done) (scene place' after.store after.file is.0 lines) skipped is.1
-  carries_lead items place (Err cut) place' after lines skipped (rows, inl (none, is)) =
+  carries_lead _ place (Ok _) place' after lines skipped is =
+      carried _ place _ (scene place' after.store after.file is.0 lines) skipped is.1
+  carries_lead items place (Err cut) place' after lines _ (rows, inl (_, is)) =
       unprepared items place cut (scene place' after.store after.file rows lines) is
-  carries_lead items place (Err cut) place' after lines skipped (rows, inr is) =
-      carried items place (Err cut) (scene place' after.store after.file rows lines) skipped is
+  carries_lead _ _ (Err _) _ _ _ _ (_, inr is) = carried _ _ _ _ _ is
 
   pub by_course : (old : _) (result : Result (Unit {0}) Cut) (new : _) (after : Keeping) (notes : Noted)
       (is : Proceeds settings target now old before result new after notes)
       → CourseLeads (λ (c : Course). Leads result c after.store after.file) result before after notes.lines
       (course_proceeded settings target now old before result new after notes is)
-  by_course old (Ok done) new after notes dealt = carries_lead dealt.items dealt.mid (Ok done) new after notes.lines
-      notes.skipped dealt.carries
-  by_course old (Err cut) new after notes (inl stopped) =
-      (refl, stopped.same, ap (λ (n : Noted). n.lines) stopped.nothing)
-  by_course old (Err cut) new after notes (inr (inl wanting)) =
-      (refl, wanting.same, ap (λ (n : Noted). n.lines) wanting.nothing)
-  by_course old (Err cut) new after notes (inr (inr dealt)) = carries_lead dealt.items dealt.mid (Err cut) new after
+  by_course _ (Ok _) new _ notes dealt = carries_lead _ dealt.mid _ new _ notes.lines notes.skipped dealt.carries
+  by_course _ (Err _) _ _ _ (inl stopped) = (refl, stopped.same, ap (λ (n : Noted). n.lines) stopped.nothing)
+  by_course _ (Err _) _ _ _ (inr (inl wanting)) = (refl, wanting.same, ap (λ (n : Noted). n.lines) wanting.nothing)
+  by_course _ (Err _) new _ notes (inr (inr dealt)) = carries_lead dealt.items dealt.mid _ new _
       notes.lines notes.skipped dealt.carries
 
 -- ---- with a Maildir
@@ -105,17 +100,17 @@ AddsFiles account maildir dones maildir' = without_flags maildir'.files ≡ with
 
 -- of files that are durable only names and bytes are known
 made_files : (account : List ℕ) (dones : List Done) → without_flags (files_of account dones) ≡ files_of account dones
-made_files account [] = refl
+made_files _ [] = refl
 made_files account (d ∷ dones) = map-append _ (files_in account d.task d.replies) (files_of account dones)
-    ∙ rw (by d.task d.replies, made_files account dones) refl
+    ∙ rw (by, made_files account dones) refl
   where
     by : (task : Task) (replies : List WholeReply) → without_flags (files_in account task replies) ≡ files_in account task replies
-    by (stores number uid) [] = refl
-    by (stores number uid) (reply ∷ replies) = ap (λ (fs : List File). file_from account uid reply ∷ fs) (by (stores number uid) replies)
-    by other replies = refl
+    by (stores _ _) [] = refl
+    by (stores number uid) (reply ∷ replies) = ap (λ (fs : List File). file_from account uid reply ∷ fs) (by (stores number _) replies)
+    by _ _ = refl
 
 pub came_too : (old new added : List File) → new ≡ old ++ added → without_flags new ≡ without_flags old ++ without_flags added
-came_too old new added came = ap without_flags came ∙ map-append _ old added
+came_too old _ added came = ap without_flags came ∙ map-append _ old added
 
 -- the account that a session left, and what it found; the record is the old one only if no task was begun
 pub record Leads (settings : Settings) (account : List ℕ) (now : ℕ) (maildir : Maildir) (rows : List Row)
@@ -141,8 +136,7 @@ module _ (laws : Below) (settings : Settings) (account : List ℕ) (now : ℕ) (
     -- what the session stored, and the report counts
     abbrev pub figures : (report : Report) (commands : List Command) (part : List ℕ) → report.retrieved ≡ count c.taken
         → report.outcome ≡ outcome_of result → (begun_of c ≡ [] → StopsAtList report.outcome commands part)
-        → Did settings account (holds rows maildir) (effect_of now (is_ended result) c)
-        (holds l.rows' maildir') report commands part
+        → Did settings account (holds rows maildir) (effect_of now (is_ended result) c) (holds l.rows' maildir') report commands part
     figures report commands part retrieved outcome stops = record {
       stored = count l.full;
       recorded = count l.noted;
@@ -151,8 +145,7 @@ module _ (laws : Below) (settings : Settings) (account : List ℕ) (now : ℕ) (
       marks = rw (retrieved, outcome) l.tally.mark;
       came = rw (l.files, l.tally.found, files_part laws (p c.items) l.full l.tally.whole) refl;
       rows = ⊎_elim (λ is. inr (is ∙ records_part laws (p c.items) l.noted l.tally.part))
-          (λ none. inl (none.0, ap (map text_found) none.1, ap (deleted_by c.items) none.2, none.3, stops none.2))
-          l.recorded;
+          (λ none. inl (none.0, ap (map text_found) none.1, ap (deleted_by c.items) none.2, none.3, stops none.2)) l.recorded;
       begun = ⊎_elim (λ is. rw is (tally_begun laws (p c.items) l.tally)) (λ none. rw none.2 tt) l.recorded;
       ended = λ is. retrieved ∙ (l.tally.ends is).0;
     }
@@ -164,7 +157,7 @@ module _ (laws : Below) (settings : Settings) (account : List ℕ) (now : ℕ) (
         → Tally (p items) result (course items taken spare under) full noted (RefusedIn result)
         → (maildir' : Maildir) (content' : Option (List ℕ)) → AddsFiles account maildir full maildir'
         → KeepsRows content' (rows_after (p items) noted) → Leading result (course items taken spare under) maildir' content'
-    lead t maildir' content' files keeps = record {
+    lead t _ _ files keeps = record {
       full = _;
       noted = _;
       tally = t;
@@ -178,8 +171,7 @@ module _ (laws : Below) (settings : Settings) (account : List ℕ) (now : ℕ) (
       -- what there was after the tasks that were done
       mid_files : (dones : List Done) (mid : Scene) → Went (AsFiles account) dones old mid
           → AddsFiles account maildir dones mid.store.maildir
-      mid_files dones mid went = came_too maildir.files mid.store.maildir.files (files_of account dones)
-          (rw (← same_maildir) went.stored.came)
+      mid_files dones mid went = came_too _ _ _ (rw (← same_maildir) went.stored.came)
           ∙ ap (λ (fs : List File). without_flags maildir.files ++ fs) (made_files account dones)
 
       module _ {cut : Cut} {new : Scene} (fell : Fell (AsFiles account) tasks old cut new) where
@@ -187,30 +179,27 @@ module _ (laws : Below) (settings : Settings) (account : List ℕ) (now : ℕ) (
         Stopped c = Leading (Err cut) c new.store.maildir new.file.content
 
         still : new.file ≡ fell.mid.file → KeepsRows new.file.content (rows_after (p items) fell.dones)
-        still file = rw file (None, mid_keeps laws (p items) starts fell.dones fell.mid fell.went)
+        still file = rw file (None, mid_keeps laws _ starts fell.dones fell.mid fell.went)
 
         -- the next task left the files as they were
         bare : new.store.maildir.files ≡ fell.mid.store.maildir.files → new.file ≡ fell.mid.file
             → Stopped (course items fell.dones [] (fell.next ∷ []))
         bare same file =
             lead (tally_no_line laws (p items) starts fell) new.store.maildir new.file.content (ap without_flags same
-            ∙ mid_files fell.dones fell.mid fell.went) (still file)
+            ∙ mid_files _ _ fell.went) (still file)
 
         -- the file of the next task's text is there
         files : (number : ℕ) (uid : List ℕ) (reply : WholeReply)
             → without_flags new.store.maildir.files ≡ without_flags fell.mid.store.maildir.files ++ file_from account uid reply ∷ []
             → AddsFiles account maildir (fell.dones ++ stored_done number uid reply ∷ []) new.store.maildir
-        files number uid reply came =
-            simp (came, mid_files fell.dones fell.mid fell.went, append_assoc, flat_map-append)
+        files _ _ _ came = simp (came, mid_files fell.dones fell.mid fell.went, append_assoc, flat_map-append)
 
         -- and the record is one of two
         unsaved : (u : FileNotSaved account fell.next fell.mid new cut)
             → Stopped (course items (fell.dones ++ stored_done u.number u.uid u.reply ∷ []) [] [])
         unsaved u =
-            let there : AddsFiles account maildir (fell.dones ++ stored_done u.number u.uid u.reply ∷ [])
-            new.store.maildir = files u.number u.uid u.reply
-            (came_too fell.mid.store.maildir.files new.store.maildir.files
-            (file_from account u.uid u.reply ∷ []) u.stored.came) in
+            let there : AddsFiles account maildir (fell.dones ++ stored_done u.number u.uid u.reply ∷ []) new.store.maildir = files _ _ _
+            (came_too _ _ _ u.stored.came) in
             elim (laws.unsaved fell.mid.file (none_open fell.mid.rows) (none_open (marked fell.mid.rows u.uid))
             cut.fault new.file u.saves (fell.went.saved starts.steady)) [
               | inl was ↦
@@ -226,15 +215,13 @@ module _ (laws : Below) (settings : Settings) (account : List ℕ) (now : ℕ) (
         -- the store refused a text
         not_stored : (refused : NoFile account fell.next fell.mid new cut)
             → (refuses : RefusesText fell.mid.store.maildir (stem_of account refused.uid) refused.rest refused.text
-            cut.fault new.store.maildir)
-            → Stopped (course items fell.dones (spare_in refused refuses) (fell.next ∷ []))
-        not_stored refused (inl missing) = bare (ap (λ (m : Maildir). m.files) missing.2) refused.file
-        not_stored refused (inr (is, inl same)) = bare (ap (λ (m : Maildir). m.files) same) refused.file
-        not_stored refused (inr (is, inr (done, (is_named, there)))) =
+            cut.fault new.store.maildir) → Stopped (course items fell.dones (spare_in refused refuses) (fell.next ∷ []))
+        not_stored refused (inl missing) = bare (ap (λ m. m.files) missing.2) refused.file
+        not_stored refused (inr (_, inl same)) = bare (ap (λ m. m.files) same) refused.file
+        not_stored refused (inr (is, inr (done, (_, there)))) =
             let whole = refused.whole done in
             lead (tally_spare laws (p items) starts fell refused.number refused.uid whole.0 refused.is whole.1.good
-            (ap WasCut is)) new.store.maildir new.file.content
-            (files refused.number refused.uid whole.0
+            (ap WasCut is)) new.store.maildir new.file.content (files _ _ _
             (rw (there, whole.2) (map-append _ fell.mid.store.maildir.files _))) (still refused.file)
 
         stopped : (stops : Stops (AsFiles account) fell.next fell.mid cut new)
@@ -244,12 +231,11 @@ module _ (laws : Below) (settings : Settings) (account : List ℕ) (now : ℕ) (
         stopped (inr (inr refused)) = unsaved refused
 
       does_leads : (result : Result (Unit {0}) Cut) (new : Scene) (does : Does (AsFiles account) tasks old result new)
-          → Leading result (course_does (AsFiles account) items tasks old new result does)
-          new.store.maildir new.file.content
-      does_leads (Ok done) new went =
+          → Leading result (course_does (AsFiles account) items tasks old new result does) new.store.maildir new.file.content
+      does_leads (Ok _) new went =
           lead (tally_all laws (p items) starts went.dones new went.all went.went) new.store.maildir new.file.content
           (mid_files went.dones new went.went) (None, mid_keeps laws (p items) starts went.dones new went.went)
-      does_leads (Err cut) new fell = stopped fell fell.stops
+      does_leads (Err _) _ fell = stopped fell fell.stops
 
   -- ---- of a session
 

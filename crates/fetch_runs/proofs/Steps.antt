@@ -45,7 +45,7 @@ pub begun_one : (account : List ℕ) (maildir : Maildir) (items : List Item) (ta
     → AllByRecursion (IsRight account maildir items) tasks → (command : Command)
     → IsOfTask tasks command → IsBegun items (deleted_by items tasks) command
 begun_one account maildir items tasks right (Dele number) (front, behind, is) =
-    let at = (all_back (IsRight account maildir items) front (deletes number ∷ behind) (rw is at right)).0 in
+    let at = (all_back _ front (deletes number ∷ behind) (rw is at right)).0 in
     let begun : has_id (deleted_by items tasks) at.0.uid ≡ true =
     rw (
       is,
@@ -55,7 +55,7 @@ begun_one account maildir items tasks right (Dele number) (front, behind, is) =
       bytes_self at.0.uid,
     ) (or_right _ _ refl) in
     (at.0, at.1, begun, at.2, at.3)
-begun_one account maildir items tasks right other is = tt
+begun_one _ _ _ _ _ _ _ = tt
 
 -- each command that was sent is of this kind
 abbrev sends_of : (account : List ℕ) (maildir : Maildir) (items : List Item) (tasks : List Task)
@@ -72,7 +72,7 @@ sends_of account maildir items tasks right {commands} asked all next = record {
 -- ---- the outcome
 
 ended_if : (result : _) {outcome : _} → outcome ≡ outcome_of result → (is_ended result ≡ true) ↔ (outcome ≡ Ended)
-ended_if (Ok done) is = (λ yes'. is, λ ended. refl)
+ended_if (Ok _) is = (λ _. is, λ _. refl)
 ended_if (Err cut) is = (λ never. absurd cc, λ ended. absurd cc)
 
 -- ---- of a session with a listing, which came to its tasks
@@ -81,18 +81,16 @@ module _ {settings : Settings} {target : Target} {now : ℕ} {link : Link} {befo
     {link' : Link} (is : SessionIn settings target now link before report link' after) {c : Course}
     (said : Planned settings target now before link link' is.result is.notes.lines c) where
   pub retrieved_is : report.retrieved ≡ count c.taken
-  retrieved_is = is.reports.retrieved_is ∙ ap retrieved_in said.by.told ∙ (found_all c.taken said.by.took.each).1
+  retrieved_is = is.reports.retrieved_is ∙ ap retrieved_in said.by.told ∙ (found_all _ said.by.took.each).1
 
   -- if it ended, each RETR is in the report
   retrieves_all : is_ended is.result ≡ true → report.retrieved ≡ count_by is_retr
       (User (name_of settings) ∷ Pass (word_of settings) ∷ Stat ∷ UidlAll ∷ ListAll ∷ said.speaks.more)
   retrieves_all ended =
-      let outcome = (ended_if is.result refl).0 ended in
+      let outcome = (ended_if _ refl).0 ended in
       let none = (said.by.ahead.whole outcome).0 in
-      retrieved_is ∙ ap (λ (l : List (ℕ × List ℕ)). length l) (sym (append-nil (found_by c.taken)))
-      ∙ ap (λ (under : List Task). length
-      (found_by c.taken ++ flat_map (λ (task : Task). found_in task c.spare) under)) (sym none)
-      ∙ said.speaks.all none (ap tail_behind outcome)
+      retrieved_is ∙ ap (λ l. length l) (sym (append-nil (found_by c.taken))) ∙ ap (λ under. length
+      (found_by c.taken ++ flat_map (λ task. found_in task c.spare) under)) (sym none) ∙ said.speaks.all none (ap tail_behind outcome)
 
 -- ---- with a Maildir
 
@@ -100,18 +98,14 @@ pub session_is_a_step : Below → SessionIsAStep
 session_is_a_step laws settings account now link before rows report link' after valid keeps is =
     let step = joined (course_proceeded settings (AsFiles account) now (at link []) (keeps_files before) is.result
     is.mid (keeps_files after) is.notes is.proceeds)
-    (course_leads laws settings account now before.maildir rows before.file keeps (at link []) is.result is.mid
-    after is.notes is.proceeds)
-    (session_spoke laws settings valid (AsFiles account) now link (keeps_files before) report link'
-    (keeps_files after) is) in
-    let holds' = session_holds laws settings account (holds rows before.maildir) step.effect step.session
-    in (step, holds'.0, holds'.1)
+    (course_leads laws settings account now before.maildir rows before.file keeps (at link []) is.result is.mid after is.notes is.proceeds)
+    (session_spoke laws settings valid (AsFiles account) now link (keeps_files before) report link' (keeps_files after) is) in
+    let holds' = session_holds laws settings account (holds rows before.maildir) step.effect step.session in (step, holds'.0, holds'.1)
   where
     made : (c : Course) {rows' : List Row} {sent got : List ℕ} → link'.sent ≡ link.sent ++ sent
         → link'.got ≡ link.got ++ got → KeepsRows after.file.content rows'
         → SessionOverLink settings account (holds rows before.maildir) sent got report
-        (effect_of now (is_ended is.result) c) (holds rows' after.maildir)
-        → IsStep settings account now link before rows report link' after
+        (effect_of now (is_ended is.result) c) (holds rows' after.maildir) → IsStep settings account now link before rows report link' after
     made c sent_is got_is stays session = record {
       sent = _;
       got = _;
@@ -134,18 +128,15 @@ session_is_a_step laws settings account now link before rows report link' after 
         (tail_for is.result) (is_tail_for is.result) said.sent said.got said.said in
         let unchanged : Leaves (holds rows before.maildir) (effect_of now (is_ended is.result) (course [] [] [] []))
         (holds rows after.maildir) =
-        record { rows = refl; same = ap (λ (k : Keeping). k.store.maildir.files) left.1; begun = refl; ended = left.0 }
-        in
-        made (course [] [] [] []) said.sent_is said.got_is (rw (ap (λ (k : Keeping). k.file) left.1) keeps)
-        (record {
+        record { rows = refl; same = ap (λ (k : Keeping). k.store.maildir.files) left.1; begun = refl; ended = left.0 } in
+        made (course [] [] [] []) said.sent_is said.got_is (rw (ap (λ (k : Keeping). k.file) left.1) keeps) (record {
           sends = sends_of account before.maildir [] [] tt idle.1 idle.2 idle.3;
           ended = ended_if is.result is.reports.outcome_is;
           retrieves = λ ended. absurd (both_ways _ left.0 ended);
           step = inl (unchanged, is.reports.retrieved_is ∙ ap retrieved_in left.2);
         })
     joined (Deals c) left said =
-        made c said.sent_is said.got_is left.keeps
-        (record {
+        made c said.sent_is said.got_is left.keeps (record {
           sends = sends_of account before.maildir c.items (begun_of c)
               (tally_right laws (inputs settings account now before.maildir rows c.items) left.tally) said.speaks.asked
               said.speaks.deletes said.speaks.next;
@@ -153,8 +144,7 @@ session_is_a_step laws settings account now link before rows report link' after 
           retrieves = retrieves_all is said;
           step = inr (
             figures laws settings account now before.maildir rows left report _ said.speaks.asked.part
-                (retrieved_is is said) is.reports.outcome_is
-                (λ none. record {
+                (retrieved_is is said) is.reports.outcome_is (λ none. record {
                   name = name_of settings;
                   word = word_of settings;
                   more = said.speaks.more;
@@ -169,11 +159,9 @@ session_is_a_step laws settings account now link before rows report link' after 
 -- ---- without a task no message is asked for
 
 no_message : (command : Command) → IsOfTask [] command → AsksForNoMessage command
-no_message (Retr n) (front, task, behind, is) = absurd (let never : task ∷ behind ≡ [] =
-    (both_none front (task ∷ behind) (sym is)).1 in cc)
-no_message (Dele n) (front, behind, is) = absurd (let never : deletes n ∷ behind ≡ [] =
-    (both_none front (deletes n ∷ behind) (sym is)).1 in cc)
-no_message other is = tt
+no_message (Retr n) (front, task, behind, is) = absurd (let never : task ∷ behind ≡ [] = (both_none _ _ (sym is)).1 in cc)
+no_message (Dele n) (front, behind, is) = absurd (let never : deletes n ∷ behind ≡ [] = (both_none _ _ (sym is)).1 in cc)
+no_message _ _ = tt
 
 -- ---- with an mboxrd file
 
@@ -183,16 +171,14 @@ mbox_session_is_a_step laws settings now link before held report link' after val
     (keeps_entries after) is.notes is.proceeds)
     (course_leaves laws settings now (keeps_entries before) held keeps (at link []) is.result is.mid
     (keeps_entries after) is.notes is.proceeds)
-    (session_spoke laws settings valid AsEntries now link (keeps_entries before) report link' (keeps_entries after) is)
-    in
+    (session_spoke laws settings valid AsEntries now link (keeps_entries before) report link' (keeps_entries after) is) in
     let holds' = mbox_session_holds laws settings (mbox_holds held before.mbox) step.effect step.session
     in (step, holds'.0, holds'.1, holds'.2)
   where
     made : (c : Course) {state : RecordState} {sent got : List ℕ} → link'.sent ≡ link.sent ++ sent
         → link'.got ≡ link.got ++ got → Keeps after.file.content state
         → MboxSessionOverLink settings (mbox_holds held before.mbox) sent got report
-        (effect_of now (is_ended is.result) c) (mbox_holds state after.mbox)
-        → IsMboxStep settings now link before held report link' after
+        (effect_of now (is_ended is.result) c) (mbox_holds state after.mbox) → IsMboxStep settings now link before held report link' after
     made c sent_is got_is stays session = record {
       sent = _;
       got = _;
@@ -210,17 +196,16 @@ mbox_session_is_a_step laws settings now link before held report link' after val
         → (sent got : List ℕ) → link'.sent ≡ link.sent ++ sent → link'.got ≡ link.got ++ got
         → (commands : List Command) (asked : HasSent commands sent) → AllByRecursion (IsOfTask (begun_of c)) commands
         → BeginsOne (IsOfTask (begun_of c)) asked.part → IsMboxStep settings now link before held report link' after
-    quiet c rests retrieved sent got sent_is got_is commands asked all next = made c sent_is got_is rests.keeps
-        (record {
-          sends = sends_of [] no_maildir c.items (begun_of c) (rw rests.none tt) asked all next;
-          ended = ended_if is.result is.reports.outcome_is;
-          retrieves = λ ended. absurd (both_ways _ rests.leaves.ended ended);
-          step = inl (
-            rests.leaves,
-            (all_map commands (rw rests.none at all) no_message, begins_of no_message asked.part (rw rests.none at next)),
-            retrieved,
-          );
-        })
+    quiet c rests retrieved sent got sent_is got_is commands asked all next = made c sent_is got_is rests.keeps (record {
+      sends = sends_of [] no_maildir c.items (begun_of c) (rw rests.none tt) asked all next;
+      ended = ended_if is.result is.reports.outcome_is;
+      retrieves = λ ended. absurd (both_ways _ rests.leaves.ended ended);
+      step = inl (
+        rests.leaves,
+        (all_map commands (rw rests.none at all) no_message, begins_of no_message asked.part (rw rests.none at next)),
+        retrieved,
+      );
+    })
 
     joined : (session_course : SessionCourse)
         → CourseLeads (λ (c : Course). Rests now is.result c held before.mbox after.mbox after.file.content
@@ -242,16 +227,13 @@ mbox_session_is_a_step laws settings now link before held report link' after val
             begun = refl;
             ended = left.0;
           };
-        }) (is.reports.retrieved_is ∙ ap retrieved_in left.2) said.sent said.got said.sent_is said.got_is
-        idle.0 idle.1 idle.2 idle.3
+        }) (is.reports.retrieved_is ∙ ap retrieved_in left.2) said.sent said.got said.sent_is said.got_is idle.0 idle.1 idle.2 idle.3
     joined (Deals c) (inl rests) said =
         quiet c rests (is.reports.retrieved_is ∙ ap retrieved_in said.by.told
-        ∙ ap (λ (ds : List Done). retrieved_in (report_lines ds)) rests.untaken) said.sent said.got
-        said.sent_is said.got_is _
+        ∙ ap (λ (ds : List Done). retrieved_in (report_lines ds)) rests.untaken) said.sent said.got said.sent_is said.got_is _
         said.speaks.asked said.speaks.deletes said.speaks.next
     joined (Deals c) (inr left) said =
-        made c said.sent_is said.got_is left.keeps
-        (record {
+        made c said.sent_is said.got_is left.keeps (record {
           sends = sends_of [] no_maildir c.items (begun_of c)
               (tally_right laws (mbox_inputs settings now held before.mbox c.items) left.tally) said.speaks.asked
               said.speaks.deletes said.speaks.next;
@@ -265,19 +247,16 @@ mbox_session_is_a_step laws settings now link before held report link' after val
         })
 
 -- the texts that it took are those of the wanted messages, if its server was honest
-pub mbox_honest : (laws : Below) {settings : Settings} {now : ℕ} {link : Link} {before : MboxAccountFiles} {report : Report}
+pub mbox_honest : Below → {settings : Settings} {now : ℕ} {link : Link} {before : MboxAccountFiles} {report : Report}
     {link' : Link} {after : MboxAccountFiles} (held : RecordState)
     (is : SessionIn settings AsEntries now link (keeps_entries before) report link' (keeps_entries after)) {c : Course}
-    {mbox' : Stored} {Kept : RecordState → Type 0} (left : MboxLeads settings now held before.mbox is.result c mbox' Kept)
+    {mbox' : Stored} {Kept : RecordState → Type 0} → MboxLeads settings now held before.mbox is.result c mbox' Kept →
     (said : Planned settings AsEntries now (keeps_entries before) link link' is.result is.notes.lines c)
     {drop : List Message} {vanished : List (List ℕ)} → Served drop said.sent said.got vanished
     → IsHonest (mbox_wanted settings (mbox_holds held before.mbox) (effect_of now (is_ended is.result) c)) drop
     (effect_of now (is_ended is.result) c)
 mbox_honest laws {settings} {now} {before = before} held is {c} left said served = session_honest laws
-    (effect_of now (is_ended is.result) c)
-    (sends_of [] no_maildir c.items (begun_of c)
+    (effect_of now (is_ended is.result) c) (sends_of [] no_maildir c.items (begun_of c)
     (tally_right laws (mbox_inputs settings now held before.mbox c.items) left.tally) said.speaks.asked
-    said.speaks.deletes said.speaks.next) served
-    (mbox_wanted settings (mbox_holds held before.mbox) (effect_of now (is_ended is.result) c))
-    (said.speaks.reads now (is_ended is.result) _
-    (tally_numbers laws (mbox_inputs settings now held before.mbox c.items) left.tally))
+    said.speaks.deletes said.speaks.next) served (mbox_wanted settings (mbox_holds held before.mbox) (effect_of now (is_ended is.result) c))
+    (said.speaks.reads now (is_ended is.result) _ (tally_numbers laws (mbox_inputs settings now held before.mbox c.items) left.tally))

@@ -73,11 +73,10 @@ pub record Replied (name word : List ℕ) (welcome : List WholeReply) (counted n
   pub good : AllZip IsGood (opening name word) (hello ∷ to_user ∷ to_pass ∷ counted ∷ named ∷ sized ∷ [])
 
 pub replied : {name word : List ℕ} (welcome : List WholeReply) {counted named sized : WholeReply}
-    → AllZip IsGood (opening name word) (welcome ++ counted ∷ named ∷ sized ∷ [])
-    → Replied name word welcome counted named sized
+    → AllZip IsGood (opening name word) (welcome ++ counted ∷ named ∷ sized ∷ []) → Replied name word welcome counted named sized
 replied (a ∷ b ∷ c ∷ []) good = record { hello = a; to_user = b; to_pass = c; is = refl; good = good }
 replied (a ∷ b ∷ c ∷ d ∷ e ∷ f ∷ g ∷ more) good = absurd good.1.1.1.1.1.1
-replied welcome good = search rules depth 9
+replied _ good = search rules depth 9
 
 -- those that a session got
 abbrev pub replies_to : {name word : List ℕ} {old new : Place} {count : ℕ} {uids : List UidRow} {sizes : List ScanRow}
@@ -87,23 +86,21 @@ replies_to opened = opened.welcome ++ opened.counted ∷ opened.named ∷ opened
 -- the greeting has no body
 pub no_body : (body : Option (List (List ℕ))) → IsBody greeting body → body ≡ None
 no_body None is = refl
-no_body (Some lines) is = absurd is.1
+no_body (Some _) is = absurd is.1
 
 -- the opening can be sent
 pub said_opening : (name word : List ℕ) → is_credential name ≡ true → is_credential word ≡ true
     → AllByRecursion CanBeSaid (opening name word)
-said_opening name word n w = (tt, ((n, tt), ((w, tt), ((refl, tt), ((refl, tt), ((refl, tt), tt))))))
+said_opening _ _ n w = (tt, ((n, tt), ((w, tt), ((refl, tt), ((refl, tt), ((refl, tt), tt))))))
 
 -- ---- how many messages are listed
 
 pub few_items : {name word : List ℕ} {old new : Place} {count : ℕ} {uids : List UidRow} {sizes : List ScanRow}
-    {items : List Item} (opened : SessionOpened name word old new count uids sizes) → Joins count uids sizes items
-    → length items ≤ 100000
-few_items {count = count} opened joins =
-    let good = (replied opened.welcome opened.talked.good).good.1.1.1.0 in
+    {items : List Item} → SessionOpened name word old new count uids sizes → Joins count uids sizes items → length items ≤ 100000
+few_items opened joins =
+    let good = (replied _ opened.talked.good).good.1.1.1.0 in
     let fits = good.fits refl in
-    let rest = good.positive.2
-    ∙ ap without_space (append_cancel_left (indicator Positive) good.positive.0 opened.gives.2.0
+    let rest = good.positive.2 ∙ ap without_space (append_cancel_left (indicator Positive) good.positive.0 opened.gives.2.0
     (sym good.positive.1 ∙ opened.gives.2.1)) ∙ sym opened.gives.2.2 in
     grind (arith, sym fits.2 ∙ ap number_and_size rest ∙ opened.gives.3, joins.count, fits.3)
 
@@ -136,22 +133,22 @@ pub data IsTail : List Turn → Type 0 where
 
 pub is_tail : (fault : Fault) → IsTail (tail_turns (tail fault))
 is_tail (Refused ByGreeting) = says_quit
-is_tail other = search (silent, says_quit, undoes)
+is_tail _ = search (silent, says_quit, undoes)
 
 pub is_tail_for : (result : Result (Unit {0}) Cut) → IsTail (tail_for result)
-is_tail_for (Ok done) = silent
-is_tail_for (Err cut) = is_tail cut.fault
+is_tail_for (Ok _) = silent
+is_tail_for (Err _) = is_tail _
 
 -- they can be sent, and delete nothing
 of_tail : (tasks : List Task) {turns : List Turn} → IsTail turns → AllByRecursion CanBeSaid turns
     × (turns ≡ map Some (commands_in turns)) × AllByRecursion (IsOfTask tasks) (commands_in turns)
-of_tail tasks silent = (tt, refl, tt)
-of_tail tasks kind = (search rules, refl, search rules)
+of_tail _ silent = (tt, refl, tt)
+of_tail _ _ = (search rules, refl, search rules)
 
 module _ (tasks : List Task) {done begun turns : List Turn} {sent : List ℕ} (kind : IsTail turns) (c : Commanded done begun turns sent)
     (all : AllByRecursion (IsOfTask tasks) (commands_in done ++ commands_in begun)) where
   begun_of_tasks : AllByRecursion (IsOfTask tasks) (c.ahead ++ c.unsaid)
-  begun_of_tasks = rw c.of_begun at (all_back (IsOfTask tasks) (commands_in done) (commands_in begun) all)
+  begun_of_tasks = rw c.of_begun at (all_back _ _ (commands_in begun) all)
 
   ends_of_tasks : AllByRecursion (IsOfTask tasks) (c.ends ++ c.unended)
   ends_of_tasks = rw c.of_tail at (of_tail tasks kind).2
@@ -165,9 +162,8 @@ module _ (tasks : List Task) {done begun turns : List Turn} {sent : List ℕ} (k
 
   -- so is one that was begun after them
   pub next_of_tasks : BeginsOne (IsOfTask tasks) c.asked.part
-  next_of_tasks = ⊎_elim (λ is. begins_one (IsOfTask tasks) c.unsaid c.asked.part is
-      (all_back (IsOfTask tasks) c.ahead c.unsaid begun_of_tasks))
-      (λ is. begins_one (IsOfTask tasks) c.unended c.asked.part is (all_back (IsOfTask tasks) c.ends c.unended ends_of_tasks)) c.begins
+  next_of_tasks = ⊎_elim (λ is. begins_one _ _ _ is (all_back _ _ _ begun_of_tasks))
+      (λ is. begins_one _ _ _ is (all_back _ _ _ ends_of_tasks)) c.begins
 
 -- a session that joined its listing
 pub record Said (c : Course) {name word : List ℕ} {start mid : Place} {count : ℕ} {uids : List UidRow}
@@ -222,8 +218,7 @@ spoken laws {name} {word} {start = start} {mid} {turns} {link} named' worded c k
           let none' = both_none whole.ahead whole.unsaid (sym whole.of_begun ∙ ap commands_in turns'.1) in
           record {
             later = whole.unended;
-            split = (of_tail [] kind).1
-                ∙ ap (map Some) (whole.of_tail
+            split = (of_tail [] kind).1 ∙ ap (map Some) (whole.of_tail
                 ∙ sym (ap₂ (λ ts cs. (commands_in ts ++ (cs ++ whole.ends)) ++ whole.unended) turns'.0 none'.0));
             begins = ⊎_elim (λ is. begins_any whole.unended whole.asked.part (rw none'.1 at is)) (λ is. is) whole.begins;
           };
@@ -242,8 +237,7 @@ spoken laws {name} {word} {start = start} {mid} {turns} {link} named' worded c k
     whole =
         let can = rw took.all at (said_tasks (begun_of c) plain) in
         commanded laws (all_append CanBeSaid (opening name word) took.done (said_opening name word named' worded)
-        (all_front CanBeSaid took.done took.begun can)) (all_back CanBeSaid took.done took.begun can)
-        (of_tail [] kind).0 is.4
+        (all_front CanBeSaid took.done took.begun can)) (all_back CanBeSaid took.done took.begun can) (of_tail [] kind).0 is.4
 
     tasked : AllByRecursion (IsOfTask (begun_of c)) (commands_in took.done ++ commands_in took.begun)
     tasked = subst (AllByRecursion (IsOfTask (begun_of c))) (ap commands_in took.all
@@ -252,10 +246,10 @@ spoken laws {name} {word} {start = start} {mid} {turns} {link} named' worded c k
 -- ---- The commands of a conversation are a prefix of the plan's, and a tail.
 
 ends_tail : (turns : List Turn) → IsTail turns → (ends more : List Command) → commands_in turns ≡ ends ++ more → IsTailOf ends
-ends_tail turns silent [] more e = inl refl
-ends_tail turns says_quit (c ∷ d ∷ ends) more e = grind arith
-ends_tail turns undoes (c ∷ d ∷ f ∷ ends) more e = grind arith
-ends_tail turns kind ends more e = grind arith
+ends_tail _ silent [] more e = inl refl
+ends_tail _ says_quit (c ∷ d ∷ _) more e = grind arith
+ends_tail _ undoes (c ∷ d ∷ f ∷ _) more e = grind arith
+ends_tail _ _ _ more e = grind arith
 
 pub front_of_plan : {name word : List ℕ} {steps : List Step} {done begun turns : List Turn} {sent : List ℕ}
     (later : List Turn) → plan_turns name word steps ≡ done ++ (begun ++ later) → IsTail turns
@@ -263,7 +257,7 @@ pub front_of_plan : {name word : List ℕ} {steps : List Step} {done begun turns
 front_of_plan {name} {word} {steps} {done} {turns = turns} later split kind c =
     let plan : plan_commands name word steps ≡ (commands_in done ++ c.ahead) ++ (c.unsaid ++ commands_in later) =
     (simp (flat_map-map, flat_map_single, map-id) at (ap commands_in split)) ∙ simp (flat_map-append, c.of_begun, append_assoc) in
-    search (plan, ends_tail turns kind c.ends c.unended c.of_tail, sym (append_assoc (commands_in done) c.ahead c.ends))
+    search (plan, ends_tail, sym (append_assoc (commands_in done) c.ahead c.ends))
 
 -- ---- What a session sent if it didn't come to deal with a listing.
 
@@ -279,36 +273,31 @@ module _ (laws : Below) (name word : List ℕ) (start new last : Place) (none : 
   opens_by : {done begun turns : List Turn} {replies : List WholeReply} {mid : Place} (later : List Turn)
       → opening name word ≡ done ++ (begun ++ later) → (begun ≡ []) ⊎ ((turn : Turn) × (begun ≡ turn ∷ []))
       → Talked done replies start mid → Goes begun turns mid.link last.link → OpensAlone name word turns start.link last.link
-  opens_by later split one talked goes =
+  opens_by _ split one talked goes =
       let is = conversation none talked goes in
       search (is, split, one)
 
   pub opens_all : {count : ℕ} {uids : List UidRow} {sizes : List ScanRow} (turns : List Turn)
       → SessionOpened name word start new count uids sizes → (result : Result (Unit {0}) ClientFault)
       → Talks turns new result last → OpensAlone name word turns start.link last.link
-  opens_all turns opened result talks = opens_by [] (sym (append-nil (opening name word))) (inl refl) opened.talked
-      (goes_tail (fronted laws turns new last result talks))
+  opens_all _ opened _ talks = opens_by [] (sym (append-nil (opening name word))) (inl refl) opened.talked
+      (goes_tail (fronted laws _ _ _ _ talks))
 
   -- no listing was joined
   pub opens_cut : (why : ClientFault) → Enters name word start (Err why) new → (result : Result (Unit {0}) ClientFault)
       → Talks (tail_turns (tail (fault_of why))) new result last
       → OpensAlone name word (tail_turns (tail (fault_of why))) start.link last.link
-  opens_cut why (inl s) result talks =
-      opens_by s.later s.split (inr (s.next, refl)) s.talked
-      (goes_broke s.next s.mid new last why s.broke
-      (fronted laws (tail_turns (tail (fault_of why))) new last result talks))
-  opens_cut why (inr (inl (is, (count, uids, sizes, opened, never)))) result talks =
-      opens_all (tail_turns (tail (fault_of why))) opened result talks
-  opens_cut why (inr (inr (is, (count, uids, sizes, opened)))) result talks =
-      opens_all (tail_turns (tail (fault_of why))) opened result talks
+  opens_cut _ (inl s) _ talks =
+      opens_by _ s.split (inr (s.next, refl)) s.talked (goes_broke _ _ _ _ _ s.broke (fronted laws _ _ _ _ talks))
+  opens_cut _ (inr (inl (is, (_, _, _, opened, _)))) _ talks = opens_all _ opened _ talks
+  opens_cut _ (inr (inr (is, (_, _, _, opened)))) _ talks = opens_all _ opened _ talks
 
 -- the commands of a conversation of the opening
 pub commanded_opening : Below → (name word : List ℕ) → is_credential name ≡ true → is_credential word ≡ true
     → {turns : List Turn} {sent got : List ℕ} → IsTail turns
     → (said : Converses (opening name word) turns sent got) → Commanded said.done said.begun turns sent
-commanded_opening laws name word named worded {turns} kind said =
-    commanded laws (all_front CanBeSaid said.done (said.begun ++ said.later) can)
-    (all_front CanBeSaid said.begun said.later (all_back CanBeSaid said.done (said.begun ++ said.later) can)) (of_tail [] kind).0 said.is
+commanded_opening laws name word named worded kind said =
+    commanded laws (all_front _ _ _ can) (all_front _ _ _ (all_back _ _ _ can)) (of_tail [] kind).0 said.is
   where
     can : AllByRecursion CanBeSaid (said.done ++ (said.begun ++ said.later))
     can = subst (AllByRecursion CanBeSaid) said.split (said_opening name word named worded)
@@ -322,14 +311,13 @@ idle_said laws name word named worded turns kind sent got said =
     (commands_in said.done ++ (whole.ahead ++ whole.ends), whole.asked, said_of_tasks [] kind whole none, next_of_tasks [] kind whole none)
   where
     whole : Commanded said.done said.begun turns sent
-    whole = commanded_opening laws name word named worded kind said
+    whole = commanded_opening laws _ _ named worded kind said
 
     parts : commands_in (opening name word) ≡ (commands_in said.done ++ commands_in said.begun) ++ commands_in said.later
     parts = ap commands_in said.split ∙ simp (flat_map-append, append_assoc)
 
     none : AllByRecursion (IsOfTask []) (commands_in said.done ++ commands_in said.begun)
-    none = all_front (IsOfTask []) (commands_in said.done ++ commands_in said.begun) (commands_in said.later)
-        (subst (AllByRecursion (IsOfTask [])) parts (tt, (tt, (tt, (tt, (tt, tt))))))
+    none = all_front _ _ _ (subst (AllByRecursion (IsOfTask [])) parts (tt, (tt, (tt, (tt, (tt, tt))))))
 
 -- ---- What each session sent and read, as the law over accounts takes it.
 
@@ -347,28 +335,26 @@ module _ (laws : Below) where
       (result : Result (Unit {0}) Cut) (link : Link) → (does : Does target tasks old result new)
       → AllByRecursion IsPlain tasks → LeavesLink result new.place link → Ahead target items tasks old.lines new.lines result
       (course_does target items tasks old new result does) old.place link
-  ahead_does target items tasks old new (Ok done) link went plain leaves = record {
-    took = rw leaves (all_done laws items went.dones went.went.talked (rw went.all at plain) went.went.each
-        (record {
-          gained = [];
-          got = sym (append-nil new.place.link.got);
-          behind = [];
-          sent = sym (append-nil new.place.link.sent);
-          sent_behind = inl ([], refl);
-        }));
+  ahead_does _ items _ _ new (Ok _) _ went plain leaves = record {
+    took = rw leaves (all_done laws items went.dones went.went.talked (rw went.all at plain) went.went.each (record {
+      gained = [];
+      got = sym (append-nil new.place.link.got);
+      behind = [];
+      sent = sym (append-nil new.place.link.sent);
+      sent_behind = inl ([], refl);
+    }));
     later = [];
     same_items = refl;
     split = went.all ∙ simp append-nil;
     told = went.went.lines;
-    spare = λ account reply files e. absurd cc;
-    whole = λ ended. (refl, refl);
+    spare = λ _ _ _ e. absurd cc;
+    whole = λ _. (refl, refl);
   }
-  ahead_does target items tasks old new (Err cut) link fell plain leaves =
+  ahead_does target items tasks old new (Err cut) _ fell plain leaves =
       let front = all_front IsPlain (tasks_of fell.dones) (fell.next ∷ fell.later) (rw fell.split at plain) in
       let back = all_back IsPlain (tasks_of fell.dones) (fell.next ∷ fell.later) (rw fell.split at plain) in
       rw leaves.2 (ahead_stopped laws items fell.dones fell.next old.place fell.mid fell.went.talked front
-      fell.went.each new cut leaves.0 leaves.1
-      tasks fell.later fell.split old.lines fell.went.lines target back.0 fell.stops)
+      fell.went.each new cut leaves.0 leaves.1 tasks fell.later fell.split old.lines fell.went.lines target back.0 fell.stops)
 
   module _ (settings : Settings) (target : Target) (items : List Item) (now : ℕ) (place : Place) (store : Stores)
       (file : Stored) (lines : List ReportLine) (few : length items ≤ 100000) where
@@ -376,12 +362,10 @@ module _ (laws : Below) where
         → (is : Carried settings target items now place store file lines result new skipped) → LeavesLink result new.place link
         → Dealing settings target items now store file lines new.lines
         (course_carried settings target items now place store file lines result new skipped is) place result link
-    dealing_carried result new skipped link is leaves = record {
+    dealing_carried result new _ link is leaves = record {
       rows = is.mid.rows;
       ahead = subst₂ (λ first p. Ahead target items (tasks_ahead settings target items now store is.mid.rows) first
-          new.lines result (course_carried settings target items now place store file lines result new skipped is) p
-          link)
-          is.prepared.lines_are is.prepared.place_is
+          _ _ (course_carried _ _ _ _ _ _ _ _ _ _ _ is) p link) is.prepared.lines_are is.prepared.place_is
           (ahead_does target items (tasks_ahead settings target items now store is.mid.rows) is.mid new result link
           is.does (plain_ahead settings target items now store is.mid.rows few) leaves);
       found = inl (is.mid, is.prepared, refl);
@@ -391,14 +375,12 @@ module _ (laws : Below) where
         (lines' : List ReportLine) (skipped : Skips) (link : Link)
         → (is : Carries settings target items now place store file lines result place' store' file' lines' skipped)
         → LeavesLink result place' link → Dealing settings target items now store file lines lines'
-        (course_carries settings target items now place store file lines result place' store' file' lines'
-        skipped is) place result link
+        (course_carries settings target items now place store file lines result place' store' file' lines' skipped is) place result link
     dealing (Ok done) place' store' file' lines' skipped link is leaves =
         dealing_carried (Ok done) (scene place' store' file' is.0 lines') skipped link is.1 leaves
     dealing (Err cut) place' store' file' lines' skipped link (rows, inl (none, is)) leaves = record {
       rows = [];
-      ahead = rw leaves.2 (ahead_cut (tasks_ahead settings target items now store [])
-          (all_done laws items [] (laws.joins.none place) tt tt
+      ahead = rw leaves.2 (ahead_cut (tasks_ahead settings target items now store []) (all_done laws items [] (laws.joins.none place) tt tt
           (goes_tail (tailed laws items cut place leaves.0 is.none (rw is.place_is at leaves.1))))
           refl (is.lines_are ∙ sym (append-nil lines)) (λ account reply files e. absurd cc));
       found = inr refl;
@@ -411,32 +393,32 @@ module _ (laws : Below) where
 plan_same : (held : Item → Bool) (f : ℕ × Item → Step) (n : ℕ) (items : List Item)
     → flat_map turns_in (tasks_planned (map f (enumerate_from n items)) items (map held items) ++ says quit ∷ [])
     ≡ map Some (flat_map step_commands (map f (enumerate_from n items)) ++ Quit ∷ [])
-plan_same held f n [] = refl
+plan_same _ f n [] = refl
 plan_same held f n (i ∷ items) = let later = plan_same held f (n + 1) items in grind (arith, later)
 
 pub turns_ahead : (settings : Settings) (target : Target) (items : List Item) (now : ℕ) (store : Stores) (rows : List Row)
     → flat_map turns_in (tasks_ahead settings target items now store rows)
     ≡ map Some (flat_map step_commands (planned settings rows items now) ++ Quit ∷ [])
 turns_ahead settings (AsFiles account) items now store rows =
-    plan_same (λ (item : Item). is_held account store.maildir item.uid) (step_of settings rows items now) 1 items
-turns_ahead settings AsEntries items now store rows = plan_same (λ (item : Item). false) (step_of settings rows items now) 1 items
+    plan_same (λ item. is_held account store.maildir item.uid) (step_of settings rows items now) 1 items
+turns_ahead settings AsEntries items now _ rows = plan_same (λ _. false) (step_of settings rows items now) 1 items
 
 -- ---- how many texts were taken
 
 taken_first : (task : Task) (replies : List WholeReply) → IsPlain task → AllZip IsGood (turns_in task) replies
     → count_by is_text_taken (lines_in task replies) ≡ retrieved_by (turns_in task)
-taken_first (says turn) replies is good = rw is
-taken_first (stores number uid) (r ∷ []) is good = refl
-taken_first (rereads number uid) (r ∷ []) is good = refl
-taken_first task replies is good = search rules
+taken_first (says _) _ is good = rw is
+taken_first (stores number _) (r ∷ []) is good = refl
+taken_first (rereads number _) (r ∷ []) is good = refl
+taken_first _ _ is good = search rules
 
 pub taken_same : (dones : List Done) → AllByRecursion IsPlain (tasks_of dones) → AllByRecursion IsAnswered dones
     → count_by is_text_taken (report_lines dones) ≡ retrieved_by (turns_of dones)
-taken_same [] plain each = refl
+taken_same [] plain _ = refl
 taken_same (d ∷ dones) plain each =
     omega (
       arith,
-      taken_first d.task d.replies plain.0 each.0,
+      taken_first,
       taken_same dones plain.1 each.1,
       sum_by-append (λ (l : ReportLine). cond (is_text_taken l) 1 0) (lines_in d.task d.replies) (report_lines dones),
       sum_by-append (λ (t : Turn). cond (is_retrieval t) 1 0) (turns_in d.task) (turns_of dones),
@@ -470,16 +452,14 @@ pub record Planned (settings : Settings) (target : Target) (now : ℕ) (before :
 
 -- what a session said: with no listing, the opening alone
 abbrev pub Spoke : Settings → Target → ℕ → Keeping → Link → Link → Result (Unit {0}) Cut → List ReportLine → SessionCourse → Type 0
-Spoke settings target now before link link' result lines Idle = OpensAlone (name_of settings) (word_of settings)
-    (tail_for result) link link'
+Spoke settings _ _ _ link link' result _ Idle = OpensAlone (name_of settings) (word_of settings) (tail_for result) link link'
 Spoke settings target now before link link' result lines (Deals c) = Planned settings target now before link link' result lines c
 
 pub session_spoke : Below → (settings : Settings) → IsValid settings
     → (target : Target) (now : ℕ) (link : Link) (before : Keeping) (report : Report) (link' : Link) (after : Keeping)
     → (session : SessionIn settings target now link before report link' after)
     → Spoke settings target now before link link' session.result session.notes.lines
-    (course_proceeded settings target now (at link []) before session.result session.mid after
-    session.notes session.proceeds)
+    (course_proceeded settings target now (at link []) before session.result session.mid after session.notes session.proceeds)
 session_spoke laws settings valid target now link before report link' after session = spoke session.result session.proceeds session.leaves
   where
     planned_talk : (result : Result (Unit {0}) Cut)
@@ -536,7 +516,7 @@ session_spoke laws settings valid target now link before report link' after sess
 follows_none : Below → (settings : Settings) → IsValid settings → {turns : List Turn} {link link' : Link} → IsTail turns
     → (it : OpensAlone (name_of settings) (word_of settings) turns link link') → FollowsPlan settings [] it.sent
 follows_none laws settings valid kind it =
-    let whole = commanded_opening laws (name_of settings) (word_of settings) valid.valid_username valid.valid_password kind it.said in
+    let whole = commanded_opening laws _ _ valid.valid_username valid.valid_password kind it.said in
     search (
       whole.asked,
       front_of_plan {steps = []} (it.said.later ++ quit ∷ [])
@@ -553,16 +533,13 @@ mbox_sessions_follow_plans laws settings now link before report link' after vali
   where
     by : (session_course : SessionCourse)
         → Spoke settings AsEntries now (keeps_entries before) link link' session.result session.notes.lines
-        session_course → (sent : List ℕ) × (link'.sent ≡ link.sent ++ sent) × (steps : List Step)
-        × FollowsPlan settings steps sent
+        session_course → (sent : List ℕ) × (link'.sent ≡ link.sent ++ sent) × (steps : List Step) × FollowsPlan settings steps sent
     by Idle it = (it.sent, it.sent_is, [], follows_none laws settings valid (is_tail_for session.result) it)
     by (Deals c) p = (p.sent, p.sent_is, planned settings p.by.rows p.items now, p.follows)
 
 pub sessions_are_conversations : Below → SessionsAreConversations
 sessions_are_conversations laws settings account now link before report link' after valid session =
-    by (course_proceeded settings (AsFiles account) now (at link []) (keeps_files before) session.result session.mid
-    (keeps_files after) session.notes session.proceeds)
-    (session_spoke laws settings valid (AsFiles account) now link (keeps_files before) report link' (keeps_files after) session)
+    by _ (session_spoke laws _ valid _ _ _ (keeps_files before) report link' (keeps_files after) session)
   where
     -- if the listing was joined
     by_plan : (c : Course) → (p : Planned settings (AsFiles account) now (keeps_files before) link link' session.result

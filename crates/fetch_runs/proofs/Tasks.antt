@@ -2,7 +2,7 @@
 -- wanted; and how many of them a course took, recorded and retrieved.
 use Rattle.std.proofs.Common.{◌≡◌, ◌+◌, ◌-◌, ℕ, Bool, true, false, cond, List, ◌∷◌, ◌++◌, map, zip, Option, Some, refl, sym, ap}
 use Rattle.std.proofs.Common.{append_assoc, length, length-append, arith, rules, take, ◌∙◌, ◌⊎◌, inl, inr, None, Result, Ok, Err, []}
-use Rattle.std.specs.Prelude.{◌&&◌, ◌<◌, bytes_eq, slice_get, option_to_list}
+use Rattle.std.specs.Prelude.{◌&&◌, ◌<◌, slice_get, option_to_list}
 use Rattle.std.specs.List.{flat_map, filter, AllByRecursion, enumerate_from, AllZip}
 use Rattle.std.proofs.lemmas.Bool.{or_right, or_left}
 use Rattle.std.proofs.lemmas.List.{append-nil, take_at, take-map, length-map, map-append}
@@ -11,7 +11,7 @@ use Rattle.std.proofs.lemmas.List.Folds.{flat_map-map, list_any_at}
 use Rattle.mail_terms.specs.Listing.{Item, has_item, numbered, is_first, is_last, is_flagged}
 use Rattle.rc_file.specs.declared.settings.Settings.{Settings}
 use Rattle.fetch_record.specs.Record.{Row, is_delivered, is_of, has_row, with_delivered, marked, marked_all, new_ids}
-use Rattle.fetch_record.specs.Record.{with_held, merged, none_open}
+use Rattle.fetch_record.specs.Record.{merged, none_open}
 use Rattle.fetch_rules.specs.Wanted.{wanted}
 use Rattle.fetch_rules.specs.Plan.{step_of}
 use Rattle.fetch_rules.specs.declared.steps.Step.{Step}
@@ -81,8 +81,8 @@ tasks_at f held message = tasks_in (f message) message.1 (held message.1.uid)
 by_message : (f : ℕ × Item → Step) (held : List ℕ → Bool) (n : ℕ) (items : List Item)
     → tasks_planned (map f (enumerate_from n items)) items (map (λ (item : Item). held item.uid) items)
     ≡ flat_map (tasks_at f held) (enumerate_from n items)
-by_message f held n [] = refl
-by_message f held n (item ∷ items) = ap (λ l. tasks_at f held (n, item) ++ l) (by_message f held (n + 1) items)
+by_message f _ n [] = refl
+by_message f held n (item ∷ items) = ap (λ l. tasks_at f held (n, item) ++ l) (by_message f _ (n + 1) items)
 
 -- what a plan is made from; with an mboxrd file the Maildir is an empty one
 pub record Inputs : Type 0 where
@@ -116,17 +116,15 @@ tasks_are p = rw (by_message (steps_on p) (is_held p.account p.maildir) 1 p.item
 -- ---- what is fetched
 
 fetched_plan : (f : ℕ × Item → Step) (held : List ℕ → Bool) → ((q : ℕ × Item) → (f q).number ≡ q.0) → (qs : List (ℕ × Item))
-    → fetched (flat_map (tasks_at f held) qs)
-    ≡ map key (map (λ (p : Step × (ℕ × Item)). p.1)
+    → fetched (flat_map (tasks_at f held) qs) ≡ map key (map (λ (p : Step × (ℕ × Item)). p.1)
     (filter (λ (p : Step × (ℕ × Item)). p.0.retrieve) (zip (map f qs) qs)))
-fetched_plan f held same [] = refl
-fetched_plan f held same (q ∷ qs) =
-    grind (arith, same q, flat_map-append fetched_in (tasks_at f held q) (flat_map (tasks_at f held) qs), fetched_plan f held same qs)
+fetched_plan f _ _ [] = refl
+fetched_plan f held same (q ∷ qs) = grind (arith, same q, flat_map-append, fetched_plan f held same qs)
 
 -- ---- what is listed
 
 listed_at : (items : List Item) (n : ℕ) (item : Item) → slice_get items n ≡ Some item → has_item items item.uid ≡ true
-listed_at items n item at = list_any_at (λ (i : Item). bytes_eq item.uid i.uid) items n item
+listed_at items n item at = list_any_at _ _ n item
     (slice_get_within items n item at) (rw (get_or_from_slice_get items n item item at) (bytes_self item.uid))
 
 -- ---- what is deleted
@@ -141,33 +139,28 @@ module _ (D : List ℕ → Type 0) (p : Inputs) (delivered : (uid : List ℕ) �
       → has_item p.items uid ≡ true → (d ≡ true → IsRightOn p (deletes n))
       → (d ≡ true → r ≡ false → D uid) → (D uid → AllByRecursion D (deleted_in p.items (deletes n)))
       → AreFit (fetching r h n uid size ++ deleting d n) later
-  fit_by true true true n uid size later held listed at due gone =
+  fit_by true true true n uid _ later held listed at _ gone =
       (((held, listed), (at refl, tt)), λ safe. (gone (known uid listed held), safe))
-  fit_by true false true n uid size later held listed at due gone =
-      (((held, listed), (at refl, tt)), λ safe stored. (gone stored, safe))
-  fit_by false h true n uid size later held listed at due gone =
-      ((tt, (at refl, tt)), λ safe. (gone (due refl refl), safe))
-  fit_by r h d n uid size later held listed at due gone = search rules
+  fit_by true false true n _ _ later held listed at _ gone = (((held, listed), (at refl, tt)), λ safe stored. (gone stored, safe))
+  fit_by false h true n _ _ later _ _ at due gone = ((tt, (at refl, tt)), λ safe. (gone (due refl refl), safe))
+  fit_by r h d n _ _ later held listed at due gone = search rules
 
   fit_all : (qs : List (ℕ × Item)) (later : List Task) → AllByRecursion (IsNumbered p.items) qs
       → AreFit (flat_map (tasks_at (steps_on p) (is_held p.account p.maildir)) qs) later
   fit_all [] later at = (tt, λ safe. safe)
   fit_all (q ∷ qs) later at =
-      let more = fit_all qs later at.1 in
-      let first = fit_by (steps_on p q).retrieve (is_held p.account p.maildir q.1.uid) (steps_on p q).delete q.0 q.1.uid
-      q.1.size (flat_map (tasks_at (steps_on p) (is_held p.account p.maildir)) qs ++ later) refl
-      (listed_at p.items (q.0 - 1) q.1 at.0.1) (λ is. (q.1, at.0.1, at.0.0, grind (arith, is)))
+      let more = fit_all qs _ at.1 in
+      let first = fit_by _ _ _ _ _ _ _ refl (listed_at _ _ _ at.0.1) (λ is. (q.1, at.0.1, at.0.0, grind (arith, is)))
       (λ is not. delivered q.1.uid (grind (arith, is, not))) (λ is. rw at.0.1 (is, tt)) in (
         all_append _ _ _ first.0 more.0,
-        λ safe. rw (append_assoc (tasks_at (steps_on p) (is_held p.account p.maildir) q)
-            (flat_map (tasks_at (steps_on p) (is_held p.account p.maildir)) qs) later) (first.1 (more.1 safe)),
+        λ safe. rw append_assoc (first.1 (more.1 safe)),
       )
 
   -- a plan is right, and safe for what holds of each id that is recorded as delivered after the merge, or is held and
   -- listed
   fit_ahead : AllByRecursion (IsRightOn p) (tasks_on p) × Safe D p.items (tasks_on p)
   fit_ahead =
-      let all = fit_all (numbered p.items) (says quit ∷ []) (are_numbered p.items) in
+      let all = fit_all _ (says quit ∷ []) (are_numbered p.items) in
       rw (tasks_are p) (all_append _ _ _ all.0 (tt, tt), all.1 tt)
 
 -- ---- tasks that were done
@@ -184,16 +177,16 @@ count dones = length (found_by dones)
 found_one : (task : Task) (replies : List WholeReply) → AllZip IsGood (turns_in task) replies
     → (map number_found (found_in task replies) ≡ map (λ (p : ℕ × List ℕ). p.0) (fetched_in task))
     × (retrieved_in (lines_in task replies) ≡ length (found_in task replies))
-found_one (stores number uid) (reply ∷ []) answered = (refl, refl)
-found_one (rereads number uid) (reply ∷ []) answered = (refl, refl)
-found_one task replies answered = search rules
+found_one (stores number _) (_ ∷ []) answered = (refl, refl)
+found_one (rereads number _) (_ ∷ []) answered = (refl, refl)
+found_one _ _ answered = search rules
 
 pub found_all : (dones : List Done) → AllByRecursion IsAnswered dones
     → (map number_found (found_by dones) ≡ map (λ (p : ℕ × List ℕ). p.0) (fetched (tasks_of dones)))
     × (retrieved_in (report_lines dones) ≡ count dones)
 found_all [] answered = (refl, refl)
 found_all (d ∷ dones) answered =
-    let first = found_one d.task d.replies answered.0 in
+    let first = found_one _ _ answered.0 in
     let more = found_all dones answered.1 in
     let sum = sum_by-append (λ line. cond (is_text_taken line) 1 0) (lines_in d.task d.replies) (report_lines dones) in (
       simp (map-append, first.0, more.0),
@@ -205,13 +198,11 @@ found_all (d ∷ dones) answered =
 files_by : (account : List ℕ) (maildir : Maildir) (items : List Item) (dones : List Done) (messages : List (ℕ × Item))
     → AllByRecursion IsAnswered dones
     → AllByRecursion (IsRight account maildir items) (tasks_of dones) → fetched (tasks_of dones) ≡ map key messages
-    → files_of account dones ≡ map (file_for account)
-    (filter (is_unheld account maildir) (zip messages (texts_by dones)))
-files_by account maildir items [] [] answered right are = refl
-files_by account maildir items [] (m ∷ ms) answered right are = absurd cc
+    → files_of account dones ≡ map (file_for account) (filter (is_unheld account maildir) (zip messages (texts_by dones)))
+files_by account maildir items [] [] answered _ _ = refl
+files_by account maildir items [] (m ∷ _) answered right are = absurd cc
 files_by account maildir items (d ∷ dones) messages answered right are =
-    by d.task d.replies messages answered.0 right.0 are
-    (λ more. files_by account maildir items dones more answered.1 right.1)
+    by d.task d.replies messages answered.0 right.0 are (λ more. files_by account maildir items dones more answered.1 right.1)
   where
     by : (task : Task) (replies : List WholeReply) (ms : List (ℕ × Item)) → AllZip IsGood (turns_in task) replies
         → IsRight account maildir items task → fetched_in task ++ fetched (tasks_of dones) ≡ map key ms
@@ -226,8 +217,7 @@ files_by account maildir items (d ∷ dones) messages answered right are =
 -- ---- a plan that fetches what is wanted, as far as it was done
 
 pub same_length : (dones : List Done) → AllByRecursion IsAnswered dones → length (fetched (tasks_of dones)) ≡ count dones
-same_length dones answered =
-    omega (arith, simp length-map at (ap (λ (l : List ℕ). length l) (found_all dones answered).0))
+same_length dones answered = omega (arith, simp length-map at (ap (λ l. length l) (found_all dones answered).0))
 
 -- the rows once these were done
 abbrev pub rows_after : Inputs → List Done → List Row
@@ -246,7 +236,7 @@ pub record Part (tasks : List Task) (dones : List Done) : Type 0 where
 -- ---- marks that change nothing
 
 all_mapped : {X Y : Type 0} (P : Y → Type 0) (f : X → Y) → ((x : X) → P (f x)) → (xs : List X) → AllByRecursion P (map f xs)
-all_mapped P f each [] = tt
+all_mapped P f _ [] = tt
 all_mapped P f each (x ∷ xs) = (each x, all_mapped P f each xs)
 
 -- the rows of the id are delivered
@@ -254,25 +244,22 @@ abbrev IsSettled : List ℕ → Row → Type 0
 IsSettled uid row = is_of uid row ≡ true → row.delivered ≡ true
 
 settled_stays : (rows : List Row) (uid : List ℕ) → AllByRecursion (IsSettled uid) rows → marked rows uid ≡ rows
-settled_stays [] uid settled = refl
-settled_stays (row ∷ rows) uid settled = grind (arith, settled.0, settled_stays rows uid settled.1)
+settled_stays [] _ settled = refl
+settled_stays (_ ∷ rows) uid settled = grind (arith, settled.0, settled_stays rows uid settled.1)
 
 settled_marked : (uid other : List ℕ) (rows : List Row) → AllByRecursion (IsSettled uid) rows
     → AllByRecursion (IsSettled uid) (marked rows other)
-settled_marked uid other [] settled = tt
-settled_marked uid other (row ∷ rows) settled =
-    (λ same. or_left _ _ (settled.0 same), settled_marked uid other rows settled.1)
+settled_marked _ _ [] settled = tt
+settled_marked _ _ (_ ∷ rows) settled = (λ same. or_left _ _ (settled.0 same), settled_marked _ _ rows settled.1)
 
 -- after the merge the rows of an id that is listed and held are delivered
 held_settled : Below → (p : Inputs) (uid : List ℕ) → has_item p.items uid ≡ true
     → is_held p.account p.maildir uid ≡ true → AllByRecursion (IsSettled uid) (rows_on p)
 held_settled laws p uid listed held =
     let flags : List Bool = flags_of p.account p.maildir p.items in
-    let new_row : List ℕ → Row = λ id. record { uid = id; first_seen = p.now; delivered = is_flagged p.items flags id }
-    in
+    let new_row : List ℕ → Row = λ id. record { uid = id; first_seen = p.now; delivered = is_flagged p.items flags id } in
     let flagged : is_flagged p.items flags uid ≡ true = rw (laws.flags p.account p.maildir p.items uid, listed) held in
-    all_append (IsSettled uid) (with_held p.items flags p.rows) (map new_row (new_ids p.rows p.items))
-    (all_mapped (IsSettled uid) (λ (row : Row). with_delivered (is_flagged p.items flags row.uid) row)
+    all_append _ _ _ (all_mapped _ (λ (row : Row). with_delivered (is_flagged p.items flags row.uid) row)
     (λ row same. or_right row.delivered _ (rw (← bytes_same uid row.uid same) flagged)) p.rows)
     (all_mapped (IsSettled uid) new_row (λ id same. rw (← bytes_same uid id same) flagged) (new_ids p.rows p.items))
 
@@ -281,33 +268,32 @@ marks_by : (p : Inputs) (tasks : List Task) (rows : List Row)
     → ((uid : List ℕ) → has_item p.items uid ≡ true → is_held p.account p.maildir uid ≡ true
     → AllByRecursion (IsSettled uid) rows) → AllByRecursion (IsRightOn p) tasks
     → marked_all rows (ids_ahead tasks) ≡ marked_all rows (map (λ (found : ℕ × List ℕ). found.1) (fetched tasks))
-marks_by p [] rows settled right = refl
-marks_by p (stores number uid ∷ tasks) rows settled right = marks_by p tasks (marked rows uid)
-    (λ other listed held. settled_marked other uid rows (settled other listed held)) right.1
+marks_by p [] rows settled _ = refl
+marks_by p (stores number _ ∷ tasks) rows settled right = marks_by p tasks _
+    (λ _ listed held. settled_marked _ _ _ (settled _ listed held)) right.1
 marks_by p (rereads number uid ∷ tasks) rows settled right =
-    rw (settled_stays rows uid (settled uid right.0.1 right.0.0)) (marks_by p tasks rows settled right.1)
-marks_by p (other ∷ tasks) rows settled right = marks_by p tasks rows settled right.1
+    rw (settled_stays rows uid (settled uid right.0.1 right.0.0)) (marks_by p tasks _ settled right.1)
+marks_by p (_ ∷ tasks) rows settled right = marks_by p tasks _ settled right.1
 
 -- ---- what is recorded as delivered
 
 marked_delivered : Below → (rows : List Row) (ids : List (List ℕ)) → AllByRecursion (λ (uid : List ℕ). has_row rows uid ≡ true) ids
     → AllByRecursion (λ (uid : List ℕ). is_delivered (marked_all rows ids) uid ≡ true) ids
-marked_delivered laws rows [] all = tt
+marked_delivered _ rows [] _ = tt
 marked_delivered laws rows (id ∷ ids) all = (
-  marks_stay laws (marked rows id) ids id (rw (laws.marks rows id id, all.0, bytes_self id)
-      (or_right (is_delivered rows id) _ refl)),
+  marks_stay laws (marked rows id) ids id (rw (laws.marks rows id id, all.0, bytes_self id) (or_right (is_delivered rows id) _ refl)),
   marked_delivered laws (marked rows id) ids (all_map ids all.1 (λ other has. rw (laws.keeps rows id other) has)),
 )
 
 -- each stored id has a row after the merge
 stored_has_row : Below → (p : Inputs) (tasks : List Task) → AllByRecursion (IsRightOn p) tasks
     → AllByRecursion (λ (uid : List ℕ). has_row (rows_on p) uid ≡ true) (ids_ahead tasks)
-stored_has_row laws p [] right = tt
+stored_has_row _ p [] _ = tt
 stored_has_row laws p (stores number uid ∷ tasks) right = (
-  rw (laws.listed p.rows p.items (flags_of p.account p.maildir p.items) p.now uid, right.0.1) (or_right (has_row p.rows uid) _ refl),
+  rw (laws.listed p.rows p.items (flags_of p.account p.maildir p.items) p.now uid, right.0.1) (or_right _ _ refl),
   stored_has_row laws p tasks right.1,
 )
-stored_has_row laws p (task ∷ tasks) right = stored_has_row laws p tasks right.1
+stored_has_row laws p (_ ∷ tasks) right = stored_has_row laws p tasks right.1
 
 -- ---- deletions
 
@@ -315,31 +301,25 @@ stored_has_row laws p (task ∷ tasks) right = stored_has_row laws p tasks right
 pub safe_front : (D : List ℕ → Type 0) (items : List Item) (tasks : List Task) (next : Option Task) (later : List Task)
     → Safe D items (tasks ++ (option_to_list next ++ later)) → AllByRecursion D (ids_ahead tasks)
     → AllByRecursion D (deleted_by items (tasks ++ option_to_list next))
-safe_front D items [] (Some (deletes number)) later safe all =
-    all_append D (deleted_in items (deletes number)) [] safe.0 tt
-safe_front D items [] next later safe all = search rules
-safe_front D items (stores number uid ∷ tasks) next later safe all =
-    safe_front D items tasks next later (safe all.0) all.1
-safe_front D items (deletes number ∷ tasks) next later safe all =
-    all_append D (deleted_in items (deletes number)) (deleted_by items (tasks ++ option_to_list next)) safe.0
-    (safe_front D items tasks next later safe.1 all)
-safe_front D items (other ∷ tasks) next later safe all = safe_front D items tasks next later safe all
+safe_front D items [] (Some (deletes number)) later safe _ = all_append D _ [] safe.0 tt
+safe_front D items [] next later _ _ = search rules
+safe_front D items (stores number _ ∷ tasks) next later safe all = safe_front D _ tasks _ _ (safe all.0) all.1
+safe_front D items (deletes number ∷ tasks) next later safe all = all_append D _ _ safe.0 (safe_front D _ tasks _ _ safe.1 all)
+safe_front D items (_ ∷ tasks) next later safe all = safe_front D _ tasks _ _ safe all
 
 module _ (laws : Below) (p : Inputs) where
   pub right_front : (front rest : List Task) → tasks_on p ≡ front ++ rest → AllByRecursion (IsRightOn p) front
-  right_front front rest split =
-      all_front (IsRightOn p) front rest
-      (rw split at (fit_ahead (λ uid. Unit {0}) p (λ uid known. tt) (λ uid listed held. tt)).0)
+  right_front front rest split = all_front _ _ _ (rw split at (fit_ahead (λ _. Unit {0}) p (λ _ _. tt) (λ _ _ _. tt)).0)
 
   pub right_part : (dones : List Done) → Part (tasks_on p) dones → AllByRecursion (IsRightOn p) (tasks_of dones)
-  right_part dones part = right_front (tasks_of dones) part.rest part.split
+  right_part _ part = right_front _ _ part.split
 
   -- what was begun to be deleted is recorded
   pub safe_part : (dones : List Done) (part : Part (tasks_on p) dones) (next : Option Task) (later : List Task)
       → part.rest ≡ option_to_list next ++ later
       → AllByRecursion (IsRecorded p dones) (deleted_by p.items (tasks_of dones ++ option_to_list next))
   safe_part dones part next later rest =
-      let stay = marks_stay laws (rows_on p) (ids_ahead (tasks_of dones)) in
+      let stay = marks_stay laws _ (ids_ahead (tasks_of dones)) in
       let known : (uid : List ℕ) → has_item p.items uid ≡ true → is_held p.account p.maildir uid ≡ true
       → is_delivered (rows_on p) uid ≡ true =
       λ uid listed held. grind (
@@ -349,20 +329,17 @@ module _ (laws : Below) (p : Inputs) where
         listed,
         held,
       ) in
-      safe_front (IsRecorded p dones) p.items (tasks_of dones) next later
-      (rw (part.split, rest) at (fit_ahead (IsRecorded p dones) p stay
-      (λ uid listed held. stay uid (known uid listed held))).1)
-      (marked_delivered laws (rows_on p) (ids_ahead (tasks_of dones))
+      safe_front _ _ (tasks_of dones) next later (rw (part.split, rest) at (fit_ahead (IsRecorded p dones) p stay
+      (λ uid listed held. stay uid (known uid listed held))).1) (marked_delivered laws (rows_on p) (ids_ahead (tasks_of dones))
       (stored_has_row laws p (tasks_of dones) (right_part dones part)))
 
   pub wanted_are : fetched (tasks_on p) ≡ map key (messages_on p)
   wanted_are =
       simp (
-        tasks_are p,
+        tasks_are,
         flat_map-append,
         append-nil,
-        fetched_plan (steps_on p) (is_held p.account p.maildir)
-            (λ q. refl) (numbered p.items),
+        fetched_plan,
         laws.plans p.settings (rows_on p) p.items p.now,
       )
 
@@ -371,25 +348,22 @@ module _ (laws : Below) (p : Inputs) where
   fetched_part dones part =
       let all : fetched (tasks_of dones) ++ fetched part.rest ≡ map key (messages_on p) =
       simp (← flat_map-append, ← part.split, wanted_are) in
-      rw (← take-map key (count dones) (messages_on p), ← all)
-      (sym (take_at (fetched (tasks_of dones)) (fetched part.rest) (count dones) (same_length dones part.answered)))
+      rw (← take-map, ← all) (sym (take_at (fetched (tasks_of dones)) (fetched part.rest) (count dones) (same_length _ part.answered)))
 
   -- the record is the merged one, with the first of the wanted messages marked
   pub records_part : (dones : List Done) → Part (tasks_on p) dones
       → rows_after p dones ≡ marked_all (rows_on p) (ids_wanted (take (count dones) (messages_on p)))
-  records_part dones part =
-      marks_by p (tasks_of dones) (rows_on p) (held_settled laws p) (right_part dones part)
-      ∙ simp (fetched_part dones part, map-map)
+  records_part dones part = marks_by p _ _ (held_settled laws p) (right_part _ part) ∙ simp (fetched_part, map-map)
 
   pub files_part : (dones : List Done) → Part (tasks_on p) dones → files_of p.account dones ≡ map (file_for p.account)
       (filter (is_unheld p.account p.maildir) (zip (take (count dones) (messages_on p)) (texts_by dones)))
-  files_part dones part = files_by p.account p.maildir p.items dones _ part.answered (right_part dones part) (fetched_part dones part)
+  files_part _ part = files_by p.account p.maildir p.items _ _ part.answered (right_part _ part) (fetched_part _ part)
 
 -- ---- what a session leaves
 
 abbrev pub is_ended : Result (Unit {0}) Cut → Bool
-is_ended (Ok done) = true
-is_ended (Err cut) = false
+is_ended (Ok _) = true
+is_ended (Err _) = false
 
 -- the tasks of the plan begin with its rows
 pub record Starts (p : Inputs) (tasks : List Task) (old : Scene) : Type 0 where
@@ -432,7 +406,7 @@ module _ (laws : Below) (p : Inputs) where
     tally_begun = rw t.begun (safe_part laws p noted t.part t.next t.later t.rest)
 
     pub tally_numbers : map number_found (found_of c) ≡ map number_of (take (length (found_of c)) (messages_on p))
-    tally_numbers = rw t.found ((found_all full t.whole.answered).0 ∙ simp (fetched_part laws p full t.whole, map-map))
+    tally_numbers = rw t.found ((found_all _ t.whole.answered).0 ∙ simp (fetched_part laws p full t.whole, map-map))
 
     pub tally_number : length (map text_found (found_of c)) ≡ count full
     tally_number = rw t.found (length-map (found_by full) text_found)
@@ -459,16 +433,14 @@ module _ (laws : Below) (p : Inputs) where
 
   module _ {target : Target} {tasks : List Task} {old : Scene} (starts : Starts p tasks old) where
     pub mid_rows : (dones : List Done) (mid : Scene) → Went target dones old mid → mid.rows ≡ rows_after p dones
-    mid_rows dones mid went = rw (flat_map-map ids_in task_in dones) (went.rows
-        ∙ ap (λ (r : List Row). marked_all r (marked_ids dones)) starts.rows)
+    mid_rows dones _ went = rw (flat_map-map ids_in task_in dones) (went.rows ∙ ap (λ r. marked_all r (marked_ids dones)) starts.rows)
 
     pub mid_keeps : (dones : List Done) (mid : Scene) → Went target dones old mid → Keeps mid.file.content (none_open (rows_after p dones))
-    mid_keeps dones mid went =
-        rw (← mid_rows dones mid went) (laws.steady mid.file.content (none_open mid.rows) (went.saved starts.steady))
+    mid_keeps dones mid went = rw (← mid_rows dones mid went) (laws.steady mid.file.content (none_open mid.rows) (went.saved starts.steady))
 
     -- all went well
     abbrev pub part_all : (dones : List Done) (new : Scene) → tasks ≡ tasks_of dones → Went target dones old new → Part (tasks_on p) dones
-    part_all dones new all went = record {
+    part_all dones _ all went = record {
       rest = [];
       split = sym starts.tasks_are ∙ all ∙ sym (append-nil (tasks_of dones));
       answered = went.each;
@@ -477,8 +449,8 @@ module _ (laws : Below) (p : Inputs) where
     pub tally_all : {done : Unit {0}} {refused : Type 0} (dones : List Done) (new : Scene) → tasks ≡ tasks_of dones
         → Went target dones old new → Tally p (Ok done) (course p.items dones [] []) dones dones refused
     tally_all dones new all went =
-        tally_recorded dones (part_all dones new all went) (λ ended. sym (same_length dones went.each)
-        ∙ rw (← all, starts.tasks_are, wanted_are laws p) (length-map (messages_on p) key))
+        tally_recorded _ (part_all _ _ all went) (λ _. sym (same_length _ went.each)
+        ∙ rw (← all, starts.tasks_are, wanted_are) (length-map (messages_on p) key))
 
     -- ---- where the tasks stopped
 
@@ -490,8 +462,7 @@ module _ (laws : Below) (p : Inputs) where
       tally_fell : {refused : Type 0} (c : Course) (full : List Done) → found_of c ≡ found_by full
           → Part (tasks_on p) full → IsOrLess (count c.taken) (count full) refused
           → IsOrLess (count fell.dones) (count c.taken) (IsUnsaved (WasCut cut.fault))
-          → tasks_of c.taken ++ c.under ≡ tasks_of fell.dones ++ fell.next ∷ []
-          → Tally p (Err cut) c full fell.dones refused
+          → tasks_of c.taken ++ c.under ≡ tasks_of fell.dones ++ fell.next ∷ [] → Tally p (Err cut) c full fell.dones refused
       tally_fell c full found whole number mark begun = record {
         found = found;
         whole = whole;
@@ -508,8 +479,7 @@ module _ (laws : Below) (p : Inputs) where
       -- it retrieved no text
       pub tally_no_line : {refused : Type 0}
           → Tally p (Err cut) (course p.items fell.dones [] (fell.next ∷ [])) fell.dones fell.dones refused
-      tally_no_line = tally_fell _ fell.dones (rw (nothing_found fell.next) (append-nil (found_by fell.dones)))
-          part_done (inl refl) (inl refl) refl
+      tally_no_line = tally_fell _ _ (rw nothing_found (append-nil (found_by fell.dones))) part_done (inl refl) (inl refl) refl
 
       -- the next task retrieved a text
       module _ (number : ℕ) (uid : List ℕ) (reply : WholeReply) (is : fell.next ≡ stores number uid)
@@ -523,13 +493,12 @@ module _ (laws : Below) (p : Inputs) where
         abbrev pub part_full : Part (tasks_on p) full
         part_full = record {
           rest = fell.later;
-          split = rw full_tasks (part_done.split
-              ∙ sym (append_assoc (tasks_of fell.dones) (fell.next ∷ []) fell.later));
+          split = rw full_tasks (part_done.split ∙ sym (append_assoc (tasks_of fell.dones) (fell.next ∷ []) fell.later));
           answered = all_append IsAnswered fell.dones (stored_done number uid reply ∷ []) fell.went.each (answered, tt);
         }
 
         pub full_found : found_by full ≡ found_by fell.dones ++ (number, body_text reply.body) ∷ []
-        full_found = flat_map-append (λ (d : Done). found_in d.task d.replies) fell.dones (stored_done number uid reply ∷ [])
+        full_found = flat_map-append (λ d. found_in d.task d.replies) fell.dones (stored_done number uid reply ∷ [])
 
         pub one_found : count fell.dones + 1 ≡ count full
         one_found = simp (full_found, length-append)
@@ -537,16 +506,16 @@ module _ (laws : Below) (p : Inputs) where
         -- its text isn't in the report
         pub tally_spare : {refused : Type 0} → refused
             → Tally p (Err cut) (course p.items fell.dones (reply ∷ []) (fell.next ∷ [])) full fell.dones refused
-        tally_spare refuses = tally_fell _ full (rw is (sym full_found)) part_full (inr (one_found, refuses)) (inl refl) refl
+        tally_spare refuses = tally_fell _ _ (rw is (sym full_found)) part_full (inr (one_found, refuses)) (inl refl) refl
 
         -- its text is in the report, and the record is one of two
         pub tally_old : {refused : Type 0} → IsUnsaved (WasCut cut.fault)
             → Tally p (Err cut) (course p.items full [] []) full fell.dones refused
-        tally_old less = tally_fell _ full (append-nil (found_by full)) part_full (inl refl) (inr (one_found, less))
+        tally_old less = tally_fell _ _ (append-nil (found_by full)) part_full (inl refl) (inr (one_found, less))
             (append-nil (tasks_of full) ∙ full_tasks)
 
         pub tally_new : {refused : Type 0} → Tally p (Err cut) (course p.items full [] []) full full refused
-        tally_new = tally_recorded full part_full not_ended
+        tally_new = tally_recorded _ part_full not_ended
 
         last_mark : (r : List Row) (ids : List (List ℕ)) → marked (marked_all r ids) uid ≡ marked_all r (ids ++ uid ∷ [])
         last_mark r [] = refl

@@ -22,7 +22,7 @@ use Rattle.fetch_session.specs.Store.{RefusesText}
 use Rattle.fetch_session.specs.Plan.{tasks_ahead, Carried, Carries}
 use Rattle.fetch_session.specs.Scene.{Scene, scene, NoFile, Stops, Does}
 use Rattle.fetch_session.specs.Session.{Keeping, Noted, Dealt, Proceeds, outcome_of}
-use Rattle.fetch_session.specs.Target.{Target, AsFiles, AsEntries, Stores, held_flags}
+use Rattle.fetch_session.specs.Target.{Target, AsFiles, AsEntries, Stores}
 use mathlib.Core.Logic.{⊎_map}
 use Rattle.std.proofs.lemmas.List.{append-nil, append_cancel_left, map-append}
 use Rattle.std.proofs.lemmas.List.Concat.{flat_map-append}
@@ -36,7 +36,7 @@ use Rattle.fetch_runs.specs.Conversations.{SentBehind, Conversation}
 use Rattle.std.proofs.lemmas.Bool.{true≢false}
 use Rattle.pop3_wire.specs.Body.{Body}
 use Rattle.fetch_record.specs.Record.{Row}
-use Rattle.fetch_rules.specs.Plan.{planned, step_of}
+use Rattle.fetch_rules.specs.Plan.{step_of}
 use Rattle.fetch_rules.specs.declared.steps.Step.{Step}
 use Rattle.pop3_client.specs.declared.fault.ClientFault.{ClientFault}
 use Rattle.pop3_client.specs.Conversation.{Talked, Talks, Broke, IsFrontOfNext}
@@ -46,7 +46,7 @@ use Rattle.std.proofs.lemmas.List.Folds.{flat_map-map}
 use Rattle.fetch_session.specs.declared.fault.Fault.TheVariants.{StoreRefused}
 use Rattle.std.specs.Prelude.{◌-◌, slice_get, option_to_list}
 use Rattle.fetch_session.specs.declared.report.Outcome.TheVariants.{Ended, Cut as WasCut}
-use Rattle.fetch_runs.proofs.Lists.{all_append}
+use Rattle.fetch_runs.proofs.Lists.{all_append, both_none}
 use Rattle.fetch_runs.specs.Below.{Below}
 use Rattle.std.proofs.lemmas.List.Sums.{sum_by-append}
 use Rattle.fetch_session.specs.declared.fault.Why.TheVariants as why
@@ -74,33 +74,31 @@ stored_done number uid reply = record { task = stores number uid; replies = repl
 -- the reply with a text that the store refused, if its file may be there
 abbrev pub spare_in : {account : List ℕ} {next : Task} {old new : Scene} {cut : Cut} (refused : NoFile account next old new cut)
     → RefusesText old.store.maildir (stem_of account refused.uid) refused.rest refused.text cut.fault new.store.maildir → List WholeReply
-spare_in refused (inl missing) = []
-spare_in refused (inr (is, inl same)) = []
-spare_in refused (inr (is, inr (done, (is_named, there)))) = (refused.whole done).0 ∷ []
+spare_in _ (inl _) = []
+spare_in _ (inr (_, inl _)) = []
+spare_in refused (inr (_, inr (done, (_, there)))) = (refused.whole done).0 ∷ []
 
 abbrev pub course_stopped : (target : Target) (items : List Item) (dones : List Done) (next : Task) (mid new : Scene)
     (cut : Cut) → Stops target next mid cut new → Course
-course_stopped target items dones next mid new cut (inl broken) = course items dones [] (next ∷ [])
-course_stopped (AsFiles account) items dones next mid new cut (inr (inl refused)) =
-    course items dones (spare_in refused refused.refuses) (next ∷ [])
-course_stopped (AsFiles account) items dones next mid new cut (inr (inr unsaved)) =
+course_stopped _ items dones next _ _ _ (inl _) = course items dones [] (next ∷ [])
+course_stopped (AsFiles _) items dones next _ _ _ (inr (inl refused)) = course items dones (spare_in refused refused.refuses) (next ∷ [])
+course_stopped (AsFiles _) items dones _ _ _ _ (inr (inr unsaved)) =
     course items (dones ++ stored_done unsaved.number unsaved.uid unsaved.reply ∷ []) [] []
-course_stopped AsEntries items dones next mid new cut (inr (inl (inl wanting))) = course items dones [] (next ∷ [])
-course_stopped AsEntries items dones next mid new cut (inr (inl (inr (inl refused)))) = course items dones (refused.reply ∷ []) (next ∷ [])
-course_stopped AsEntries items dones next mid new cut (inr (inl (inr (inr left)))) = course items dones [] []
-course_stopped AsEntries items dones next mid new cut (inr (inr unsaved)) =
+course_stopped AsEntries items dones next _ _ _ (inr (inl (inl _))) = course items dones [] (next ∷ [])
+course_stopped AsEntries items dones next _ _ _ (inr (inl (inr (inl refused)))) = course items dones (refused.reply ∷ []) (next ∷ [])
+course_stopped AsEntries items dones _ _ _ _ (inr (inl (inr (inr _)))) = course items dones [] []
+course_stopped AsEntries items dones _ _ _ _ (inr (inr unsaved)) =
     course items (dones ++ stored_done unsaved.number unsaved.uid unsaved.reply ∷ []) [] []
 
 abbrev pub course_does : (target : Target) (items : List Item) (tasks : List Task) (old new : Scene)
     (result : Result (Unit {0}) Cut) → Does target tasks old result new → Course
-course_does target items tasks old new (Ok done) went = course items went.dones [] []
-course_does target items tasks old new (Err cut) fell = course_stopped target items fell.dones fell.next fell.mid new cut fell.stops
+course_does _ items _ _ _ (Ok done) went = course items went.dones [] []
+course_does target items _ _ new (Err cut) fell = course_stopped target items fell.dones fell.next fell.mid new cut fell.stops
 
 abbrev pub course_carried : (settings : Settings) (target : Target) (items : List Item) (now : ℕ) (place : Place)
-    (store : Stores) (file : Stored) (lines : List ReportLine)
-    (result : Result (Unit {0}) Cut) (new : Scene) (skipped : Skips)
+    (store : Stores) (file : Stored) (lines : List ReportLine) (result : Result (Unit {0}) Cut) (new : Scene) (skipped : Skips)
     → Carried settings target items now place store file lines result new skipped → Course
-course_carried settings target items now place store file lines result new skipped is =
+course_carried settings target items now _ store _ _ result new _ is =
     course_does target items (tasks_ahead settings target items now store is.mid.rows) is.mid new result is.does
 
 abbrev pub course_carries : (settings : Settings) (target : Target) (items : List Item) (now : ℕ) (place : Place)
@@ -109,15 +107,14 @@ abbrev pub course_carries : (settings : Settings) (target : Target) (items : Lis
     → Carries settings target items now place store file lines result place' store' file' lines' skipped → Course
 course_carries settings target items now place store file lines (Ok done) place' store' file' lines' skipped is =
     course_carried settings target items now place store file lines (Ok done) (scene place' store' file' is.0 lines') skipped is.1
-course_carries settings target items now place store file lines (Err cut) place' store' file' lines' skipped
-    (rows, inl unprepared) = course items [] [] []
+course_carries _ _ items _ _ _ _ _ (Err _) _ _ _ _ _ (_, inl _) = course items [] [] []
 course_carries settings target items now place store file lines (Err cut) place' store' file' lines' skipped (rows, inr is) =
     course_carried settings target items now place store file lines (Err cut) (scene place' store' file' rows lines') skipped is
 
 abbrev pub course_dealt : (settings : Settings) (target : Target) (now : ℕ) (old : Place) (before : Keeping)
     (result : Result (Unit {0}) Cut) (new : Place) (after : Keeping) (notes : Noted)
     → Dealt settings target now old before result new after notes → Course
-course_dealt settings target now old before result new after notes dealt =
+course_dealt settings target now _ before result new after notes dealt =
     course_carries settings target dealt.items now dealt.mid before.store before.file [] result new after.store
     after.file notes.lines notes.skipped dealt.carries
 
@@ -126,8 +123,8 @@ abbrev pub course_proceeded : (settings : Settings) (target : Target) (now : ℕ
     → Proceeds settings target now old before result new after notes → SessionCourse
 course_proceeded settings target now old before (Ok done) new after notes dealt =
     Deals (course_dealt settings target now old before (Ok done) new after notes dealt)
-course_proceeded settings target now old before (Err cut) new after notes (inl stopped) = Idle
-course_proceeded settings target now old before (Err cut) new after notes (inr (inl wanting)) = Idle
+course_proceeded _ _ _ _ _ (Err _) _ _ _ (inl _) = Idle
+course_proceeded _ _ _ _ _ (Err _) _ _ _ (inr (inl _)) = Idle
 course_proceeded settings target now old before (Err cut) new after notes (inr (inr dealt)) =
     Deals (course_dealt settings target now old before (Err cut) new after notes dealt)
 
@@ -135,8 +132,8 @@ course_proceeded settings target now old before (Err cut) new after notes (inr (
 
 -- the number and the text of each reply to a task's RETR
 abbrev pub found_in : Task → List WholeReply → List (ℕ × List ℕ)
-found_in (stores number uid) replies = map (λ (reply : WholeReply). (number, body_text reply.body)) replies
-found_in (rereads number uid) replies = map (λ (reply : WholeReply). (number, body_text reply.body)) replies
+found_in (stores number _) replies = map (λ (reply : WholeReply). (number, body_text reply.body)) replies
+found_in (rereads number _) replies = map (λ (reply : WholeReply). (number, body_text reply.body)) replies
 found_in _ replies = []
 
 abbrev pub found_by : List Done → List (ℕ × List ℕ)
@@ -153,8 +150,8 @@ begun_of course = tasks_of course.taken ++ course.under
 -- one of these tasks asks for the DELE; for a RETR there is some task
 abbrev pub IsOfTask : List Task → Command → Type 0
 IsOfTask tasks (Dele number) = (front behind : List Task) × (tasks ≡ front ++ deletes number ∷ behind)
-IsOfTask tasks (Retr number) = (front : List Task) × (task : Task) × (behind : List Task) × (tasks ≡ front ++ task ∷ behind)
-IsOfTask tasks _ = Unit {0}
+IsOfTask tasks (Retr _) = (front : List Task) × (task : Task) × (behind : List Task) × (tasks ≡ front ++ task ∷ behind)
+IsOfTask _ _ = Unit {0}
 
 -- the ids of the messages that tasks delete
 abbrev pub deleted_in : List Item → Task → List (List ℕ)
@@ -200,20 +197,20 @@ CanBeSaid (Some command) = (can_be_sent command ≡ true) × HasNumbers command
 
 -- if there are no octets, any commands may be next
 pub begins_any : (next : List Command) (part : List ℕ) → part ≡ [] → BeginsNext next part
-begins_any [] part e = e
-begins_any (command ∷ next) part e = (ended (line_of command), ap (λ (l : List ℕ). l ++ ended (line_of command)) (sym e))
+begins_any [] _ e = e
+begins_any (command ∷ _) _ e = (ended (line_of command), ap (λ l. l ++ ended (line_of command)) (sym e))
 
 pub octets_same : (turns : List Turn) → asking turns ≡ octets_of (commands_in turns)
 octets_same [] = refl
 octets_same (None ∷ turns) = octets_same turns
-octets_same (Some command ∷ turns) = ap (λ (l : List ℕ). ended (line_of command) ++ l) (octets_same turns)
+octets_same (Some command ∷ turns) = ap (λ l. ended (line_of command) ++ l) (octets_same turns)
 
 -- they can be sent, and their numbers fit
 pub can_in : (turns : List Turn) → AllByRecursion CanBeSaid turns
     → AllByRecursion (λ command. can_be_sent command ≡ true) (commands_in turns) × AllByRecursion HasNumbers (commands_in turns)
 can_in [] all = (tt, tt)
 can_in (None ∷ turns) all = can_in turns all.1
-can_in (Some command ∷ turns) all = let later = can_in turns all.1 in ((all.0.0, later.0), (all.0.1, later.1))
+can_in (Some _ ∷ turns) all = let later = can_in turns all.1 in ((all.0.0, later.0), (all.0.1, later.1))
 
 -- octets after which the next of these commands may have been begun
 abbrev Spoken : List Command → List Command → List ℕ → Type 0
@@ -222,12 +219,12 @@ Spoken commands next sent = (asked : HasSent commands sent) × BeginsNext next a
 -- the command that was begun may be the first of these
 pub begins_one : (Is : Command → Type 0) (next : List Command) (part : List ℕ) → BeginsNext next part
     → AllByRecursion Is next → BeginsOne Is part
-begins_one Is [] part none all = inl none
-begins_one Is (command ∷ next) part (unsent, is) all = inr (command, unsent, is, all.0)
+begins_one Is [] _ none all = inl none
+begins_one Is (command ∷ _) _ (unsent, is) all = inr (command, unsent, is, all.0)
 
 pub begins_of : {Is Other : Command → Type 0} → ((command : Command) → Is command → Other command) → (part : List ℕ)
     → BeginsOne Is part → BeginsOne Other part
-begins_of on part = ⊎_map (λ none. none) (λ (command, unsent, is, holds). (command, unsent, is, on command holds))
+begins_of on _ = ⊎_map (λ none. none) (λ (command, unsent, is, holds). (command, unsent, is, on _ holds))
 
 -- the commands that were sent whole: those of the completed turns, of the one that was begun, and of the tail
 pub record Commanded (done begun tail : List Turn) (sent : List ℕ) : Type 0 where
@@ -243,15 +240,14 @@ pub record Commanded (done begun tail : List Turn) (sent : List ℕ) : Type 0 wh
 -- commands after others
 spoken_behind : (turns : List Turn) (more next : List Command) (octets : List ℕ) → AllByRecursion CanBeSaid turns
     → Spoken more next octets → Spoken (commands_in turns ++ more) next (asking turns ++ octets)
-spoken_behind turns more next octets can (asked, begins) =
+spoken_behind turns more _ octets can (asked, begins) =
     let whole : asking turns ++ octets ≡ octets_of (commands_in turns ++ more) ++ asked.part =
-    rw (octets_same turns, asked.whole) (simp (flat_map-append, append_assoc)) in
+    rw (octets_same, asked.whole) (simp (flat_map-append, append_assoc)) in
     let now : HasSent (commands_in turns ++ more) (asking turns ++ octets) =
     search (
       whole,
       asked.no_line,
-      all_append (λ (command : Command). can_be_sent command ≡ true) (commands_in turns)
-          more (can_in turns can).0 asked.sendable,
+      all_append (λ (command : Command). can_be_sent command ≡ true) (commands_in turns) more (can_in turns can).0 asked.sendable,
       all_append HasNumbers (commands_in turns) more (can_in turns can).1 asked.numbers,
     ) in
     (now, begins)
@@ -296,17 +292,17 @@ commanded laws {done} {begun} {tail} d b t said = rw said.said (by said.sent_beh
 -- a turn that sends a command
 abbrev pub IsCommand : Turn → Type 0
 IsCommand None = ⊥
-IsCommand (Some command) = Unit {0}
+IsCommand (Some _) = Unit {0}
 
 body_read : (command : Command) (body : Option (List (List ℕ))) → IsBody (Some command) body → IsBodyIf (has_body command) body
-body_read command None none = rw none tt
-body_read (Retr number) (Some lines) is = is.0
-body_read other (Some lines) is = search rules
+body_read _ None none = rw none tt
+body_read (Retr _) (Some _) is = is.0
+body_read _ (Some lines) is = search rules
 
 -- the replies to turns that send commands are whole and positive ones to these commands
 pub replies_read : (turns : List Turn) (replies : List WholeReply) (more : List Command)
     → AllByRecursion IsCommand turns → AllZip IsGood turns replies → AreGood (commands_in turns ++ more) replies
-replies_read [] [] more all good = tt
+replies_read [] [] _ all _ = tt
 replies_read (Some command ∷ turns) (reply ∷ replies) more all good = (
   record { rest = good.0.rest; line = good.0.line; positive = good.0.positive; body = body_read command reply.body good.0.body },
   replies_read turns replies more all.1 good.1,
@@ -317,8 +313,8 @@ replies_read turns replies more all good = search rules
 pub each_found : (turns : List Turn) (replies : List WholeReply) (found : List (ℕ × List ℕ))
     → AllByRecursion IsCommand turns → AllZip IsGood turns replies → Retrieves (commands_in turns) replies found
     → length found ≡ count_by is_retr (commands_in turns)
-each_found [] [] found all good none = rw none refl
-each_found (Some (Retr number) ∷ turns) (reply ∷ replies) found all good (text, more, body, is, later) =
+each_found [] [] _ all _ none = rw none refl
+each_found (Some (Retr number) ∷ turns) (_ ∷ replies) _ all good (_, more, body, is, later) =
     let one : count_by is_retr (commands_in (Some (Retr number) ∷ turns)) ≡ 1 + count_by is_retr (commands_in turns) =
     sum_by-append (λ (c : Command). cond (is_retr c) 1 0) (Retr number ∷ []) (commands_in turns)
     in rw is (omega (arith, one, each_found turns replies more all.1 good.1 later))
@@ -328,65 +324,59 @@ each_found turns replies found all good later = search rules
 -- ---- texts
 
 pub text_body : (number : ℕ) (body : Option (List (List ℕ))) → IsBody (retr number) body → Body (body_bytes body) (body_text body)
-text_body number None none = absurd (true≢false none)
-text_body number (Some lines) is = record { lines = lines; content = is.0; whole = refl; read = refl }
+text_body _ None none = absurd (true≢false none)
+text_body _ (Some lines) is = record { lines = lines; content = is.0; whole = refl; read = refl }
 
 -- a task as a plan has it: its number is below 2 ^ 32, and a turn for no message is QUIT
 abbrev pub IsPlain : Task → Type 0
 IsPlain (says turn) = turn ≡ quit
-IsPlain (skips number size) = Unit {0}
-IsPlain (stores number uid) = number < 2 ^ 32
-IsPlain (rereads number uid) = number < 2 ^ 32
+IsPlain (skips _ _) = Unit {0}
+IsPlain (stores number _) = number < 2 ^ 32
+IsPlain (rereads number _) = number < 2 ^ 32
 IsPlain (deletes number) = number < 2 ^ 32
 
 -- what one task's replies retrieve, before others
 read_first : (task : Task) (replies others : List WholeReply) (commands : List Command) (found : List (ℕ × List ℕ))
     → IsPlain task → AllZip IsGood (turns_in task) replies → Retrieves commands others found
     → Retrieves (commands_in (turns_in task) ++ commands) (replies ++ others) (found_in task replies ++ found)
-read_first (says turn) (r ∷ []) others commands found is good later = rw is later
-read_first (skips number size) [] others commands found is good later = later
-read_first (stores number uid) (r ∷ []) others commands found is good later =
+read_first (says _) (r ∷ []) _ _ _ is _ later = rw is later
+read_first (skips _ _) [] _ _ _ _ _ later = later
+read_first (stores number _) (r ∷ []) _ _ found _ good later = (body_text r.body, found, text_body number r.body good.0.body, refl, later)
+read_first (rereads number _) (r ∷ []) _ _ found _ good later =
     (body_text r.body, found, text_body number r.body good.0.body, refl, later)
-read_first (rereads number uid) (r ∷ []) others commands found is good later =
-    (body_text r.body, found, text_body number r.body good.0.body, refl, later)
-read_first (deletes number) (r ∷ []) others commands found is good later = later
+read_first (deletes _) (r ∷ []) _ _ _ _ _ later = later
 read_first task replies others commands found is good later = search rules
 
 -- what the replies to done tasks retrieve, before others
 pub dones_read : (dones : List Done) (others : List WholeReply) (commands : List Command) (found : List (ℕ × List ℕ))
     → AllByRecursion IsPlain (tasks_of dones) → AllByRecursion IsAnswered dones → Retrieves commands others found
     → Retrieves (commands_in (turns_of dones) ++ commands) (replies_of dones ++ others) (found_by dones ++ found)
-dones_read [] others commands found plain answered later = later
+dones_read [] _ _ _ _ _ later = later
 dones_read (d ∷ dones) others commands found plain answered later =
-    simp (flat_map-append, append_assoc)
-    (read_first d.task d.replies (replies_of dones ++ others) (commands_in (turns_of dones) ++ commands)
-    (found_by dones ++ found) plain.0 answered.0 (dones_read dones others commands found plain.1 answered.1 later))
+    simp (flat_map-append, append_assoc) (read_first _ _ _ _ _ plain.0 answered.0 (dones_read dones _ _ _ plain.1 answered.1 later))
 
 pub nothing_found : (task : Task) → found_in task [] ≡ []
-nothing_found (stores number uid) = refl
-nothing_found other = refl
+nothing_found (stores _ _) = refl
+nothing_found _ = refl
 
 -- ---- the tasks of a plan
 
 plain_planned : (steps : List Step) (items : List Item) (held : List Bool)
     → AllByRecursion (λ (s : Step). s.number < 2 ^ 32) steps → AllByRecursion IsPlain (tasks_planned steps items held)
 plain_planned (s ∷ steps) (i ∷ items) (h ∷ held) small = grind (arith, small.0, plain_planned steps items held small.1)
-plain_planned steps items held small = tt
+plain_planned _ items _ _ = tt
 
 small_steps : (f : ℕ × Item → Step) → ((q : ℕ × Item) → (f q).number ≡ q.0) → (n : ℕ) (items : List Item)
     → n + length items ≤ 2 ^ 32 → AllByRecursion (λ (s : Step). s.number < 2 ^ 32) (map f (enumerate_from n items))
-small_steps f same n [] within = tt
+small_steps f _ n [] _ = tt
 small_steps f same n (item ∷ items) within =
     (omega (arith, same (n, item), within), small_steps f same (n + 1) items (omega (arith, within)))
 
 -- of a listing of at most 100,000 messages
 pub plain_ahead : (settings : Settings) (target : Target) (items : List Item) (now : ℕ) (store : Stores)
-    (rows : List Row) → length items ≤ 100000
-    → AllByRecursion IsPlain (tasks_ahead settings target items now store rows)
+    (rows : List Row) → length items ≤ 100000 → AllByRecursion IsPlain (tasks_ahead settings target items now store rows)
 plain_ahead settings target items now store rows few =
-    all_append IsPlain (tasks_planned (planned settings rows items now) items (held_flags target store items)) (says quit ∷ [])
-    (plain_planned (planned settings rows items now) items (held_flags target store items)
-    (small_steps (step_of settings rows items now) (λ q. refl) 1 items (omega (arith, few))))
+    all_append _ _ _ (plain_planned _ _ _ (small_steps (step_of settings rows items now) (λ q. refl) 1 items (omega (arith, few))))
     (refl, tt)
 
 -- ---- their turns
@@ -394,31 +384,30 @@ plain_ahead settings target items now store rows few =
 -- what holds of QUIT, and of RETR and DELE with a small number, holds of the turns of plain tasks
 turns_all : (P : Turn → Type 0) → P quit → ((n : ℕ) → n < 2 ^ 32 → P (retr n) × P (dele n)) → (tasks : List Task)
     → AllByRecursion IsPlain tasks → AllByRecursion P (flat_map turns_in tasks)
-turns_all P quits some [] plain = tt
-turns_all P quits some (says turn ∷ tasks) plain = (rw plain.0 quits, turns_all P quits some tasks plain.1)
-turns_all P quits some (task ∷ tasks) plain = let later = turns_all P quits some tasks plain.1 in grind (arith, some, plain.0, later)
+turns_all P _ _ [] _ = tt
+turns_all P quits some (says _ ∷ tasks) plain = (rw plain.0 quits, turns_all P quits some tasks plain.1)
+turns_all P quits some (_ ∷ tasks) plain = let later = turns_all P quits some tasks plain.1 in grind (arith, some, plain.0, later)
 
 pub said_tasks : (tasks : List Task) → AllByRecursion IsPlain tasks → AllByRecursion CanBeSaid (flat_map turns_in tasks)
-said_tasks = turns_all CanBeSaid (refl, tt) (λ n small. ((refl, small), (refl, small)))
+said_tasks = turns_all _ (refl, tt) (λ n small. ((refl, small), (refl, small)))
 
 pub commands_tasks : (tasks : List Task) → AllByRecursion IsPlain tasks → AllByRecursion IsCommand (flat_map turns_in tasks)
-commands_tasks = turns_all IsCommand tt (λ n small. (tt, tt))
+commands_tasks = turns_all _ tt (λ n _. (tt, tt))
 
 -- ---- their retrievals and deletions
 
 of_first : (front behind : List Task) (task : Task) (commands : List Command) → IsPlain task
     → AllByRecursion (IsOfTask (front ++ task ∷ behind)) commands
     → AllByRecursion (IsOfTask (front ++ task ∷ behind)) (commands_in (turns_in task) ++ commands)
-of_first front behind (says turn) commands is later = rw is (tt, rw is at later)
-of_first front behind task commands is later = search rules
+of_first _ behind (says _) _ is later = rw is (tt, rw is at later)
+of_first _ behind _ _ _ later = search rules
 
 pub of_tasks : (front tasks : List Task) → AllByRecursion IsPlain tasks
     → AllByRecursion (IsOfTask (front ++ tasks)) (commands_in (flat_map turns_in tasks))
-of_tasks front [] plain = tt
+of_tasks _ [] _ = tt
 of_tasks front (task ∷ tasks) plain =
     rw (flat_map-append said_in (turns_in task) (flat_map turns_in tasks))
-    (of_first front tasks task (commands_in (flat_map turns_in tasks)) plain.0
-    (rw append_assoc at (of_tasks (front ++ task ∷ []) tasks plain.1)))
+    (of_first _ _ task (commands_in (flat_map turns_in tasks)) plain.0 (rw append_assoc at (of_tasks (front ++ task ∷ []) tasks plain.1)))
 
 pub fronted : Below → (turns : List Turn) (old new : Place) (result : Result (Unit {0}) ClientFault)
     → Talks turns old result new → WentOn turns old new
@@ -465,24 +454,23 @@ goes_part {turn} front rest split sent got f = record {
 -- a turn that broke, and the tail for its fault
 pub goes_broke : (turn : Turn) (old mid new : Place) (why : ClientFault) → Broke turn old mid why
     → WentOn (tail_turns (tail (fault_of why))) mid new → Goes (turn ∷ []) (tail_turns (tail (fault_of why))) old.link new.link
-goes_broke turn old mid new why (inl (is, said)) f = goes_part said.front said.rest said.split said.sent said.got (rw is at f)
-goes_broke turn old mid new why (inr (inl bad)) f = goes_whole bad.gained bad.sent bad.got f
-goes_broke turn old mid new why (inr (inr (is, may, same))) f =
+goes_broke _ _ _ _ why (inl (is, said)) f = goes_part _ _ said.split said.sent said.got (rw is at f)
+goes_broke _ _ _ _ why (inr (inl bad)) f = goes_whole _ bad.sent bad.got f
+goes_broke turn old _ _ why (inr (inr (is, _, same))) f =
     goes_part [] (turn_bytes turn) refl (rw same (sym (append-nil old.link.sent))) (rw same) (rw is at f)
 
 under_way : (turn : Turn) (tail done rest : List Turn) (part : List ℕ) → turn ∷ tail ≡ done ++ rest → IsFrontOfNext part rest
     → (later : List ℕ) → asking (turn ∷ tail) ≡ (asking done ++ part) ++ later → SentBehind (turn ∷ []) tail (asking done ++ part)
-under_way turn tail [] rest part split begun later front =
+under_way turn tail [] _ _ split begun later _ =
     let next = rw (← split) at begun in
     inl (next.0, append-nil (turn_bytes turn) ∙ next.1)
-under_way turn tail (d ∷ done) rest part split begun later front =
+under_way turn tail (d ∷ done) _ part split begun later front =
     let same : d ≡ turn = cc in
     inr (
       asking done ++ part,
       later,
       append_cancel_left (turn_bytes turn) _ _ (front ∙ rw same (simp append_assoc)),
-      rw
-          same (simp (append_assoc, append-nil)),
+      rw same (simp (append_assoc, append-nil)),
     )
 
 -- turns that were completed, and what came after them
@@ -563,7 +551,7 @@ ahead_cut later took split told spare = record {
 module _ (laws : Below) (items : List Item) where
   -- the tail after a cut with no reply under way
   pub tailed : (cut : Cut) (there last : Place) → cut.rest ≡ None → Left cut there last → WentOn (tail_turns (tail cut.fault)) there last
-  tailed cut there last none left = let said = rw none at left in fronted laws (tail_turns (tail cut.fault)) there last said.0 said.1
+  tailed cut there last none left = let said = rw none at left in fronted laws _ _ _ said.0 said.1
 
   -- the turns of these tasks were completed, and perhaps that of one more was begun
   after_dones : (dones : List Done) (under : List Task) {begun tail : List Turn} {first there : Place} {link : Link}
@@ -573,17 +561,16 @@ module _ (laws : Below) (items : List Item) where
       → AllByRecursion IsAnswered dones → Goes begun tail there.link link → Took (course items dones [] under) first tail link
   after_dones dones under {begun} takes one whole none talked plain each goes =
       let all : flat_map turns_in (tasks_of dones ++ under) ≡ turns_of dones ++ begun = simp (flat_map-append, flat_map-map, takes) in
-      let read : (more : List Command)
-      → Retrieves (commands_in (turns_of dones) ++ more) (replies_of dones)
+      let read : (more : List Command) → Retrieves (commands_in (turns_of dones) ++ more) (replies_of dones)
       (found_of (course items dones [] under)) =
-      λ more. rw none (rw (append-nil (replies_of dones)) at (dones_read dones [] more [] plain each refl)) in
+      λ more. rw none (rw append-nil at (dones_read _ [] more [] plain each refl)) in
       search (talked, goes, all, one, read, each, whole, inl)
 
   -- all that was begun was done
   pub all_done : (dones : List Done) {tail : List Turn} {first there : Place} {link : Link}
       → Talked (turns_of dones) (replies_of dones) first there → AllByRecursion IsPlain (tasks_of dones)
       → AllByRecursion IsAnswered dones → Goes [] tail there.link link → Took (course items dones [] []) first tail link
-  all_done dones = after_dones dones [] refl (inl refl) (λ none. refl) refl
+  all_done _ = after_dones _ [] refl (inl refl) (λ _. refl) refl
 
   module _ (dones : List Done) (next : Task) (first : Place) (mid : Scene)
       (talked : Talked (turns_of dones) (replies_of dones) first mid.place)
@@ -591,28 +578,27 @@ module _ (laws : Below) (items : List Item) where
     -- the next turn was begun, and its text isn't stored
     begun_next : {turn : Turn} {tail : List Turn} {link : Link} → turns_in next ≡ turn ∷ []
         → Goes (turn ∷ []) tail mid.place.link link → Took (course items dones [] (next ∷ [])) first tail link
-    begun_next {turn} takes = after_dones dones (next ∷ []) (append-nil (turns_in next) ∙ takes) (inr (turn, refl))
+    begun_next {turn} takes = after_dones _ _ (append-nil (turns_in next) ∙ takes) (inr (turn, refl))
         (λ none. absurd cc) (append-nil (found_in next []) ∙ nothing_found next) talked plain each
 
     -- the text was read to its end, and it isn't in the report
     with_spare : (number : ℕ) (uid : List ℕ) (reply : WholeReply) {tail : List Turn} {there : Place} {link : Link}
         → next ≡ stores number uid → Talked (retr number ∷ []) (reply ∷ []) mid.place there
         → Goes [] tail there.link link → Took (course items dones (reply ∷ []) (next ∷ [])) first tail link
-    with_spare number uid reply {there = there} is fetched goes = record {
+    with_spare number _ reply {there = there} is fetched goes = record {
       done = turns_of dones ++ retr number ∷ [];
       replies = replies_of dones ++ reply ∷ [];
       begun = [];
       there = there;
-      talked = laws.joins.on (turns_of dones) (retr number ∷ []) (replies_of dones) (reply ∷ []) first mid.place there talked fetched;
+      talked = laws.joins.on (turns_of dones) (retr number ∷ []) (replies_of dones) (reply ∷ []) first _ _ talked fetched;
       goes = goes;
       all = rw is (simp (flat_map-append, flat_map-map, append-nil));
       one = inl refl;
-      read = λ more. rw is (simp (flat_map-append, append_assoc)
-          (dones_read dones (reply ∷ []) (Retr number ∷ more) ((number, body_text reply.body) ∷ []) plain each
-          (body_text reply.body, [], text_body number reply.body fetched.good.0.body, refl, refl)));
+      read = λ more. rw is (simp (flat_map-append, append_assoc) (dones_read _ _ _ _ plain each
+          (body_text reply.body, [], text_body number _ fetched.good.0.body, refl, refl)));
       each = each;
       asks = inr (number, refl, refl, (reply, refl));
-      whole = λ none. refl;
+      whole = λ _. refl;
     }
 
     module _ (new : Scene) (cut : Cut) (last : Place) (left : Left cut new.place last) (tasks later : List Task)
@@ -630,7 +616,7 @@ module _ (laws : Below) (items : List Item) where
           → ((account : List ℕ) (reply : WholeReply) → to ≡ AsFiles account → spare ≡ reply ∷ []
           → WasCut cut.fault ≡ WasCut (StoreRefused why.Refused))
           → Ahead to items tasks lines new.lines (Err cut) (course items dones spare (next ∷ [])) first last.link
-      passed took told spare = ahead_cut later took begun (told ∙ went) spare
+      passed took told spare = ahead_cut _ took begun (told ∙ went) spare
 
       -- the store refused the text, or the rest of it
       module _ (account : List ℕ) (refused : NoFile account next mid new cut) where
@@ -641,27 +627,22 @@ module _ (laws : Below) (items : List Item) where
         took_under =
             let said = rest_left.1 refused.number mid.place refused.text refused.fetching in
             let p = laws.paced (retr refused.number ∷ ends) mid.place last said.0 said.1 in
-            begun_next (ap turns_in refused.is)
-            (search (p, under_way (retr refused.number) ends p.done p.rest p.part p.split p.begun p.front.0 p.front.1))
+            begun_next (ap turns_in refused.is) (search (p, under_way))
 
         ahead_refused : (refuses : RefusesText mid.store.maildir (stem_of account refused.uid) refused.rest refused.text
-            cut.fault new.store.maildir)
-            → Ahead (AsFiles account) items tasks lines new.lines (Err cut)
+            cut.fault new.store.maildir) → Ahead (AsFiles account) items tasks lines new.lines (Err cut)
             (course items dones (spare_in refused refuses) (next ∷ [])) first last.link
-        ahead_refused (inl missing) = passed took_under refused.lines (λ account reply files e. absurd cc)
-        ahead_refused (inr (is, inl same)) = passed took_under refused.lines (λ account reply files e. absurd cc)
-        ahead_refused (inr (is, inr (done, (is_named, there)))) =
+        ahead_refused (inl _) = passed took_under refused.lines (λ _ _ _ e. absurd cc)
+        ahead_refused (inr (_, inl _)) = passed took_under refused.lines (λ _ _ _ e. absurd cc)
+        ahead_refused (inr (is, inr (done, (_, there)))) =
             let said = rest_left.0 done in
             let whole = refused.whole done in
-            passed (with_spare refused.number refused.uid whole.0 refused.is whole.1
-            (goes_tail (fronted laws ends new.place last said.0 said.1))) refused.lines
-            (λ other reply files e. ap WasCut is)
+            passed (with_spare _ _ _ refused.is whole.1 (goes_tail (fronted laws _ _ _ _ said.1))) refused.lines (λ _ _ _ e. ap WasCut is)
 
       -- the text was stored, and its id wasn't saved
       ahead_unsaved : {to : Target} (number : ℕ) (uid : List ℕ) (reply : WholeReply) → cut.rest ≡ None
           → next ≡ stores number uid → Talked (retr number ∷ []) (reply ∷ []) mid.place new.place → IsPlain next
-          → new.lines ≡ mid.lines ++ delivered number reply ∷ []
-          → Ahead to items tasks lines new.lines (Err cut)
+          → new.lines ≡ mid.lines ++ delivered number reply ∷ [] → Ahead to items tasks lines new.lines (Err cut)
           (course items (dones ++ stored_done number uid reply ∷ []) [] []) first last.link
       ahead_unsaved number uid reply none is fetched small told =
           let one = stored_done number uid reply in
@@ -678,20 +659,17 @@ module _ (laws : Below) (items : List Item) where
           → Ahead target items tasks lines new.lines (Err cut) (course_stopped target items dones next mid new cut stops) first last.link
       ahead_stopped target small (inl broken) = passed (begun_next broken.takes
           (rw broken.broke.1 (goes_broke broken.turn mid.place new.place last broken.broke.0 broken.broke.2
-          (rw broken.broke.1 at (tailed cut new.place last broken.none left))))) broken.lines
-          (λ account reply files e. absurd cc)
-      ahead_stopped (AsFiles account) small (inr (inl refused)) = ahead_refused account refused refused.refuses
-      ahead_stopped (AsFiles account) small (inr (inr u)) = ahead_unsaved u.number u.uid u.reply u.none u.is u.talked small u.lines
+          (rw broken.broke.1 at (tailed cut new.place last broken.none left))))) broken.lines (λ account reply files e. absurd cc)
+      ahead_stopped (AsFiles account) _ (inr (inl refused)) = ahead_refused account refused refused.refuses
+      ahead_stopped (AsFiles _) small (inr (inr u)) = ahead_unsaved u.number u.uid u.reply u.none u.is u.talked small u.lines
       ahead_stopped AsEntries small (inr (inl (inl wanting))) =
           let fetching = wanting.fetching in
           passed (begun_next (ap turns_in wanting.is) (goes_whole (fetching.opened.gained ++ fetching.under.gained)
-          (fetching.under.drew.sent ∙ fetching.opened.sent)
-          (rw (fetching.under.drew.got, fetching.opened.got) (simp append_assoc))
+          (fetching.under.drew.sent ∙ fetching.opened.sent) (rw (fetching.under.drew.got, fetching.opened.got) (simp append_assoc))
           (tailed cut new.place last wanting.none left))) wanting.lines (λ account reply files e. absurd cc)
       ahead_stopped AsEntries small (inr (inl (inr (inl refused)))) =
           passed (with_spare refused.number refused.uid refused.reply refused.is refused.talked
-          (goes_tail (tailed cut new.place last refused.none left))) refused.lines
-          (λ account reply files e. absurd cc)
+          (goes_tail (tailed cut new.place last refused.none left))) refused.lines (λ account reply files e. absurd cc)
       ahead_stopped AsEntries small (inr (inl (inr (inr stays)))) =
           ahead_cut (next ∷ later) (all_done dones talked plain each
           (goes_tail (tailed cut mid.place last stays.none (rw stays.place at left)))) (split

@@ -49,21 +49,21 @@ fault_in (WasCut fault) = fault
 
 abbrev was_cut : Outcome → Bool
 was_cut Ended = false
-was_cut (WasCut fault) = true
+was_cut (WasCut _) = true
 
 abbrev is_disagreement : ClientFault → Bool
 is_disagreement talk.ListingsDisagree = true
-is_disagreement other = false
+is_disagreement _ = false
 
 -- no turn breaks for listings that don't agree
 agrees : (turn : Turn) (old new : Place) → Broke turn old new talk.ListingsDisagree → ⊥
-agrees turn old new (inl (is, part)) = false≢true (sym (ap is_disagreement is))
-agrees turn old new (inr (inl not)) = not.cause
-agrees turn old new (inr (inr (is, may, same))) = false≢true (sym (ap is_disagreement is))
+agrees _ _ _ (inl (is, _)) = false≢true (cc)
+agrees _ _ _ (inr (inl not)) = not.cause
+agrees _ _ _ (inr (inr (is, _, _))) = false≢true (cc)
 
 -- the count of a store's refused calls didn't fall
 abbrev NoLess : Target → Stores → Stores → Type 0
-NoLess (AsFiles account) old new = old.maildir.failures ≤ new.maildir.failures
+NoLess (AsFiles _) old new = old.maildir.failures ≤ new.maildir.failures
 NoLess AsEntries old new = old.mbox.failures ≤ new.mbox.failures
 
 module _ (settings : Settings) (target : Target) (now : ℕ) (link : Link) (before : Keeping) where
@@ -84,65 +84,65 @@ module _ (settings : Settings) (target : Target) (now : ℕ) (link : Link) (befo
     }
 
     by_turn : (why : ClientFault) → Broke next mid new why → CausesFault settings target now link before (fault_of why) new after
-    by_turn talk.ConnectionEnded broke = turn_broke talk.ConnectionEnded broke
-    by_turn talk.ReadFailed broke = turn_broke talk.ReadFailed broke
-    by_turn talk.WriteFailed broke = turn_broke talk.WriteFailed broke
-    by_turn talk.ReplyTooLong broke = turn_broke talk.ReplyTooLong broke
-    by_turn talk.BadReply broke = turn_broke talk.BadReply broke
-    by_turn (talk.Refused asked) broke = turn_broke (talk.Refused asked) broke
-    by_turn talk.BadListing broke = turn_broke talk.BadListing broke
-    by_turn talk.ListingsDisagree broke = absurd (agrees next mid new broke)
-    by_turn talk.TooMany broke = turn_broke talk.TooMany broke
-    by_turn talk.TextTooLong broke = turn_broke talk.TextTooLong broke
-    by_turn talk.NoMemory broke = tt
+    by_turn talk.ConnectionEnded broke = turn_broke _ broke
+    by_turn talk.ReadFailed broke = turn_broke _ broke
+    by_turn talk.WriteFailed broke = turn_broke _ broke
+    by_turn talk.ReplyTooLong broke = turn_broke _ broke
+    by_turn talk.BadReply broke = turn_broke _ broke
+    by_turn (talk.Refused asked) broke = turn_broke _ broke
+    by_turn talk.BadListing broke = turn_broke _ broke
+    by_turn talk.ListingsDisagree broke = absurd (agrees _ _ _ broke)
+    by_turn talk.TooMany broke = turn_broke _ broke
+    by_turn talk.TextTooLong broke = turn_broke _ broke
+    by_turn talk.NoMemory _ = tt
 
   -- saving the record failed
   by_saving : (fault : Fault) (old file' : Stored) (was next : RecordState) (mid : Place) (store' : Stores)
       → before.file.failures ≤ old.failures
       → Saves old was next (Err fault) file' → CausesFault settings target now link before fault mid (keeping store' file')
-  by_saving SeenRefused old file' was next mid store' more saves = omega (arith, more, saves.0)
-  by_saving NoMemory old file' was next mid store' more saves = tt
-  by_saving other old file' was next mid store' more saves = absurd saves
+  by_saving SeenRefused _ _ _ _ _ _ more saves = omega (arith, more, saves.0)
+  by_saving NoMemory _ _ _ _ _ _ _ _ = tt
+  by_saving _ _ _ _ _ _ _ _ saves = absurd saves
 
   by_opening : (why : ClientFault) (new : Place) (after : Keeping)
       → Enters (string_bytes settings.username) (string_bytes settings.password) (at link []) (Err why) new
       → CausesFault settings target now link before (fault_of why) new after
-  by_opening why new after (inl stopped) = by_turn stopped.done stopped.replies stopped.mid stopped.talked stopped.next
+  by_opening why new after (inl stopped) = by_turn _ stopped.replies stopped.mid stopped.talked stopped.next
       stopped.later (inl (sym stopped.split)) new after why stopped.broke
-  by_opening why new after (inr (inl (is, (count, uids, sizes, opened, disagree)))) =
+  by_opening _ _ _ (inr (inl (is, (count, uids, sizes, opened, disagree)))) =
       rw is (record { count = count; uids = uids; sizes = sizes; opened = opened; disagree = disagree })
-  by_opening why new after (inr (inr (is, rest))) = rw is tt
+  by_opening _ _ _ (inr (inr (is, _))) = rw is tt
 
 -- what makes a store unready
 unready : (settings : Settings) (target : Target) (now : ℕ) (link : Link) (items : List Item) (fault : Fault)
     (store : Stores) (file : Stored) (store' : Stores) (file' : Stored) (mid : Place)
     → CausesUnready target items fault store file store' file'
     → CausesFault settings target now link (keeping store file) fault mid (keeping store' file')
-unready settings (AsFiles account) now link items SeenRefused store file store' file' mid c = c.0
-unready settings (AsFiles account) now link items (BadSeen line) store file store' file' mid c = c.0
-unready settings (AsFiles account) now link items (StoreRefused Missing) store file store' file' mid c = inr (rw c.1 c.0)
-unready settings (AsFiles account) now link items (StoreRefused Refused) store file store' file' mid c =
+unready _ (AsFiles _) _ _ _ SeenRefused _ _ _ _ _ c = c.0
+unready _ (AsFiles _) _ _ _ (BadSeen _) _ _ _ _ _ c = c.0
+unready _ (AsFiles _) _ _ _ (StoreRefused Missing) _ _ _ _ _ c = inr (rw c.1 c.0)
+unready _ (AsFiles _) _ _ _ (StoreRefused Refused) _ _ _ _ _ c =
     omega (arith, ap (λ (m : Maildir). m.failures) c)
-unready settings (AsFiles account) now link items NoMemory store file store' file' mid c = tt
-unready settings (AsFiles account) now link items other store file store' file' mid c = absurd c
-unready settings AsEntries now link items SeenRefused store file store' file' mid c = c.0
-unready settings AsEntries now link items (BadSeen line) store file store' file' mid c = c.0
-unready settings AsEntries now link items (StoreRefused Missing) store file store' file' mid c = rw c.1 c.0
-unready settings AsEntries now link items (StoreRefused Refused) store file store' file' mid c = c.0
-unready settings AsEntries now link items (StoreRefused NotMbox) store file store' file' mid c = c.0
-unready settings AsEntries now link items NoMemory store file store' file' mid c = tt
-unready settings AsEntries now link items other store file store' file' mid c = absurd c
+unready _ (AsFiles _) _ _ _ NoMemory _ _ _ _ _ c = tt
+unready _ (AsFiles _) _ _ _ _ _ _ _ _ _ c = absurd c
+unready _ AsEntries _ _ _ SeenRefused _ _ _ _ _ c = c.0
+unready _ AsEntries _ _ _ (BadSeen _) _ _ _ _ _ c = c.0
+unready _ AsEntries _ _ _ (StoreRefused Missing) _ _ _ _ _ c = rw c.1 c.0
+unready _ AsEntries _ _ _ (StoreRefused Refused) _ _ _ _ _ c = c.0
+unready _ AsEntries _ _ _ (StoreRefused NotMbox) _ _ _ _ _ c = c.0
+unready _ AsEntries _ _ _ NoMemory _ _ _ _ _ c = tt
+unready _ AsEntries _ _ _ _ _ _ _ _ _ c = absurd c
 
 -- settling refused nothing
 settled : (target : Target) (was : RecordState) (items : List Item) (old new : Stores)
     → SettlesStore target was items old new → NoLess target old new
-settled (AsFiles account) was items old new same = rw same (omega arith)
-settled AsEntries was items old new (bytes, is, same, may) = omega (arith, ap (λ (s : Stored). s.failures) same)
+settled (AsFiles _) _ _ _ _ same = rw same (omega arith)
+settled AsEntries _ _ _ _ (_, _, same, _) = omega (arith, ap (λ (s : Stored). s.failures) same)
 
 brought : (target : Target) (dones : List Done) (old mid new : Stores) → NoLess target old mid
     → Brings target dones mid new → NoLess target old new
-brought (AsFiles account) dones old mid new less brings = omega (arith, less, brings.failures)
-brought AsEntries dones old mid new less brings = omega (arith, less, brings.failures)
+brought (AsFiles _) _ _ _ _ less brings = omega (arith, less, brings.failures)
+brought AsEntries _ _ _ _ less brings = omega (arith, less, brings.failures)
 
 module _ (settings : Settings) (now : ℕ) (link : Link) (before : Keeping) (old : Scene)
     (file_count : before.file.failures ≤ old.file.failures) where
@@ -151,10 +151,10 @@ module _ (settings : Settings) (now : ℕ) (link : Link) (before : Keeping) (old
       (mid : Place) → NoLess (AsFiles account) before.store old.store
       → RefusesText old.store.maildir stem rest text fault store'.maildir
       → CausesFault settings (AsFiles account) now link before fault mid (keeping store' file')
-  by_maildir account stem rest text fault store' file' mid less (inl (is, tmp, same)) = rw is (inl (rw same tmp))
-  by_maildir account stem rest text fault store' file' mid less (inr (is, inl dropped)) =
+  by_maildir _ _ _ _ _ _ _ _ _ (inl (is, tmp, same)) = rw is (inl (rw same tmp))
+  by_maildir _ _ _ _ _ _ _ _ less (inr (is, inl dropped)) =
       rw is (omega (arith, less, ap (λ (m : Maildir). m.failures) dropped))
-  by_maildir account stem rest text fault store' file' mid less (inr (is, inr (whole, (is_named, has)))) =
+  by_maildir _ _ _ _ _ _ _ _ less (inr (is, inr (_, (_, has)))) =
       rw is (omega (arith, less, ap (λ (m : Maildir). m.failures) has))
 
   -- an entry was refused
@@ -162,24 +162,24 @@ module _ (settings : Settings) (now : ℕ) (link : Link) (before : Keeping) (old
       → NoLess AsEntries before.store old.store
       → RefusesEntry old.store.mbox old.file rows uid text fault store'.mbox file'
       → CausesFault settings AsEntries now link before fault mid (keeping store' file')
-  by_entry rows uid text (StoreRefused Missing) store' file' mid less (none, same, kept) = rw same none
-  by_entry rows uid text (StoreRefused Refused) store' file' mid less (inl (same, kept)) =
+  by_entry _ _ _ (StoreRefused Missing) _ _ _ _ (none, same, _) = rw same none
+  by_entry _ _ _ (StoreRefused Refused) _ _ _ less (inl (same, _)) =
       omega (arith, less, ap (λ (s : Stored). s.failures) same)
-  by_entry rows uid text (StoreRefused Refused) store' file' mid less
-      (inr (intended, (was, front, rest, may, split, same))) = omega (arith, less, ap (λ (s : Stored). s.failures) same)
-  by_entry rows uid text (StoreRefused NotMbox) store' file' mid less (other, same, kept) = rw same other
-  by_entry rows uid text SeenRefused store' file' mid less (same, (was, is, saves)) = omega (arith, file_count, saves.0)
-  by_entry rows uid text NoMemory store' file' mid less refuses = tt
-  by_entry rows uid text other store' file' mid less refuses = absurd refuses
+  by_entry _ _ _ (StoreRefused Refused) _ _ _ less
+      (inr (_, (_, _, _, _, _, same))) = omega (arith, less, ap (λ (s : Stored). s.failures) same)
+  by_entry _ _ _ (StoreRefused NotMbox) _ _ _ _ (other, same, _) = rw same other
+  by_entry _ _ _ SeenRefused _ _ _ _ (_, (_, _, saves)) = omega (arith, file_count, saves.0)
+  by_entry _ _ _ NoMemory _ _ _ _ _ = tt
+  by_entry _ _ _ _ _ _ _ _ refuses = absurd refuses
 
   -- an mboxrd file that was looked at once more was refused
   by_look : (why : StoreFault) (store' : Stores) (file' : Stored) (mid : Place) (fault : Fault)
       → NoLess AsEntries before.store old.store → IsStoreFault why fault
       → RefusesLook old.store.mbox why store'.mbox → CausesFault settings AsEntries now link before fault mid (keeping store' file')
-  by_look refused.Missing store' file' mid fault less is (none, same) = rw is (rw same none)
-  by_look refused.Refused store' file' mid fault less is same = rw is (omega (arith, less, ap (λ (s : Stored). s.failures) same))
-  by_look refused.NotMbox store' file' mid fault less is (other, same) = rw is (rw same other)
-  by_look refused.NoMemory store' file' mid fault less is denies = rw is tt
+  by_look refused.Missing _ _ _ _ _ is (none, same) = rw is (rw same none)
+  by_look refused.Refused _ _ _ _ less is same = rw is (omega (arith, less, ap (λ (s : Stored). s.failures) same))
+  by_look refused.NotMbox _ _ _ _ _ is (other, same) = rw is (rw same other)
+  by_look refused.NoMemory _ _ _ _ _ is _ = rw is tt
 
   by_store : (target : Target) (next : Task) (new : Scene) (cut : Cut) → NoLess target before.store old.store
       → NotStored target next old new cut
@@ -264,14 +264,14 @@ by_session join settings target now link before cut mid after notes (inr (inr de
 ]
 
 pub cuts_have_causes : TurnsJoin → CutsHaveCauses
-cuts_have_causes join settings target now link before report link' after done fault is =
+cuts_have_causes join settings target now link before report _ after done fault is =
     by_result done.result done.proceeds done.reports.outcome_is
   where
     by_result : (result : Result (Unit {0}) Cut)
         → Proceeds settings target now (at link []) before result done.mid after done.notes
         → report.outcome ≡ outcome_of result
         → CausesFault settings target now link before fault done.mid after
-    by_result (Ok ended) proceeds outcome = absurd (false≢true (sym (ap was_cut outcome) ∙ ap was_cut is))
+    by_result (Ok _) _ outcome = absurd (false≢true (cc))
     by_result (Err cut) proceeds outcome =
-        let same : cut.fault ≡ fault = sym (ap fault_in outcome) ∙ ap fault_in is in
-        rw same at (by_session join settings target now link before cut done.mid after done.notes proceeds)
+        let same : cut.fault ≡ fault = cc in
+        rw same at (by_session join _ _ _ _ _ _ _ _ _ proceeds)

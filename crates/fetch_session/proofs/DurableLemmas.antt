@@ -57,10 +57,10 @@ pub record Came (old new : Maildir) : Type 0 where
   pub at_most_one : length last ≤ 1
 
 came_none : (old new : Maildir) → new.files ≡ old.files → Came old new
-came_none old new same = record {
+came_none old _ same = record {
   came = [];
   last = [];
-  files = same ∙ sym (append-nil old.files);
+  files = cc (append-nil old.files);
   durable =
       tt;
   flushed = tt;
@@ -72,7 +72,7 @@ came_then a b c files came durable then = record {
   came = files ++ then.came;
   last = then.last;
   files = simp (then.files, came, append_assoc);
-  durable = all_append IsDurableFile files then.came durable then.durable;
+  durable = all_append _ _ _ durable then.durable;
   flushed = then.flushed;
   at_most_one = then.at_most_one;
 }
@@ -89,12 +89,12 @@ all_durable account (d ∷ dones) = all_append IsDurableFile (files_in account d
 
 refused_came : (old : Maildir) (front text : List ℕ) (rest : Rest) (fault : Fault) (new : Maildir)
     → RefusesText old front rest text fault new → Came old new
-refused_came old front text rest fault new (inl (is, none, same)) = came_none old new (ap (λ (m : Maildir). m.files) same)
-refused_came old front text rest fault new (inr (is, inl none)) = came_none old new (ap (λ (m : Maildir). m.files) none)
-refused_came old front text rest fault new (inr (is, inr (ended, (is_named, one)))) = record {
+refused_came old _ _ _ _ new (inl (_, _, same)) = came_none _ new (cc)
+refused_came old _ _ _ _ new (inr (_, inl none)) = came_none _ new (cc)
+refused_came _ front text _ _ _ (inr (_, inr (_, (is_named, one)))) = record {
   came = [];
   last = record (sized_file front text) { is_named = is_named } ∷ [];
-  files = ap (λ (m : Maildir). m.files) one;
+  files = cc one;
   durable = tt;
   flushed = (refl, tt);
   at_most_one = omega arith;
@@ -124,11 +124,11 @@ module _ (account : List ℕ) where
 -- a durable file is still there once others came
 still_has : (account uid : List ℕ) (old new : Maildir) (files : List File) → new.files ≡ old.files ++ files
     → HasDurable account old uid → HasDurable account new uid
-still_has account uid old new files came (f, there, named, durable) =
-    (f, rw came (Contains-append_left old.files files f there), named, durable)
+still_has _ _ old _ files came (f, there, named, durable) =
+    (f, rw came (Contains-append_left _ _ f there), named, durable)
 
 same_rows : OneRecord → (file : Stored) (a b : List Row) → KeepsRows file.content a → KeepsRows file.content b → a ≡ b
-same_rows one file a b (i, x) (j, y) = (one file.content a b i j x y).0
+same_rows one file a b (i, x) (j, y) = (one _ a b i j x y).0
 
 module _ (laws : DurableLaws) (account : List ℕ) (text : IsAccountText account) where
   -- the file of a text is under its id's name
@@ -149,10 +149,10 @@ module _ (laws : DurableLaws) (account : List ℕ) (text : IsAccountText account
         (0, omega arith, refl),
         rw
             (← (bytes_eq-Decides uid id).0 (and_parts (has_row rows id) (bytes_eq uid id) both).1)
-            (its_name uid _),
+            (its_name _ _),
         (refl, refl),
       ))
-      (or_cases _ _ (sym (laws.marks rows uid id) ∙ d))
+      (or_cases _ _ (cc (laws.marks rows uid id)))
 
   -- what these tasks marked
   marks_have : (dones : List Done) (rows : List Row) (id : List ℕ) → AllByRecursion IsAnswered dones
@@ -223,7 +223,7 @@ module _ (laws : DurableLaws) (account : List ℕ) (text : IsAccountText account
     Shown new id rows = is_delivered rows id ≡ true → (is_delivered was id ≡ true) ⊎ HasDurable account new id
 
     shown_same : (new : Maildir) (id : List ℕ) (rows : List Row) → KeepsRows before.file.content rows → Shown new id rows
-    shown_same new id rows keeps d = inl (rw (same_rows laws.one before.file rows was keeps stood) at d)
+    shown_same _ _ rows keeps d = inl (rw (same_rows laws.one before.file rows was keeps stood) at d)
 
     unready_shown : (items : List Item) (now : ℕ) (new : Maildir) (file' : Stored) → new.files ≡ before.maildir.files
         → IsMergedAtMost (AsFiles account) items now (in_maildir before.maildir) before.file (in_maildir new) file'
@@ -273,7 +273,7 @@ module _ (laws : DurableLaws) (account : List ℕ) (text : IsAccountText account
           (marks_have dones mid.rows id went.each (rw went.rows at d))
 
       keeps_mid : {later : Scene} (dones : List Done) → Went (AsFiles account) dones mid later → KeepsRows later.file.content later.rows
-      keeps_mid {later} dones went = (None, steady_keeps later.file.content (none_open later.rows) (went.saved c.prepared.saved))
+      keeps_mid {later} _ went = (None, steady_keeps _ _ (went.saved c.prepared.saved))
 
       carried_shown : (id : List ℕ) (rows : List Row) → KeepsRows new.file.content rows → Shown new.store.maildir id rows
       carried_shown = by r _ c.does
@@ -324,14 +324,14 @@ module _ (laws : DurableLaws) (account : List ℕ) (text : IsAccountText account
       → ((was : List Row) (stood : KeepsRows before.file.content was) (id : List ℕ) (rows : List Row)
       → KeepsRows after.file.content rows → Shown before was stood after.maildir id rows)
       → LeavesDurable account before after
-  made before after came shown = record {
+  made _ _ came shown = record {
     came = came.came;
     last = came.last;
     files = came.files;
     durable = came.durable;
     flushed = came.flushed;
     at_most_one = came.at_most_one;
-    shown = λ was rows id stood keeps d. shown was stood id rows keeps d;
+    shown = λ was rows id stood keeps d. shown _ stood id rows keeps d;
   }
 
   untouched : (before after : AccountFiles) → keeps_files after ≡ keeps_files before → LeavesDurable account before after
@@ -367,13 +367,13 @@ module _ (laws : DurableLaws) (account : List ℕ) (text : IsAccountText account
       (new : Place) (after : AccountFiles) (notes : Noted)
       → Proceeds settings (AsFiles account) now old (keeps_files before) r new (keeps_files after) notes
       → LeavesDurable account before after
-  proceeds_leaves settings now old before (Ok done) new after notes dealt =
-      carries_leaves settings dealt.items now dealt.mid before after [] (Ok done) new notes.lines notes.skipped dealt.carries
-  proceeds_leaves settings now old before (Err cut) new after notes (inl stopped) = untouched before after stopped.same
-  proceeds_leaves settings now old before (Err cut) new after notes (inr (inl wanting)) = untouched before after wanting.same
-  proceeds_leaves settings now old before (Err cut) new after notes (inr (inr dealt)) =
-      carries_leaves settings dealt.items now dealt.mid before after [] (Err cut) new notes.lines notes.skipped dealt.carries
+  proceeds_leaves settings now _ before (Ok done) new after notes dealt =
+      carries_leaves _ _ _ _ _ _ [] (Ok done) new notes.lines notes.skipped dealt.carries
+  proceeds_leaves _ _ _ before (Err _) _ after _ (inl stopped) = untouched before after stopped.same
+  proceeds_leaves _ _ _ before (Err _) _ after _ (inr (inl wanting)) = untouched before after wanting.same
+  proceeds_leaves settings now _ before (Err cut) new after notes (inr (inr dealt)) =
+      carries_leaves _ _ _ _ _ _ [] (Err cut) new notes.lines notes.skipped dealt.carries
 
 pub sessions_are_durable : DurableLaws → SessionsAreDurable
-sessions_are_durable laws settings account now link before report link' after text session =
-    proceeds_leaves laws account text settings now (at link []) before session.result session.mid after session.notes session.proceeds
+sessions_are_durable laws settings account now link before _ _ after text session =
+    proceeds_leaves laws _ text _ _ _ _ _ session.mid after session.notes session.proceeds

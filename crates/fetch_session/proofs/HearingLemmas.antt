@@ -5,11 +5,11 @@ use Rattle.fetch_session.specs.declared.message_preview.MessagePreview.{MessageP
 
 pub heard_as : {L : Type 0} (hears : L → List (List MessagePreview) → L → Type 0) (Is IsToo : List MessagePreview → Type 0)
     (a b : L) → ((plan : List MessagePreview) → Is plan → IsToo plan) → HearsOne hears Is a b → HearsOne hears IsToo a b
-heard_as hears Is IsToo a b so (inl none) = inl none
-heard_as hears Is IsToo a b so (inr (plan, is, told)) = inr (plan, so plan is, told)
+heard_as _ Is IsToo a b _ (inl none) = inl none
+heard_as _ Is IsToo a b so (inr (plan, is, told)) = inr (plan, so plan is, told)
 
 pub heard_then : {L : Type 0} (hears : L → List (List MessagePreview) → L → Type 0)
     → ((a b c : L) (ps qs : List (List MessagePreview)) → hears a ps b → hears b qs c → hears a (ps ++ qs) c)
     → (Is : List MessagePreview → Type 0) (a b c : L) → HearsOne hears Is a b → hears b [] c → HearsOne hears Is a c
-heard_then hears on Is a b c (inl none) rest = inl (on a b c [] [] none rest)
-heard_then hears on Is a b c (inr (plan, is, told)) rest = inr (plan, is, on a b c (plan ∷ []) [] told rest)
+heard_then _ on Is a b c (inl none) rest = inl (on a b c [] [] none rest)
+heard_then _ on Is a b c (inr (plan, is, told)) rest = inr (plan, is, on a b c (plan ∷ []) [] told rest)

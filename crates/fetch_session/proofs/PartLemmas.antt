@@ -38,7 +38,7 @@ use Rattle.fetch_session.specs.Report.{AddsLines}
 use Rattle.fetch_session.specs.Scene.{TakesTask, scene, Stops}
 use Rattle.fetch_session.specs.Store.{MayGain}
 use Rattle.fetch_session.specs.Tail.{tail}
-use Rattle.fetch_session.specs.Target.{Target, is_sound, kind_of, mbox_of, stores_of, target_of, Kind, Files, Entries, Stores, target}
+use Rattle.fetch_session.specs.Target.{Target, is_sound, kind_of, stores_of, target_of, Kind, Files, Entries, Stores, target}
 use Rattle.fetch_session.specs.Task.{Task, stores, ids_in, ids_ahead, turns_in, turns_ahead, AreFresh, fetching}
 use Rattle.fetch_session.specs.Task.{deleting, tasks_in, tasks_planned, says}
 use Rattle.fetch_session.proofs.ReadyLemmas.{fetched_all, OneMore, ahead, fresh_grows}
@@ -55,20 +55,20 @@ use Rattle.fetch_session.specs.Mbox.{IsToldOfMbox, LooksAgain}
 -- ---- parts
 
 on_both : {T E P Q R : Type 0} (result : Result T E) → (P → Q → R) → OnOk result P → OnOk result Q → OnOk result R
-on_both (Ok done) to p q = to p q
-on_both (Err fault) to p q = tt
+on_both (Ok _) to p q = to p q
+on_both (Err _) _ p q = tt
 
 on_under : {T E P : Type 0} (Q : Type 0) (result : Result T E) → (P → OnOk result Q) → OnOk result (P → Q)
-on_under Q (Ok done) to = to
-on_under Q (Err fault) to = tt
+on_under Q (Ok _) to = to
+on_under Q (Err _) _ = tt
 
 pub if_err : {T E : Type 0} {P : E → Type 0} (result : Result T E) → ((fault : E) → P fault) → IfErr result P
-if_err (Ok done) all = tt
+if_err (Ok _) _ = tt
 if_err (Err fault) all = all fault
 
 pub err_if : {T E : Type 0} (P : Type 0) (result : Result T E) → OnErr result P → IfErr result (λ fault. P)
-err_if P (Ok done) p = tt
-err_if P (Err fault) p = p
+err_if P (Ok _) p = tt
+err_if P (Err _) p = p
 
 -- a task was cut before its id was marked
 pub same_ledger : {F H Z : Type 0} {file : FileGhosts F} (uid : List ℕ) (ledger : Ledger F H Z) (cut : Cut)
@@ -101,19 +101,19 @@ marked_ledger {file = file} {uid} {old} {new} {rows} {intent} r law same lines s
 -- ---- bounds of tasks
 
 most_append : (xs ys : List Turn) → most_of (xs ++ ys) ≡ most_of xs + most_of ys
-most_append [] ys = omega arith
+most_append [] _ = omega arith
 most_append (x ∷ xs) ys = omega (arith, most_append xs ys)
 
 most_ahead : (xs ys : List Task) → most_of (turns_ahead (xs ++ ys)) ≡ most_of (turns_ahead xs) + most_of (turns_ahead ys)
-most_ahead xs ys = ap most_of (flat_map-append turns_in xs ys) ∙ most_append (turns_ahead xs) (turns_ahead ys)
+most_ahead xs ys = cc (flat_map-append turns_in xs ys, most_append (turns_ahead xs) (turns_ahead ys))
 
 most_step : (retrieve held delete : Bool) (number : ℕ) (uid : List ℕ) (size : ℕ)
     → let tasks = fetching retrieve held number uid size ++ deleting delete number
     in (most_of (turns_ahead tasks) ≤ step_limit) × (length tasks ≤ 2)
-most_step true true true number uid size = (omega arith, omega arith)
-most_step true true false number uid size = (omega arith, omega arith)
-most_step _ _ true number uid size = (omega arith, omega arith)
-most_step _ _ _ number uid size = (omega arith, omega arith)
+most_step true true true _ _ _ = (omega arith, omega arith)
+most_step true true false _ _ _ = (omega arith, omega arith)
+most_step _ _ true _ _ _ = (omega arith, omega arith)
+most_step _ _ _ _ _ _ = (omega arith, omega arith)
 
 -- the tasks of steps
 pub most_planned : (steps : List Step) (items : List Item) (held : List Bool)
@@ -132,10 +132,10 @@ pub planned_all : (P : List ℕ → Type 0) (steps : List Step) (items : List It
     → AllByRecursion (λ (item : Item). P item.uid) items
     → AllByRecursion P (ids_ahead (tasks_planned steps items held))
 planned_all P (s ∷ ss) (i ∷ is) (h ∷ hs) all =
-    rw (ahead s i h (tasks_planned ss is hs)) (all_append P (ids_ahead (fetching s.retrieve h s.number i.uid i.size))
-    (ids_ahead (tasks_planned ss is hs)) (fetched_all P s.retrieve h s.number i.uid i.size (λ _. all.0))
+    rw (ahead s i h (tasks_planned ss is hs)) (all_append P _
+    _ (fetched_all P _ h _ _ _ (λ _. all.0))
     (planned_all P ss is hs all.1))
-planned_all P _ _ _ all = tt
+planned_all P _ _ _ _ = tt
 
 -- ---- the first of these tasks
 
@@ -195,7 +195,7 @@ module _ {W : Type 0} {link : WireGhosts W} where
   -- with what is said after the fault
   pub link_with_tail : {limit : ℕ} {a b : Client W} {cut : Cut} → KeepsLink link (TookTillCut limit) a (Err cut) b
       → KeepsLink link (TookWithTail (limit + tail_limit)) a (Err cut) b
-  link_with_tail {limit} {a} {b} {cut} kept =
+  link_with_tail {limit} {cut} kept =
       record {
         same = kept.same;
         counted = kept.counted;
@@ -234,7 +234,7 @@ module _ {D F H Z : Type 0} {disk : DiskGhosts D} {file : FileGhosts F} where
       → KeepsStore disk file n b c → KeepsStore disk file limit a c
   store_on less first then = record {
     lines = (omega (arith, first.lines.0, then.lines.0, less), omega (arith, first.lines.1, then.lines.1));
-    kind = then.kind ∙ first.kind;
+    kind = cc;
     none_begun = λ d. ((first.none_begun (then.none_begun d).0).0, (then.none_begun d).1);
   }
 
@@ -418,16 +418,16 @@ module _ {D F H Z : Type 0} {disk : DiskGhosts D} {file : FileGhosts F} where
 
 pub look_told : (kind : Kind) (lines : List ReportLine) (old new : Stores) (told : Option Edges)
     → LooksAgain kind lines old (Ok told) new → IsToldOfMbox kind lines old told × (new ≡ old)
-look_told Files lines old new told is = (tt, is)
-look_told Entries lines old new told is = is
+look_told Files _ _ _ _ is = (tt, is)
+look_told Entries _ _ _ _ is = is
 
 pub look_maildir : (kind : Kind) (lines : List ReportLine) (old : Stores) (r : Result (Option Edges) Fault)
     (new : Stores) → LooksAgain kind lines old r new
     → new.maildir ≡ old.maildir
-look_maildir Files lines old (Ok told) new is = ap (λ (s : Stores). s.maildir) is
-look_maildir Files lines old (Err fault) new never = absurd never
-look_maildir Entries lines old (Ok told) new is = ap (λ (s : Stores). s.maildir) is.1
-look_maildir Entries lines old (Err fault) new is = is.2
+look_maildir Files _ _ (Ok _) _ is = cc
+look_maildir Files _ _ (Err _) _ never = absurd never
+look_maildir Entries _ _ (Ok _) _ is = cc
+look_maildir Entries _ _ (Err _) _ is = is.2
 
 -- the store refused, and QUIT wasn't said
 pub not_left : (kind : Kind) (account : List ℕ) {a : Place} {old new : Stores} {file : Stored} {rows : List Row}
@@ -472,8 +472,8 @@ module _ {D F H Z : Type 0} {disk : DiskGhosts D} {file : FileGhosts F} {work : 
       talk = talk;
       store = store_less (omega arith) quitting_store;
       lasts = λ d f. (f, λ sure. on_ok_weaker r (λ s. (sure.0, s)) (safe d sure.1));
-      idle = λ none. (refl, is.keeps);
-      next = on_any r (λ later before. record {
+      idle = λ _. (refl, is.keeps);
+      next = on_any r (λ _ before. record {
         digits = before.digits;
         room = omega (arith, before.room);
         ready = record { none_begun = λ d. (quitting_store.none_begun d).1; written = is.ready.written };
@@ -490,12 +490,12 @@ module _ {D F H Z : Type 0} {disk : DiskGhosts D} {file : FileGhosts F} {work : 
           (is.same d).0,
           f,
           all.1,
-          good_task disk (target_of work.store account) (says quit) _ _ work left r all.2
-              (no_more_keeps (mbox_of file work.store).content (is.keeps d), λ last. last)
+          good_task disk _ _ _ _ work left r all.2
+              (no_more_keeps _ (is.keeps d), λ last. last)
               steady (on_any r steady)
               (λ sure. on_ok_weaker r (λ s. (sure.0, s)) (safe d sure.1))
               (λ sure. same_left file work.ledger.file sure.0 steady)
-              (λ sure. if_err r (λ cut. nothing_cut disk file (target_of work.store account) (says quit) (place_of link c) _ _
-              cut _ work.store store work.ledger.file sure.1 (is.keeps d) sure.0 steady)),
+              (λ sure. if_err r (λ cut. nothing_cut disk file _ _ _ _ _
+              _ _ _ _ _ sure.1 (is.keeps d) sure.0 steady)),
         ),
   )

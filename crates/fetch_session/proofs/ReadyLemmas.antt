@@ -92,13 +92,13 @@ fresh_grows law account uid (x ∷ xs) a b text legal apart grows fresh = (
 )
 
 no_ids_deleting : (delete : Bool) (number : ℕ) → ids_ahead (deleting delete number) ≡ []
-no_ids_deleting true number = refl
-no_ids_deleting false number = refl
+no_ids_deleting true _ = refl
+no_ids_deleting false _ = refl
 
 pub ahead : (step : Step) (item : Item) (held : Bool) (later : List Task)
     → ids_ahead (tasks_in step item held ++ later)
     ≡ ids_ahead (fetching step.retrieve held step.number item.uid item.size) ++ ids_ahead later
-ahead step item held later = simp (flat_map-append, no_ids_deleting, append_assoc)
+ahead _ _ _ _ = simp (flat_map-append, no_ids_deleting, append_assoc)
 
 pub no_item : Item
 no_item = record { uid = []; size = 0 }
@@ -117,7 +117,7 @@ pub tasks_left : (steps : List Step) (items : List Item) (held : List Bool) (i :
     → fetching (step_at steps i).retrieve (get_or held i false) (step_at steps i).number uid size ≡ first ∷ []
     → tasks_planned (drop i steps) (drop i items) (drop i held)
     ≡ (first ∷ deleting (step_at steps i).delete (step_at steps i).number) ++ later_at steps items held i
-tasks_left steps items held i uid size first within all_steps all_flags u s is =
+tasks_left steps items held i uid size _ within all_steps all_flags u s is =
     let next : suc i ≡ i + 1 = omega arith in
     let of_steps = drop-cons steps i (record { number = 0; retrieve = false; delete = false }) (omega (arith, within, all_steps)) in
     let of_items = drop-cons items i no_item within in
@@ -139,8 +139,8 @@ has_item-last front item uid none =
 
 pub fetched_all : (P : List ℕ → Type 0) (retrieve held : Bool) (number : ℕ) (uid : List ℕ) (size : ℕ)
     → (retrieve ≡ true → P uid) → AllByRecursion P (ids_ahead (fetching retrieve held number uid size))
-fetched_all P true false number uid size p = (p refl, tt)
-fetched_all P _ _ number uid size p = tt
+fetched_all P true false _ _ _ p = (p refl, tt)
+fetched_all P _ _ _ _ _ p = tt
 
 not_in : (front : List Item) (steps : List Step) (items : List Item) (held : List Bool) → FetchesFirsts front steps items
     → AllByRecursion (λ (id : List ℕ). has_item front id ≡ false) (ids_ahead (tasks_planned steps items held))
@@ -157,8 +157,8 @@ fresh_head : (account : List ℕ) (maildir : Maildir) (retrieve held : Bool) (nu
     (ids : List (List ℕ)) → IsLegalId uid → held ≡ is_held account maildir uid
     → AllByRecursion (λ (other : List ℕ). other ≢ uid) ids → AreFresh account maildir ids
     → AreFresh account maildir (ids_ahead (fetching retrieve held number uid size) ++ ids)
-fresh_head account maildir true false number size uid ids legal is apart fresh = (legal, sym is, apart, fresh)
-fresh_head account maildir _ _ number size uid ids legal is apart fresh = fresh
+fresh_head _ _ true false _ _ _ _ legal is apart fresh = (legal, sym is, apart, fresh)
+fresh_head _ _ _ _ _ _ _ _ _ is _ fresh = fresh
 
 pub fresh_firsts : (account : List ℕ) (maildir : Maildir) (front : List Item) (steps : List Step) (items : List Item)
     → FetchesFirsts front steps items
@@ -177,18 +177,18 @@ fresh_firsts account maildir front _ _ firsts legal = tt
 -- the flags are those of the Maildir, if there is one: none is held in an mboxrd file
 pub flags_same : {D F : Type 0} (disk : DiskGhosts D) (file : FileGhosts F) (store : Store D F) (account : List ℕ) (items : List Item)
     → held_flags (target_of store account) (stores_of disk file store) items ≡ flags_of account (stores_of disk file store).maildir items
-flags_same disk file (InMaildir device) account items = refl
-flags_same disk file (InMbox device) account items = refl
+flags_same _ _ (InMaildir _) _ _ = refl
+flags_same _ _ (InMbox _) _ _ = refl
 
 -- the flag of one item more
 pub flags_more : (f : List ℕ → Bool) (items : List Item) (i : ℕ) (flags new : List Bool) (uid : List ℕ) (flag : Bool)
     → flags ≡ map (λ (item : Item). f item.uid) (take i items) → i < length items → HoldsAt (λ (item : Item). uid ≡ item.uid) items i
     → flag ≡ f uid → new ≡ flags ++ flag ∷ [] → new ≡ map (λ (item : Item). f item.uid) (take (i + 1) items)
-flags_more f items i flags new uid flag before inside at is pushed =
+flags_more f items i _ _ _ flag before inside at is pushed =
     let test : Item → Bool = λ item. f item.uid in
     let item = get_or items i no_item in
     pushed ∙ ap (λ xs. xs ++ flag ∷ []) before ∙ ap (λ b. map test (take i items) ++ b ∷ []) (is ∙ ap f (at no_item))
-    ∙ sym (map-append test (take i items) (item ∷ [])) ∙ ap (map test) (sym (take_more items i no_item inside))
+    ∙ sym (map-append test (take i items) (item ∷ [])) ∙ ap (map test) (sym (take_more _ i _ inside))
 
 -- ---- what outlives a loss of power once a record was made ready, or wasn't
 
@@ -197,8 +197,8 @@ untaken maildir is = (maildir, none_taken maildir, is)
 
 -- a record's file that couldn't be read or flushed has the same bytes
 pub unsecured_same : (old new : Stored) (fault : Fault) → IsSecured old (Err fault) new → new.content ≡ old.content
-unsecured_same old new SeenRefused is = ap (λ (s : Stored). s.content) is
-unsecured_same old new _ never = absurd never
+unsecured_same _ _ SeenRefused is = cc is
+unsecured_same _ _ _ never = absurd never
 
 module _ {D F : Type 0} (disk : DiskGhosts D) (files : FileGhosts F) where
   -- the store wasn't asked, and the record's file has the same bytes
@@ -209,10 +209,10 @@ module _ {D F : Type 0} (disk : DiskGhosts D) (files : FileGhosts F) where
       → LeavesNoMore (MayLeave (files.disk from)) (MayLeave (files.disk f))
       → A × B × AfterTakingIn (stores_of disk files was)
       (λ left. ReadiesAndLasts disk files safe was from settings target items now left (Err fault) after was f)
-  unasked was from f target a b why same no_more = (
+  unasked _ _ f _ a b why same no_more = (
     a,
     b,
-    untaken _ (record { readies = record { cause = why; content = inl same }; lasts = λ sure. (no_more, inl (λ left may. may)) }),
+    untaken _ (record { readies = record { cause = why; content = inl same }; lasts = λ _. (no_more, inl (λ _ may. may)) }),
   )
 
   -- the same if the record's file was read and flushed before
@@ -246,15 +246,15 @@ module _ {D F : Type 0} (disk : DiskGhosts D) (files : FileGhosts F) where
         {after : List Row} → (sure → safe)
         → ReadiesAndLasts disk files safe was mid settings target items now old r after store f
         → ReadiesAndLasts disk files sure was from settings target items now old r after store f
-    readies_from {safe} {sure} {store} {settings} {target} {items} {now} {old} {r} {after} firm is =
+    readies_from {sure} {store} {settings} {target} {items} {now} {old} {r} {after} firm is =
         let both = subst (λ (file : Stored). (readies : Readies settings target items now old file r after
         (stores_of disk files store) (files.stored f))
         × (sure → ReadyLasts files was from settings target items now old file r after (stores_of disk files store)
         (files.stored f) readies store f))
         same (
           is.readies,
-          λ s. ready_from settings target items now old (stores_of disk files store) (files.stored mid)
-              (files.stored f) after store r is.readies (is.lasts (firm s)),
+          λ s. ready_from _ _ _ _ _ _ _
+              _ _ _ r _ (is.lasts (firm s)),
         ) in
         record { readies = both.0; lasts = both.1 }
 
@@ -368,50 +368,50 @@ found_is read_all AsEntries store store' items now was found law is_record (byte
 pub unread : (target : Target) (items : List Item) (store : Stores) (file new : Stored) (loaded : Loaded)
     (fault : Fault) → ReadsRecord file loaded (Err fault) new
     → CausesUnready target items fault store file store new × (new.content ≡ file.content)
-unread (AsFiles account) items store file new loaded SeenRefused is = ((omega (arith, ap (λ (s : Stored). s.failures) is), refl), rw is)
-unread AsEntries items store file new loaded SeenRefused is = ((omega (arith, ap (λ (s : Stored). s.failures) is), inl refl), rw is)
-unread (AsFiles account) items store file new loaded NoMemory is = (refl, rw is)
-unread AsEntries items store file new loaded NoMemory is = (inl refl, rw is)
-unread (AsFiles account) items store file new loaded (BadSeen line) is = ((is, refl), rw is.3)
-unread AsEntries items store file new loaded (BadSeen line) is = ((is, refl), rw is.3)
-unread _ items store file new loaded _ never = absurd never
+unread (AsFiles _) _ store _ _ _ SeenRefused is = ((omega (arith, ap (λ (s : Stored). s.failures) is), refl), rw is)
+unread AsEntries _ store _ _ _ SeenRefused is = ((omega (arith, ap (λ (s : Stored). s.failures) is), inl refl), rw is)
+unread (AsFiles _) _ store _ _ _ NoMemory is = (refl, rw is)
+unread AsEntries _ store _ _ _ NoMemory is = (inl refl, rw is)
+unread (AsFiles _) _ store _ _ _ (BadSeen _) is = ((is, refl), rw is.3)
+unread AsEntries _ store _ _ _ (BadSeen _) is = ((is, refl), rw is.3)
+unread _ _ store _ _ _ _ never = absurd never
 
 files_refused : (fault : Fault) (maildir : Maildir) (file : Stored) (maildir' : Maildir) (file' : Stored)
     → FindsRefused maildir fault maildir' → UnreadyCause fault maildir file maildir' file'
-files_refused (StoreRefused why.Missing) maildir file maildir' file' is = is
-files_refused (StoreRefused why.Refused) maildir file maildir' file' is = is
-files_refused NoMemory maildir file maildir' file' is = is
-files_refused _ maildir file maildir' file' never = absurd never
+files_refused (StoreRefused why.Missing) _ _ _ _ is = is
+files_refused (StoreRefused why.Refused) _ _ _ _ is = is
+files_refused NoMemory _ _ _ _ is = is
+files_refused _ _ _ _ _ never = absurd never
 
 mbox_refused : (fault : Fault) (items : List Item) (was : RecordState) (mbox file mbox' file' : Stored)
     → Keeps file.content was → AsksMbox was.intent mbox items (Err fault) mbox'
     → MboxUnready items fault mbox file mbox' file'
-mbox_refused (StoreRefused why.Missing) items was mbox file mbox' file' kept is = is
-mbox_refused (StoreRefused why.Refused) items was mbox file mbox' file' kept (up, most) =
+mbox_refused (StoreRefused why.Missing) _ _ _ _ _ _ kept is = is
+mbox_refused (StoreRefused why.Refused) _ was _ _ _ _ kept (up, most) =
     (omega (arith, up), inr (was, kept, most))
-mbox_refused (StoreRefused why.NotMbox) items was mbox file mbox' file' kept (bytes, is, other, now) = (
-  (closed_file was.intent items bytes, ap (λ (s : Stored). s.content) now, other),
+mbox_refused (StoreRefused why.NotMbox) items was _ _ _ _ kept (bytes, is, other, now) = (
+  (closed_file was.intent items bytes, cc, other),
   inr
-      (was, kept, inr (bytes, is, ap (λ (s : Stored). s.content) now)),
+      (was, kept, inr (bytes, is, cc)),
 )
-mbox_refused NoMemory items was mbox file mbox' file' kept (same, most) = inr (was, kept, most)
-mbox_refused _ items was mbox file mbox' file' kept never = absurd never
+mbox_refused NoMemory _ was _ _ _ _ kept (_, most) = inr (was, kept, most)
+mbox_refused _ _ _ _ _ _ _ kept never = absurd never
 
 -- the store refused
 pub not_found : (read_all : Bool) (target : Target) (items : List Item) (store store' : Stores) (file new : Stored)
     (loaded : Loaded) (fault : Fault) → FileReadAs file.content loaded
     → FindsIn read_all target (record_state_in loaded) store items (Err fault) store'
     → CausesUnready target items fault store file store' new
-not_found read_all (AsFiles account) items store store' file new loaded fault stood finds =
-    files_refused fault store.maildir file store'.maildir new finds
-not_found read_all AsEntries items store store' file new loaded fault stood finds =
-    mbox_refused fault items (record_state_in loaded) store.mbox file store'.mbox new (read_keeps file.content loaded stood) finds
+not_found _ (AsFiles _) _ store store' file new _ fault _ finds =
+    files_refused _ _ _ _ _ finds
+not_found _ AsEntries items store store' file new loaded fault stood finds =
+    mbox_refused _ _ _ _ _ _ _ (read_keeps _ _ stood) finds
 
 -- ---- the listing was merged
 
 -- what a merge that wasn't followed by a plan is told as
 abbrev pub stop_of : Result (Unit {0}) Fault → Fault
-stop_of (Ok done) = NoMemory
+stop_of (Ok _) = NoMemory
 stop_of (Err fault) = fault
 
 module _ {D F : Type 0} (disk : DiskGhosts D) (files : FileGhosts F) (was place : Store D F) (from f : F) (account : List ℕ)
@@ -428,7 +428,7 @@ module _ {D F : Type 0} (disk : DiskGhosts D) (files : FileGhosts F) (was place 
   state = record_state_in loaded
 
   kept : Keeps (files.stored from).content state
-  kept = read_keeps (files.stored from).content loaded stood
+  kept = read_keeps _ _ stood
 
   abbrev here : List Row
   here = merged (closed_rows found.stored loaded.rows loaded.intent) items found.held.items now
@@ -447,15 +447,15 @@ module _ {D F : Type 0} (disk : DiskGhosts D) (files : FileGhosts F) (was place 
       → CausesUnready t items NoMemory store (files.stored from) (stores_of disk files place) (files.stored f)
       × ((files.stored from).failures < (files.stored f).failures
       → CausesUnready t items SeenRefused store (files.stored from) (stores_of disk files place) (files.stored f))
-  cause (AsFiles account) same = let is = ap (λ (s : Stores). s.maildir) same in (is, λ risen. (risen, is))
-  cause AsEntries (bytes, is, now, goes_on) = let settled =
-      inr (state, kept, inr (bytes, is, ap (λ (s : Stored). s.content) now)) in (settled, λ risen. (risen, settled))
+  cause (AsFiles _) same = let is = ap (λ (s : Stores). s.maildir) same in (is, λ risen. (risen, is))
+  cause AsEntries (bytes, is, now, _) = let settled =
+      inr (state, kept, inr (bytes, is, cc)) in (settled, λ risen. (risen, settled))
 
   reason : (r : Result (Unit {0}) Fault) → Merges (files.stored from) state (none_open here) r (files.stored f)
       → CausesUnready (target_of was account) items (stop_of r) store (files.stored from) (stores_of disk files place) (files.stored f)
-  reason (Ok done) merges = (cause (target_of was account) is.2).0
-  reason (Err SeenRefused) merges = (cause (target_of was account) is.2).1 (omega (arith, merges.0))
-  reason (Err NoMemory) merges = (cause (target_of was account) is.2).0
+  reason (Ok _) _ = (cause _ is.2).0
+  reason (Err SeenRefused) merges = (cause _ is.2).1 (omega (arith, merges.0))
+  reason (Err NoMemory) _ = (cause _ is.2).0
   reason (Err _) never = absurd never
 
   -- what the record's file stands for
@@ -473,12 +473,12 @@ module _ {D F : Type 0} (disk : DiskGhosts D) (files : FileGhosts F) (was place 
   -- a durable record with an open intent is what was read
   read_left : {intent : Intent} → loaded.intent ≡ Some intent → IsSafeFile files from → (left : Option (List ℕ))
       → MayLeave (files.disk from) left → left ≡ (files.stored from).content
-  read_left {intent} opened firm left may = by (files.stored from).content refl kept
+  read_left opened firm left may = by _ refl kept
     where
       by : (content : Option (List ℕ)) → (files.stored from).content ≡ content → Keeps content state
           → left ≡ (files.stored from).content
       by None is keeps = absurd (let never = sym keeps.1 ∙ opened in cc)
-      by (Some bytes) is keeps = (firm.1 bytes is).1 left may ∙ sym is
+      by (Some bytes) is _ = (firm.1 bytes is).1 left may ∙ sym is
 
   -- no intent was open, or the record and the mboxrd file are durable
   merging : (intent : Option Intent) → loaded.intent ≡ intent → IsSafeFile files from
@@ -510,7 +510,7 @@ module _ {D F : Type 0} (disk : DiskGhosts D) (files : FileGhosts F) (was place 
       content = inr (record { was = state; stood = kept; settles = is.2; durable = inr is.3; stands = stands r merges });
     };
     lasts = λ sure. let (firm, left, whole, settled) = leaves sure in
-        merging loaded.intent refl firm (rw as_now at left) whole settled;
+        merging _ refl firm (rw as_now at left) whole settled;
   }
 
   pub ready : {safe : Type 0} (plan : Ready) {after : List Row} → HeldIsDelivered → MarkedIsDelivered
@@ -552,24 +552,24 @@ all_have_rows law rows items held now after is = recursion_from_All (λ (item : 
 
 pub planned_length : (settings : Settings) (rows : List Row) (items : List Item) (now : ℕ)
     → length (planned settings rows items now) ≡ length items
-planned_length settings rows items now = length-map (numbered items) (step_of settings rows items now) ∙ length-enumerate_from 1 items
+planned_length settings rows items now = length-map (numbered _) (step_of settings rows items now) ∙ length-enumerate_from 1 _
 
 -- steps that fetch nothing ask for the same, whatever is held
 pub quiet_same : (steps : List Step) (items : List Item) (xs ys : List Bool) → All IsQuiet steps
     → length xs ≡ length items → length ys ≡ length items → AreAsHeld steps items xs ys
-quiet_same (s ∷ ss) (i ∷ is) [] ys quiet ones others = absurd (omega (arith, ones))
-quiet_same (s ∷ ss) (i ∷ is) (x ∷ xs) [] quiet ones others = absurd (omega (arith, others))
+quiet_same (s ∷ _) (i ∷ is) [] _ _ ones _ = absurd (omega (arith, ones))
+quiet_same (s ∷ _) (i ∷ is) (x ∷ _) [] _ _ others = absurd (omega (arith, others))
 quiet_same (s ∷ ss) (i ∷ is) (x ∷ xs) (y ∷ ys) quiet ones others =
     rw (
       (quiet 0 s (omega arith)).0,
       quiet_same ss is xs ys (λ k d inside. quiet (suc k) d (omega (arith, inside)))
           (omega (arith, ones)) (omega (arith, others)),
     )
-quiet_same _ _ xs ys quiet ones others = refl
+quiet_same _ _ _ _ _ _ _ = refl
 
 flags_length : (target : Target) (store : Stores) (items : List Item) → length (held_flags target store items) ≡ length items
-flags_length (AsFiles account) store items = length-map items (λ (item : Item). is_held account store.maildir item.uid)
-flags_length AsEntries _ items = length-map items (λ (item : Item). false)
+flags_length (AsFiles account) store items = length-map items (λ item. is_held account store.maildir item.uid)
+flags_length AsEntries _ items = length-map items (λ _. false)
 
 -- ---- what was looked at
 
@@ -594,14 +594,14 @@ module _ {D F : Type 0} (disk : DiskGhosts D) (files : FileGhosts F) (account : 
   settles_same : (store : Store D F) (was : RecordState) (items : List Item) (new : Stores) → was.intent ≡ None
       → ChecksStore {T = Unit {0}} (kind_of store) (stores_of disk files store) (Ok tt) new
       → SettlesStore (target_of store account) was items (stores_of disk files store) new
-  settles_same (InMaildir device) was items new closed ((news, curs, same), others) = λ i. record { maildir = same i; mbox = others i }
-  settles_same (InMbox device) was items new closed (((bytes, goes_on), same), others) =
-      rw closed (bytes, goes_on.0, same ∙ held_same (files.stored device) bytes goes_on.0, goes_on.1)
+  settles_same (InMaildir _) _ _ _ closed ((_, _, same), others) = λ i. record { maildir = same i; mbox = others i }
+  settles_same (InMbox device) _ _ _ closed (((bytes, goes_on), same), _) =
+      rw closed (bytes, goes_on.0, same ∙ held_same _ _ goes_on.0, goes_on.1)
 
   rows_same : (store : Store D F) (was : RecordState) (items : List Item) → was.intent ≡ None
       → closed_rows_in (target_of store account) (stores_of disk files store) was items ≡ was.rows
-  rows_same (InMaildir device) was items closed = refl
-  rows_same (InMbox device) was items closed = rw closed refl
+  rows_same (InMaildir _) _ _ closed = refl
+  rows_same (InMbox _) _ _ closed = rw closed refl
 
   module _ {settings : Settings} {items : List Item} {now : ℕ} (store store' : Store D F) (from f : F) (loaded : Loaded) (steps : List Step)
       (law : (rows : List Row) (listing : List Item) (held : List Bool) (now : ℕ) → IsRecord rows
@@ -617,8 +617,7 @@ module _ {D F : Type 0} (disk : DiskGhosts D) (files : FileGhosts F) (account : 
     merged_same : merged_in (target_of store account) looked_at was_read items now ≡ loaded.rows
     merged_same =
         let flags = held_flags (target_of store account) looked_at items in
-        ap (λ (rows : List Row). merged rows items flags now) (rows_same store was_read items idle.closed)
-        ∙ law loaded.rows items flags now idle.is_record idle.known
+        cc (rows_same store was_read items idle.closed, law loaded.rows items flags now idle.is_record idle.known)
 
     pub rested : {safe : Type 0} (ready : Ready)
         → Rests (kind_of store) looked_at items (Ok ready) (stores_of disk files store')
@@ -632,17 +631,17 @@ module _ {D F : Type 0} (disk : DiskGhosts D) (files : FileGhosts F) (account : 
     rested ready rests kept saved count lasting still are counted = record {
       readies = record {
         was = was_read;
-        stood = read_keeps (files.stored from).content loaded stood;
-        held = quiet_same ready.steps.items items ready.held.items _ (rw are idle.quiet) counted
-            (flags_length (target_of store account) looked_at items);
+        stood = read_keeps _ _ stood;
+        held = quiet_same _ _ _ _ (rw are idle.quiet) counted
+            (flags_length _ _ _);
         rows = sym merged_same;
-        steps = are ∙ idle.planned;
+        steps = cc;
         durable = inl (rw are idle.quiet, kept);
         saved = saved;
         file_count = count;
-        settles = settles_same store was_read items (stores_of disk files store') idle.closed rests;
+        settles = settles_same _ _ _ _ idle.closed rests;
       };
-      lasts = λ sure. (lasting, still);
+      lasts = λ _. (lasting, still);
     }
 
     -- the store refused to be looked at
@@ -685,17 +684,17 @@ module _ {D F : Type 0} (disk : DiskGhosts D) (files : FileGhosts F) (account : 
           was = was_read;
           stood = kept;
           settles =
-              settles_same store was_read items (stores_of disk files store') idle.closed rests;
+              settles_same _ _ _ _ idle.closed rests;
           durable =
               inl merged_same;
           stands = inl (stands fault merges);
         });
       };
-      lasts = λ sure. inl (idle.closed, rw merged_same leaves, still);
+      lasts = λ _. inl (idle.closed, rw merged_same leaves, still);
     }
       where
         kept : Keeps (files.stored from).content was_read
-        kept = read_keeps (files.stored from).content loaded stood
+        kept = read_keeps _ _ stood
 
         stands : (fault : Fault) → Merges (files.stored from) was_read was_read (Err fault) (files.stored f)
             → Keeps (files.stored f).content was_read
@@ -707,12 +706,12 @@ module _ {D F : Type 0} (disk : DiskGhosts D) (files : FileGhosts F) (account : 
             → Rests (kind_of store) (stores_of disk files store) items (Ok ready) (stores_of disk files store')
             → CausesUnready (target_of store account) items fault (stores_of disk files store) (files.stored from)
             (stores_of disk files store') (files.stored f)
-        why SeenRefused merges (InMaildir device) ((news, curs, same), others) = (omega (arith, merges.0), same)
-        why SeenRefused merges (InMbox device) ((goes_on, same), others) =
-            (omega (arith, merges.0), inl (ap (λ (s : Stored). s.content) same))
-        why NoMemory merges (InMaildir device) ((news, curs, same), others) = same
-        why NoMemory merges (InMbox device) ((goes_on, same), others) = inl (ap (λ (s : Stored). s.content) same)
-        why _ never store rests = absurd never
+        why SeenRefused merges (InMaildir _) ((_, _, same), _) = (omega (arith, merges.0), same)
+        why SeenRefused merges (InMbox _) ((_, same), _) =
+            (omega (arith, merges.0), inl (cc))
+        why NoMemory _ (InMaildir _) ((_, _, same), _) = same
+        why NoMemory _ (InMbox _) ((_, same), _) = inl (cc)
+        why _ never store _ = absurd never
 
 -- ---- whatever came of it
 
@@ -721,22 +720,22 @@ pub rest_has_plan : (settings : Settings) (items : List Item) (now : ℕ) (seen 
     → IfOk r (λ ready. ready.steps.items ≡ steps) → IfOk r (λ ready. length ready.held.items ≡ length items)
     → IfOk r (λ ready. HasPlan settings items now ready seen)
 rest_has_plan settings items now seen (Ok ready) steps law idle same held = record {
-  steps = same ∙ idle.planned;
-  lengths = (ap length (same ∙ idle.planned) ∙ planned_length settings seen.rows items now, held);
-  rows = recursion_from_All (λ (item : Item). has_row seen.rows item.uid ≡ true) items
+  steps = cc;
+  lengths = (cc (planned_length settings seen.rows items now), held);
+  rows = recursion_from_All _ items
       (λ k d inside. law seen.rows _ (idle.known k d inside));
   closed = idle.closed;
 }
-rest_has_plan settings items now seen (Err fault) steps law idle same held = tt
+rest_has_plan _ _ _ _ (Err _) _ _ _ _ _ = tt
 
 pub rest_held : (r : Result Ready Fault) (target : Target) (steps : List Step) (items : List Item) (new : Stores) → All IsQuiet steps
     → IfOk r (λ ready. ready.steps.items ≡ steps) → IfOk r (λ ready. length ready.held.items ≡ length items)
     → IfOk r (λ ready. AreAsHeld ready.steps.items items ready.held.items (held_flags target new items))
-rest_held (Ok ready) target steps items new quiet same held =
-    quiet_same ready.steps.items items ready.held.items (held_flags target new items) (rw same quiet) held (flags_length target new items)
-rest_held (Err fault) target steps items new quiet same held = tt
+rest_held (Ok ready) target _ items new quiet same held =
+    quiet_same _ _ _ _ (rw same quiet) held (flags_length _ _ _)
+rest_held (Err _) _ _ _ _ _ _ _ = tt
 
 pub rest_named : (P : Type 0) (r : Result Ready Fault) (steps : List Step) → All IsQuiet steps → IfOk r (λ ready. ready.steps.items ≡ steps)
     → IfOk r (λ ready. All IsQuiet ready.steps.items ⊎ P)
-rest_named P (Ok ready) steps quiet same = inl (rw same quiet)
-rest_named P (Err fault) steps quiet same = tt
+rest_named P (Ok ready) _ quiet same = inl (rw same quiet)
+rest_named P (Err _) _ _ _ = tt

@@ -30,7 +30,7 @@ use Rattle.mail_store.specs.Mboxrd.{entry_of}
 use Rattle.mail_store.specs.Maildir.{Maildir, File}
 use Rattle.pop3_client.specs.Conversation.{TurnsJoin, Talked, ConversationsArePaced}
 use Rattle.fetch_session.specs.declared.fault.Cut.{Cut}
-use Rattle.fetch_session.specs.Task.{Task, Done, IsAnswered, files_in, texts_in, tasks_of, turns_of, replies_of}
+use Rattle.fetch_session.specs.Task.{Task, Done, files_in, texts_in, tasks_of, turns_of, replies_of}
 use Rattle.fetch_session.specs.Task.{done_texts, stores, ids_in, marked_ids}
 use Rattle.fetch_session.specs.Store.{Gained, Appended, Brings}
 use Rattle.fetch_session.specs.Target.{Target, AsFiles, AsEntries, Stores}
@@ -44,35 +44,35 @@ use Rattle.fetch_session.specs.Laws.{CameWhole, ExtraIs, MarksAre, CutShort, Sto
 -- ---- what saving the record leaves
 
 bytes_begin : (version : Version) (rest : List ℕ) → [] ≢ header version ++ rest
-bytes_begin One rest is = true≢false (sym (ap has_bytes is))
-bytes_begin Two rest is = true≢false (sym (ap has_bytes is))
+bytes_begin One _ is = true≢false (cc)
+bytes_begin Two _ is = true≢false (cc)
 
 -- an empty file stands for no row and no intent
 empty_means : (version : Version) (rows : List Row) (intent : Option Intent) (torn : Bool)
     → Means [] (Rows version rows intent torn) → (rows ≡ []) × (intent ≡ None)
-empty_means version rows intent torn (inl is) = (cc is.1, cc is.1)
-empty_means version rows intent torn (inr (inl other)) = absurd (other.0 refl)
-empty_means version rows intent torn (inr (inr lines)) = absurd (bytes_begin lines.version _ lines.cut.whole)
+empty_means _ _ _ _ (inl is) = (cc is.1, cc is.1)
+empty_means _ _ _ _ (inr (inl other)) = absurd (other.0 refl)
+empty_means _ _ _ _ (inr (inr lines)) = absurd (bytes_begin _ _ lines.cut.whole)
 
 means_keeps : (content : Option (List ℕ)) (version : Version) (state : RecordState) (torn : Bool)
     → Means (bytes_in content) (Rows version state.rows state.intent torn) → Keeps content state
-means_keeps None version state torn means = empty_means version state.rows state.intent torn means
-means_keeps (Some bytes) version state torn means = (version, torn, means)
+means_keeps None version state torn means = empty_means _ _ _ _ means
+means_keeps (Some _) version _ torn means = (version, torn, means)
 
 pub read_keeps : (content : Option (List ℕ)) (loaded : Loaded) → FileReadAs content loaded → Keeps content (record_state_in loaded)
-read_keeps content loaded is = means_keeps content is.version (record_state_in loaded) is.torn is.means
+read_keeps content loaded is = means_keeps _ _ _ _ is.means
 
 pub steady_keeps : (content : Option (List ℕ)) (state : RecordState) → Steady content state → Keeps content state
-steady_keeps content state steady = means_keeps content Two state false steady
+steady_keeps content state steady = means_keeps _ _ _ _ steady
 
 -- a record that isn't stale is of version 2, isn't torn, and has no open intent
 not_older : (version : Version) → is_older version ≡ false → version ≡ Two
 not_older One is = absurd (true≢false is)
-not_older Two is = refl
+not_older Two _ = refl
 
 no_intent : (intent : Option Intent) → has_intent intent ≡ false → intent ≡ None
-no_intent None is = refl
-no_intent (Some intent) is = absurd (true≢false is)
+no_intent None _ = refl
+no_intent (Some _) is = absurd (true≢false is)
 
 pub read_steady : (content : Option (List ℕ)) (loaded : Loaded) → FileReadAs content loaded → loaded.stale ≡ false
     → Steady content (none_open loaded.rows) × (loaded.intent ≡ None)
@@ -83,12 +83,12 @@ read_steady content loaded is fresh =
     (rw (not_older is.version old.0, closed, torn.0) at is.means, closed)
 
 pub held_is : (loaded : Loaded) → loaded.intent ≡ None → none_open loaded.rows ≡ record_state_in loaded
-held_is loaded closed = ap (record_state loaded.rows) (sym closed)
+held_is loaded closed = cc
 
 -- an intent that is ended with no entry leaves the rows
 pub not_whole : (rows : List Row) (intent : Option Intent) → closed_rows false rows intent ≡ rows
-not_whole rows None = refl
-not_whole rows (Some intent) = refl
+not_whole _ None = refl
+not_whole _ (Some _) = refl
 
 pub is_there : (content : Option (List ℕ)) → bytes_in content ≢ [] → content ≡ Some (bytes_in content)
 is_there None some = absurd (some refl)
@@ -99,17 +99,17 @@ is_there (Some bytes) some = refl
 pub writes_merges : (old new : Stored) (was now : RecordState) (r : Result (Unit {0}) Fault) → Keeps old.content was
     → Means (file_of now.rows now.intent) (Rows Two now.rows now.intent false) → WritesRecord old now r new
     → Merges old was now r new
-writes_merges old new was now (Ok done) kept stands is = rw is (refl, stands)
-writes_merges old new was now (Err SeenRefused) kept stands (inl is) = rw is (refl, inl kept)
-writes_merges old new was now (Err SeenRefused) kept stands (inr is) = rw is (refl, inr (Two, false, stands))
-writes_merges old new was now (Err NoMemory) kept stands is = is
-writes_merges old new was now (Err _) kept stands never = absurd never
+writes_merges _ _ _ _ (Ok _) _ stands is = rw is (refl, stands)
+writes_merges _ _ _ _ (Err SeenRefused) kept _ (inl is) = rw is (refl, inl kept)
+writes_merges _ _ _ _ (Err SeenRefused) _ stands (inr is) = rw is (refl, inr (Two, false, stands))
+writes_merges _ _ _ _ (Err NoMemory) _ _ is = is
+writes_merges _ _ _ _ (Err _) _ _ never = absurd never
 
 -- what stands for the rows at the front of a file is cut off from the rest
 pub till_front : (stored : Stored) (size : ℕ) (rows : List Row) (bytes : List ℕ) → StandsTill stored size rows
     → stored.content ≡ Some bytes → Steady (Some (take size bytes)) (none_open rows)
-till_front stored size rows bytes till is =
-    subst (λ (o : Option (List ℕ)). Steady (Some (take size (bytes_in o))) (none_open rows)) is till.1
+till_front _ size rows _ till is =
+    rw is at till.1
 
 -- an open intent was closed in this way
 pub taken_back : (old new : Stored) (size : ℕ) (was : RecordState) (r : Result (Unit {0}) StoreFault) → StandsTill old size was.rows
@@ -131,14 +131,14 @@ not_there old new Refused some is = is
 not_there old new _ some never = absurd never
 
 pub same_bytes : (old new : Stored) (r : Result ℕ Fault) → TellsSize old r new → new.content ≡ old.content
-same_bytes old new (Ok size) is = ap (λ (s : Stored). s.content) is.1
-same_bytes old new (Err SeenRefused) is = ap (λ (s : Stored). s.content) is
-same_bytes old new (Err _) never = absurd never
+same_bytes _ _ (Ok _) is = cc
+same_bytes _ _ (Err SeenRefused) is = cc
+same_bytes _ _ (Err _) never = absurd never
 
 pub size_untold : (old new : Stored) (was now : RecordState) (fault : Fault) → TellsSize old (Err fault) new
     → Saves old was now (Err fault) new
-size_untold old new was now SeenRefused is = rw is (refl, λ stood. inl (steady_keeps old.content was stood))
-size_untold old new was now _ never = absurd never
+size_untold old _ was _ SeenRefused is = rw is (refl, λ stood. inl (steady_keeps _ _ stood))
+size_untold _ _ _ _ _ never = absurd never
 
 pub stands_till : (old new : Stored) (size : ℕ) (line : List ℕ) (rows : List Row) → bytes_in new.content ≢ []
     → size ≡ length (bytes_in old.content)
@@ -153,19 +153,19 @@ stands_till old new size line rows some long is stood =
 
 pub saves_merges : (old new : Stored) (was now : RecordState) (r : Result (Unit {0}) Fault) → Steady old.content was
     → Saves old was now r new → Merges old was now r new
-saves_merges old new was now (Ok done) stood is = (is.0, is.1 stood)
-saves_merges old new was now (Err SeenRefused) stood is = (is.0, is.1 stood)
-saves_merges old new was now (Err NoMemory) stood is = is
-saves_merges old new was now (Err _) stood never = absurd never
+saves_merges _ _ _ _ (Ok _) stood is = (is.0, is.1 stood)
+saves_merges _ _ _ _ (Err SeenRefused) stood is = (is.0, is.1 stood)
+saves_merges _ _ _ _ (Err NoMemory) _ is = is
+saves_merges _ _ _ _ (Err _) _ never = absurd never
 
 -- ---- a group or an intent's line appended
 
 pub not_empty : (bytes : List ℕ) (b : Bool) → b ≡ false → b ≡ (length bytes == 0) → bytes ≢ []
-not_empty bytes b isnt is none = true≢false (sym (ap (λ (l : List ℕ). length l == 0) none) ∙ sym is ∙ isnt)
+not_empty _ b isnt is none = true≢false (cc)
 
 pub all_empty : (bytes : List ℕ) (b : Bool) → b ≡ true → b ≡ (length bytes == 0) → bytes ≡ []
-all_empty [] b hit is = refl
-all_empty (byte ∷ bytes) b hit is = let none = sym is ∙ hit in absurd (grind (arith, nat_tests, none))
+all_empty [] b _ _ = refl
+all_empty (_ ∷ _) b hit is = let none = sym is ∙ hit in absurd (grind (arith, nat_tests, none))
 
 -- the record becomes another by what is appended
 abbrev pub GrowsBy : List ℕ → RecordState → RecordState → Type 0
@@ -180,14 +180,14 @@ grown counts old new added was now some grows appends =
 kept_front : AppendedCounts → CutIsIgnored → (bytes added front rest : List ℕ) (was now : RecordState) → bytes ≢ []
     → GrowsBy added was now → Means bytes (Rows Two was.rows was.intent false) → added ≡ front ++ rest
     → Keeps (Some (bytes ++ front)) was ⊎ Keeps (Some (bytes ++ front)) now
-kept_front counts ignored bytes added front [] was now some grows stood split =
+kept_front counts _ bytes added _ [] was now some grows stood split =
     inr (Two, false, rw (split, append-nil) at (counts bytes added was.rows now.rows was.intent now.intent some stood grows))
-kept_front counts ignored bytes added front (byte ∷ rest) was now some grows stood split =
+kept_front _ ignored bytes added front (byte ∷ rest) was now some grows stood split =
     inl (
       Two,
       has_bytes front,
       ignored bytes added front (byte ∷ rest) was.rows now.rows was.intent now.intent some
-          stood grows split (λ none. true≢false (ap has_bytes none)),
+          stood grows split (λ none. true≢false (cc)),
     )
 
 pub cut_short : AppendedCounts → CutIsIgnored
@@ -226,29 +226,29 @@ mark_begun content was now before after uid group steady marks (inr (rows, is, b
 -- if an id has a row, the file has bytes
 pub row_begun : (content : Option (List ℕ)) (rows : List Row) (intent : Option Intent) (uid : List ℕ)
     → Steady content (record_state rows intent) → has_row rows uid ≡ true → bytes_in content ≢ []
-row_begun content rows intent uid steady has none =
-    let no_row : rows ≡ [] = (empty_means Two rows intent false (rw none at steady)).0 in
-    true≢false (sym has ∙ ap (λ (r : List Row). has_row r uid) no_row)
+row_begun _ rows intent uid steady has none =
+    let no_row : rows ≡ [] = (empty_means _ _ _ _ (rw none at steady)).0 in
+    true≢false (cc)
 
 -- an intent's line opens it
 pub opens : (rows : List Row) (intent : Intent) (line : List ℕ) → IsIntent intent → has_row rows intent.uid ≡ true
     → line ≡ intent_line intent → Grows rows None line rows (Some intent)
-opens rows intent line is has line_is =
+opens _ intent _ is has line_is =
     inr (record { intent = intent; is_one = is; row = has; closed = refl; bytes_are = line_is; same = refl; opened = refl })
 
 pub saves_steady : (old new : Stored) (was now : RecordState) (r : Result (Unit {0}) Fault) → Steady old.content was
     → Saves old was now r new → OnOk r (Steady new.content now)
-saves_steady old new was now (Ok done) stood saves = saves.1 stood
-saves_steady old new was now (Err fault) stood saves = tt
+saves_steady _ _ _ _ (Ok _) stood saves = saves.1 stood
+saves_steady _ _ _ _ (Err _) _ _ = tt
 
 -- ---- why a record isn't read
 
 pub read_fault : (old new : Stored) (loaded : Loaded) (why : SeenFault) (fault : Fault) → new ≡ old
     → (why ≢ WantsMemory → Means (bytes_in old.content) (Faulty why)) → IsLineFault why fault
     → ReadsRecord old loaded (Err fault) new
-read_fault old new loaded why (BadSeen line) same is at = (why, is (λ none. subst (λ (w : SeenFault). LineOf w line) none at), at, same)
-read_fault old new loaded why NoMemory same is at = same
-read_fault old new loaded why _ same is at = absurd at
+read_fault _ _ _ why (BadSeen line) same is at = (why, is (λ none. subst (λ (w : SeenFault). LineOf w line) none at), at, same)
+read_fault _ _ _ _ NoMemory same _ at = same
+read_fault _ _ _ _ _ _ _ at = absurd at
 
 -- ---- lists of tasks
 
@@ -275,45 +275,44 @@ all_weaker P Q (x ∷ xs) weaker all = (weaker x all.0, all_weaker P Q xs weaker
 content_on : (content : Option (List ℕ)) (xs ys : List (List ℕ))
     → option_map (λ (was : List ℕ). was ++ flat_map entry_of ys) (option_map (λ (was : List ℕ). was ++ flat_map entry_of xs) content)
     ≡ option_map (λ (was : List ℕ). was ++ flat_map entry_of (xs ++ ys)) content
-content_on None xs ys = refl
-content_on (Some was) xs ys = simp (flat_map-append, append_assoc)
+content_on None _ _ = refl
+content_on (Some _) _ _ = simp (flat_map-append, append_assoc)
 
 appended_none : (mbox : Stored) → Appended mbox mbox []
-appended_none mbox = record { content = simp (append-nil, option_map_id); failures = refl }
+appended_none _ = record { content = simp (append-nil, option_map_id); failures = refl }
 
 pub brings_none : (target : Target) (s : Stores) → Brings target [] s s
-brings_none (AsFiles account) s = gained_none s.maildir
-brings_none AsEntries s = appended_none s.mbox
+brings_none (AsFiles _) s = gained_none _
+brings_none AsEntries s = appended_none _
 
 brings_on : (target : Target) (xs ys : List Done) (a b c : Stores) → Brings target xs a b → Brings target ys b c
     → Brings target (xs ++ ys) a c
-brings_on (AsFiles account) xs ys a b c first second =
+brings_on (AsFiles _) _ _ a b c first second =
     simp flat_map-append (record {
       came = simp (second.came, first.came, append_assoc);
-      taken = second.taken ∙ first.taken;
-      there = second.there ∙ first.there;
+      taken = cc;
+      there = cc;
       none_begun = λ none_begun. second.none_begun (first.none_begun none_begun);
       failures = omega (arith, first.failures, second.failures);
     })
 brings_on AsEntries xs ys a b c first second = simp flat_map-append (record {
-  content = second.content ∙ ap (option_map (λ (was : List ℕ). was ++ flat_map entry_of (done_texts ys))) first.content
-      ∙ content_on a.mbox.content (done_texts xs) (done_texts ys);
-  failures = second.failures ∙ first.failures;
+  content = cc (content_on a.mbox.content (done_texts xs) (done_texts ys));
+  failures = cc;
 })
 
 -- a task that stored nothing
 pub brings_same : (target : Target) (done : Done) (s : Stores)
     → ((account : List ℕ) → files_in account done.task done.replies ≡ []) → texts_in done.task done.replies ≡ []
     → Brings target (done ∷ []) s s
-brings_same (AsFiles account) done s files texts = rw files (gained_none s.maildir)
-brings_same AsEntries done s files texts = rw texts (appended_none s.mbox)
+brings_same (AsFiles _) _ s files _ = rw files (gained_none _)
+brings_same AsEntries _ s _ texts = rw texts (appended_none _)
 
 pub went_none : (target : Target) (s : Scene) → Went target [] s s
 went_none target s =
     record {
-      talked = talked_none s.place;
+      talked = talked_none _;
       each = tt;
-      stored = brings_none target s.store;
+      stored = brings_none _ _;
       rows = refl;
       saved =
           λ stands. stands;
@@ -326,8 +325,8 @@ pub went_on : TurnsJoin → (target : Target) (xs ys : List Done) (a b c : Scene
 went_on joining target xs ys a b c first second = record {
   talked = simp flat_map-append (joining.on (turns_of xs) (turns_of ys) (replies_of xs) (replies_of ys) a.place b.place
       c.place first.talked second.talked);
-  each = all_append IsAnswered xs ys first.each second.each;
-  stored = brings_on target xs ys a.store b.store c.store first.stored second.stored;
+  each = all_append _ xs ys first.each second.each;
+  stored = brings_on _ xs ys _ _ _ first.stored second.stored;
   rows = simp (second.rows, first.rows, flat_map-append, marked_on);
   saved = λ stands. second.saved (first.saved stands);
   file_count = omega (arith, first.file_count, second.file_count);
@@ -336,12 +335,12 @@ went_on joining target xs ys a b c first second = record {
 
 unfoldable pub fell_first : (target : Target) (task : Task) (later : List Task) (a new : Scene) (f : Cut)
     → Stops target task a f new → Fell target (task ∷ later) a f new
-fell_first target task later a new f stops =
+fell_first target task later a _ f stops =
     record { dones = []; next = task; later = later; mid = a; split = refl; went = went_none target a; stops = stops }
 
 unfoldable pub fell_on : TurnsJoin → (target : Target) (xs ys : List Task) (a b new : Scene) (f : Cut)
     → AllWent target xs a b → Fell target ys b f new → Fell target (xs ++ ys) a f new
-fell_on joining target xs ys a b new f first second = record {
+fell_on joining target _ _ a b _ f first second = record {
   dones = first.dones ++ second.dones;
   next = second.next;
   later = second.later;
@@ -353,7 +352,7 @@ fell_on joining target xs ys a b new f first second = record {
 
 unfoldable pub fell_before : (target : Target) (xs ys : List Task) (a new : Scene) (f : Cut) → Fell target xs a f new
     → Fell target (xs ++ ys) a f new
-fell_before target xs ys a new f fell = record {
+fell_before _ _ ys a _ f fell = record {
   dones = fell.dones;
   next = fell.next;
   later = fell.later ++ ys;
@@ -368,15 +367,15 @@ all_none target s = record { dones = []; all = refl; went = went_none target s }
 
 unfoldable pub all_on : TurnsJoin → (target : Target) (xs ys : List Task) (a b c : Scene) → AllWent target xs a b
     → AllWent target ys b c → AllWent target (xs ++ ys) a c
-all_on joining target xs ys a b c first second = record {
+all_on joining target _ _ a b c first second = record {
   dones = first.dones ++ second.dones;
   all = simp (first.all, second.all, map-append);
   went = went_on joining target first.dones second.dones a b c first.went second.went;
 }
 
 pub on_any : {T E P : Type 0} (result : Result T E) → P → OnOk result P
-on_any (Ok done) p = p
-on_any (Err fault) p = tt
+on_any (Ok _) p = p
+on_any (Err _) p = tt
 
 -- what is known if all are sound, by what the calls of each did
 pub all_sound : {W W' L D D' F F' P Q R S : Type 0} → (W → W' × L × P) → (D → D' × Q) → (F → F' × R) → (P → Q → R → S)
@@ -411,21 +410,21 @@ link_alone link w d f = let l = link w in (l.0, d, f, l.1, l.2)
 stand : (turns : List Turn) (replies : List WholeReply) (old mid new : Scene) (more : List ℕ) → old.place.waiting ≡ []
     → Talked turns replies old.place mid.place
     → new.place.link.got ≡ mid.place.link.got ++ more → CameWhole replies old new
-stand turns replies old mid new more none talked is =
+stand _ _ _ mid _ more none talked is =
     let heard = rw none at talked.heard in
     (mid.place.waiting ++ more, simp (is, talked.got, heard, append_assoc))
 
 -- the record wasn't saved: why, and which record its file stands for
 unsaved_why : (old : Stored) (was now : RecordState) (fault : Fault) (new : Stored) → Saves old was now (Err fault) new
     → (fault ≡ SeenRefused) ⊎ (fault ≡ NoMemory)
-unsaved_why old was now SeenRefused new is = inl refl
-unsaved_why old was now NoMemory new is = inr refl
-unsaved_why old was now _ new never = absurd never
+unsaved_why _ _ _ SeenRefused _ _ = inl refl
+unsaved_why _ _ _ NoMemory _ _ = inr refl
+unsaved_why _ _ _ _ _ never = absurd never
 
 pub unsaved_keeps : UnsavedFilesKeep
-unsaved_keeps old was now SeenRefused new is = is.1
-unsaved_keeps old was now NoMemory new is = λ stood. inl (rw is (steady_keeps old.content was stood))
-unsaved_keeps old was now _ new never = absurd never
+unsaved_keeps _ _ _ SeenRefused _ is = is.1
+unsaved_keeps old was _ NoMemory _ is = λ stood. inl (rw is (steady_keeps _ _ stood))
+unsaved_keeps _ _ _ _ _ never = absurd never
 
 module _ (account : List ℕ) (tasks : List Task) (old new : Scene) (cut : Cut)
     (fell : Fell (AsFiles account) tasks old cut new) (none : old.place.waiting ≡ [])
@@ -519,8 +518,8 @@ stopping_cuts_short paced joining account tasks old new cut fell none stood =
     elim fell.stops [
       | inl broken ↦ (
           let p = paced (broken.turn ∷ []) fell.mid.place new.place (Err broken.broke.0)
-          (stopped_first broken.turn [] fell.mid.place new.place broken.broke.0 broken.broke.2) in
-          short_unmarked account tasks old new cut fell none stood p.gained p.got broken.file broken.lines []
+          (stopped_first _ [] fell.mid.place new.place broken.broke.0 broken.broke.2) in
+          short_unmarked _ tasks old new _ fell none stood p.gained p.got broken.file broken.lines []
           (rw (broken.store, append-nil)) (inl refl)
           )
       | inr (inl refused) ↦ short_not_stored account tasks old new cut fell none stood joining refused

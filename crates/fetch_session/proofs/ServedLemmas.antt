@@ -31,7 +31,7 @@ use Rattle.pop3_wire.specs.declared.command.Command.TheVariants.{UidlAll, ListAl
 use Rattle.pop3_wire.specs.declared.reply.Status.TheVariants.{Negative, Positive}
 use Rattle.pop3_client.specs.Causes.{BeginsPositive, Cause, HasRows, IsOverlong, IsPartOfBody, IsPartOfListing, NextLine}
 use Rattle.pop3_client.specs.Conversation.{Broke, ConversationsArePaced, Talked, Talks}
-use Rattle.pop3_client.specs.Turns.{list, uidl, asking, IsBody, IsGood, IsListingRow, IsShort, LinesFit}
+use Rattle.pop3_client.specs.Turns.{asking, IsBody, IsGood, IsListingRow, IsShort, LinesFit}
 use Rattle.pop3_client.specs.Turns.{Turn, line_limit, retr, text_limit, turn_bytes}
 use Rattle.pop3_client.specs.declared.fault.ClientFault.{ClientFault}
 use Rattle.pop3_client.specs.declared.fault.ClientFault.TheVariants as talk
@@ -55,10 +55,9 @@ use Rattle.fetch_session.specs.Store.{Brings}
 use Rattle.fetch_session.specs.Tail.{tail, turns_of_tail as tail_turns}
 use Rattle.fetch_session.specs.Target.{Target, AsFiles, AsEntries, Stores, closed_file, held_flags}
 use Rattle.fetch_session.specs.Task.{Done, IsAnswered, Task, deleting, fetching, file_from, files_in, files_of}
-use Rattle.fetch_session.specs.Task.{replies_of, says, stores, tasks_in, tasks_of, tasks_planned, texts_in, done_texts}
+use Rattle.fetch_session.specs.Task.{replies_of, stores, tasks_in, tasks_of, tasks_planned, texts_in, done_texts}
 use Rattle.fetch_session.specs.Task.{turns_in, turns_of}
 use Rattle.pop3_client.specs.Texts.{body_text}
-use Rattle.pop3_client.specs.Turns.{quit}
 use Rattle.mail_terms.proofs.ListLemmas.{all_front, all_back}
 use Rattle.pop3_client.proofs.TalkLemmas.{by_listing}
 
@@ -68,7 +67,7 @@ use Rattle.pop3_client.proofs.TalkLemmas.{by_listing}
 take_past : (n : ℕ) (xs ys : List ℕ) → length xs ≤ n → take n (xs ++ ys) ≡ xs ++ take (n - length xs) ys
 take_past n xs ys fits =
     let all : n ≡ length xs + (n - length xs) = omega (arith, fits) in
-    ap (λ (k : ℕ). take k (xs ++ ys)) all ∙ take-append-add xs ys (n - length xs)
+    cc (take-append-add xs ys (n - length xs))
 
 -- octets that begin with a short line aren't overlong, whatever comes after them
 not_overlong : (line more bytes later : List ℕ) → IsShort line → bytes ++ later ≡ ended line ++ more → IsOverlong bytes → ⊥
@@ -87,23 +86,23 @@ next_not_overlong (line ∷ more) behind later rest short e over =
     ∙ append_assoc (ended line) (flat_map ended more) (ended dot ++ rest)) over
 
 listing_without : (turn : Turn) (after : List ℕ) → IsPartOfListing turn after → HasNoBody after
-listing_without turn after (behind, lines, has, part) =
-    no_body after behind (text_of lines) (record { lines = lines; content = has.content; whole = has.whole; read = refl }) part.0
+listing_without _ after (behind, lines, has, part) =
+    no_body _ behind (text_of lines) (record { lines = lines; content = has.content; whole = has.whole; read = refl }) part.0
 
 -- a part of a body holds no body
 part_without : (turn : Turn) (after : List ℕ) → IsPartOfBody turn after → HasNoBody after
-part_without (Some UidlAll) after p = listing_without uidl after p
-part_without (Some ListAll) after p = listing_without list after p
-part_without (Some (Retr number)) after p = p.0
-part_without _ after never = absurd never
+part_without (Some UidlAll) after p = listing_without _ _ p
+part_without (Some ListAll) after p = listing_without _ _ p
+part_without (Some (Retr _)) _ p = p.0
+part_without _ _ never = absurd never
 
 -- whether nothing is said after a turn broke so
 abbrev is_silent : ClientFault → Bool
-is_silent (talk.Refused to) = false
+is_silent (talk.Refused _) = false
 is_silent other = true
 
 count_of : {E : Type 0} (a b : ℕ × ℕ) → ◌≡◌ {A = Result (ℕ × ℕ) E} (Ok a) (Ok b) → a.0 ≡ b.0
-count_of a b e = let same : a ≡ b = cc in ap (λ (p : ℕ × ℕ). p.0) same
+count_of a b e = let same : a ≡ b = cc in cc
 
 -- what came of a good reply, and what comes after it
 module _ (turn : Turn) (reply : WholeReply) (good : IsGood turn reply) (bytes later rest : List ℕ)
@@ -115,24 +114,24 @@ module _ (turn : Turn) (reply : WholeReply) (good : IsGood turn reply) (bytes la
   same_first : (line after : List ℕ) → IsLine line → bytes ≡ ended line ++ after → (line ≡ reply.first)
       × (after ++ later ≡ body_bytes reply.body ++ rest)
   same_first line after a e = one_line line reply.first (after ++ later) (body_bytes reply.body ++ rest) a good.line
-      (sym (append_assoc (ended line) after later) ∙ ap (λ (l : List ℕ). l ++ later) (sym e) ∙ first_is)
+      (cc (append_assoc (ended line) after later, first_is))
 
   body_begins : (after : List ℕ) → BeginsPositive bytes after → after ++ later ≡ body_bytes reply.body ++ rest
-  body_begins after b = (same_first b.line after b.is b.whole).1
+  body_begins after b = (same_first _ _ b.is b.whole).1
 
   -- the lines of the body
   lines_of : gives_body turn ≡ true → (lines : List (List ℕ)) × (reply.body ≡ Some lines)
       × AllByRecursion IsContent lines × LinesFit turn lines
-  lines_of gives = by reply.body good.body
+  lines_of gives = by _ good.body
     where
       by : (body : Option (List (List ℕ))) → IsBody turn body → (lines : List (List ℕ)) × (body ≡ Some lines)
           × AllByRecursion IsContent lines × LinesFit turn lines
-      by None none = absurd (false≢true (sym none ∙ gives))
+      by None none = absurd (false≢true (cc none))
       by (Some lines) fit = (lines, refl, fit.0, fit.1)
 
   body_begins_with : (after : List ℕ) (lines : List (List ℕ)) → reply.body ≡ Some lines → BeginsPositive bytes after
       → after ++ later ≡ body_of lines ++ rest
-  body_begins_with after lines body_is begins = body_begins after begins ∙ ap (λ (b : Option (List (List ℕ))). body_bytes b ++ rest) body_is
+  body_begins_with after _ body_is begins = cc (body_begins after begins)
 
   -- those of a listing are rows, and those that were read are the first of them
   pub record Listing (lines : List (List ℕ)) (behind : List ℕ) : Type 0 where
@@ -174,12 +173,12 @@ module _ (turn : Turn) (reply : WholeReply) (good : IsGood turn reply) (bytes la
       )
 
   part_gives : (after : List ℕ) → IsPartOfBody turn after → gives_body turn ≡ true
-  part_gives after part = by turn part
+  part_gives after part = by _ part
     where
       by : (t : Turn) → IsPartOfBody t after → gives_body t ≡ true
       by (Some UidlAll) p = refl
       by (Some ListAll) p = refl
-      by (Some (Retr number)) p = refl
+      by (Some (Retr _)) p = refl
       by _ never = absurd never
 
   no_cause : (why : ClientFault) (old new : Link) → (is_silent why ≡ true → new.failures ≡ old.failures)
@@ -228,36 +227,36 @@ module _ (turn : Turn) (reply : WholeReply) (good : IsGood turn reply) (bytes la
 
 -- a good reply is one that a client reads
 reads_body : (turn : Turn) (body : Option (List (List ℕ))) → IsBody turn body → IsBodyIf (gives_body turn) body
-reads_body turn None none = rw none tt
-reads_body (Some UidlAll) (Some lines) is = is.0
-reads_body (Some ListAll) (Some lines) is = is.0
-reads_body (Some (Retr number)) (Some lines) is = is.0
-reads_body turn (Some lines) is = absurd is.1
+reads_body _ None none = rw none tt
+reads_body (Some UidlAll) (Some _) is = is.0
+reads_body (Some ListAll) (Some _) is = is.0
+reads_body (Some (Retr _)) (Some _) is = is.0
+reads_body _ (Some _) is = absurd is.1
 
 pub reads_all : (turns : List Turn) (replies : List WholeReply) → AllZip IsGood turns replies → AllZip IsReplyTo turns replies
-reads_all [] [] good = tt
+reads_all [] [] _ = tt
 reads_all (turn ∷ turns) (reply ∷ replies) good = (
   record {
     line = good.0.line;
-    status = inr ((good.0.rest, good.0.positive), reads_body turn reply.body good.0.body);
+    status = inr ((good.0.rest, good.0.positive), reads_body _ _ good.0.body);
   },
   reads_all turns replies good.1,
 )
-reads_all turns replies never = absurd never
+reads_all _ _ never = absurd never
 
 -- the reply to the last of some turns
 last_of : (turns : List Turn) (turn : Turn) (replies : List WholeReply) → AllZip IsGood (turns ++ turn ∷ []) replies
     → (front : List WholeReply) × (reply : WholeReply) × (replies ≡ front ++ reply ∷ []) × AllZip IsGood turns front × IsGood turn reply
-last_of [] turn (reply ∷ []) good = ([], reply, refl, tt, good.0)
-last_of (first ∷ turns) turn (reply ∷ replies) good =
-    let (front, last, is, goods, one) = last_of turns turn replies good.1 in
-    (reply ∷ front, last, ap (λ (rs : List WholeReply). reply ∷ rs) is, (good.0, goods), one)
-last_of [] turn (reply ∷ other ∷ replies) never = absurd never.1
-last_of turns turn replies never = absurd never
+last_of [] _ (reply ∷ []) good = ([], reply, refl, tt, good.0)
+last_of (_ ∷ turns) turn (reply ∷ replies) good =
+    let (front, last, is, goods, one) = last_of turns _ replies good.1 in
+    (reply ∷ front, last, cc, (good.0, goods), one)
+last_of [] _ (_ ∷ other ∷ _) never = absurd never.1
+last_of _ _ _ never = absurd never
 
 last_apart : {A : Type 0} (f : A → List ℕ) (front : List A) (last : A) (rest : List ℕ)
     → flat_map f (front ++ last ∷ []) ++ rest ≡ flat_map f front ++ (f last ++ rest)
-last_apart f front last rest = simp (flat_map-append, append_assoc, append-nil)
+last_apart f _ _ _ = simp (flat_map-append, append_assoc, append-nil)
 
 -- ---- after a cut by a turn the link goes on; with nothing to say it stays as it is
 
@@ -267,32 +266,32 @@ fault_in (WasCut fault) = fault
 
 abbrev was_cut : Outcome → Bool
 was_cut Ended = false
-was_cut (WasCut fault) = true
+was_cut (WasCut _) = true
 
 abbrev is_store : Fault → Bool
-is_store (StoreRefused why) = true
+is_store (StoreRefused _) = true
 is_store other = false
 
 -- only a text that the store refused is left under way
 rest_stopped : (target : Target) (next : Task) (old new : Scene) (cut : Cut) → Stops target next old cut new
     → (cut.rest ≡ None) ⊎ (is_store cut.fault ≡ true)
-rest_stopped target next old new cut (inl broken) = inl broken.none
-rest_stopped (AsFiles account) next old new cut (inr (inl not)) =
-    inr (elim not.refuses [ inl missing ↦ ap is_store missing.0 | inr refused ↦ ap is_store refused.0 ])
-rest_stopped AsEntries next old new cut (inr (inl (inl room))) = inl room.none
-rest_stopped AsEntries next old new cut (inr (inl (inr (inl not)))) = inl not.none
-rest_stopped AsEntries next old new cut (inr (inl (inr (inr left)))) = inl left.none
-rest_stopped (AsFiles account) next old new cut (inr (inr not)) = inl not.none
-rest_stopped AsEntries next old new cut (inr (inr not)) = inl not.none
+rest_stopped _ _ _ _ _ (inl broken) = inl broken.none
+rest_stopped (AsFiles _) _ _ _ _ (inr (inl not)) =
+    inr (elim not.refuses [ inl missing ↦ cc | inr refused ↦ cc ])
+rest_stopped AsEntries _ _ _ _ (inr (inl (inl room))) = inl room.none
+rest_stopped AsEntries _ _ _ _ (inr (inl (inr (inl not)))) = inl not.none
+rest_stopped AsEntries _ _ _ _ (inr (inl (inr (inr left)))) = inl left.none
+rest_stopped (AsFiles _) _ _ _ _ (inr (inr not)) = inl not.none
+rest_stopped AsEntries _ _ _ _ (inr (inr not)) = inl not.none
 
 rest_of : (settings : Settings) (target : Target) (now : ℕ) (old : Place) (before : Keeping) (cut : Cut) (new : Place)
     (after : Keeping) (notes : Noted) → Proceeds settings target now old before (Err cut) new after notes
     → (cut.rest ≡ None) ⊎ (is_store cut.fault ≡ true)
-rest_of settings target now old before cut new after notes (inl not) = inl (ap (λ (c : Cut). c.rest) not.is)
-rest_of settings target now old before cut new after notes (inr (inl room)) = inl (ap (λ (c : Cut). c.rest) room.is)
-rest_of settings target now old before cut new after notes (inr (inr dealt)) = elim dealt.carries.1 [
+rest_of _ _ _ _ _ _ _ _ _ (inl not) = inl (cc)
+rest_of _ _ _ _ _ _ _ _ _ (inr (inl room)) = inl (cc)
+rest_of _ target _ _ _ cut _ _ _ (inr (inr dealt)) = elim dealt.carries.1 [
   | inl un ↦ inl un.1.none
-  | inr carried ↦ rest_stopped target carried.does.next carried.does.mid _ cut carried.does.stops
+  | inr carried ↦ rest_stopped _ _ _ _ _ carried.does.stops
 ]
 
 talks_extend : ConversationsArePaced → (turns : List Turn) (old new : Place) (result : Result (Unit {0}) ClientFault)
@@ -328,23 +327,23 @@ left_on paced settings target now link before report link' after done fault is o
         ]
 
 by_client : (why : ClientFault) → (is_store (fault_of why) ≡ false) × (is_silent why ≡ true → tail (fault_of why) ≡ Nothing)
-by_client talk.ConnectionEnded = (refl, λ silent. refl)
-by_client talk.ReadFailed = (refl, λ silent. refl)
-by_client talk.WriteFailed = (refl, λ silent. refl)
-by_client talk.ReplyTooLong = (refl, λ silent. refl)
-by_client talk.BadReply = (refl, λ silent. refl)
-by_client (talk.Refused to) = (refl, λ silent. absurd (false≢true silent))
-by_client talk.BadListing = (refl, λ silent. refl)
-by_client talk.ListingsDisagree = (refl, λ silent. refl)
-by_client talk.TooMany = (refl, λ silent. refl)
-by_client talk.TextTooLong = (refl, λ silent. refl)
-by_client talk.NoMemory = (refl, λ silent. refl)
+by_client talk.ConnectionEnded = (refl, λ _. refl)
+by_client talk.ReadFailed = (refl, λ _. refl)
+by_client talk.WriteFailed = (refl, λ _. refl)
+by_client talk.ReplyTooLong = (refl, λ _. refl)
+by_client talk.BadReply = (refl, λ _. refl)
+by_client (talk.Refused _) = (refl, λ silent. absurd (false≢true silent))
+by_client talk.BadListing = (refl, λ _. refl)
+by_client talk.ListingsDisagree = (refl, λ _. refl)
+by_client talk.TooMany = (refl, λ _. refl)
+by_client talk.TextTooLong = (refl, λ _. refl)
+by_client talk.NoMemory = (refl, λ _. refl)
 
 -- ---- nothing fails, so the session ends
 
 abbrev is_faulty : Meaning → Bool
-is_faulty (Rows version rows intent torn) = false
-is_faulty (Faulty fault) = true
+is_faulty (Rows _ rows _ _) = false
+is_faulty (Faulty _) = true
 
 usable_is_there : (target : Target) (store : Stores) → IsUsable target store → IsMissing target store → ⊥
 usable_is_there (AsFiles account) store (tmp, new, cur) (inl none) = false≢true (sym none ∙ tmp)
@@ -359,11 +358,11 @@ usable_goes_on AsEntries store (bytes, is, may) (was, was_is, not) =
     not (rw same may)
 
 none_rose : (target : Target) (old new : Stores) → refused_in target new ≡ refused_in target old → StoreRose target old new → ⊥
-none_rose (AsFiles account) old new same rose = absurd (omega (arith, same, rose))
-none_rose AsEntries old new same rose = absurd (omega (arith, same, rose))
+none_rose (AsFiles _) _ _ same rose = absurd (omega (arith, same, rose))
+none_rose AsEntries _ _ same rose = absurd (omega (arith, same, rose))
 
 extends_on : (old mid new : Link) → Extends old mid → Extends mid new → Extends old new
-extends_on old mid new first later = record {
+extends_on old _ _ first later = record {
   said = first.said ++ later.said;
   gained = first.gained ++ later.gained;
   sent = rw (later.sent, first.sent) (append_assoc old.sent first.said later.said);
@@ -373,15 +372,15 @@ extends_on old mid new first later = record {
 planned_on : (settings : Settings) (target : Target) (now : ℕ) (link : Link) (before : Keeping) (mid new : Link)
     (turns : List Turn) → Extends mid new → ArePlanned settings target now link before mid turns
     → ArePlanned settings target now link before new turns
-planned_on settings target now link before mid new turns more (inl is) = inl is
-planned_on settings target now link before mid new turns more (inr (items, place, enters, first, by)) =
-    inr (items, place, enters, extends_on place.link mid new first more, by)
+planned_on _ _ _ _ _ _ _ _ more (inl is) = inl is
+planned_on _ _ _ _ _ mid new _ more (inr (items, place, enters, first, by)) =
+    inr (items, place, enters, extends_on _ _ _ first more, by)
 
 module _ (one : OneMeaning) (settings : Settings) (target : Target) (now : ℕ) (link : Link) (before : Keeping)
     (report : Report) (mid : Place) (link' : Link) (after : Keeping)
     (served : IsServed settings target now link before report link' after) where
   no_misread : (at_line : ℕ) (file' : Stored) → Misread before.file at_line file' → ⊥
-  no_misread at_line file' (why, means, line_is, same) = false≢true (ap is_faulty (one _ _ _ served.read.1.means means))
+  no_misread _ _ (_, means, _, _) = false≢true (cc (one _ _ _ served.read.1.means means))
 
   -- a turn that broke, if the link gives a good reply to it, broke for want of memory
   only_memory : (turns : List Turn) (replies : List WholeReply) (next : Turn) (later : List Turn) (old : Place)
@@ -461,10 +460,10 @@ module _ (one : OneMeaning) (settings : Settings) (target : Target) (now : ℕ) 
 -- ---- a session that ended has stored what it wants
 
 zip_on : (xs ys : List Turn) (ls ms : List WholeReply) → AllZip IsGood xs ls → zip (xs ++ ys) (ls ++ ms) ≡ zip xs ls ++ zip ys ms
-zip_on [] ys [] ms good = refl
-zip_on [] ys (l ∷ ls) ms never = absurd never
-zip_on (x ∷ xs) ys [] ms never = absurd never
-zip_on (x ∷ xs) ys (l ∷ ls) ms good = ap (λ (ps : List (Turn × WholeReply)). (x, l) ∷ ps) (zip_on xs ys ls ms good.1)
+zip_on [] _ [] _ _ = refl
+zip_on [] _ (l ∷ _) _ never = absurd never
+zip_on (x ∷ _) _ [] _ never = absurd never
+zip_on (x ∷ xs) ys (l ∷ ls) ms good = cc (zip_on xs ys ls ms good.1)
 
 -- of what tasks bring: the task that stores a text was answered by a reply, of whose text this holds
 abbrev Did : (Turn × WholeReply → Type 0) → (List ℕ → WholeReply → Type 0) → Task → Type 0
@@ -534,7 +533,7 @@ module _ (settings : Settings) (target : Target) (items : List Item) (now : ℕ)
       → (number : ℕ) (item : Item)
       → AllByRecursion (Did (Contains said) (HasText target new))
       (fetching true (is_there item) number item.uid item.size) → IsStored target store said new (number, item)
-  stored_by is_there flags number item did = elim (cases_Bool (is_there item)) [
+  stored_by is_there flags _ item did = elim (cases_Bool (is_there item)) [
     | inl held ↦ inl (flags item ∙ rw held refl)
     | inr not ↦ inr (rw not at did).0
   ]
@@ -544,11 +543,10 @@ module _ (settings : Settings) (target : Target) (items : List Item) (now : ℕ)
       → AllByRecursion (Did (Contains said) (HasText target new)) (tasks_ahead settings target items now store rows)
       → AllByRecursion (IsStored target store said new) (retrieved (planned settings rows items now) items)
   each_by is_there one all did =
-      each_fetched is_there (Did (Contains said) (HasText target new)) (IsStored target store said new)
-      (step_of settings rows items now) (λ message. refl) (stored_by is_there one) 1 items
-      (all_front _ (tasks_planned (planned settings rows items now) items (map is_there items)) (says quit ∷ [])
-      (subst (λ (fs : List Bool). AllByRecursion (Did (Contains said) (HasText target new))
-      (tasks_planned (planned settings rows items now) items fs ++ says quit ∷ [])) all did))
+      each_fetched _ _ (IsStored target store said new)
+      (step_of settings rows items now) (λ _. refl) (stored_by _ one) 1 items
+      (all_front _ _ _
+      (rw all at did))
 
 each_stored : (settings : Settings) (target : Target) (items : List Item) (now : ℕ) (store : Stores) (rows : List Row)
     (said : List (Turn × WholeReply)) (new : Stores)

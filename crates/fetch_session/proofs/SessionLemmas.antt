@@ -73,14 +73,14 @@ use Rattle.fetch_session.specs.MessagePreview.{message_previews}
 
 -- what outlived it before still does
 pub no_more_keeps : {a b : Option (List ℕ) → Type 0} (content : Option (List ℕ)) → LeavesNoMore a b → KeepsWhole content a b
-no_more_keeps content no_more bytes is front left may = front left (no_more left may)
+no_more_keeps _ no_more _ _ front left may = front left (no_more _ may)
 
 -- what calls see of it is durable
 pub durable_safe : {F : Type 0} (files : FileGhosts F) (f : F) → seen_on (files.disk f) ≡ (files.stored f).content
     → IsFileDurable (files.disk f) → IsSafeFile files f
 durable_safe files f shown is = (
-  durable_sure (files.disk f) is,
-  λ bytes has. (
+  durable_sure _ is,
+  λ _ has. (
     is,
     λ left may. durable_is_left (files.disk f) left is may ∙ shown
         ∙ has,
@@ -91,8 +91,8 @@ durable_safe files f shown is = (
 pub missing_safe : {F : Type 0} (file : FileGhosts F) (f f' : F) → file.disk f' ≡ file.disk f
     → ((file.stored f).content ≡ None) × (file.stored f' ≡ file.stored f)
     → IsSure (file.disk f).now → IsSafeFile file f'
-missing_safe file f f' same (none, as_was) sure =
-    (rw same sure, λ bytes is. absurd (none-some bytes (sym none ∙ ap (λ (s : Stored). s.content) (sym as_was) ∙ is)))
+missing_safe _ f _ same (none, as_was) sure =
+    (rw same sure, λ bytes is. absurd (none-some bytes (cc)))
 
 -- bytes are appended to a safe file: what is left of them stands behind what it had; after Ok it is safe again
 pub leaves_part : {F T : Type 0} (file : FileGhosts F) (f f' : F) (bytes : List ℕ) (r : Result T StoreFault)
@@ -100,7 +100,7 @@ pub leaves_part : {F T : Type 0} (file : FileGhosts F) (f f' : F) (bytes : List 
     → AppendsDisk (file.disk f) bytes r (file.disk f') → IsSafeFile file f
     → LeavesPart (file.stored f).content bytes (MayLeave (file.disk f'))
 leaves_part file f f' bytes r shown appends safe was has =
-    (appends_for_good (file.disk f) (file.disk f') bytes r appends).leaves (safe.1 was has).0 was (shown ∙ has)
+    (appends_for_good _ _ _ r appends).leaves (safe.1 was has).0 was (cc)
 
 pub grown_safe : {F T : Type 0} (file : FileGhosts F) (f f' : F) (bytes : List ℕ) (done : T)
     → seen_on (file.disk f) ≡ (file.stored f).content
@@ -119,7 +119,7 @@ no_more_left file f f' same no_more Is leaves bytes is left may = leaves bytes (
 pub grown_rows : (rows others next : List Row) (before after : Option Intent) (left : Option (List ℕ))
     → (next ≡ rows) ⊎ (next ≡ others)
     → IsGrownAtMost (record_state rows before) (record_state next after) left → AreLeft rows others left
-grown_rows rows others next before after left next_is g = elim g.grows [
+grown_rows rows _ next before after _ next_is g = elim g.grows [
   | inr grows ↦ record {
     before = before;
     added = g.added;
@@ -139,7 +139,7 @@ grown_rows rows others next before after left next_is g = elim g.grows [
     file = record {
       bytes = g.file.bytes;
       behind = [];
-      is = g.file.is ∙ ap (λ (l : List ℕ). Some (g.file.bytes ++ l)) none;
+      is = cc;
       stands = g.file.stands;
       part = tt;
       begun = inl refl;
@@ -153,11 +153,11 @@ module _ {F : Type 0} (file : FileGhosts F) (f : F) where
   -- the file is safe, so just its bytes
   pub safe_left : (was : RecordState) (added : List ℕ) → IsSafeFile file f → Steady (file.stored f).content was
       → LeavesFile file f (IsRecordLeft was added)
-  safe_left was added safe stood bytes is left may = record {
+  safe_left was _ safe stood bytes is left may = record {
     bytes = bytes;
     behind = [];
-    is = (safe.1 bytes is).1 left may ∙ ap (λ (l : List ℕ). Some l) (sym (append-nil bytes));
-    stands = subst (λ (c : Option (List ℕ)). Steady c was) is stood;
+    is = cc ((safe.1 bytes is).1 left may, append-nil bytes);
+    stands = rw is at stood;
     part = tt;
     begun = inl refl;
   }
@@ -173,12 +173,12 @@ module _ {F : Type 0} (file : FileGhosts F) (f : F) where
   -- bytes of the record
   pub still_grown : (was now : RecordState) (bytes : List ℕ) (left : Option (List ℕ)) → Steady (Some bytes) was
       → left ≡ Some bytes → IsGrownAtMost was now left
-  still_grown was now bytes left stands all = record {
+  still_grown _ _ bytes _ stands all = record {
     added = [];
     file = record {
       bytes = bytes;
       behind = [];
-      is = all ∙ ap (λ (l : List ℕ). Some l) (sym (append-nil bytes));
+      is = cc (append-nil bytes);
       stands = stands;
       part = tt;
       begun = inl refl;
@@ -190,20 +190,20 @@ module _ {F : Type 0} (file : FileGhosts F) (f : F) where
   pub same_grown : (was now : RecordState) → IsSafeFile file f → Steady (file.stored f).content was
       → LeavesFile file f (IsGrownAtMost was now)
   same_grown was now safe stood bytes is left may =
-      still_grown was now bytes left (subst (λ (c : Option (List ℕ)). Steady c was) is stood) ((safe.1 bytes is).1 left may)
+      still_grown _ _ _ _ (rw is at stood) ((safe.1 bytes is).1 left may)
 
   -- what makes it another was appended, or a part of it
   pub part_grown : (was now : RecordState) (added : List ℕ) → Grows was.rows was.intent added now.rows now.intent
       → LeavesFile file f (IsRecordLeft was added) → LeavesFile file f (IsGrownAtMost was now)
-  part_grown was now added grows leaves bytes is left may =
-      record { added = added; file = leaves bytes is left may; grows = inr grows }
+  part_grown _ _ added grows leaves bytes is left may =
+      record { added = added; file = leaves _ is left may; grows = inr grows }
 
   -- so no rows are left but these, and those that they were to be made
   pub grown_left : (rows others next : List Row) (before after : Option Intent) → (next ≡ rows) ⊎ (next ≡ others)
       → LeavesFile file f (IsGrownAtMost (record_state rows before) (record_state next after))
       → LeavesFile file f (AreLeft rows others)
   grown_left rows others next before after next_is leaves bytes is left may =
-      grown_rows rows others next before after left next_is (leaves bytes is left may)
+      grown_rows _ _ _ _ _ _ next_is (leaves _ is left may)
 
   -- the file is safe and stands for the rows
   pub same_left : {rows others : List Row} {intent : Option Intent} → IsSafeFile file f
@@ -216,8 +216,8 @@ module _ {F : Type 0} (file : FileGhosts F) (f : F) where
 -- the texts of these tasks, and then those of others
 texts_on : {D F : Type 0} (file : FileGhosts F) (target : Target) (xs ys : List Done) (a b : Stores) (new : Store D F)
     → Brings target xs a b → TextsLast file target ys b new → TextsLast file target (xs ++ ys) a new
-texts_on file (AsFiles account) xs ys a b new brings then = tt
-texts_on file AsEntries xs ys a b new brings then = λ was is.
+texts_on _ (AsFiles _) _ _ a b _ _ then = tt
+texts_on _ AsEntries xs _ a b _ brings then = λ was is.
     simp (flat_map-append, ← append_assoc) (then (was ++ flat_map entry_of (done_texts xs)) (rw (brings.content, is)))
 
 -- ---- tasks
@@ -238,7 +238,7 @@ pub in_kind : {D F : Type 0} {file : FileGhosts F} {here safe : Type 0} {tasks :
     {r : Result (Unit {0}) Cut} {store : Store D F} {f : F} (a b : Store D F) (account : List ℕ) → kind_of a ≡ kind_of b
     → DoesAndLasts file here (target_of a account) tasks old r new store f → (safe → here)
     → DoesAndLasts file safe (target_of b account) tasks old r new store f
-in_kind {D} {F} {file} {here} {safe} {tasks} {old} {new} {r} {store} {f} a b account same does on =
+in_kind {r} a b _ same does on =
     let moved = rw same at does in record { does = moved.does; lasts = λ s. moved.lasts (on s) }
 
 module _ {D F : Type 0} {file : FileGhosts F} {safe : Type 0} {target : Target} where
@@ -267,7 +267,7 @@ module _ {D F : Type 0} {file : FileGhosts F} {safe : Type 0} {target : Target} 
       → DoesAndLasts file safe target (xs ++ ys) a (Err cut) new store f
   unfolding fell_before
   good_before {xs} ys {a} {new} {cut} does = record {
-    does = fell_before target xs ys a new cut does.does;
+    does = fell_before _ xs ys a _ _ does.does;
     lasts = does.lasts;
   }
 
@@ -277,22 +277,21 @@ module _ {D F : Type 0} {file : FileGhosts F} {safe : Type 0} {target : Target} 
 pub rows_last : {F : Type 0} (file : FileGhosts F) (f : F) (rows : List Row) → IsSafeFile file f
     → Steady (file.stored f).content (none_open rows)
     → RowsLast file f rows
-rows_last file f rows safe steady = by (file.stored f).content refl steady
+rows_last file f rows safe steady = by _ refl steady
   where
     by : (content : Option (List ℕ)) → (file.stored f).content ≡ content → Steady content (none_open rows) → RowsLast file f rows
-    by None is stands left may = ([], [], inl refl, stands)
+    by None _ stands _ _ = ([], [], inl refl, stands)
     by (Some bytes) is stands left may =
-        (bytes, [], inr ((safe.1 bytes is).1 left may ∙ ap (λ (l : List ℕ). Some l) (sym (append-nil bytes))), stands)
+        (bytes, [], inr (cc ((safe.1 bytes is).1 left may, append-nil bytes)), stands)
 
 -- what begins with bytes that stand for these rows still does if it is longer
 shown_longer : (rows : List Row) (was left : Option (List ℕ)) → ShowsRows rows was → IsLonger was left → ShowsRows rows left
-shown_longer rows was left shows (inl same) = subst (λ (o : Option (List ℕ)). ShowsRows rows o) (sym same) shows
-shown_longer rows was left (bytes, behind, inl none, stands) (inr longer) = (bytes, behind, inl none, stands)
-shown_longer rows was left (bytes, behind, inr is, stands) (inr (some, more, was_is, longer)) = (
+shown_longer rows _ _ shows (inl same) = rw same shows
+shown_longer _ _ _ (bytes, behind, inl none, stands) (inr _) = (bytes, behind, inl none, stands)
+shown_longer _ _ _ (bytes, behind, inr is, stands) (inr (some, more, was_is, longer)) = (
   bytes,
   behind ++ more,
-  inr (longer ∙ ap (λ (l : List ℕ). Some (l ++ more)) (same_Some some (bytes ++ behind) (sym was_is ∙ is))
-      ∙ ap (λ (l : List ℕ). Some l) (append_assoc bytes behind more)),
+  inr (cc (same_Some some (bytes ++ behind) (sym was_is ∙ is), append_assoc bytes behind more)),
   stands,
 )
 
@@ -306,7 +305,7 @@ module _ {F T : Type 0} (file : FileGhosts F) (f f' : F) (rows : List Row) (size
     (till : StandsTill (file.stored f) size rows) (r : Result T StoreFault)
     (shown : seen_on (file.disk f) ≡ (file.stored f).content) (cuts : CutsDisk (file.disk f) size r (file.disk f')) where
   law : CutsForGood (file.disk f) size r (file.disk f')
-  law = cuts_for_good (file.disk f) (file.disk f') size r cuts
+  law = cuts_for_good _ _ _ r cuts
 
   stands : Steady (Some (take size till.0.0)) (none_open rows)
   stands = till_front (file.stored f) size rows till.0.0 till till.0.1
@@ -349,22 +348,22 @@ module _ {F : Type 0} (files : FileGhosts F) (from f : F) (was : RecordState) (r
 -- the mboxrd file of a store
 same_mbox : {D F : Type 0} (disk : DiskGhosts D) (file : FileGhosts F) (store : Store D F)
     → (mbox_of file store).content ≡ (stores_of disk file store).mbox.content
-same_mbox disk file (InMaildir device) = refl
-same_mbox disk file (InMbox device) = refl
+same_mbox _ _ (InMaildir _) = refl
+same_mbox _ _ (InMbox _) = refl
 
 -- nothing came yet
 no_texts : {D F : Type 0} (disk : DiskGhosts D) (file : FileGhosts F) (old new : Store D F)
     → ((was : List ℕ) → (mbox_of file old).content ≡ Some was → Outlives (may_leave_in file new) was)
     → (target : Target) → TextsLast file target [] (stores_of disk file old) new
-no_texts disk file old new whole (AsFiles digits) = tt
+no_texts _ _ _ _ _ (AsFiles _) = tt
 no_texts disk file old new whole AsEntries = λ was is.
-    subst (λ (bytes : List ℕ). Outlives (may_leave_in file new) bytes) (sym (append-nil was)) (whole was (same_mbox disk file old ∙ is))
+    rw (append-nil was) (whole was (same_mbox disk file old ∙ is))
 
 -- a safe mboxrd file
 only_in : {D F : Type 0} (file : FileGhosts F) (store : Store D F) → IsSafeStore file store → (bytes : List ℕ)
     → (mbox_of file store).content ≡ Some bytes → (left : Option (List ℕ)) → may_leave_in file store left → left ≡ Some bytes
-only_in file (InMaildir device) safe bytes is left may = absurd (none-some bytes is)
-only_in file (InMbox device) safe bytes is left may = (safe.1 bytes is).1 left may
+only_in _ (InMaildir _) _ bytes is _ _ = absurd (none-some bytes is)
+only_in _ (InMbox _) safe bytes is left may = (safe.1 bytes is).1 left may
 
 pub whole_in : {D F : Type 0} (file : FileGhosts F) (store : Store D F) → IsSafeStore file store
     → (bytes : List ℕ) → (mbox_of file store).content ≡ Some bytes → Outlives (may_leave_in file store) bytes
@@ -381,11 +380,11 @@ texts_ok disk file AsEntries dones old new brings safe = λ was is.
 -- ---- if nothing is done
 
 pub keeps_same : {D F H Z : Type 0} (file : FileGhosts F) (work : Work D F H Z) → KeepsWork file work work
-keeps_same file work = (λ bytes has is. is, λ last. last)
+keeps_same _ _ = (λ _ _ is. is, λ last. last)
 
 -- no call was made
 pub untouched : {F : Type 0} (file : FileGhosts F) (f : F) → IsRecordUntouched file f f
-untouched file f = record { no_more = λ left may. may; same = refl }
+untouched _ f = record { no_more = λ _ may. may; same = refl }
 
 -- the state of a session at this place
 abbrev pub scene_at : {D F H Z : Type 0} → DiskGhosts D → FileGhosts F → Place → Work D F H Z → Scene
@@ -438,15 +437,15 @@ pub dealt : {D F : Type 0} (files : FileGhosts F) (was : Store D F) (from : F) (
     notes.lines notes.skipped)
     × CarriesLast files was from _ _ _ _ _ _ _ _ _ _ _ _ _ _ is store f
     → (is : Proceeds settings target now old before result new after notes) × ProceedsLast files was from _ _ _ _ _ _ _ _ _ is store f
-dealt files was from settings target now old before result new after notes items mid start store f none enters total carries =
+dealt files was from settings target now old before result new after notes items mid _ store f none enters total carries =
     let from_nothing = rw none at carries in
-    by result (record { items = items; mid = mid; enters = enters; total = total; carries = from_nothing.0 }) from_nothing.1
+    by _ (record { items = items; mid = mid; enters = enters; total = total; carries = from_nothing.0 }) from_nothing.1
   where
     by : (r : Result (Unit {0}) Cut) (is : Dealt settings target now old before r new after notes)
         → CarriesLast files was from _ _ _ _ _ _ _ _ _ _ _ _ _ _ is.carries store f
         → (is : Proceeds settings target now old before r new after notes) × ProceedsLast files was from _ _ _ _ _ _ _ _ _ is store f
-    by (Ok done) is lasts = (is, lasts)
-    by (Err cut) is lasts = (inr (inr is), lasts)
+    by (Ok _) is lasts = (is, lasts)
+    by (Err _) is lasts = (inr (inr is), lasts)
 
 -- a session that was brought to its end, or cut and then left
 pub left_session : {D F : Type 0} {files : FileGhosts F} {from : F} {settings : Settings} {target : Target} {now : ℕ}
@@ -456,8 +455,8 @@ pub left_session : {D F : Type 0} {files : FileGhosts F} {from : F} {settings : 
     × ProceedsLast files was from _ _ _ _ _ _ _ _ _ is store f
     → LeavesLink result mid link' → Reports (outcome_of result) notes.total notes.skipped notes.lines report
     → (session : SessionIn settings target now link before report link' after) × SessionLasts files was from session store f
-left_session {D} {F} {files} {from} {settings} {target} {now} {link} {link'} {before} {after} {report} {store} {f} was
-    id reader result mid notes same none proceeds leaves reports =
+left_session _
+    _ _ result mid notes same none proceeds leaves reports =
     let here = rw (same, none) at proceeds in
     (record { result = result; mid = mid; notes = notes; proceeds = here.0; leaves = leaves; reports = reports }, here.1)
 
@@ -478,10 +477,10 @@ none_left : (left : Maildir) → WereTaken no_maildir left → left ≡ no_maild
 none_left left taken = let none = is_none taken.gone left.files taken.files in taken.is ∙ rw (none.0, none.1) refl
   where
     is_none : (gone files : List File) → IsWithout [] gone files → (gone ≡ []) × (files ≡ [])
-    is_none [] [] are = (refl, refl)
-    is_none [] (g ∷ files) never = absurd never
-    is_none (f ∷ gone) files ([], back, never, is) = absurd never
-    is_none (f ∷ gone) files (g ∷ front, back, never, is) = absurd never
+    is_none [] [] _ = (refl, refl)
+    is_none [] (g ∷ _) never = absurd never
+    is_none (f ∷ _) _ ([], _, never, _) = absurd never
+    is_none (f ∷ _) _ (g ∷ _, _, never, _) = absurd never
 
 pub entries_session : {D F : Type 0} (disk : DiskGhosts D) (file : FileGhosts F) (store store' : Store D F)
     (digits : List ℕ) (Did : Target → Stores → Stores → Type 0) (A B C : Type 0) → kind_of store' ≡ kind_of store
@@ -508,13 +507,13 @@ all_alike p (x ∷ xs) = (p, all_alike p xs)
 pub quiet_ids : (steps : List Step) (items : List Item) (held : List Bool) → AllByRecursion IsQuiet steps
     → ids_ahead (tasks_planned steps items held) ≡ []
 quiet_ids (s ∷ ss) (i ∷ is) (h ∷ hs) quiet = rw (ahead s i h (tasks_planned ss is hs), quiet.0.0) (quiet_ids ss is hs quiet.1)
-quiet_ids _ _ _ quiet = refl
+quiet_ids _ _ _ _ = refl
 
 -- if they mark something, each name is durable
 pub named_ahead : {P : Type 0} (steps : List Step) (items : List Item) (held : List Bool) → All IsQuiet steps ⊎ P
     → AllByRecursion (λ (uid : List ℕ). P) (ids_ahead (tasks_planned steps items held))
 named_ahead steps items held (inl quiet) = rw (quiet_ids steps items held (recursion_from_All IsQuiet steps quiet)) tt
-named_ahead steps items held (inr p) = all_alike p (ids_ahead (tasks_planned steps items held))
+named_ahead steps items held (inr p) = all_alike p _
 
 -- the planned tasks and QUIT were done once the record was ready, or as far as went well
 pub carried : {D F : Type 0} (disk : DiskGhosts D) (files : FileGhosts F) {safe : Type 0} {settings : Settings}
@@ -589,62 +588,61 @@ carried {D} {F} disk files {safe} {settings} {target} {items} {now} {place} {sto
 pub previews_are : (settings : Settings) (rows rows' : List Row) (items : List Item) (held : List Bool) (now : ℕ) (steps : List Step)
     → rows' ≡ merged rows items held now → steps ≡ planned settings rows' items now
     → message_previews settings rows' now 0 steps items held ≡ previews_of settings (merged rows items held now) items held now
-previews_are settings rows rows' items held now steps rows_are steps_are =
-    ap (λ (ss : List Step). message_previews settings rows' now 0 ss items held) steps_are
-    ∙ ap (λ (r : List Row). previews_of settings r items held now) rows_are
+previews_are settings _ rows' items held now _ rows_are steps_are =
+    cc
 
 -- ---- an mboxrd file that was only looked at
 
 pub judged_good : (intent : Option Intent) (old : Stored) (items : List Item) (found : Found) (new : Stored)
     → JudgesMbox intent items old (Ok found.stored) new
     → found.held.items ≡ none_held items → LooksAtMbox intent old items (Ok found) new
-judged_good intent old items found new (is, same) held = record {
+judged_good intent old items _ _ (is, same) held = record {
   left = holding old (closed_file intent items is.0);
   asks = (is.0, is.1, is.2, refl, is.3, held);
-  same = ap (λ (s : Stored). s.content) same;
-  count = sym (ap (λ (s : Stored). s.failures) same);
+  same = cc;
+  count = cc;
 }
 
 pub judged_full : (intent : Option Intent) (old : Stored) (items : List Item) (whole : Bool) (new : Stored)
     → JudgesMbox intent items old (Ok whole) new
     → LooksAtMbox intent old items (Err NoMemory) new
-judged_full intent old items whole new (is, same) = record {
+judged_full _ old _ _ _ (_, same) = record {
   left = old;
   asks = (refl, inl refl);
-  same = ap (λ (s : Stored). s.content) same;
-  count = sym (ap (λ (s : Stored). s.failures) same);
+  same = cc;
+  count = cc;
 }
 
 pub judged_bad : (intent : Option Intent) (old : Stored) (items : List Item) (fault : Fault) (new : Stored)
     → JudgesMbox intent items old (Err fault) new
     → LooksAtMbox intent old items (Err fault) new
-judged_bad intent old items (StoreRefused why.Missing) new is =
-    record { left = new; asks = is; same = ap (λ (s : Stored). s.content) is.1; count = refl }
-judged_bad intent old items (StoreRefused why.Refused) new is = record {
+judged_bad _ _ _ (StoreRefused why.Missing) new is =
+    record { left = new; asks = is; same = cc; count = refl }
+judged_bad _ _ _ (StoreRefused why.Refused) new is = record {
   left = new;
-  asks = (ap (λ (s : Stored). s.failures) is, inl (ap (λ (s : Stored). s.content) is));
-  same = ap (λ (s : Stored). s.content) is;
+  asks = (cc, inl (cc));
+  same = cc;
   count = refl;
 }
-judged_bad intent old items (StoreRefused why.NotMbox) new (is, same) = record {
+judged_bad intent old items (StoreRefused why.NotMbox) _ (is, same) = record {
   left = holding old (closed_file intent items is.0);
   asks = (is.0, is.1, is.2, refl);
-  same = ap (λ (s : Stored). s.content) same;
-  count = sym (ap (λ (s : Stored). s.failures) same);
+  same = cc;
+  count = cc;
 }
-judged_bad intent old items NoMemory new is = record {
+judged_bad _ old _ NoMemory _ is = record {
   left = old;
   asks = (refl, inl refl);
-  same = ap (λ (s : Stored). s.content) is;
-  count = sym (ap (λ (s : Stored). s.failures) is);
+  same = cc;
+  count = cc;
 }
-judged_bad intent old items _ new never = absurd never
+judged_bad _ _ _ _ _ never = absurd never
 
 -- ---- nothing changes
 
 held_same : (target : Target) (store : Stores) → HoldsTheSame target store store
-held_same (AsFiles account) store = refl
-held_same AsEntries store = refl
+held_same (AsFiles _) _ = refl
+held_same AsEntries _ = refl
 
 refused_same : (fault : Fault) (old new : Maildir) → FindsRefused old fault new → counted_as old.failures new ≡ old
 refused_same (StoreRefused why.Missing) old new is = ap (counted_as old.failures) is.1
@@ -670,20 +668,16 @@ pub work_preview : (settings : Settings) (target : Target) (items : List Item) (
     → told ≡ previews_of settings (merged (closed_rows found.stored loaded.rows loaded.intent) items found.held.items
     now) items found.held.items now
     → PreviewsMerged settings target items now (keeping store file) told × ChangesNothing target (keeping store file) (keeping store' read)
-work_preview settings target items now store file read loaded store' found told stood same looks is =
+work_preview settings target items now store file _ loaded store' found _ stood same looks is =
     let there = found_in target store store' items (record_state_in loaded) found looks in (
       record {
         was = record_state_in loaded;
-        stood = read_keeps file.content loaded stood;
+        stood = read_keeps _ _ stood;
         left = there.2.0;
         settles = there.2.1;
-        told_is = is
-            ∙ ap (λ (r : List Row). previews_of settings (merged r items found.held.items now) items found.held.items now) there.0
-            ∙ ap (λ (flags : List Bool). previews_of settings
-            (merged (closed_rows_in target store (record_state_in loaded) items) items flags now) items flags now)
-            there.1;
+        told_is = cc;
       },
-      (there.3, ap (λ (s : Stored). s.content) same),
+      (there.3, cc),
     )
 
 -- the record couldn't be read
@@ -750,7 +744,7 @@ module _ (settings : Settings) (target : Target) (now : ℕ) (old : Place) (befo
       → Talks (quit ∷ []) mid (Err fault) new
       → PreviewsSession settings target now old before (Err (cut_of (fault_of fault) None)) new after
       (record { total = n; message_previews = told })
-  not_ended items mid new after told n fault enters previews count quits = (
+  not_ended items mid _ _ _ n fault enters previews count quits = (
     inr (inr (fault, refl, record { items = items; mid = mid; enters = enters; total = count; previews = previews.0; quits = quits })),
     previews.1,
   )
@@ -761,6 +755,6 @@ pub left_preview : {settings : Settings} {target : Target} {now : ℕ} {link lin
     → PreviewsSession settings id now (at link reader) before result mid after (preview_told preview)
     → LeavesLink result mid link' → preview.outcome ≡ outcome_of result
     → Pretends settings target now link before preview link' after
-left_preview {settings} {target} {now} {link} {link'} {before} {after} {preview} id reader result mid same none previews leaves is =
+left_preview _ _ result mid same none previews leaves is =
     let there = rw (same, none) at previews in
     record { result = result; mid = mid; ends = there.0; leaves = leaves; outcome = is; untouched = there.1 }

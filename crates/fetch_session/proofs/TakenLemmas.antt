@@ -1,5 +1,5 @@
 -- Which files of a Maildir a session leaves.
-use Rattle.std.proofs.Common.{◌≡◌, ℕ, List, [], ◌∷◌, ◌++◌, Result, Ok, Err, refl, sym, ap, arith, ◌∙◌, inl, inr, append_assoc}
+use Rattle.std.proofs.Common.{◌≡◌, ℕ, List, [], ◌∷◌, ◌++◌, Result, Ok, Err, refl, sym, ap, arith, inl, inr, append_assoc}
 use Rattle.std.proofs.lemmas.List.{append-nil}
 use Rattle.pop3_wire.specs.Place.{Place, at}
 use Rattle.pop3_wire.specs.Bodies.{Rest}
@@ -28,20 +28,20 @@ abbrev Grew : Maildir → Maildir → Type 0
 Grew old new = (came : List File) × (new.files ≡ old.files ++ came) × (new.taken ≡ old.taken)
 
 grew_none : (old new : Maildir) → new ≡ old → Grew old new
-grew_none old new same = rw same ([], sym (append-nil old.files), refl)
+grew_none old _ same = rw same ([], sym (append-nil old.files), refl)
 
 grew : (old new : Maildir) (files : List File) → Gained old new files → Grew old new
-grew old new files is = (files, is.came, is.taken)
+grew _ _ files is = (files, is.came, is.taken)
 
 grew_on : (a b c : Maildir) → Grew a b → Grew b c → Grew a c
 grew_on a b c (xs, came, taken) (ys, come, took) =
-    (xs ++ ys, come ∙ ap (λ (fs : List File). fs ++ ys) came ∙ append_assoc a.files xs ys, took ∙ taken)
+    (xs ++ ys, cc (append_assoc a.files xs ys), cc)
 
 refused_grew : (old : Maildir) (stem text : List ℕ) (rest : Rest) (fault : Fault) (new : Maildir)
     → RefusesText old stem rest text fault new → Grew old new
-refused_grew old stem text rest fault new (inl (is, none, same)) = grew_none old new same
-refused_grew old stem text rest fault new (inr (is, inl none)) = rw none ([], sym (append-nil old.files), refl)
-refused_grew old stem text rest fault new (inr (is, inr (ended, (is_named, one)))) =
+refused_grew old _ _ _ _ new (inl (_, _, same)) = grew_none _ _ same
+refused_grew old _ _ _ _ _ (inr (_, inl none)) = rw none ([], sym (append-nil old.files), refl)
+refused_grew _ stem text _ _ _ (inr (_, inr (_, (is_named, one)))) =
     rw one (record (sized_file stem text) { is_named = is_named } ∷ [], refl, refl)
 
 pub unready_same : (fault : Fault) (old : Maildir) (file : Stored) (new : Maildir) (file' : Stored)
@@ -51,12 +51,12 @@ unready_same fault old file new file' is = grind arith
 
 unready_grew : (fault : Fault) (old : Maildir) (file : Stored) (new : Maildir) (file' : Stored)
     → UnreadyCause fault old file new file' → Grew old new
-unready_grew SeenRefused old file new file' is = grew_none old new is.1
-unready_grew (BadSeen line) old file new file' is = grew_none old new is.1
-unready_grew (StoreRefused Missing) old file new file' is = grew_none old new is.1
-unready_grew (StoreRefused Refused) old file new file' is = rw is ([], sym (append-nil old.files), refl)
-unready_grew NoMemory old file new file' is = grew_none old new is
-unready_grew _ old file new file' never = absurd never
+unready_grew SeenRefused old _ new _ is = grew_none _ _ is.1
+unready_grew (BadSeen _) old _ new _ is = grew_none _ _ is.1
+unready_grew (StoreRefused Missing) old _ new _ is = grew_none _ _ is.1
+unready_grew (StoreRefused Refused) old _ _ _ is = rw is ([], sym (append-nil old.files), refl)
+unready_grew NoMemory old _ new _ is = grew_none _ _ is
+unready_grew _ _ _ _ _ never = absurd never
 
 module _ (account : List ℕ) where
   stops_grew : (next : Task) (old new : Scene) (cut : Cut) → Stops (AsFiles account) next old cut new
@@ -106,6 +106,6 @@ module _ (account : List ℕ) where
     proceeds_grew (Err cut) (inr (inr is)) = dealt_grew (Err cut) is
 
 pub sessions_keep_files : SessionsKeepFiles
-sessions_keep_files settings account now link before report link' after session =
-    proceeds_grew account settings now (at link []) (keeps_files before) session.mid (keeps_files after) session.notes
+sessions_keep_files settings account now link before _ _ after session =
+    proceeds_grew _ settings now (at link []) (keeps_files before) session.mid (keeps_files after) session.notes
     session.result session.proceeds

@@ -21,7 +21,7 @@ use Rattle.pop3_wire.specs.Bodies.{Rest}
 use Rattle.pop3_client.specs.Texts.{Fetching, TakesRest}
 use Rattle.fetch_session.specs.declared.fault.Fault.{Fault}
 use Rattle.fetch_session.specs.Tail.{turns_of_tail, tail, Drops, LeftBy, turns_of_tail as tail_turns}
-use Rattle.mail_terms.specs.FailureCount.{Tallies, counted_up}
+use Rattle.mail_terms.specs.FailureCount.{Tallies}
 use Rattle.pop3_client.specs.declared.fault.ClientFault.TheVariants.{ReadFailed, WriteFailed, Refused as WasRefused}
 use Rattle.fetch_session.specs.declared.fault.Cut.{Cut}
 use Rattle.fetch_session.specs.declared.report.Outcome.{Outcome}
@@ -54,13 +54,13 @@ module _ {W : Type 0} (link : Ghosts W) where
 -- after turns that were completed, others stopped
 pub stopped_behind : TurnsJoin → (xs ys : List Turn) (rs : List WholeReply) (a b new : Place) (fault : ClientFault)
     → Talked xs rs a b → Stopped ys b new fault → Stopped (xs ++ ys) a new fault
-stopped_behind joining xs ys rs a b new fault first then = record {
+stopped_behind joining xs _ rs a b _ _ first then = record {
   done = xs ++ then.done;
   replies = rs ++ then.replies;
   next = then.next;
   later = then.later;
   mid = then.mid;
-  split = ap (λ (ts : List Turn). xs ++ ts) then.split ∙ sym (append_assoc xs then.done (then.next ∷ then.later));
+  split = cc (append_assoc xs then.done (then.next ∷ then.later));
   talked = joining.on xs then.done rs then.replies a b then.mid first then.talked;
   broke = then.broke;
 }
@@ -72,7 +72,7 @@ module _ (joining : TurnsJoin) (name password : List ℕ) (a b c d : Place) (wel
   all_opened : (counted : WholeReply) (count : ℕ) (uids : List UidRow) (sizes : List ScanRow)
       → Talked (stat ∷ []) (counted ∷ []) b c → GivesCount counted count → Listed c d uids sizes
       → SessionOpened name password a d count uids sizes
-  all_opened counted count uids sizes talked gives listed = record {
+  all_opened counted _ _ _ talked gives listed = record {
     welcome = welcome;
     counted = counted;
     named = listed.first;
@@ -87,27 +87,26 @@ module _ (joining : TurnsJoin) (name password : List ℕ) (a b c d : Place) (wel
   pub listed_too : (counted : WholeReply) (count : ℕ) (result : Result (List Item) ClientFault)
       → Talked (stat ∷ []) (counted ∷ []) b c → GivesCount counted count → GetsListing count c result d
       → Enters name password a result d
-  listed_too counted count (Ok items) talked gives (uids, sizes, listed, joins) =
-      (count, uids, sizes, all_opened counted count uids sizes talked gives listed, joins)
-  listed_too counted count (Err fault) talked gives (inl stopped) =
-      inl (stopped_behind joining (login name password) (stat ∷ uidl ∷ list ∷ []) welcome a b d fault entered
-      (stopped_behind joining (stat ∷ []) (uidl ∷ list ∷ []) (counted ∷ []) b c d fault talked stopped))
-  listed_too counted count (Err fault) talked gives (inr (inl (is, (uids, sizes, listed, never)))) =
-      inr (inl (is, (count, uids, sizes, all_opened counted count uids sizes talked gives listed, never)))
-  listed_too counted count (Err fault) talked gives (inr (inr (is, (uids, sizes, listed)))) =
-      inr (inr (is, (count, uids, sizes, all_opened counted count uids sizes talked gives listed)))
+  listed_too counted count (Ok _) talked gives (uids, sizes, listed, joins) =
+      (count, uids, sizes, all_opened _ _ _ _ talked gives listed, joins)
+  listed_too counted _ (Err fault) talked _ (inl stopped) =
+      inl (stopped_behind joining _ _ _ a b d fault entered
+      (stopped_behind joining _ _ _ b c d fault talked stopped))
+  listed_too counted count (Err _) talked gives (inr (inl (is, (uids, sizes, listed, never)))) =
+      inr (inl (is, (count, uids, sizes, all_opened _ _ _ _ talked gives listed, never)))
+  listed_too counted count (Err _) talked gives (inr (inr (is, (uids, sizes, listed)))) =
+      inr (inr (is, (count, uids, sizes, all_opened _ _ _ _ talked gives listed)))
 
 -- logging in stopped
 pub not_entered : (name password : List ℕ) (a b : Place) (fault : ClientFault) → Stopped (login name password) a b fault
     → Enters name password a (Err fault) b
-not_entered name password a b fault stopped = inl (record {
+not_entered _ _ a b _ stopped = inl (record {
   done = stopped.done;
   replies = stopped.replies;
   next = stopped.next;
   later = stopped.later ++ (stat ∷ uidl ∷ list ∷ []);
   mid = stopped.mid;
-  split = ap (λ (turns : List Turn). turns ++ (stat ∷ uidl ∷ list ∷ [])) stopped.split
-      ∙ append_assoc stopped.done (stopped.next ∷ stopped.later) (stat ∷ uidl ∷ list ∷ []);
+  split = cc (append_assoc stopped.done (stopped.next ∷ stopped.later) (stat ∷ uidl ∷ list ∷ []));
   talked = stopped.talked;
   broke = stopped.broke;
 })
@@ -117,32 +116,31 @@ not_entered name password a b fault stopped = inl (record {
 -- the rest of a text is a conversation of one turn
 rest_talks : (number : ℕ) (start new : Place) (r : Result (Unit {0}) ClientFault) → TakesRest (retr number) start r new
     → Talks (retr number ∷ []) start r new
-rest_talks number start new (Ok done) takes = (takes.0 ∷ [], takes.1)
-rest_talks number start new (Err why) bad = stopped_first (retr number) [] start new why (inr (inl bad))
+rest_talks _ _ _ (Ok _) takes = (takes.0 ∷ [], takes.1)
+rest_talks number start new (Err why) bad = stopped_first _ [] start new why (inr (inl bad))
 
 -- nothing was said while the rest was read
 silent_rest : (number : ℕ) (start old new : Place) (rest : Rest) (text : List ℕ) (r : Result (Unit {0}) ClientFault)
     → Fetching (retr number) start old rest text
     → TakesRest (retr number) start r new → new.link.sent ≡ old.link.sent
-silent_rest number start old new rest text (Ok done) now takes =
-    takes.1.sent ∙ ap (λ (s : List ℕ). start.link.sent ++ s) (append-nil (turn_bytes (retr number)))
-    ∙ sym (now.under.drew.sent ∙ now.opened.sent)
-silent_rest number start old new rest text (Err why) now bad = bad.sent ∙ sym (now.under.drew.sent ∙ now.opened.sent)
+silent_rest number start _ _ _ _ (Ok _) now takes =
+    cc (append-nil (turn_bytes (retr number)))
+silent_rest _ _ _ _ _ _ (Err _) now bad = cc
 
 -- a place from which the same text would be under way, if all that came had come before it was asked for
 abbrev again : (number : ℕ) (start old : Place) (rest : Rest) (text : List ℕ) → Fetching (retr number) start old rest text → Place
-again number start old rest text now = at (record old.link { sent = start.link.sent }) (ended now.line ++ (now.under.used ++ old.waiting))
+again _ start old _ _ now = at (record old.link { sent = start.link.sent }) (ended now.line ++ (now.under.used ++ old.waiting))
 
 fetching_again : (number : ℕ) (start old : Place) (rest : Rest) (text : List ℕ)
     → (now : Fetching (retr number) start old rest text)
     → Fetching (retr number) (again number start old rest text now) old rest text
-fetching_again number start old rest text now = record {
+fetching_again _ _ old rest _ now = record {
   line = now.line;
   mid = at old.link (now.under.used ++ old.waiting);
   opened = record {
     gained = [];
     rest = now.opened.rest;
-    sent = now.under.drew.sent ∙ now.opened.sent;
+    sent = cc;
     got = sym (append-nil old.link.got);
     heard = append-nil (ended now.line ++ (now.under.used ++ old.waiting));
     is = now.opened.is;
@@ -167,10 +165,10 @@ completes_then : TurnsJoin
     → (turn : Turn) (turns : List Turn) (old mid new : Place) (reply : WholeReply)
     (result : Result (Unit {0}) ClientFault) → Talked (turn ∷ []) (reply ∷ []) old mid
     → Talks turns mid result new → Talks (turn ∷ turns) old result new
-completes_then joining turn turns old mid new reply (Ok done) first then =
+completes_then joining turn turns old mid new reply (Ok _) first then =
     (reply ∷ then.0, joining.on (turn ∷ []) turns (reply ∷ []) then.0 old mid new first then.1)
-completes_then joining turn turns old mid new reply (Err fault) first then = stopped_behind joining (turn ∷ []) turns
-    (reply ∷ []) old mid new fault first then
+completes_then joining turn turns old mid new reply (Err fault) first then = stopped_behind joining _ _
+    _ _ _ _ fault first then
 
 module _ (joining : TurnsJoin) (paced : ConversationsArePaced) where
   got_under : (number : ℕ) (start old new : Place) (rest : Rest) (text : List ℕ) (r : Result (Unit {0}) ClientFault)
@@ -231,28 +229,28 @@ module _ (joining : TurnsJoin) (paced : ConversationsArePaced) where
 
 -- after what went well
 pub before_cut : (a b c : Link) (cut : Cut) → RefusesNone a b → RefusesBefore b cut c → RefusesBefore a cut c
-before_cut a b c cut first (inl same) = inl (same ∙ first)
-before_cut a b c cut first (inr (up, none, nothing)) = inr (up ∙ ap counted_up first, none, nothing)
+before_cut a b c _ first (inl same) = inl (cc)
+before_cut a b c _ first (inr (up, none, nothing)) = inr (cc, none, nothing)
 
 pub till_cut : (a b c : Link) (result : Result (Unit {0}) Cut) → RefusesNone a b → RefusesTillCut b result c → RefusesTillCut a result c
-till_cut a b c (Ok done) first same = same ∙ first
-till_cut a b c (Err cut) first then = before_cut a b c cut first then
+till_cut a b c (Ok _) first same = cc
+till_cut a b c (Err cut) first then = before_cut a b c _ first then
 
 -- a fault of the conversation: after a refused call nothing is said
 pub cut_by : (fault : ClientFault) (old new : Link) → Tallies (is_link_refusal fault) old.failures new.failures
     → RefusesBefore old (cut_of (fault_of fault) None) new
-cut_by ReadFailed old new up = inr (up, refl, refl)
-cut_by WriteFailed old new up = inr (up, refl, refl)
-cut_by _ old new same = inl same
+cut_by ReadFailed _ _ up = inr (up, refl, refl)
+cut_by WriteFailed _ _ up = inr (up, refl, refl)
+cut_by _ _ _ same = inl same
 
 -- a session that was cut and left
 pub left_alone : (cut : Cut) (a b c : Link) (outcome : Outcome) → outcome ≡ WasCut cut.fault → RefusesBefore a cut b
     → RefusesAtMostOne b c → (cut.rest ≡ None → tail cut.fault ≡ Nothing → RefusesNone b c)
     → RefusesByOutcome a outcome c
-left_alone cut a b c outcome is before left silent =
+left_alone _ a b c _ is before left silent =
     rw is
     (elim before [
-      | inl same ↦ ⊎_elim (λ is. inl (is ∙ same)) (λ up. inr (up ∙ ap counted_up same)) left
+      | inl same ↦ ⊎_elim (λ is. inl (cc)) (λ up. inr (cc)) left
       | inr (up, none, nothing) ↦ inr (silent none nothing ∙ up)
     ])
 
@@ -275,8 +273,8 @@ took_less took less = record { gained = took.gained; got = took.got; within = om
 
 before_on : (limit m n : ℕ) (a b c : Place) (rest : Option Rest) → m + n ≤ limit → Took m a b → TookBefore n b rest c
     → TookBefore limit a rest c
-before_on limit m n a b c None less first then = took_less (took_on first then) less
-before_on limit m n a b c (Some rest) less first then = record {
+before_on _ m n a b c None less first then = took_less (took_on first then) less
+before_on _ m n a b c (Some _) less first then = record {
   before = m + then.before;
   number = then.number;
   start = then.start;
@@ -289,8 +287,8 @@ before_on limit m n a b c (Some rest) less first then = record {
 -- after what went well
 pub takes_on : (limit m n : ℕ) (a b c : Place) (result : Result (Unit {0}) Cut) → m + n ≤ limit → Took m a b
     → TookTillCut n b result c → TookTillCut limit a result c
-takes_on limit m n a b c (Ok done) less first then = took_less (took_on first then) less
-takes_on limit m n a b c (Err cut) less first then = before_on limit m n a b c cut.rest less first then
+takes_on _ m n a b c (Ok _) less first then = took_less (took_on first then) less
+takes_on limit m n a b c (Err cut) less first then = before_on _ m n a b c _ less first then
 
 -- ---- the most of tails
 
@@ -302,34 +300,34 @@ most_tail _ = omega arith
 
 only_quit : (to : Asked) → Names to quit → tail (Refused to) ≡ Nothing
 only_quit ByQuit e = refl
-only_quit ByUser (name, e) = cc
-only_quit ByPass (word, e) = cc
+only_quit ByUser (_, e) = cc
+only_quit ByPass (_, e) = cc
 only_quit _ e = cc
 
 quit_tail : (fault : ClientFault) (a b : Place) → Broke quit a b fault → tail (fault_of fault) ≡ Nothing
-quit_tail fault a b (inl cut) = ap (λ (why : ClientFault). tail (fault_of why)) cut.0
-quit_tail fault a b (inr (inr none)) = ap (λ (why : ClientFault). tail (fault_of why)) none.0
+quit_tail _ a b (inl cut) = cc
+quit_tail _ a b (inr (inr none)) = cc
 quit_tail (WasRefused to) a b (inr (inl bad)) = only_quit to bad.cause.0
-quit_tail _ a b (inr (inl bad)) = refl
+quit_tail _ a b (inr (inl _)) = refl
 
 -- ---- with what is said after a fault
 
 pub with_tail_on : (limit m n : ℕ) (a b c : Place) (result : Result (Unit {0}) Cut) → m + n ≤ limit → Took m a b
     → TookWithTail n b result c → TookWithTail limit a result c
-with_tail_on limit m n a b c (Ok done) less first then = took_less (took_on first then) less
-with_tail_on limit m n a b c (Err cut) less first (before, then, small) =
-    (m + before, before_on (m + before) m before a b c cut.rest (omega arith) first then, omega (arith, less, small))
+with_tail_on _ m n a b c (Ok _) less first then = took_less (took_on first then) less
+with_tail_on _ m n a b c (Err cut) less first (before, then, small) =
+    (m + before, before_on _ m _ a b c _ (omega arith) first then, omega (arith, less, small))
 
 -- a session that was brought to its end
 pub ended_within : (messages : ℕ) (link : Link) (last : Place)
     → Took (opening_limit + (messages * step_limit + tail_limit)) (at link []) last → length last.waiting ≤ tail_limit
     → GotAtMost (session_limit messages) link last.link
-ended_within messages link last took short = (took.gained, took.got, omega (arith, took.within, short))
+ended_within _ _ _ took short = (took.gained, took.got, omega (arith, took.within, short))
 
 -- a text that was asked for, and is under way or at its end
 pub took_fetching : (number : ℕ) (start new : Place) (rest : Rest) (text : List ℕ)
     → Fetching (retr number) start new rest text → Took (line_limit + text_limit) start new
-took_fetching number start new rest text is = record {
+took_fetching _ _ _ _ _ is = record {
   gained = is.opened.gained ++ is.under.gained;
   got = simp (is.under.drew.got, is.opened.got, append_assoc);
   within = omega (arith, length-append {A = ℕ}, ap length is.opened.heard, ap length is.under.heard, is.under.sizes, is.opened.short);
@@ -391,18 +389,18 @@ module _ (paced : ConversationsArePaced) where
   pub took_leaving : (limit : ℕ) (fault : Fault) (rest : Option Rest) (old mid last : Place)
       → TookBefore limit old rest mid → LeftBy fault rest mid last
       → Took (limit + most_of (tail_turns (tail fault))) old last
-  took_leaving limit fault None old mid last took left = took_on took (took_talks (tail_turns (tail fault)) mid last left.0 left.1)
-  took_leaving limit fault (Some rest) old mid last so_far left =
+  took_leaving _ fault None _ mid last took left = took_on took (took_talks _ _ _ _ left.1)
+  took_leaving _ fault (Some _) _ _ last so_far left =
       let said = left.1 so_far.number so_far.start so_far.text so_far.fetching in
       let all : Took (most_of (retr so_far.number ∷ tail_turns (tail fault))) so_far.start last =
-      took_talks (retr so_far.number ∷ tail_turns (tail fault)) so_far.start last said.0 said.1 in
+      took_talks _ _ _ _ said.1 in
       took_less (took_on so_far.took all) (omega (arith, so_far.within))
 
   -- a text that was to be kept whole
   pub takes_held : (number : ℕ) (start : Place) (cut : Cut) (new : Place) → TakesText number start (Err cut) new
       → TookTillCut (line_limit + text_limit) start (Err cut) new
-  takes_held number start cut new (none, why) =
+  takes_held number start _ new (none, why) =
       rw none (elim why [
-        | inl (fault, is, broke) ↦ took_broke (retr number) start new fault broke
-        | inr (wants, (rest, text, fetching)) ↦ took_fetching number start new rest text fetching
+        | inl (fault, is, broke) ↦ took_broke _ _ _ _ broke
+        | inr (wants, (rest, text, fetching)) ↦ took_fetching _ _ _ _ _ fetching
       ])

@@ -20,7 +20,7 @@ use Rattle.pop3_client.specs.Conversation.{Talked, Broke}
 use Rattle.fetch_session.specs.declared.report.ReportLine.{ReportLine}
 use Rattle.fetch_session.specs.declared.report.ReportLine.TheVariants.{Delivered}
 use Rattle.fetch_session.specs.Task.{Task, Done, IsAnswered, stores, turns_in, turns_of, texts_in, ids_in, replies_of}
-use Rattle.fetch_session.specs.Task.{report_lines, file_from, files_in}
+use Rattle.fetch_session.specs.Task.{report_lines, files_in}
 use Rattle.fetch_session.specs.Record.{Saves, record_state_in, intent_at, with_open}
 use Rattle.fetch_session.specs.Scene.{EntryNotSaved, NoEntry, scene, Stops, TakesTask}
 use Rattle.fetch_session.proofs.SceneLemmas.{brings_same}
@@ -44,11 +44,11 @@ use Rattle.fetch_session.specs.Mbox.{MarksEntry, RefusesEntry, SettlesIntent, in
 -- ---- what storing a text leaves
 
 pub gained_file : (old new : Maildir) (f : File) → new ≡ with_file old f → Gained old new (f ∷ [])
-gained_file old new f is =
-    rw is (record { came = refl; taken = refl; there = refl; none_begun = λ none_begun. refl; failures = omega arith })
+gained_file _ _ f is =
+    rw is (record { came = refl; taken = refl; there = refl; none_begun = λ _. refl; failures = omega arith })
 
 pub not_grown : (old new : Maildir) (name : List ℕ) → old.begun ≡ None → new ≡ old → MayGain name old new
-not_grown old new name none_begun is = rw is (record { none_begun = none_begun; came = inl refl })
+not_grown _ _ _ none_begun is = rw is (record { none_begun = none_begun; came = inl refl })
 
 -- ---- a text, piece by piece
 
@@ -57,35 +57,35 @@ dropped_none_begun old none_begun = λ i. record old { begun = sym none_begun i 
 
 -- a flush of names changes nothing if each is durable
 pub named_before : (files risen : List File) → AllNamed files → AllZip MayBeNamed files risen → risen ≡ files
-named_before [] [] all are = refl
-named_before [] (g ∷ risen) all never = absurd never
-named_before (f ∷ files) [] all never = absurd never
+named_before [] [] _ _ = refl
+named_before [] (g ∷ _) _ never = absurd never
+named_before (f ∷ _) [] _ never = absurd never
 named_before (f ∷ files) (g ∷ risen) all (inl same, are) = rw (same, named_before files risen all.1 are) refl
 named_before (f ∷ files) (g ∷ risen) all (inr same, are) =
     rw (same, named_before files risen all.1 are) (λ i. record f { is_named = sym all.0 i } ∷ files)
 
 -- one more name is durable
 pub named_more : (files : List File) (f : File) → AllNamed files → IsNamed f → AllNamed (files ++ f ∷ [])
-named_more [] f all is = (is, tt)
+named_more [] f _ is = (is, tt)
 named_more (g ∷ files) f all is = (all.0, named_more files f all.1 is)
 
 -- what was written is in a file whose name gives its length
 pub settled : (old now new : Maildir) (stem text : List ℕ) (octets : ℕ) → now ≡ begun_with old (draft stem text) → octets ≡ length text
     → EndsFile now (sized stem octets) (Ok tt) new → new ≡ with_file old (sized_file stem text)
-settled old now new stem text octets was counts ends = (rw (was, counts) at ends) (draft stem text) refl
+settled _ _ _ stem text _ was counts ends = (rw (was, counts) at ends) (draft stem text) refl
 
 stops_grows : (old new : Maildir) (name text : List ℕ) (fault : Fault) (rest : Option Rest) → old.begun ≡ None
     → StopsStoring name old text fault rest new → MayGain name old new
-stops_grows old new name text fault None none_begun is = not_grown old new name none_begun is
-stops_grows old new name text fault (Some rest) none_begun (inl missing) = not_grown old new name none_begun missing.2
-stops_grows old new name text fault (Some rest) none_begun (inr (why, inl is)) = rw is (record { none_begun = refl; came = inl refl })
-stops_grows old new name text fault (Some rest) none_begun (inr (why, inr (ended, (is_named, there)))) =
+stops_grows old new name _ _ None none_begun is = not_grown _ _ _ none_begun is
+stops_grows old new name _ _ (Some _) none_begun (inl missing) = not_grown _ _ _ none_begun missing.2
+stops_grows _ _ _ _ _ (Some _) none_begun (inr (_, inl is)) = rw is (record { none_begun = refl; came = inl refl })
+stops_grows _ _ _ text _ (Some _) none_begun (inr (_, inr (_, (is_named, there)))) =
     rw there (record { none_begun = refl; came = inr (text, is_named, refl) })
 
 pub stores_grows : (old new : Maildir) (name text : List ℕ) (r : Result ℕ Cut) → old.begun ≡ None
     → StoresText name old text r new → MayGain name old new
-stores_grows old new name text (Ok octets) none_begun is = rw is.0 (record { none_begun = refl; came = inr (text, true, refl) })
-stores_grows old new name text (Err cut) none_begun is = stops_grows old new name text cut.fault cut.rest none_begun is
+stores_grows _ _ _ text (Ok _) none_begun is = rw is.0 (record { none_begun = refl; came = inr (text, true, refl) })
+stores_grows old new name text (Err cut) none_begun is = stops_grows _ _ _ _ _ _ none_begun is
 
 -- a text that grew by the first `put` of some bytes is `put` longer
 pub longer : (n put : ℕ) (text out : List ℕ) → n ≡ length text → put ≤ length out → n + put ≡ length (text ++ take put out)
@@ -99,7 +99,7 @@ pub text_broken : (target : Target) {task : Task} {turn : Turn} {a b : Place} {s
     → turns_in task ≡ turn ∷ [] → Broke turn a b fault
     → Stops target task (scene a store file rows lines) (cut_of (fault_of fault) None)
     (scene b store file rows lines)
-text_broken target {turn = turn} fault takes broke =
+text_broken _ {turn = turn} fault takes broke =
     inl (record {
       none = refl;
       turn = turn;
@@ -141,12 +141,12 @@ module _ {account : List ℕ} {n : ℕ} {uid : List ℕ} {a b : Place} {maildir 
       → Saves file (none_open rows) (none_open (marked rows uid)) (Ok tt) file' → lines' ≡ lines ++ Delivered n octets ∷ []
       → TakesTask (AsFiles account) (stores n uid) (scene a (in_maildir maildir) file rows lines) (Ok tt)
       (scene b (in_maildir maildir') file' rows' lines')
-  text_stored octets text stem named stored reads mark saves told = (
+  text_stored _ _ _ named stored reads mark saves told = (
     reads.0 ∷ [],
     record {
       talked = reads.1;
       each = (reads.1.good, tt);
-      stored = gained_file maildir maildir' (file_from account uid reads.0) (simp (stored.0, named, reads.2));
+      stored = gained_file _ _ _ (simp (stored.0, named, reads.2));
       rows = mark;
       saved = λ stood. rw mark (saves.1 stood);
       file_count = omega (arith, saves.0);
@@ -160,7 +160,7 @@ module _ {account : List ℕ} {n : ℕ} {uid : List ℕ} {a b : Place} {maildir 
       → Saves file (none_open rows) (none_open (marked rows uid)) (Err fault) file' → lines' ≡ lines ++ Delivered n octets ∷ []
       → Stops (AsFiles account) (stores n uid) (scene a (in_maildir maildir) file rows lines) (cut_of fault None)
       (scene b (in_maildir maildir') file' rows' lines')
-  text_not_saved octets text stem fault named stored reads saves told =
+  text_not_saved _ _ _ _ named stored reads saves told =
       inr (inr (record {
         none = refl;
         number = n;
@@ -168,7 +168,7 @@ module _ {account : List ℕ} {n : ℕ} {uid : List ℕ} {a b : Place} {maildir 
         reply = reads.0;
         is = refl;
         talked = reads.1;
-        stored = gained_file maildir maildir' (file_from account uid reads.0) (simp (stored.0, named, reads.2));
+        stored = gained_file _ _ _ (simp (stored.0, named, reads.2));
         saves = saves;
         lines = simp (told, stored.1, reads.2);
       }))
@@ -187,7 +187,7 @@ taken_idle target done {store = store} {rows = rows} files texts ids answered ta
   record {
     talked = talked;
     each = (answered, tt);
-    stored = brings_same target done store files texts;
+    stored = brings_same _ _ _ files texts;
     rows =
         rw ids refl;
     saved = λ stands. stands;
@@ -199,7 +199,7 @@ taken_idle target done {store = store} {rows = rows} files texts ids answered ta
 -- ---- contents
 
 none_some : {P : Type 0} (content : Option (List ℕ)) (bytes : List ℕ) → content ≡ None → content ≡ Some bytes → P
-none_some content bytes none some = absurd (none-some bytes (sym none ∙ some))
+none_some _ bytes none some = absurd (none-some bytes (cc))
 
 either : (content : Option (List ℕ)) → (content ≡ None) ⊎ ((bytes : List ℕ) × (content ≡ Some bytes))
 either None = inl refl
@@ -218,12 +218,12 @@ settled_is : (intent : Option Intent) (items : List Item) (old mid : Stored) (st
     → SettlesIntent intent items old (Ok stored) mid
     → ((old.content ≡ None) × (mid ≡ old)) ⊎ ((was : List ℕ) × (old.content ≡ Some was)
     × (stored ≡ is_stored intent items was) × (mid ≡ holding old (closed_file intent items was)))
-settled_is None items old mid stored (whole, same) =
+settled_is None _ old _ _ (whole, same) =
     elim (either old.content) [
       | inl none ↦ inl (none, same)
-      | inr (was, some) ↦ inr (was, some, whole, same ∙ held_same old was some)
+      | inr (was, some) ↦ inr (was, some, whole, same ∙ held_same _ _ some)
     ]
-settled_is (Some intent) items old mid stored (was, some, whole, now) = inr (was, some, whole, now)
+settled_is (Some _) _ _ _ _ (was, some, whole, now) = inr (was, some, whole, now)
 
 pub asks_ok : (intent : Option Intent) (old mid new : Stored) (stored : Bool) (items : List Item) (found : Found)
     → SettlesIntent intent items old (Ok stored) mid → ChecksMbox {T = Unit {0}} mid (Ok tt) new → found.stored ≡ stored
@@ -248,8 +248,8 @@ at_most intent items old mid new stored settles same =
 
 failures_kept : (intent : Option Intent) (items : List Item) (old mid : Stored) (stored : Bool)
     → SettlesIntent intent items old (Ok stored) mid → mid.failures ≡ old.failures
-failures_kept None items old mid stored is = ap (λ (s : Stored). s.failures) is.1
-failures_kept (Some intent) items old mid stored is = ap (λ (s : Stored). s.failures) is.3
+failures_kept None _ _ _ _ is = cc
+failures_kept (Some _) _ _ _ _ is = cc
 
 -- the file was refused
 pub asks_refused : (intent : Option Intent) (old mid new : Stored) (stored : Bool) (items : List Item)
@@ -283,19 +283,19 @@ asks_refused intent old mid new stored items refused.NoMemory fault settles neve
 -- the file was refused before the intent was saved
 pub not_measured : (mbox mbox' file : Stored) (rows : List Row) (uid text : List ℕ) (why : StoreFault) (fault : Fault)
     → Measures mbox (Err why) mbox' → IsStoreFault why fault → RefusesEntry mbox file rows uid text fault mbox' file
-not_measured mbox mbox' file rows uid text refused.Missing fault is fault_is = rw fault_is (is.0, is.1, refl)
-not_measured mbox mbox' file rows uid text refused.Refused fault is fault_is = rw fault_is (inl (is, inl refl))
-not_measured mbox mbox' file rows uid text _ fault never fault_is = absurd never
+not_measured _ _ _ _ _ _ refused.Missing _ is fault_is = rw fault_is (is.0, is.1, refl)
+not_measured _ _ _ _ _ _ refused.Refused _ is fault_is = rw fault_is (inl (is, inl refl))
+not_measured _ _ _ _ _ _ _ _ never _ = absurd never
 
 -- the intent's line was refused, or memory ran out for it
 pub not_intended : (mbox mid file file' : Stored) (rows : List Row) (uid text : List ℕ) (edges : Edges) (len : ℕ)
     (fault : Fault) → Measures mbox (Ok edges) mid → len ≡ length (entry_of text)
     → Saves file (none_open rows) (with_open rows (intent_at uid edges.size len)) (Err fault) file'
     → RefusesEntry mbox file rows uid text fault mid file'
-not_intended mbox mid file file' rows uid text edges len SeenRefused ((was, some, edges_are), same) len_is saves =
+not_intended _ _ _ _ _ _ _ _ _ SeenRefused ((was, some, edges_are), same) len_is saves =
     (same, (was, some, rw (edges_are, len_is) at saves))
-not_intended mbox mid file file' rows uid text edges len NoMemory ((was, some, edges_are), same) len_is saves = (same, inl saves)
-not_intended mbox mid file file' rows uid text edges len _ measures len_is never = absurd never
+not_intended _ _ _ _ _ _ _ _ _ NoMemory ((_, _, _), same) _ saves = (same, inl saves)
+not_intended _ _ _ _ _ _ _ _ _ _ _ _ never = absurd never
 
 -- it was refused, none of it is there, and its intent was closed
 pub entry_refused : (mbox mid mbox' file file' : Stored) (rows : List Row) (uid text : List ℕ) (edges : Edges)
@@ -316,7 +316,7 @@ entry_refused mbox mid mbox' file file' rows uid text edges why fault measures b
 
 appended_one : (mbox mbox' : Stored) (was text : List ℕ) → mbox.content ≡ Some was
     → mbox' ≡ holding mbox (was ++ entry_of text) → Appended mbox mbox' (text ∷ [])
-appended_one mbox mbox' was text some is = record { content = rw (is, some, append-nil); failures = rw is }
+appended_one _ _ _ _ some is = record { content = rw (is, some, append-nil); failures = rw is }
 
 -- the lines of a body end in LF
 pub text_whole : (lines : List (List ℕ)) → IsWhole (text_of lines)
@@ -333,10 +333,10 @@ body_whole (Some lines) = text_whole lines
 -- nothing of the entry is there
 pub entry_none : (old new : Stored) (text : List ℕ) (fault : StoreFault)
     → AppendsEntry {T = Unit {0}} old text (Err (Nothing fault)) new → new.content ≡ old.content
-entry_none old new text refused.Missing is = ap (λ (s : Stored). s.content) is.1
-entry_none old new text refused.Refused is = ap (λ (s : Stored). s.content) is
-entry_none old new text refused.NotMbox is = ap (λ (s : Stored). s.content) is.1
-entry_none old new text refused.NoMemory is = ap (λ (s : Stored). s.content) is
+entry_none _ _ _ refused.Missing is = cc
+entry_none _ _ _ refused.Refused is = cc
+entry_none _ _ _ refused.NotMbox is = cc
+entry_none _ _ _ refused.NoMemory is = cc
 
 -- the text wasn't read whole
 pub not_held : {n : ℕ} {uid : List ℕ} {a b : Place} {store : Stores} {file : Stored} {rows : List Row}
@@ -368,7 +368,7 @@ module _ {n : ℕ} {uid : List ℕ} {a b : Place} {mbox mbox' file file' : Store
       → rows' ≡ rows → lines' ≡ lines
       → (e : NoEntry (stores n uid) (scene a (in_mbox mbox) file rows lines)
       (scene b (in_mbox mbox') file' rows' lines') (cut_of fault None)) × (e.uid ≡ uid) × (body_text e.reply.body ≡ text)
-  text_refused text fault (reply, talked, is) refuses rows_are told = (
+  text_refused _ _ (reply, talked, is) refuses rows_are told = (
     record {
       none = refl;
       number = n;
@@ -425,12 +425,12 @@ module _ {n : ℕ} {uid : List ℕ} {a b : Place} {mbox mbox' file file' : Store
       → lines' ≡ lines ++ Delivered n octets ∷ []
       → TakesTask AsEntries (stores n uid) (scene a (in_mbox mbox) file seen.rows lines) (Ok tt)
       (scene b (in_mbox mbox') file' rows' lines')
-  entry_stored octets text mid seen seen' (reply, talked, is) long (was, goes_on, now, opened, saves) rows_are mark marks told = (
+  entry_stored _ text _ _ _ (reply, talked, is) long (was, goes_on, now, opened, saves) rows_are mark marks told = (
     reply ∷ [],
     record {
       talked = talked;
       each = (talked.good, tt);
-      stored = rw (← is) (appended_one mbox mbox' was text goes_on.0 now);
+      stored = rw (← is) (appended_one _ _ _ _ goes_on.0 now);
       rows = rw rows_are at mark;
       saved = λ stood. rw mark (marks.1 (rw (rows_are, opened) (saves.1 stood)));
       file_count = omega (arith, saves.0, marks.0);

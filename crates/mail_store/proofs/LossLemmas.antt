@@ -13,48 +13,43 @@ use Rattle.mail_terms.proofs.ListLemmas.{all_append}
 
 module _ {A : Type 0} where
   first : (x : A) (xs : List A) → Contains (x ∷ xs) x
-  first x xs = (0, omega arith, refl)
+  first x _ = (0, omega arith, refl)
 
   later : (y : A) (xs : List A) (x : A) → Contains xs x → Contains (y ∷ xs) x
-  later y xs x c = (suc c.0, omega (arith, c.1), c.2)
+  later y _ x c = (suc c.0, omega (arith, c.1), c.2)
 
 file_is : (f : File) (name content : List ℕ) (is_named is_flushed : Bool) → name ≡ f.name → content ≡ f.content → is_named ≡ f.is_named
     → is_flushed ≡ f.is_flushed → record { name = name; content = content; is_named = is_named; is_flushed = is_flushed } ≡ f
-file_is f name content is_named is_flushed n c d b = rw (n, c, d, b) refl
+file_is f _ _ _ _ n c d b = rw (n, c, d, b) refl
 
 -- a durable file is left as it was
 left_same : (f g : File) → IsDurableFile f → IsLeftAs f g → g ≡ f
-left_same f g on left = file_is f g.name g.content g.is_named g.is_flushed left.name (left.content on.1) (left.durable.0
-    ∙ sym on.0) (left.durable.1 ∙ sym on.1)
+left_same f g on left = file_is f _ _ _ _ left.name (left.content on.1) (cc) (cc)
 
 pub names_left : (files left : List File) (f : File) → AreLeftAs files left → Contains files f → IsNamed f → Contains (names_of left) f.name
-names_left [] left f are c named = absurd (omega (arith, c.1))
-names_left (h ∷ files) left f (inl (gone, are)) (zero, below, is) named =
-    absurd (false≢true (sym gone ∙ ap (λ (x : File). x.is_named) is ∙ named))
-names_left (h ∷ files) left f (inl (gone, are)) (suc k, below, is) named = names_left files left f are (k, omega (arith, below), is) named
-names_left (h ∷ files) left f (inr (g, rest, made, kept, are)) (zero, below, is) named =
-    rw (made, sym (ap (λ (x : File). x.name) is), ← kept.name) (first g.name (names_of rest))
-names_left (h ∷ files) left f (inr (g, rest, made, kept, are)) (suc k, below, is) named =
-    rw made (later g.name (names_of rest) f.name (names_left files rest f are (k, omega (arith, below), is) named))
+names_left [] _ f _ c _ = absurd (omega (arith, c.1))
+names_left (h ∷ _) _ f (inl (gone, _)) (zero, _, is) named = absurd (false≢true (cc))
+names_left (h ∷ files) left f (inl (_, are)) (suc k, below, is) named = names_left files _ f are (k, omega (arith, below), is) named
+names_left (h ∷ _) _ f (inr (g, rest, made, kept, _)) (zero, _, is) _ = rw (made, sym (ap (λ x. x.name) is), ← kept.name) (first _ _)
+names_left (h ∷ files) _ f (inr (g, rest, made, _, are)) (suc k, below, is) named =
+    rw made (later g.name (names_of rest) f.name (names_left files _ f are (k, omega (arith, below), is) named))
 
 pub files_left : (files left : List File) (f : File) → AreLeftAs files left → Contains files f → IsDurableFile f → Contains left f
-files_left [] left f are c on = absurd (omega (arith, c.1))
-files_left (h ∷ files) left f (inl (gone, are)) (zero, below, is) on =
-    absurd (false≢true (sym gone ∙ ap (λ (x : File). x.is_named) is ∙ on.0))
-files_left (h ∷ files) left f (inl (gone, are)) (suc k, below, is) on = files_left files left f are (k, omega (arith, below), is) on
-files_left (h ∷ files) left f (inr (g, rest, made, kept, are)) (zero, below, is) on =
-    rw (made, left_same f g on (rw is at kept)) (first f rest)
-files_left (h ∷ files) left f (inr (g, rest, made, kept, are)) (suc k, below, is) on =
-    rw made (later g rest f (files_left files rest f are (k, omega (arith, below), is) on))
+files_left [] _ f _ c _ = absurd (omega (arith, c.1))
+files_left (h ∷ _) _ f (inl (gone, _)) (zero, _, is) on = absurd (false≢true (cc))
+files_left (h ∷ files) left f (inl (_, are)) (suc k, below, is) on = files_left files _ f are (k, omega (arith, below), is) on
+files_left (h ∷ _) _ f (inr (g, rest, made, kept, _)) (zero, _, is) on = rw (made, left_same f g on (rw is at kept)) (first f _)
+files_left (h ∷ files) _ f (inr (g, rest, made, _, are)) (suc k, below, is) on =
+    rw made (later g rest f (files_left files _ f are (k, omega (arith, below), is) on))
 
 -- if the bytes of each file were durable, some of the files are left, each whole
 pub part_left : (files left : List File) → AllFlushed files → AreLeftAs files left → IsPart files left
-part_left [] left all are = ([], rw are tt)
-part_left (f ∷ files) left all (inl (gone, are)) =
-    let (others, is) = part_left files left all.1 are in
+part_left [] _ _ are = ([], rw are tt)
+part_left (f ∷ files) _ all (inl (_, are)) =
+    let (others, is) = part_left files _ all.1 are in
     (f ∷ others, ([], files, reached_same (f ∷ files), is))
-part_left (f ∷ files) left all (inr (g, rest, made, kept, are)) =
-    let (others, is) = part_left files rest all.1 are in
+part_left (f ∷ files) _ all (inr (g, rest, made, kept, are)) =
+    let (others, is) = part_left files _ all.1 are in
     let reaches : IsAsDurable f g = record {
       name = kept.name;
       content = kept.content all.0;
@@ -62,21 +57,21 @@ part_left (f ∷ files) left all (inr (g, rest, made, kept, are)) =
           λ _. kept.durable.0;
       flushed = λ _. kept.durable.1;
     } in
-    (others, rw made (without_more others files rest f g reaches is))
+    (others, rw made (without_more _ _ _ f g reaches is))
 
 -- if all is durable, all is left
 pub all_left : (files left : List File) → AllDurable files → AreLeftAs files left → left ≡ files
-all_left [] left all are = are
-all_left (f ∷ files) left all (inl (gone, are)) = absurd (false≢true (sym gone ∙ all.0.0))
-all_left (f ∷ files) left all (inr (g, rest, made, kept, are)) =
+all_left [] _ _ are = are
+all_left (f ∷ _) _ all (inl (gone, _)) = absurd (false≢true (cc))
+all_left (f ∷ files) _ all (inr (g, rest, made, kept, are)) =
     made ∙ rw (left_same f g (all.0.0, all.1.0) kept, all_left files rest (all.0.1, all.1.1) are) refl
 
 -- what is left is durable
 pub left_durable : (files left : List File) → AreLeftAs files left → AllDurable left
-left_durable [] left are = rw are (tt, tt)
-left_durable (f ∷ files) left (inl (gone, are)) = left_durable files left are
-left_durable (f ∷ files) left (inr (g, rest, made, kept, are)) =
-    let others = left_durable files rest are in
+left_durable [] _ are = rw are (tt, tt)
+left_durable (f ∷ files) _ (inl (_, are)) = left_durable files _ are
+left_durable (f ∷ files) _ (inr (g, rest, made, kept, are)) =
+    let others = left_durable files _ are in
     rw made ((kept.durable.0, others.0), (kept.durable.1, others.1))
 
 -- all of them may be left
@@ -96,62 +91,61 @@ all_may_be_left (f ∷ files) = inr (
 -- ---- what keeps files flushed
 
 flushed_reached : (files risen : List File) → AllFlushed files → AreReached files risen → AllFlushed risen
-flushed_reached [] [] all are = tt
-flushed_reached [] (g ∷ risen) all are = absurd are
-flushed_reached (f ∷ files) [] all are = absurd are
+flushed_reached [] [] _ _ = tt
+flushed_reached [] (g ∷ _) _ are = absurd are
+flushed_reached (f ∷ _) [] _ are = absurd are
 flushed_reached (f ∷ files) (g ∷ risen) all are = (are.0.flushed all.0, flushed_reached files risen all.1 are.1)
 
 flushed_named : (files risen : List File) → AllFlushed files → AllZip MayBeNamed files risen → AllFlushed risen
-flushed_named [] [] all are = tt
-flushed_named [] (g ∷ risen) all never = absurd never
-flushed_named (f ∷ files) [] all never = absurd never
+flushed_named [] [] _ _ = tt
+flushed_named [] (g ∷ _) _ never = absurd never
+flushed_named (f ∷ _) [] _ never = absurd never
 flushed_named (f ∷ files) (g ∷ risen) all (inl same, are) = (rw same all.0, flushed_named files risen all.1 are)
 flushed_named (f ∷ files) (g ∷ risen) all (inr same, are) = (rw same all.0, flushed_named files risen all.1 are)
 
 flushed_others : (front back : List File) (f : File) → AllFlushed (front ++ f ∷ back) → AllFlushed (front ++ back)
-flushed_others [] back f all = all.1
-flushed_others (g ∷ front) back f all = (all.0, flushed_others front back f all.1)
+flushed_others [] _ f all = all.1
+flushed_others (g ∷ front) _ f all = (all.0, flushed_others front _ f all.1)
 
 pub flushed_part : (gone files left : List File) → AllFlushed files → IsWithout files gone left → AllFlushed left
-flushed_part [] files left all are = flushed_reached files left all are
-flushed_part (f ∷ gone) files left all (front, back, are, is) =
-    flushed_part gone (front ++ back) left (flushed_others front back f (flushed_reached files (front ++ f ∷ back) all are)) is
+flushed_part [] _ _ all are = flushed_reached _ _ all are
+flushed_part (f ∷ gone) _ _ all (_, _, are, is) =
+    flushed_part gone _ _ (flushed_others _ _ f (flushed_reached _ _ all are)) is
 
 pub flushed_delivers : {T : Type 0} (old new : Maildir) (name text : List ℕ) (r : Result T StoreFault) → Delivers old (mail name text) r new
     → AllFlushed old.files → AllFlushed new.files
-flushed_delivers old new name text (Ok done) (risen, are, is) all =
-    rw is (all_append _ risen (mail name text ∷ []) (flushed_named old.files risen all are) (refl, tt))
-flushed_delivers old new name text (Err Missing) is all = rw is.1 all
-flushed_delivers old new name text (Err Refused) (inl is) all = rw is all
-flushed_delivers old new name text (Err Refused) (inr (risen, are, (named, is))) all =
-    rw is (all_append _ risen (record (mail name text) { is_named = named } ∷ []) (flushed_named old.files risen all are) (refl, tt))
-flushed_delivers old new name text (Err NoMemory) is all = rw is all
-flushed_delivers old new name text (Err fault) is all = absurd is
+flushed_delivers old _ name text (Ok _) (risen, are, is) all = rw is (all_append _ _ _ (flushed_named _ _ all are) (refl, tt))
+flushed_delivers _ _ _ _ (Err Missing) is all = rw is.1 all
+flushed_delivers _ _ _ _ (Err Refused) (inl is) all = rw is all
+flushed_delivers old _ name text (Err Refused) (inr (risen, are, (named, is))) all =
+    rw is (all_append _ _ _ (flushed_named _ _ all are) (refl, tt))
+flushed_delivers _ _ _ _ (Err NoMemory) is all = rw is all
+flushed_delivers _ _ _ _ (Err _) is _ = absurd is
 
 -- ---- what may be left after more calls
 
 before_reached : (f g h : File) → IsAsDurable f g → IsLeftAs g h → IsLeftAs f h
 before_reached f g h reaches left = record {
-  name = left.name ∙ reaches.name;
+  name = cc;
   content = λ is. left.content (reaches.flushed is) ∙ reaches.content;
   durable = left.durable;
 }
 
 pub left_before : (files risen left : List File) → AreReached files risen → AreLeftAs risen left → AreLeftAs files left
-left_before [] [] left are is = is
-left_before [] (g ∷ risen) left are is = absurd are
-left_before (f ∷ files) [] left are is = absurd are
+left_before [] [] _ _ is = is
+left_before [] (g ∷ _) _ are _ = absurd are
+left_before (f ∷ _) [] _ are _ = absurd are
 left_before (f ∷ files) (g ∷ risen) left are (inl (gone, is)) =
-    inl (false_from_ne_true f.is_named (λ named. false≢true (sym gone ∙ are.0.named named)), left_before files risen left are.1 is)
-left_before (f ∷ files) (g ∷ risen) left are (inr (h, rest, made, kept, is)) =
+    inl (false_from_ne_true _ (λ named. false≢true (cc (are.0.named named))), left_before files risen left are.1 is)
+left_before (f ∷ files) (g ∷ risen) _ are (inr (h, rest, made, kept, is)) =
     inr (h, rest, made, before_reached f g h are.0 kept, left_before files risen rest are.1 is)
 
 pub left_of_both : (files added left : List File) → AreLeftAs (files ++ added) left
     → (before part : List File) × AreLeftAs files before × AreLeftAs added part × (left ≡ before ++ part)
-left_of_both [] added left is = ([], left, refl, is, refl)
-left_of_both (f ∷ files) added left (inl (gone, is)) =
-    let (before, part, first, next, same) = left_of_both files added left is in
+left_of_both [] _ left is = ([], left, refl, is, refl)
+left_of_both (f ∷ files) _ _ (inl (gone, is)) =
+    let (before, part, first, next, same) = left_of_both files _ _ is in
     (before, part, inl (gone, first), next, same)
-left_of_both (f ∷ files) added left (inr (g, rest, made, kept, is)) =
-    let (before, part, first, next, same) = left_of_both files added rest is in
-    (g ∷ before, part, inr (g, before, refl, kept, first), next, made ∙ ap (λ (fs : List File). g ∷ fs) same)
+left_of_both (f ∷ files) added _ (inr (g, rest, made, kept, is)) =
+    let (before, part, first, next, same) = left_of_both files _ _ is in
+    (g ∷ before, part, inr (g, before, refl, kept, first), next, cc)

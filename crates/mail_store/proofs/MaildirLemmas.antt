@@ -51,8 +51,8 @@ hex_all : (P : ℕ → Type 0) (bytes : List ℕ)
 unfolding encode_with
 hex_all P [] h = All-nil P
 hex_all P (b ∷ rest) h =
-    All-cons P (slice_index lower_digits (b / 16)) (slice_index lower_digits (b % 16) ∷ encode_lower rest) (h 0).0
-    (All-cons P (slice_index lower_digits (b % 16)) (encode_lower rest) (h 0).1 (hex_all P rest (λ k. h (suc k))))
+    All-cons P _ (slice_index lower_digits (b % 16) ∷ encode_lower rest) (h 0).0
+    (All-cons P _ (encode_lower rest) (h 0).1 (hex_all P rest (λ k. h (suc k))))
 
 -- the hexadecimal text of bytes has only lower-case digits
 digits_pass : (bytes : List ℕ) → IsBytes bytes → AllPass is_lower_hex_digit (encode_lower bytes)
@@ -63,11 +63,11 @@ digits_pass bytes h = hex_all (λ x. is_lower_hex_digit x ≡ true) bytes
 words_are_bytes : (h : List ℕ) (n : ℕ) → All (λ x. x < 256) (digest_bytes h n)
 unfolding digest_bytes
 words_are_bytes h zero = All-nil (λ x. x < 256)
-words_are_bytes h (suc n) = All-append (λ x. x < 256) (digest_bytes h n) (to_be_bytes w32 (slice_index h n)) (words_are_bytes h n)
+words_are_bytes h (suc n) = All-append (λ x. x < 256) _ (to_be_bytes w32 (slice_index h n)) (words_are_bytes h n)
     (All-from_recursion (λ x. x < 256) (to_be_bytes w32 (slice_index h n)) (omega arith, (omega arith, (omega arith, (omega arith, tt)))))
 
 IsBytes-from_all : (xs : List ℕ) → All (λ x. x < 256) xs → IsBytes xs
-IsBytes-from_all xs all k = grind (arith, all k 0, get_or_past xs k 0)
+IsBytes-from_all xs all k = grind (arith, all k 0, get_or_past)
 
 pub account_digits : (server : List ℕ) (port : ℕ) (username : List ℕ) → IsAccountText (account_text server port username)
 unfolding sha256
@@ -84,13 +84,13 @@ IsPlain byte = (is_colon byte ≡ false) × (is_comma byte ≡ false)
 
 -- a digit is plain
 digit_is_plain : (byte : ℕ) → is_lower_hex_digit byte ≡ true → IsPlain byte
-digit_is_plain byte h = (grind arith, grind arith)
+digit_is_plain _ h = (grind arith, grind arith)
 
 -- a byte read from the table is plain, even past its end
 table_is_plain : (k : ℕ) → IsPlain (slice_index lower_digits k)
 table_is_plain k = elim (cases_lt k 16) [
-  | inl below ↦ digit_is_plain (slice_index lower_digits k) (digit_passes k below)
-  | inr past ↦ rw (get_or_past lower_digits k 0 past) (refl, refl)
+  | inl below ↦ digit_is_plain _ (digit_passes k below)
+  | inr past ↦ rw get_or_past (refl, refl)
 ]
 
 -- a name in which no byte passes is whole before the first that does
@@ -101,23 +101,25 @@ all_before p name h =
 
 stem_is_plain : (account uid : List ℕ) → IsAccountText account → All IsPlain (stem_of account uid)
 stem_is_plain account uid h =
-    All-append IsPlain account (46 ∷ encode_lower uid)
-    (λ k d lt. digit_is_plain (get_or account k d) (h.1 k d lt))
+    All-append IsPlain account (46 ∷ encode_lower uid) (λ k d lt. digit_is_plain (get_or account k d) (h.1 k d lt))
     (All-cons IsPlain 46 (encode_lower uid) (refl, refl)
     (hex_all IsPlain uid (λ k. (table_is_plain (slice_index uid k / 16), table_is_plain (slice_index uid k % 16)))))
 
 pub stem_stem_of : (account uid : List ℕ) → IsAccountText account → stem (stem_of account uid) ≡ stem_of account uid
 stem_stem_of account uid h =
-    ap (before_first is_comma) (all_before is_colon (stem_of account uid) (λ k d lt. (stem_is_plain account uid h k d lt).0))
-    ∙ all_before is_comma (stem_of account uid) (λ k d lt. (stem_is_plain account uid h k d lt).1)
+    cc (
+      all_before is_colon (stem_of account uid) (λ k d lt. (stem_is_plain account uid h k d lt).0),
+      all_before is_comma
+          (stem_of account uid) (λ k d lt. (stem_is_plain account uid h k d lt).1),
+    )
 
 -- a decimal has only digits
 glyph_is_no_colon : (d : ℕ) → d < 10 → is_colon (digit_glyph false d) ≡ false
-glyph_is_no_colon d small = grind (arith, nat_tests)
+glyph_is_no_colon d _ = grind (arith, nat_tests)
 
 onto_has_no_colon : (k n : ℕ) (acc : List ℕ) → All (λ byte. is_colon byte ≡ false) acc
     → All (λ byte. is_colon byte ≡ false) (digits_onto k 10 false n acc)
-onto_has_no_colon zero n acc h = h
+onto_has_no_colon zero n _ h = h
 onto_has_no_colon (suc k) n acc h =
     let more = All-cons (λ byte. is_colon byte ≡ false) (digit_glyph false (n % 10)) acc (glyph_is_no_colon (n % 10) (omega arith)) h in
     cond_both (n / 10 == 0) _ _ (All (λ byte. is_colon byte ≡ false)) (λ _. more)
@@ -131,24 +133,26 @@ pub base_name_of : (account uid : List ℕ) (size : ℕ) → IsAccountText accou
 base_name_of account uid size h =
     all_before is_colon (name_of account uid size)
     (All-append (λ byte. is_colon byte ≡ false) (stem_of account uid ++ codes ",S=") (decimal size)
-    (All-append (λ byte. is_colon byte ≡ false) (stem_of account uid) (codes ",S=")
-    (λ k d lt. (stem_is_plain account uid h k d lt).0)
-    (All-from_recursion (λ byte. is_colon byte ≡ false) (codes ",S=") (refl, (refl, (refl, tt)))))
-    (decimal_has_no_colon size))
+    (All-append (λ byte. is_colon byte ≡ false) (stem_of account uid) (codes ",S=") (λ k d lt. (stem_is_plain account uid h k d lt).0)
+    (All-from_recursion (λ byte. is_colon byte ≡ false) (codes ",S=") (refl, (refl, (refl, tt))))) (decimal_has_no_colon size))
 
 -- what follows a byte that passes doesn't matter
 before_first-cut : (p : ℕ → Bool) (front rest : List ℕ) (mark : ℕ) → p mark ≡ true
     → before_first p (front ++ mark ∷ rest) ≡ before_first p front
 before_first-cut p front rest mark passes =
-    let same : position_or_len p (front ++ mark ∷ rest) ≡ position_or_len p front =
-    grind (arith, prefix_len-append (λ x. not (p x)) front (mark ∷ rest), nat_tests) in
+    let same : position_or_len p (front ++ mark ∷ rest) ≡ position_or_len p front = grind (arith, prefix_len-append, nat_tests) in
     rw same (take-append-le (position_or_len p front) front (mark ∷ rest) (prefix_len-le-length (λ x. not (p x)) front))
 
 pub stem_name_of : (account uid : List ℕ) (size : ℕ) → IsAccountText account → stem (name_of account uid size) ≡ stem_of account uid
 stem_name_of account uid size h =
-    ap (before_first is_comma) (base_name_of account uid size h ∙ append_assoc (stem_of account uid) (codes ",S=") (decimal size))
-    ∙ before_first-cut is_comma (stem_of account uid) (83 ∷ 61 ∷ decimal size) 44 refl
-    ∙ all_before is_comma (stem_of account uid) (λ k d lt. (stem_is_plain account uid h k d lt).1)
+    cc (
+      base_name_of account uid size h,
+      append_assoc (stem_of account uid) (codes ",S=") (decimal size),
+      before_first-cut is_comma
+          (stem_of account uid) (83 ∷ 61 ∷ decimal size) 44 refl,
+      all_before is_comma (stem_of account uid) (λ k d lt.
+          (stem_is_plain account uid h k d lt).1),
+    )
 
 -- a colon and what follows it are no part of the base
 pub base_marked : (name marks : List ℕ) → base (name ++ 58 ∷ marks) ≡ base name
@@ -156,13 +160,13 @@ base_marked name marks = before_first-cut is_colon name marks 58 refl
 
 -- a base has no more to cut off
 pub base_base : (name : List ℕ) → base (base name) ≡ base name
-base_base name = all_before is_colon (base name) (λ k d inside.
+base_base name = all_before _ _ (λ k d inside.
     let below : k < position_or_len is_colon name = omega (arith, inside, length-take (position_or_len is_colon name) name) in
     rw (get_or-take (position_or_len is_colon name) name k d below) (fails_before_first is_colon name k d below))
 
 -- a base has the stem of the name
 pub stem_base : (name : List ℕ) → stem (base name) ≡ stem name
-stem_base name = ap (before_first is_comma) (base_base name)
+stem_base name = cc (base_base name)
 
 -- ---- different names
 
@@ -172,29 +176,29 @@ HaveRanges = (id : List ℕ) → IsLegalId id → HasIdRanges id
 
 -- the text of a legal id reads as that id
 pub decode_of_legal : HaveRanges → (uid digits : List ℕ) → IsLegalId uid → encode_lower uid ≡ digits → decode_of digits ≡ Ok uid
-decode_of_legal ranges uid digits legal same = ap decode_of (sym same)
-    ∙ decode_of-encode_lower uid (IsBytes-from_all uid (λ k d inside. omega (arith, ((ranges uid legal).characters k d inside).1)))
+decode_of_legal ranges uid digits legal same = cc (decode_of-encode_lower uid (IsBytes-from_all uid (λ k d inside. omega (
+  arith,
+  ((ranges uid legal).characters k d inside).1,
+))))
 
 pub stem_of_injective : HaveRanges → (account a b : List ℕ) → IsLegalId a → IsLegalId b → stem_of account a ≡ stem_of account b → a ≡ b
-stem_of_injective ranges account a b la lb same =
+stem_of_injective ranges _ a b la lb same =
     grind (
       arith,
       append_cancel_left {A = ℕ},
       decode_of_legal ranges a (encode_lower a) la refl,
-      decode_of_legal ranges
-          b (encode_lower b) lb refl,
+      decode_of_legal ranges b (encode_lower b) lb refl,
     )
 
 pub Contains-map : {A B : Type 0} (f : A → B) (xs : List A) (x : A) → Contains xs x → Contains (map f xs) (f x)
-Contains-map f xs x c = (c.0, omega (arith, c.1, length-map xs f), get_or-map f xs c.0 x (f x) c.1 ∙ ap f c.2)
+Contains-map f xs x c = (c.0, omega (arith, c.1, length-map xs f), cc (get_or-map f xs c.0 x (f x) c.1))
 
 -- ---- names that are told
 
 -- the names that are told of files are those that the files are shown under
 bases_shown : {Z : Type 0} (names : List (String Z)) (files : List File) → map string_bytes names ≡ names_of files
     → bases_told names ≡ names_of (map shown files)
-bases_shown names files told = sym (map-map base string_bytes names) ∙ ap (map base) told ∙ map-map base name_in files
-    ∙ sym (map-map name_in shown files)
+bases_shown names files told = cc (map-map base string_bytes names, map-map base name_in files, map-map name_in shown files)
 
 -- all that is in memory counts as durable
 pub all_shown : (files : List File) → AllNamed (map shown files)
@@ -202,7 +206,7 @@ all_shown [] = tt
 all_shown (f ∷ files) = (refl, all_shown files)
 
 filter_named : (files : List File) → AllNamed files → filter (λ (f : File). f.is_named) files ≡ files
-filter_named [] all = refl
+filter_named [] _ = refl
 filter_named (f ∷ files) all = rw (all.0, filter_named files all.1) refl
 
 -- names of a folder are those of files that are shown
@@ -213,7 +217,7 @@ theirs_of known New names all told = λ k d inside.
     let name = get_or names k d in
     rw (all, filter_named (map shown known.files) (all_shown known.files)) (rw (bases_shown names known.files told) at
     (Contains-map (λ n. base (string_bytes n)) names name (Contains-get_or names k d inside)))
-theirs_of known Cur names all told = λ k d inside. absurd (omega (arith, inside, ap length told, length-map names string_bytes))
+theirs_of _ Cur names _ told = λ k d inside. absurd (omega (arith, inside, ap length told, length-map names string_bytes))
 
 -- the names tell all that is shown
 pub told_all : {Z : Type 0} (files : List File) (names : List (String Z)) → map string_bytes names ≡ names_of files
@@ -227,64 +231,60 @@ reaches_same f = record { name = refl; content = refl; named = λ is. is; flushe
 
 reaches_on : (f g h : File) → IsAsDurable f g → IsAsDurable g h → IsAsDurable f h
 reaches_on f g h first next = record {
-  name = next.name ∙ first.name;
-  content = next.content ∙ first.content;
+  name = cc;
+  content = cc;
   named = λ is. next.named (first.named is);
   flushed = λ is. next.flushed (first.flushed is);
 }
 
 pub reached_same : (files : List File) → AreReached files files
-reached_same = zip_same IsAsDurable reaches_same
+reached_same = zip_same _ reaches_same
 
 pub named_same : (files : List File) → AllZip MayBeNamed files files
-named_same = zip_same MayBeNamed (λ f. inl refl)
+named_same = zip_same _ (λ f. inl refl)
 
 reached_on : (files mid left : List File) → AreReached files mid → AreReached mid left → AreReached files left
-reached_on = zip_on IsAsDurable reaches_on
+reached_on = zip_on _ reaches_on
 
 -- more was durable first, and then some were taken
 without_reached : (gone files mid left : List File) → AreReached files mid → IsWithout mid gone left → IsWithout files gone left
-without_reached [] files mid left are is = reached_on files mid left are is
-without_reached (f ∷ gone) files mid left are (front, back, then, is) = (front, back, reached_on files mid (front ++ f ∷ back) are then, is)
+without_reached [] _ _ _ are is = reached_on _ _ _ are is
+without_reached (f ∷ _) _ _ _ are (front, back, then, is) = (front, back, reached_on _ _ _ are then, is)
 
 -- some were taken, and then more was durable
 reached_without : (gone files mid left : List File) → IsWithout files gone mid → AreReached mid left → IsWithout files gone left
-reached_without [] files mid left is are = reached_on files mid left is are
-reached_without (f ∷ gone) files mid left (front, back, first, is) are =
-    (front, back, first, reached_without gone (front ++ back) mid left is are)
+reached_without [] _ _ _ is are = reached_on _ _ _ is are
+reached_without (f ∷ gone) _ _ _ (front, back, first, is) are = (front, back, first, reached_without gone _ _ _ is are)
 
 -- what was taken first, and then of the rest
 pub without_on : (first next files mid left : List File) → IsWithout files first mid → IsWithout mid next left
     → IsWithout files (first ++ next) left
-without_on [] next files mid left are second = without_reached next files mid left are second
-without_on (f ∷ first) next files mid left (front, back, are, is) second =
-    (front, back, are, without_on first next (front ++ back) mid left is second)
+without_on [] _ _ _ _ are second = without_reached _ _ _ _ are second
+without_on (f ∷ first) _ _ _ _ (front, back, are, is) second = (front, back, are, without_on first _ _ _ _ is second)
 
 -- nothing was taken of one more
 pub without_more : (gone files left : List File) (f g : File) → IsAsDurable f g → IsWithout files gone left
     → IsWithout (f ∷ files) gone (g ∷ left)
-without_more [] files left f g one are = (one, are)
-without_more (h ∷ gone) files left f g one (front, back, are, is) =
-    (f ∷ front, back, (reaches_same f, are), without_more gone (front ++ back) left f g one is)
+without_more [] _ _ f g one are = (one, are)
+without_more (h ∷ gone) _ _ f g one (front, back, are, is) = (f ∷ front, back, (reaches_same f, are), without_more gone _ _ f g one is)
 
 pub none_taken : (maildir : Maildir) → WereTaken maildir maildir
-none_taken maildir = record { gone = []; files = reached_same maildir.files; is = rw append-nil refl }
+none_taken maildir = record { gone = []; files = reached_same _; is = rw append-nil refl }
 
 pub taken_on : (a b c : Maildir) → WereTaken a b → WereTaken b c → WereTaken a c
 taken_on a b c first next = record {
   gone = first.gone ++ next.gone;
-  files = without_on first.gone next.gone a.files b.files c.files first.files next.files;
-  is = next.is ∙ ap (λ (m : Maildir). record m { files = c.files; taken = m.taken ++ next.gone }) first.is
-      ∙ ap (λ (taken : List File). record a { files = c.files; taken = taken }) (append_assoc a.taken first.gone next.gone);
+  files = without_on _ _ _ _ _ first.files next.files;
+  is = cc (append_assoc a.taken first.gone next.gone);
 }
 
 pub same_digits : (account a b : List ℕ) → bytes_eq (account ++ 46 ∷ a) (account ++ 46 ∷ b) ≡ bytes_eq a b
 same_digits account a b =
     grind (
       arith,
-      bytes_eq-Decides (account ++ 46 ∷ a) (account ++ 46 ∷ b),
-      bytes_eq-Decides a b,
-      append_cancel_left {A = ℕ},
+      bytes_eq-Decides,
+      bytes_eq-Decides,
+      append_cancel_left,
     )
 
 -- ---- all names and all items
@@ -301,20 +301,19 @@ held_by_names account maildir found names texts told uid =
 pub flags_found : {Z : Type 0} (account : List ℕ) (maildir : Maildir) (items : List Item) (found : List ℕ → Bool) (names : List (String Z))
     → ((q : List ℕ) → found q ≡ any_name account q names) → IsPermutation (names_of maildir.files) (bases_told names)
     → map (λ (item : Item). found (encode_lower item.uid)) items ≡ flags_of account maildir items
-flags_found account maildir items found names texts told = simp (held_by_names account maildir found names texts told)
+flags_found account maildir _ found names texts told = simp (held_by_names account maildir found names texts told)
 
 -- and which of those that are asked for
 pub flags_of_many : {Z : Type 0} (account : List ℕ) (maildir : Maildir) (items : List Item) (flags : List Bool)
     (found : List ℕ → Bool) (names : List (String Z))
     → ((q : List ℕ) → found q ≡ any_name account q names) → IsPermutation (names_of maildir.files) (bases_told names)
     → sought_among found items flags ≡ flags_sought account maildir items flags
-flags_of_many account maildir [] flags found names texts told = refl
-flags_of_many account maildir (item ∷ items) [] found names texts told = refl
-flags_of_many account maildir (item ∷ items) (flag ∷ flags) found names texts told =
+flags_of_many _ _ [] _ _ _ _ _ = refl
+flags_of_many _ _ (_ ∷ _) [] _ _ _ _ = refl
+flags_of_many account maildir (item ∷ items) (_ ∷ flags) found names texts told =
     rw (
       held_by_names account maildir found names texts told item.uid,
-      flags_of_many account maildir items flags
-          found names texts told,
+      flags_of_many account maildir items flags found names texts told,
     ) refl
 
 -- ---- the names with some stems
@@ -322,7 +321,7 @@ flags_of_many account maildir (item ∷ items) (flag ∷ flags) found names text
 -- a base has one of them exactly if its name has
 pub sought_bases : {A : Type 0} (stems : List (String A)) (names : List (List ℕ))
     → map base (filter (is_sought stems) names) ≡ filter (is_sought stems) (map base names)
-sought_bases stems [] = refl
+sought_bases _ [] = refl
 sought_bases stems (name ∷ names) = let rest = sought_bases stems names in let same = stem_base name in grind (arith, rest, same)
 
 -- the names that have one of these stems tell all of these
@@ -331,8 +330,7 @@ pub told_sought : {A B : Type 0} (stems : List (String A)) (files : List File) (
 told_sought stems files kept is = (
   names_of (map shown files),
   IsPermutation-refl (names_of (map shown files)),
-  sym (map-map base string_bytes kept) ∙ ap (map base) is ∙ sought_bases stems (names_of files)
-      ∙ ap (filter (is_sought stems)) (map-map base name_in files ∙ sym (map-map name_in shown files)),
+  cc (map-map base string_bytes kept, sought_bases stems (names_of files), map-map base name_in files, map-map name_in shown files),
 )
 
 -- the digits in the stems of the names show which of the items that are asked for are held
@@ -367,27 +365,24 @@ flags_among {A} {B} account maildir stems (item ∷ items) (true ∷ flags) foun
 sought_pushed : (found : List ℕ → Bool) (items : List Item) (flags : List Bool) (item : Item) (flag : Bool) → length flags ≡ length items
     → sought_among found (items ++ item ∷ []) (flags ++ flag ∷ []) ≡ sought_among found items flags
     ++ (flag && found (encode_lower item.uid)) ∷ []
-sought_pushed found [] [] item flag same = refl
-sought_pushed found [] (f ∷ flags) item flag same = absurd (omega (arith, same))
-sought_pushed found (i ∷ items) [] item flag same = absurd (omega (arith, same))
-sought_pushed found (i ∷ items) (f ∷ flags) item flag same =
-    ap (λ (bs : List Bool). (f && found (encode_lower i.uid)) ∷ bs)
-    (sought_pushed found items flags item flag (omega (arith, same)))
+sought_pushed _ [] [] _ _ _ = refl
+sought_pushed _ [] (f ∷ _) _ _ same = absurd (omega (arith, same))
+sought_pushed _ (i ∷ _) [] _ _ same = absurd (omega (arith, same))
+sought_pushed found (i ∷ items) (f ∷ flags) item flag same = cc (sought_pushed found items flags item flag (omega (arith, same)))
 
 pub sought_more : (found : List ℕ → Bool) (items : List Item) (flags : List Bool) (i : ℕ) (none : Item) (unset : Bool)
-    → i < length items → length flags ≡ length items
-    → sought_among found (take (i + 1) items) (take (i + 1) flags)
+    → i < length items → length flags ≡ length items → sought_among found (take (i + 1) items) (take (i + 1) flags)
     ≡ sought_among found (take i items) (take i flags) ++ (get_or flags i unset && found (encode_lower (get_or items i none).uid)) ∷ []
 sought_more found items flags i none unset inside same =
     rw (take_more items i none inside, take_more flags i unset (omega (arith, inside, same)))
-    (sought_pushed found (take i items) (take i flags) (get_or items i none) (get_or flags i unset)
+    (sought_pushed found _ (take i flags) (get_or items i none) (get_or flags i unset)
     (rw (length-take i flags, length-take i items, same) refl))
 
 pub length-sought : (found : List ℕ → Bool) (items : List Item) (flags : List Bool) → length flags ≡ length items
     → length (sought_among found items flags) ≡ length items
-length-sought found [] flags same = refl
-length-sought found (item ∷ items) [] same = same
-length-sought found (item ∷ items) (flag ∷ flags) same = ap suc (length-sought found items flags (omega (arith, same)))
+length-sought _ [] _ _ = refl
+length-sought _ (_ ∷ _) [] same = same
+length-sought found (_ ∷ items) (_ ∷ flags) same = cc (length-sought found items flags (omega (arith, same)))
 
 -- ---- names that are there
 
@@ -406,13 +401,11 @@ pub held_with_file : HaveRanges → (account a b content : List ℕ) (maildir : 
 held_with_file ranges account a b content maildir h la lb =
     let f = mail_file account a content in
     let one : names_id account b f.name ≡ bytes_eq b a =
-    ap (bytes_eq (stem_of account b)) (stem_base (name_of account a (length content)) ∙ stem_name_of account a (length content) h)
-    ∙ grind (
+    ap (bytes_eq (stem_of account b)) (stem_base (name_of account a (length content)) ∙ stem_name_of account a (length content) h) ∙ grind (
       arith,
       bytes_eq-Decides (stem_of account b) (stem_of account a),
       bytes_eq-Decides b a,
-      stem_of_injective
-          ranges account b a lb la,
+      stem_of_injective ranges account b a lb la,
     ) in
     rw (list_any-append (λ (f : File). names_id account b f.name) maildir.files (f ∷ []), one, or-false (bytes_eq b a))
 
@@ -421,14 +414,14 @@ held_with_file ranges account a b content maildir h la lb =
 -- one item more, before items whose flags are known
 and_more : (flag turned same rest among held : Bool) → turned ≡ same → (same ≡ true → flag ≡ held) → rest ≡ (among && held)
     → ((flag && turned) || rest) ≡ ((same || among) && held)
-and_more flag turned same rest among held turn agree later = grind arith
+and_more _ _ _ _ among held turn agree later = grind arith
 
 pub flagged_where_held : (account : List ℕ) (maildir : Maildir) (items : List Item) (uid : List ℕ)
     → is_flagged items (flags_of account maildir items) uid ≡ (has_item items uid && is_held account maildir uid)
-flagged_where_held account maildir [] uid = refl
+flagged_where_held _ _ [] _ = refl
 flagged_where_held account maildir (item ∷ items) uid =
-    and_more _ _ (bytes_eq uid item.uid) _ (has_item items uid) (is_held account maildir uid) (nat_list_eq_equiv.symm item.uid uid)
-    (λ same. ap (is_held account maildir) (sym ((bytes_eq-Decides uid item.uid).0 same))) (flagged_where_held account maildir items uid)
+    and_more _ _ _ _ _ _ (nat_list_eq_equiv.symm item.uid uid)
+    (λ same. ap (is_held account maildir) (sym ((bytes_eq-Decides _ _).0 same))) (flagged_where_held account maildir items _)
 
 -- ---- the stems
 
@@ -437,16 +430,15 @@ pub stems_more : {A : Type 0} (account : List ℕ) (items : List Item) (held fla
     (stems : List (String A)) (x : String A) (uid : List ℕ)
     → HasStems account items held flags i stems → HoldsAt (λ (item : Item). uid ≡ item.uid) items i → string_bytes x ≡ stem_of account uid
     → HasStems account items held flags (i + 1) (stems ++ x ∷ [])
-stems_more account items held flags i stems x uid has at is = below_more (HasStem account items held flags (stems ++ x ∷ [])) i
-    (λ k below item here h f. rw (pushed item.uid, has k below item here h f) refl)
-    (λ item here h f.
-    let same = (bytes_eq-Decides (stem_of account item.uid) (string_bytes x)).1
-    (ap (λ (y : Item). stem_of account y.uid) (sym (here item)) ∙ ap (stem_of account) (sym (at item)) ∙ sym is) in
-    rw (pushed item.uid, same) (or-true _))
+stems_more account items held flags i stems x _ has at is = below_more (HasStem account items held flags (stems ++ x ∷ [])) i
+    (λ k below item here h f. rw (pushed, has k below item here h f) refl) (λ item here h f.
+    let same = (bytes_eq-Decides _ _).1
+    (ap (λ y. stem_of account y.uid) (sym (here item)) ∙ ap (stem_of account) (sym (at item)) ∙ sym is) in
+    rw (pushed, same) (or-true _))
   where
     pushed : (q : List ℕ) → is_among (stems ++ x ∷ []) (stem_of account q)
         ≡ (is_among stems (stem_of account q) || (bytes_eq (stem_of account q) (string_bytes x) || false))
-    pushed q = list_any-append (λ other. bytes_eq (stem_of account q) (string_bytes other)) stems (x ∷ [])
+    pushed q = list_any-append _ stems (x ∷ [])
 
 -- ---- the files
 
@@ -457,39 +449,39 @@ held_flushed account maildir stems uid = any_map (λ (f : File). names_id accoun
 
 pub flags_flushed : {A : Type 0} (account : List ℕ) (maildir : Maildir) (stems : List (String A)) (items : List Item)
     → flags_of account (with_flushed stems maildir) items ≡ flags_of account maildir items
-flags_flushed account maildir stems [] = refl
+flags_flushed _ _ _ [] = refl
 flags_flushed account maildir stems (item ∷ items) =
     rw (held_flushed account maildir stems item.uid, flags_flushed account maildir stems items) refl
 
 sought_flushed : {A : Type 0} (account : List ℕ) (maildir : Maildir) (stems : List (String A)) (items : List Item) (flags : List Bool)
     → flags_sought account (with_flushed stems maildir) items flags ≡ flags_sought account maildir items flags
-sought_flushed account maildir stems [] flags = refl
-sought_flushed account maildir stems (item ∷ items) [] = refl
-sought_flushed account maildir stems (item ∷ items) (flag ∷ flags) =
+sought_flushed _ _ _ [] _ = refl
+sought_flushed _ _ _ (_ ∷ _) [] = refl
+sought_flushed account maildir stems (item ∷ items) (_ ∷ flags) =
     rw (held_flushed account maildir stems item.uid, sought_flushed account maildir stems items flags) refl
 
 pub asked_flushed : {A : Type 0} (all : Bool) (account : List ℕ) (maildir : Maildir) (stems : List (String A))
     (items : List Item) (flags : List Bool)
     → flags_asked all account (with_flushed stems maildir) items flags ≡ flags_asked all account maildir items flags
-asked_flushed true account maildir stems items flags = flags_flushed account maildir stems items
-asked_flushed false account maildir stems items flags = sought_flushed account maildir stems items flags
+asked_flushed true account maildir stems _ _ = flags_flushed account maildir stems _
+asked_flushed false account maildir stems _ flags = sought_flushed account maildir stems _ flags
 
 pub named_flushed : {A : Type 0} (stems : List (String A)) (files : List File) → AllNamed files → AllNamed (map (flushed_by stems) files)
-named_flushed stems [] all = tt
-named_flushed stems (f ∷ files) all = (all.0, named_flushed stems files all.1)
+named_flushed _ [] _ = tt
+named_flushed _ (f ∷ files) all = (all.0, named_flushed _ files all.1)
 
 reached_flushed : {A : Type 0} (stems : List (String A)) (files : List File) → AreReached files (map (flushed_by stems) files)
-reached_flushed stems [] = tt
+reached_flushed _ [] = tt
 reached_flushed stems (f ∷ files) =
-    (record { name = refl; content = refl; named = λ is. is; flushed = λ is. rw is refl }, reached_flushed stems files)
+    (record { name = refl; content = refl; named = λ is. is; flushed = λ is. rw is refl }, reached_flushed _ files)
 
 -- what readers left and was then flushed is what they left
 pub taken_flushed : {A : Type 0} (stems : List (String A)) (old left : Maildir) → WereTaken old left
     → WereTaken old (with_flushed stems left)
 taken_flushed stems old left taken = record {
   gone = taken.gone;
-  files = reached_without taken.gone old.files left.files _ taken.files (reached_flushed stems left.files);
-  is = ap (with_flushed stems) taken.is;
+  files = reached_without _ _ _ _ taken.files (reached_flushed _ _);
+  is = cc;
 }
 
 -- the files of these stems were flushed, so that of each id whose stem is among them a file is durable
@@ -497,7 +489,7 @@ durable_flushed : {A : Type 0} (account : List ℕ) (maildir : Maildir) (stems :
     → (uid : List ℕ) → is_among stems (stem_of account uid) ≡ true → is_held account maildir uid ≡ true
     → HasDurable account (with_flushed stems maildir) uid
 durable_flushed account maildir stems all uid among held =
-    let of = Any-from_list_any (λ (f : File). names_id account uid f.name) maildir.files held in
+    let of = Any-from_list_any _ maildir.files held in
     let same = (bytes_eq-Decides (stem_of account uid) (stem of.1.name)).0 of.4 in
     let named : of.1.is_named ≡ true = rw of.3 at (All-from_recursion IsNamed maildir.files all of.0 of.1 of.2) in (
       flushed_by stems of.1,
@@ -518,17 +510,17 @@ pub found_durable : {A : Type 0} (all : Bool) (account : List ℕ) (maildir : Ma
     → (items : List Item) (flags : List Bool)
     → HasStems account items (flags_asked all account maildir items flags) flags (length items) stems
     → FoundDurable account maildir items flags
-found_durable true account maildir stems durable (item ∷ items) (flag ∷ flags) has = (
+found_durable true account maildir stems durable (item ∷ items) (_ ∷ flags) has = (
   λ is held. durable item.uid (has 0 (omega arith) item (λ d. refl) (λ d. held) (λ d. is)) held,
-  found_durable true account maildir stems durable items flags (λ k below. has (suc k) (omega (arith, below))),
+  found_durable true _ maildir _ durable items flags (λ k below. has (suc k) (omega (arith, below))),
 )
-found_durable false account maildir stems durable (item ∷ items) (flag ∷ flags) has = (
+found_durable false account maildir stems durable (item ∷ items) (_ ∷ flags) has = (
   λ is held. durable item.uid (has 0 (omega arith) item (λ d. refl) (λ d. rw (is, held) refl) (λ d. is)) held,
-  found_durable false account maildir stems durable items flags (λ k below. has (suc k) (omega (arith, below))),
+  found_durable false _ maildir _ durable items flags (λ k below. has (suc k) (omega (arith, below))),
 )
-found_durable all account maildir stems durable items flags has = tt
+found_durable _ _ _ _ _ _ _ _ = tt
 
 -- a flush of a device in memory changes nothing
 pub all_flushed : {A : Type 0} (stems : List (String A)) (files : List File) → map (flushed_by stems) (map shown files) ≡ map shown files
-all_flushed stems [] = refl
-all_flushed stems (f ∷ files) = ap (λ (fs : List File). shown f ∷ fs) (all_flushed stems files)
+all_flushed _ [] = refl
+all_flushed stems (f ∷ files) = cc (all_flushed stems files)

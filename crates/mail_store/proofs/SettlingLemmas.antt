@@ -1,6 +1,6 @@
 -- What a loss of power may leave of a file and of an entry in it, and what settling does to that file.
 use Rattle.std.proofs.Common.{◌≡◌, inl, inr, ℕ, ◌+◌, List, [], ◌∷◌, ◌++◌, length, take, Option, Some, None, is_some}
-use Rattle.std.proofs.Common.{take-append-drop, refl, sym, ap, ◌∙◌, append_assoc, append-nil, Bool, false, ◌&&◌, drop}
+use Rattle.std.proofs.Common.{take-append-drop, refl, sym, ap, ◌∙◌, append_assoc, append-nil, false, ◌&&◌, drop}
 use Rattle.std.proofs.Common.{arith, length-append, ◌⊎◌, suc, ◌-◌, ◌≤◌, ◌%◌, true, subst, not, nat_eq, ◌==◌}
 use Rattle.std.proofs.lemmas.Option.{same_Some}
 use Rattle.std.proofs.Math.Seq.{take-append_seam, drop-append_seam}
@@ -32,35 +32,33 @@ Begins bytes left = (rest : List ℕ) × (left ≡ Some (bytes ++ rest))
 
 -- still does if it is longer
 begins_longer : (bytes : List ℕ) (was left : Option (List ℕ)) → Begins bytes was → IsLonger was left → Begins bytes left
-begins_longer bytes was left begins (inl same) = (begins.0, same ∙ begins.1)
-begins_longer bytes was left begins (inr (some, behind, is, longer)) = (
+begins_longer _ _ _ begins (inl same) = (begins.0, cc)
+begins_longer bytes _ _ begins (inr (some, behind, is, longer)) = (
   begins.0 ++ behind,
-  longer ∙ ap (λ (l : List ℕ). Some (l ++ behind)) (same_Some some (bytes ++ begins.0) (sym is ∙ begins.1))
-      ∙ ap Some (append_assoc bytes begins.0 behind),
+  cc (same_Some some (bytes ++ begins.0) (sym is ∙ begins.1), append_assoc bytes begins.0 behind),
 )
 
 pub longer_keeps : (m m' : Option (List ℕ) → Type 0) → LeavesLonger m m' → KeepsBytes m m'
-longer_keeps m m' longer = λ bytes held left may. let was = longer left may in begins_longer bytes was.0 left (held was.0 was.1) was.2
+longer_keeps m _ longer = λ _ held _ may. let was = longer _ may in begins_longer _ _ _ (held was.0 was.1) was.2
 
 -- bytes that outlived stay if more are appended and the file is cut back to them
 pub cut_keeps : (m m' m'' : Option (List ℕ) → Type 0) (was front : List ℕ) (content : Option (List ℕ)) → Outlives m was
-    → LeavesLonger m m' → content ≡ Some (was ++ front)
-    → LeavesFront content (length was) m' m'' → Outlives m'' was
-cut_keeps m m' m'' was front content outlives longer is fronts = λ left may. elim (fronts (was ++ front) is left may) [
+    → LeavesLonger m m' → content ≡ Some (was ++ front) → LeavesFront content (length was) m' m'' → Outlives m'' was
+cut_keeps m m' _ was front _ outlives longer is fronts = λ left may. elim (fronts (was ++ front) is left may) [
   | inl before ↦ longer_keeps m m' longer was outlives left before
-  | inr (behind, cut) ↦ (behind, cut ∙ ap (λ (l : List ℕ). Some (l ++ behind)) (take-append_seam was front))
+  | inr (behind, cut) ↦ (behind, cc (take-append_seam was front))
 ]
 
 -- ---- what an append may leave
 
 pub part_left : (place : ℕ) (part rest left : List ℕ) → MayBeLeft place part left → MayBeLeft place (part ++ rest) left
-part_left place part rest [] may = tt
-part_left place [] rest (byte ∷ left) may = absurd may
-part_left place (word ∷ words) rest (byte ∷ left) may = (may.0, part_left (place + 1) words rest left may.1)
+part_left _ _ _ [] _ = tt
+part_left _ [] _ (_ ∷ _) may = absurd may
+part_left place (_ ∷ words) rest (_ ∷ left) may = (may.0, part_left (place + 1) words rest left may.1)
 
 pub all_left : (place : ℕ) (words : List ℕ) → MayBeLeft place words words
-all_left place [] = tt
-all_left place (word ∷ words) = (inl refl, all_left (place + 1) words)
+all_left _ [] = tt
+all_left place (_ ∷ words) = (inl refl, all_left (place + 1) words)
 
 -- an LF, and the bytes that an entry begins with
 abbrev pub needle : List ℕ
@@ -69,22 +67,21 @@ needle = 10 ∷ from_words
 -- the first line begins with words without LF exactly if the bytes do
 first_begins : (words bytes : List ℕ) → HasNoLf words
     → starts_with nat_eq (first_of (lines_of bytes)) words ≡ starts_with nat_eq bytes words
-first_begins [] bytes plain = refl
-first_begins (word ∷ words) [] plain = refl
+first_begins [] _ _ = refl
+first_begins (_ ∷ _) [] _ = refl
 first_begins (word ∷ words) (byte ∷ rest) plain = elim (eqb_tells byte 10) [
   | inl p ↦ rw (p.1, ne_eqb word 10 plain.0) refl
-  | inr p ↦ rw (p.0, (onto_parts byte (lines_of rest)).1) (ap (λ (b : Bool). word == byte && b) (first_begins words rest plain.1))
+  | inr p ↦ rw (p.0, (onto_parts byte (lines_of rest)).1) (cc (first_begins words rest plain.1))
 ]
 
-lines_apart : (lines : List (List ℕ))
-    → list_all (λ line. not (begins_entry line)) lines ≡ (not (begins_entry (first_of lines)) && list_all
+lines_apart : (lines : List (List ℕ)) → list_all (λ line. not (begins_entry line)) lines ≡ (not (begins_entry (first_of lines)) && list_all
     (λ line. not (begins_entry line)) (drop 1 lines))
 lines_apart [] = refl
-lines_apart (line ∷ lines) = refl
+lines_apart (_ ∷ _) = refl
 
 one_entry_step : (byte : ℕ) (rest : List ℕ) → is_one_entry (byte ∷ rest) ≡ (not (byte == 10 && begins_entry rest) && is_one_entry rest)
 one_entry_step byte rest = elim (eqb_tells byte 10) [
-  | inl p ↦ rw (p.0, lines_apart (lines_of rest), first_begins from_words rest (omega arith)) refl
+  | inl p ↦ rw (p.0, lines_apart, first_begins from_words rest (omega arith)) refl
   | inr p ↦ rw (p.0, (onto_parts byte (lines_of rest)).2) refl
 ]
 
@@ -92,13 +89,13 @@ one_entry_step byte rest = elim (eqb_tells byte 10) [
 needle_split : (bytes : List ℕ) → is_one_entry bytes ≡ false → (front : List ℕ) × (back : List ℕ) × (bytes ≡ front ++ (needle ++ back))
 needle_split [] e = absurd (true≢false e)
 needle_split (byte ∷ rest) e =
-    elim (and_cases (not (byte == 10 && begins_entry rest)) (is_one_entry rest) (sym (one_entry_step byte rest) ∙ e)) [
+    elim (and_cases (not (byte == 10 && begins_entry rest)) (is_one_entry rest) (cc (one_entry_step byte rest))) [
       | inl here ↦
           let parts = and_parts (byte == 10) (begins_entry rest) (not-false _ here) in
-          ([], drop 5 rest, ap (λ (b : ℕ). b ∷ rest) (eqb-true byte 10 parts.0) ∙ ap (λ (l : List ℕ). 10 ∷ l) (begins_with rest parts.1))
+          ([], drop 5 rest, cc (eqb-true byte 10 parts.0, begins_with rest parts.1))
       | inr later ↦
           let s = needle_split rest later in
-          (byte ∷ s.0, s.1, ap (λ (l : List ℕ). byte ∷ l) s.2)
+          (byte ∷ s.0, s.1, cc)
     ]
 
 -- and the other way round
@@ -108,8 +105,7 @@ needle_there (byte ∷ front) back = one_entry_step byte (front ++ (needle ++ ba
 
 needle_occurs : (front back : List ℕ) → OccursAt (front ++ (needle ++ back)) needle (length front)
 needle_occurs front back = OccursAt-from_part (front ++ (needle ++ back)) needle (length front)
-    (omega (arith, length-append front (needle ++ back)))
-    (ap (take 6) (drop-append_seam front (needle ++ back)))
+    (omega (arith, length-append front (needle ++ back))) (cc (drop-append_seam front (needle ++ back)))
 
 -- a search for the needle finds such a line
 pub found_entry : (bytes : List ℕ) (found : Option ℕ) → FindsNeedle bytes needle 0 found → is_some found ≡ not (is_one_entry bytes)
@@ -142,12 +138,10 @@ abbrev Breaks : ℕ → List ℕ → Type 0
 Breaks place bytes = (is_torn place bytes ≡ true) ⊎ EndsInZero bytes
 
 breaks_later : (place byte : ℕ) (bytes : List ℕ) → Breaks (place + 1) bytes → Breaks place (byte ∷ bytes)
-breaks_later place byte bytes =
-    ⊎_map (or_right ((place + 1) % block_size == 0 && byte == 0) (is_torn (place + 1) bytes))
-    (λ last. (byte ∷ last.0, ap (λ (l : List ℕ). byte ∷ l) last.1))
+breaks_later place byte bytes = ⊎_map (or_right _ _) (λ last. (byte ∷ last.0, cc))
 
 lost_breaks : (place byte : ℕ) (rest : List ℕ) → is_lost place (byte ∷ rest) ≡ true → Breaks place (byte ∷ rest)
-lost_breaks place byte [] lost = inr ([], ap (λ (b : ℕ). b ∷ []) (lost_parts place byte [] lost).0)
+lost_breaks place byte [] lost = inr ([], cc ((lost_parts place byte [] lost).0))
 lost_breaks place byte (next ∷ more) lost = elim (eqb_tells ((place + 1) % block_size) 0) [
   | inl p ↦ inl (rw (p.0, eq-eqb byte 0 (lost_parts place byte (next ∷ more) lost).0) refl)
   | inr p ↦ breaks_later place byte (next ∷ more) (lost_breaks (place + 1) next more ((lost_parts place byte (next ∷ more) lost).1 p.1))
@@ -156,23 +150,23 @@ lost_breaks place byte (next ∷ more) lost = elim (eqb_tells ((place + 1) % blo
 -- ---- what is left of an entry
 
 left_short : (place : ℕ) (words left : List ℕ) → MayBeLeft place words left → length left ≤ length words
-left_short place (word ∷ words) (byte ∷ left) is = omega (arith, left_short (place + 1) words left is.1)
-left_short place words [] is = omega arith
-left_short place words left is = absurd is
+left_short place (_ ∷ words) (_ ∷ left) is = omega (arith, left_short (place + 1) words left is.1)
+left_short _ _ [] _ = omega arith
+left_short _ _ _ is = absurd is
 
 same_or_broken : (place : ℕ) (words left : List ℕ) → MayBeLeft place words left → length left ≡ length words
     → (left ≡ words) ⊎ Breaks place left
-same_or_broken place [] [] is size = inl refl
+same_or_broken _ [] [] _ _ = inl refl
 same_or_broken place (word ∷ words) (byte ∷ left) is size = elim is.0 [
-  | inr lost ↦ inr (lost_breaks place byte left lost)
-  | inl same ↦ ⊎_map (λ all. ap (λ (b : ℕ). b ∷ left) same ∙ ap (λ (l : List ℕ). word ∷ l) all) (breaks_later place byte left)
+  | inr lost ↦ inr (lost_breaks _ _ _ lost)
+  | inl same ↦ ⊎_map (λ all. ap (λ b. b ∷ left) same ∙ ap (λ l. word ∷ l) all) (breaks_later _ _ _)
       (same_or_broken (place + 1) words left is.1 (omega (arith, size)))
 ]
-same_or_broken place words left is size = absurd (omega (arith, size))
+same_or_broken _ _ _ _ size = absurd (omega (arith, size))
 
 left_begins : (place : ℕ) (words more left : List ℕ) → MayBeLeft place (words ++ more) left → begin_with place words left ≡ true
-left_begins place [] more left is = refl
-left_begins place (word ∷ words) more [] is = refl
+left_begins _ [] _ _ _ = refl
+left_begins _ (_ ∷ _) _ [] _ = refl
 left_begins place (word ∷ words) more (byte ∷ left) is = elim is.0 [
   | inl same ↦ rw (eq-eqb byte word same, left_begins (place + 1) words more left is.1) refl
   | inr lost ↦ rw (lost, or-true (byte == word), left_begins (place + 1) words more left is.1) refl
@@ -181,24 +175,23 @@ left_begins place (word ∷ words) more (byte ∷ left) is = elim is.0 [
 -- bytes without zeros were in the words
 left_from : (place : ℕ) (front more words : List ℕ) → AllByRecursion (λ b. b ≡ 0 → ⊥) front
     → MayBeLeft place words (front ++ more) → (w : List ℕ) × (words ≡ front ++ w)
-left_from place [] more words plain is = (words, refl)
-left_from place (byte ∷ front) more [] plain is = absurd is
-left_from place (byte ∷ front) more (word ∷ words) plain is = elim is.0 [
+left_from _ [] _ words _ _ = (words, refl)
+left_from _ (_ ∷ _) _ [] _ is = absurd is
+left_from place (byte ∷ front) more (_ ∷ words) plain is = elim is.0 [
   | inl same ↦
       let w = left_from (place + 1) front more words plain.1 is.1 in
-      (w.0, ap (λ (b : ℕ). b ∷ words) (sym same) ∙ ap (λ (l : List ℕ). byte ∷ l) w.1)
-  | inr lost ↦ absurd (plain.0 (lost_parts place byte (front ++ more) lost).0)
+      (w.0, cc)
+  | inr lost ↦ absurd (plain.0 (lost_parts _ _ _ lost).0)
 ]
 
 -- nor do they get into the words from elsewhere
 left_holds : (place : ℕ) (words front part more : List ℕ) → AllByRecursion (λ b. b ≡ 0 → ⊥) part
-    → MayBeLeft place words (front ++ (part ++ more))
-    → (before : List ℕ) × (after : List ℕ) × (words ≡ before ++ (part ++ after))
-left_holds place words [] part more plain is = let w = left_from place part more words plain is in ([], w.0, w.1)
-left_holds place (word ∷ words) (byte ∷ front) part more plain is =
+    → MayBeLeft place words (front ++ (part ++ more)) → (before : List ℕ) × (after : List ℕ) × (words ≡ before ++ (part ++ after))
+left_holds _ _ [] _ _ plain is = let w = left_from _ _ _ _ plain is in ([], w.0, w.1)
+left_holds place (word ∷ words) (_ ∷ front) part more plain is =
     let later = left_holds (place + 1) words front part more plain is.1 in
-    (word ∷ later.0, later.1, ap (λ (l : List ℕ). word ∷ l) later.2)
-left_holds place words front part more plain is = absurd is
+    (word ∷ later.0, later.1, cc)
+left_holds _ _ _ _ _ _ is = absurd is
 
 left_ours : (place : ℕ) (text left : List ℕ) → IsWhole text → MayBeLeft place (entry_of text) left → is_ours place left ≡ true
 left_ours place text left whole is =
@@ -217,7 +210,7 @@ left_ours place text left whole is =
 -- it is whole
 settles_whole : (start len : ℕ) (listed : Option ℕ) (was : List ℕ) → stands_whole start len listed was ≡ true
     → settled_file start len listed was ≡ was
-settles_whole start len listed was whole = simp (whole, and-false)
+settles_whole _ _ _ _ whole = simp (whole, and-false)
 
 pub left_settled : LeftoversAreSettled
 left_settled file text left listed whole is =
@@ -231,15 +224,14 @@ left_settled file text left listed whole is =
           (and_parts (is_entry start left) _ sized.1).0 in
           let ends = and_parts (not (is_torn start left)) (ends_empty left) formed.1 in
           elim (same_or_broken start (entry_of text) left is (eqb-true (length left) len sized.0)) [
-            | inl same ↦ inl (stands, settles_whole start len listed (file ++ left) stands, same)
-            | inr (inl torn) ↦ absurd (true≢false (sym ends.0 ∙ ap not torn))
+            | inl same ↦ inl (stands, settles_whole _ _ _ _ stands, same)
+            | inr (inl torn) ↦ absurd (true≢false (cc))
             | inr (inr last) ↦
                 let front = take (length left - 2) left in
                 let twice = (ends_is Decides-eqb left (10 ∷ 10 ∷ []) (ends_empty left) refl).0 ends.1 in
                 absurd (omega (
                   arith,
-                  (same_from_push last.0 (front ++ 10 ∷ []) 0 10 (sym last.1 ∙ twice
-                      ∙ sym (append_assoc front (10 ∷ []) (10 ∷ [])))).1,
+                  (same_from_push last.0 (front ++ 10 ∷ []) 0 10 (sym last.1 ∙ twice ∙ sym (append_assoc front (10 ∷ []) (10 ∷ [])))).1,
                 ))
           ]
       | inr fails ↦ inr (
@@ -249,11 +241,9 @@ left_settled file text left listed whole is =
             fails,
             seam,
             lt-ltb 0 (length left) some,
-            le-leb (length left) len
-                (left_short start (entry_of text) left is),
+            le-leb (length left) len (left_short start (entry_of text) left is),
             left_ours start text left whole is,
-          )
-              (take-append_seam file left)
+          ) (take-append_seam file left)
           | inr none ↦ rw (nil_from_length left (omega (arith, none)), drop-append_seam file []) (append-nil file)
         ],
       )
@@ -263,16 +253,15 @@ left_settled file text left listed whole is =
 entry_text : (text : List ℕ) → IsWhole text → text_in (entry_of text) ≡ text
 entry_text text whole =
     let size : length (entry_of text) - (length separator + 1) ≡ length (quoted_text text) =
-    omega (arith, length-append separator (quoted_text text ++ 10 ∷ []), length-append (quoted_text text) (10 ∷ []))
-    in
-    rw (size, take-append_seam (quoted_text text) (10 ∷ [])) (unquotes_quoted text whole)
+    omega (arith, length-append separator (quoted_text text ++ 10 ∷ []), length-append (quoted_text text) (10 ∷ [])) in
+    rw (size, take-append_seam) (unquotes_quoted text whole)
 
 pub whole_counts : WholeEntriesCount
 whole_counts file text listed whole =
     let entry = entry_of text in
     let start = length file in
-    let ends = group_ends (entry_group text) (entry_is_group text whole) in
-    let empty = (ends_is Decides-eqb entry (10 ∷ 10 ∷ []) (ends_empty entry) refl).1 ends.0 (sym (entry_bytes text) ∙ ends.1) in
+    let ends = group_ends _ (entry_is_group _ whole) in
+    let empty = (ends_is Decides-eqb entry (10 ∷ 10 ∷ []) (ends_empty entry) refl).1 ends.0 (cc (entry_bytes text)) in
     let seam = drop-append_seam file entry in (
       λ sized unbroken.
           let stands : stands_whole start (length entry) listed (file ++ entry) ≡ true =
@@ -285,17 +274,15 @@ whole_counts file text listed whole =
             entry_text text whole,
             sized,
           ) in
-          (stands, settles_whole start (length entry) listed (file ++ entry) stands, refl),
+          (stands, settles_whole _ _ _ _ stands, refl),
       λ other. elim (left_settled file text entry listed whole (all_left start entry)) [
-        | inl is ↦ absurd (false≢true
-            (rw (
-              seam,
-              entry_text text whole,
-              other,
-              and-false (is_entry start entry),
-              and-false
-                  (length entry == length entry),
-            ) at is.0))
+        | inl is ↦ absurd (false≢true (rw (
+          seam,
+          entry_text text whole,
+          other,
+          and-false (is_entry start entry),
+          and-false (length entry == length entry),
+        ) at is.0))
         | inr is ↦ is
       ],
     )
