@@ -16,7 +16,7 @@ LAWS = ["fetch_runs:calls_keep_promises", "fetch_runs:mbox_calls_keep_promises",
 CALLS = ["fetch_runs:promised_session"]
 # The devices of a call, and those that the real ones are made over.
 TRAITS = ["pop3_wire:Wire", "mail_store:MaildirDisk", "mail_store:FlatFile",
-          "folder_store:FolderState", "folder_store:FileFolder", "folder_store:MailFolders"]
+          "folder_store:NewFile", "folder_store:FolderState", "folder_store:FileFolder", "folder_store:MailFolders"]
 # Definitions that nobody has to open: only what they are of is printed, and what they are made of is left out.
 UNOPENED = ["fetch_runs:Calls:WasMade", "fetch_record:RecordMeaning:StandsFor"]
 

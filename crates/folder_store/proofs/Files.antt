@@ -11,10 +11,8 @@ use Rattle.mail_store.specs.DiskCalls.{BecomesInPart, IsAppended, IsPartAppended
 use Rattle.mail_store.specs.Durable.{Blob, Disk, IsLeftOf, IsLeftOfOne, MayLeave, all_durable, content_in, secured}
 use Rattle.mail_store.proofs.DiskLemmas.{becomes_settled, disk_of, may_arrive}
 use Rattle.mail_store.proofs.DurableLemmas.{flushed_all, seen_all}
-use Rattle.folder_store.specs.FileFolder.{Directory, Entry, Older, entry, find, placed, making, with_blob, empty_blob}
-use Rattle.folder_store.specs.FileFolder.{content_at, names_flushed, Makes, WritesMade, Alters, FlushesFile}
-use Rattle.folder_store.specs.FileFolder.{FlushesNames}
-use Rattle.folder_store.specs.HostFile.{PutsFlushed}
+use Rattle.folder_store.specs.FileFolder.{Directory, Entry, MadeFile, Older, entry, find, placed, put_in, with_blob}
+use Rattle.folder_store.specs.FileFolder.{content_at, names_flushed, Alters, FlushesFile, FlushesNames, PutsFile}
 use Rattle.folder_store.specs.PowerLoss.{left_under, WasOnce, MayBe, disk_at, older_at, PowerLeaves}
 
 -- a name leads to the first file that has it
@@ -104,49 +102,45 @@ later_done old mid new done piece (b, c, at, is, e) (x, y, found, flush, k) =
     let same : x ≡ flushed (appended b done) = same_Some x c (sym found ∙ ap (λ (d : Disk). d.now) e) ∙ is in
     (b, y, at, rw (flush, same) (appended_twice b done piece), k ∙ ap (λ (d : Disk). record d { now = Some y }) e)
 
--- the file made has these bytes
-made_is : (old one two : Directory) (bytes : List ℕ) → Makes {T = Unit {0}} old (Ok tt) one
-    → WritesMade {T = Unit {0}} one bytes (Ok tt) two
-    → two ≡ making old (Some (appended empty_blob bytes))
-made_is old one two bytes (can, e) (b, made, k) =
-    let same : b ≡ empty_blob = same_Some b empty_blob (sym made ∙ ap (λ (d : Directory). d.made) e) in
-    k ∙ ap (λ (d : Directory). making d (Some (appended b bytes))) e ∙ ap (λ (x : Blob). making old (Some (appended x bytes))) same
-
 -- what is durable under a name that leads to another file, before the names are flushed
 older_put : (name : List ℕ) (was : Option Blob) (older : List Older)
     → older_at name (record { name = name; was = was } ∷ older) ≡ was ∷ older_at name older
 older_put name was older = cond-true (bytes_eq name name) (was ∷ older_at name older) (older_at name older)
     ((bytes_eq-Decides name name).1 refl)
 
-pub replace_done : (old one two new : Directory) (name bytes : List ℕ) (r : Result (Unit {0}) StoreFault)
-    → Makes {T = Unit {0}} old (Ok tt) one
-    → WritesMade {T = Unit {0}} one bytes (Ok tt) two → PutsFlushed two name r new
+-- the name leads to a file of these bytes, which was flushed
+abbrev PutAt : Directory → List ℕ → List ℕ → Directory → Type 0
+PutAt old name bytes new = disk_at new name
+    ≡ disk_of (Some (secured bytes)) (find name old.entries ∷ older_at name old.older)
+
+put_at : (old new : Directory) (name bytes : List ℕ) (file : MadeFile) → file ≡ record { content = bytes; is_flushed = true }
+    → new ≡ put_in old file name → PutAt old name bytes new
+put_at old new name bytes file filled e = rw (e, filled) (
+    ap (λ (o : Option Blob). disk_of o (older_at name (record { name = name; was = find name old.entries } ∷ old.older)))
+    (find_placed name (secured bytes) old.entries)
+    ∙ ap (disk_of (Some (secured bytes))) (older_put name (find name old.entries) old.older))
+
+pub not_replaced : (old new : Directory) (name bytes : List ℕ) (file : MadeFile) (fault x : StoreFault)
+    → file ≡ record { content = bytes; is_flushed = true } → PutsFile {T = Unit {0}} old file name (Err fault) new
+    → ReplacesDisk {T = Unit {0}} (disk_at old name) bytes (Err x) (disk_at new name)
+not_replaced old new name bytes file fault x filled (inl same) = inl (ap (λ (d : Directory). disk_at d name) same)
+not_replaced old new name bytes file fault x filled (inr put) = inr (inl (put_at old new name bytes file filled put))
+
+pub replaced : (old mid new : Directory) (name bytes : List ℕ) (file : MadeFile) (r : Result (Unit {0}) StoreFault)
+    → file ≡ record { content = bytes; is_flushed = true } → mid ≡ put_in old file name → FlushesNames mid r new
     → ReplacesDisk (disk_at old name) bytes r (disk_at new name)
-replace_done old one two new name bytes r make write put =
-    by r (subst (λ (d : Directory). PutsFlushed d name r new) (made_is old one two bytes make write) put)
+replaced old mid new name bytes file r filled put flush = by r flush
   where
-    held : (c : Blob) → Some (appended empty_blob bytes) ≡ Some c
-        → find name (placed name (secured c.content) old.entries) ≡ Some (secured bytes)
-    held c made =
-        find_placed name (secured c.content) old.entries
-        ∙ ap (λ (x : Blob). Some (secured x.content)) (sym (same_Some (appended empty_blob bytes) c made))
+    is_put : PutAt old name bytes mid
+    is_put = put_at old mid name bytes file filled put
 
-    flushed_to : (c : Blob) → Some (appended empty_blob bytes) ≡ Some c
-        → record (disk_at old name) { now = find name (placed name (secured c.content) old.entries); older = [] }
-        ≡ all_durable (Some bytes)
-    flushed_to c made = ap (λ (o : Option Blob). record (disk_at old name) { now = o; older = [] }) (held c made)
+    named : new ≡ names_flushed mid → disk_at new name ≡ all_durable (Some bytes)
+    named e = rw e (ap (λ (d : Disk). record d { older = [] }) is_put)
 
-    by : (r : Result (Unit {0}) StoreFault) → PutsFlushed (making old (Some (appended empty_blob bytes))) name r new
-        → ReplacesDisk (disk_at old name) bytes r (disk_at new name)
-    by (Ok done) (c, made, e) = rw e (flushed_to c made)
-    by (Err fault) (inl (m, e)) = inl (rw e refl)
-    by (Err fault) (inr (c, made, inl e)) = inr (inl (
-        ap (λ (d : Directory). disk_at d name) e
-        ∙ ap (λ (o : Option Blob). disk_of o
-        (older_at name (record { name = name; was = find name old.entries } ∷ old.older))) (held c made)
-        ∙ ap (disk_of (Some (secured bytes))) (older_put name (find name old.entries) old.older)
-        ))
-    by (Err fault) (inr (c, made, inr e)) = inr (inr (rw e (flushed_to c made)))
+    by : (r : Result (Unit {0}) StoreFault) → FlushesNames mid r new → ReplacesDisk (disk_at old name) bytes r (disk_at new name)
+    by (Ok done) e = named e
+    by (Err fault) (inl same) = inr (inl (ap (λ (d : Directory). disk_at d name) same ∙ is_put))
+    by (Err fault) (inr e) = inr (inr (named e))
 
 -- a text in two parts
 pub in_parts : (xs front back : List ℕ) (n : ℕ) → front ≡ take n xs → back ≡ drop n xs → xs ≡ front ++ back
@@ -240,9 +234,8 @@ find_left name other (Some bytes) es = let rest = find_others name other es in g
 pub power_leaves : PowerLeaves
 power_leaves old name left = (
   λ may. (
-    record old { entries = entries_left name left old.entries; older = []; made = None },
+    record { entries = entries_left name left old.entries; older = [] },
     record {
-      can_make = refl;
       each = λ n. rw (find_left name n left old.entries, seen_all (left_at name left old.entries n))
           (cond_both (bytes_eq n name) left (content_at old n) (λ (o : Option (List ℕ)). MayBe old n o)
           (λ same. rw ((bytes_eq-Decides n name).0 same) may) (λ _. may_now old n (content_at old n) (may_arrive (find n old.entries))));
@@ -250,7 +243,6 @@ power_leaves old name left = (
         named = refl;
         flushed = rw (find_left name n left old.entries) (flushed_all (left_at name left old.entries n));
       };
-      made = refl;
     },
     ap (option_map content_in) (find_left name name left old.entries) ∙ seen_all (left_at name left old.entries name)
         ∙ cond-true (bytes_eq name name) left (content_at old name) ((bytes_eq-Decides name name).1 refl),

@@ -2,8 +2,8 @@
 use Rattle.std.proofs.Common.{◌≡◌, ◌+◌, inl, inr, ⊎_elim, ℕ, List, [], ◌∷◌, refl, subst, arith, ◌⊎◌, true, sym, ap, ◌∙◌}
 use Rattle.std.proofs.Common.{Bool, false, not, ◌++◌, map, get_or, Contains, Option, Result, Ok, Err, IsErrAnd}
 use Rattle.std.proofs.Common.{IsPermutation, IsTrue, IfErr, String, Global, Vec, string_bytes, filter, if◌then◌else◌}
-use Rattle.std.proofs.Common.{◌≢◌, suc, Some, append_assoc, append-nil, None}
-use Rattle.mail_store.specs.Maildir.{AfterFlushing, AfterTaking, AllNamed, AreTheirs, Checks, Draft as Begun, File}
+use Rattle.std.proofs.Common.{◌≢◌, suc, Some, append_assoc, append-nil, None, is_some, IfSome}
+use Rattle.mail_store.specs.Maildir.{AfterFlushing, AfterTaking, AllNamed, AreTheirs, Checks, Draft, File}
 use Rattle.mail_store.specs.Maildir.{Folders, IsWithout, Lists, Maildir, MayBeNamed, MayHave, bases_told}
 use Rattle.mail_store.specs.Maildir.{maildir_refused, draft, dropped, is_there, mail, names_of, with_file, ListsBoth}
 use Rattle.mail_store.specs.Held.{is_sought}
@@ -17,13 +17,14 @@ use Rattle.mail_store.specs.declared.maildir.disk.Folder.{Folder}
 use Rattle.mail_store.specs.declared.maildir.disk.Folder.TheVariants.{New, Cur}
 use Rattle.folder_store.specs.MailFolders.{MailFile, Directories, files_at, is_left, is_taken, mail_at, MovesFile}
 use Rattle.folder_store.specs.MailFolders.{Moved, touches, touches_new, touches_cur, name_at, is_in, entries_in}
-use Rattle.folder_store.specs.MailFolders.{maildir_in, MadeFile, content_made}
+use Rattle.folder_store.specs.MailFolders.{draft_begun, maildir_in}
+use Rattle.folder_store.specs.FileFolder.{MadeFile}
 use Rattle.folder_store.specs.declared.mail_folders.Sought.{Sought}
 use Rattle.folder_store.specs.declared.mail_folders.Sought.TheVariants.{All, Stems}
-use Rattle.folder_store.specs.MailCalls.{AreSought, BringsFiles, ChangesDraft, ChecksIn, FlushesDraft, FlushesFiles}
-use Rattle.folder_store.specs.MailCalls.{FlushesNamesIn, GivesUp, IsUnknown, Lacks, Leads, Learns, ListsIn, LooksAtBoth}
-use Rattle.folder_store.specs.MailCalls.{MakesDraft, PutsDraft, PutsForGood, PutsIntoNew, SameFiles, StandsIn}
-use Rattle.folder_store.specs.MailCalls.{TellsBoth, TellsOne, TellsRest, Then, ToldBoth, WritesDraft, entry_flushed_by}
+use Rattle.folder_store.specs.MailCalls.{AreSought, BringsFiles, ChecksIn, FlushesFiles, FlushesNamesIn, IsUnknown}
+use Rattle.folder_store.specs.MailCalls.{Lacks, Leads, Learns, ListsIn, LooksAtBoth, MakesDraft, PutsDraft, PutsForGood}
+use Rattle.folder_store.specs.MailCalls.{PutsIntoNew, SameFiles, StandsIn}
+use Rattle.folder_store.specs.MailCalls.{TellsBoth, TellsOne, TellsRest, Then, ToldBoth, entry_flushed_by}
 use Rattle.folder_store.specs.MailCalls.{after_listing, named_by, names_flushed_in, names_sought, put_as, without_taken}
 use Rattle.std.proofs.lemmas.List.{map-append, get_or-map, length-map}
 use Rattle.std.proofs.lemmas.List.Sorted.{Contains-permutation, IsPermutation-append, IsPermutation-sym}
@@ -68,7 +69,6 @@ taken_learns : (a : Directories) (new_rests cur_rests : Bool)
     → Learns a (record (without_taken a) { new_rests = new_rests; cur_rests = cur_rests })
 taken_learns a new_rests cur_rests = record {
   there = refl;
-  made = refl;
   gone = files_at (filter is_taken a.entries);
   taken = refl;
   left = left_without a.entries;
@@ -81,7 +81,6 @@ listed_learns Cur a = taken_learns a a.new_rests true
 pub leads_learns : (a b : Directories) → Leads a b → Learns a b
 leads_learns a b l = record {
   there = l.there;
-  made = l.made;
   gone = [];
   taken = l.taken ∙ sym (append-nil a.taken);
   left = files_reached a.entries b.entries l.keeps;
@@ -90,7 +89,6 @@ leads_learns a b l = record {
 pub learns_on : (a b c : Directories) → Learns a b → Learns b c → Learns a c
 learns_on a b c first next = record {
   there = next.there ∙ first.there;
-  made = next.made ∙ first.made;
   gone = first.gone ++ next.gone;
   taken = next.taken ∙ ap (λ (fs : List File). fs ++ next.gone) first.taken ∙ append_assoc a.taken first.gone next.gone;
   left = without_on first.gone next.gone (files_at a.entries) (files_at b.entries) (files_at c.entries) first.left next.left;
@@ -314,17 +312,17 @@ abbrev IsCountAfter : {T : Type 0} → Result T StoreFault → ℕ → ℕ → T
 IsCountAfter r n m = m ≡ (if refuses is_refusal r then n + 1 else n)
 
 -- the same with the files that are left
-abbrev left_in : Directories → Directories → Option (List ℕ) → ℕ → Maildir
+abbrev left_in : Directories → Directories → Option Draft → ℕ → Maildir
 left_in a b begun n = record (maildir_in a begun n) { files = files_at b.entries; taken = b.taken }
 
 -- this holds of what readers left
-seen : {Does : Maildir → Type 0} (a b : Directories) (begun : Option (List ℕ)) (n : ℕ) → Learns a b
+seen : {Does : Maildir → Type 0} (a b : Directories) (begun : Option Draft) (n : ℕ) → Learns a b
     → Does (left_in a b begun n) → AfterTaking (maildir_in a begun n) Does
 seen a b begun n l does = (left_in a b begun n, record { gone = l.gone; files = l.left; is = rw l.taken refl }, does)
 
-left_as : (a b : Directories) (begun : Option (List ℕ)) (m k n : ℕ) → Learns a b → m ≡ k
+left_as : (a b : Directories) (begun : Option Draft) (m k n : ℕ) → Learns a b → m ≡ k
     → maildir_in b begun m ≡ record (left_in a b begun n) { failures = k }
-left_as a b begun m k n l e = rw (l.there, l.made, e) refl
+left_as a b begun m k n l e = rw (l.there, e) refl
 
 one_lacks : (there : Folders) (folder : Folder) → is_there there folder ≡ false → (there.new ≡ false) ⊎ (there.cur ≡ false)
 one_lacks there New e = inl e
@@ -333,7 +331,7 @@ one_lacks there Cur e = inr e
 -- what was told
 pub told_names : {A B : Type 0} (Told : List (List ℕ) → List (List ℕ) → Type 0) (sought : Sought)
     → ((names told : List (List ℕ)) → AreSought sought names told → Told names told)
-    → (a b : Directories) (begun : Option (List ℕ)) (n m : ℕ) (r : Result (Vec (String A) B) StoreFault) → TellsBoth sought a r b
+    → (a b : Directories) (begun : Option Draft) (n m : ℕ) (r : Result (Vec (String A) B) StoreFault) → TellsBoth sought a r b
     → IfErr r IsDeviceFault → IsCountAfter r n m → AfterTaking (maildir_in a begun n) (λ left. ListsBoth Told left r (maildir_in b begun m))
 told_names Told sought is a b begun n m (Ok names) (l, told, _) device k =
     seen a b begun n l (
@@ -349,7 +347,7 @@ told_names Told sought is a b begun n m (Err Missing) (l, _, missing) device k =
 told_names Told sought is a b begun n m (Err Refused) (l, _, missing) device k = seen a b begun n l (left_as a b begun m (n + 1) n l k)
 told_names Told sought is a b begun n m (Err _) t device k = absurd (⊎_elim (λ e. cc) (λ e. cc) device)
 
-pub told_those : {A B : Type 0} (a b : Directories) (folder : Folder) (begun : Option (List ℕ)) (n m : ℕ)
+pub told_those : {A B : Type 0} (a b : Directories) (folder : Folder) (begun : Option Draft) (n m : ℕ)
     (r : Result (Vec (String A) B) StoreFault) → TellsOne a folder r b
     → IfErr r IsDeviceFault → IsCountAfter r n m → AfterTaking (maildir_in a begun n) (λ left. Lists left folder r (maildir_in b begun m))
 told_those a b folder begun n m (Ok names) (l, (there, theirs), _) device k =
@@ -360,7 +358,7 @@ told_those a b folder begun n m (Err Refused) (l, _, _) device k =
     seen a b begun n l (left_as a b begun m (n + 1) n l k)
 told_those a b folder begun n m (Err _) t device k = absurd (⊎_elim (λ e. cc) (λ e. cc) device)
 
-pub checked : {T : Type 0} (a b : Directories) (folder : Folder) (begun : Option (List ℕ)) (n m : ℕ)
+pub checked : {T : Type 0} (a b : Directories) (folder : Folder) (begun : Option Draft) (n m : ℕ)
     (r : Result T StoreFault) → Then (ChecksIn folder r) a b
     → IfErr r IsDeviceFault → IsCountAfter r n m → Checks (maildir_in a begun n) folder r (maildir_in b begun m)
 checked a b folder begun n m (Ok done) (mid, v, (e, there, _)) device k =
@@ -372,20 +370,12 @@ checked a b folder begun n m (Err _) t device k = absurd (⊎_elim (λ e. cc) (�
 
 -- ---- files that come to the folders, while others are moved
 
--- a call that only changed the file made
-pub changes_rest : (a b : Directories) → Then ChangesDraft a b → SameFiles a b
-changes_rest a b (m, v, (d, e)) = rw e (moved_rests a m d v)
-
 -- no file of `new` has the name, if none of either folder has its base
 free_from : (ss : List MailFile) (name : List ℕ) → (Contains (names_of (files_at ss)) (base name) → ⊥)
     → AllByRecursion (λ (s : MailFile). s.is_new ≡ true → s.name ≢ name) ss
 free_from [] name unknown = tt
 free_from (s ∷ ss) name unknown =
     (λ new same. unknown (0, omega arith, ap base same), free_from ss name (λ c. unknown (suc c.0, omega (arith, c.1), c.2)))
-
-pub flushed_rests : (b0 b1 b2 : Directories) → Then (FlushesDraft {T = Unit {0}} (Ok tt)) b0 b1 → SameFiles b1 b2 → SameFiles b0 b2
-flushed_rests b0 b1 b2 (m, v, (d, made, e)) led =
-    rests_on_at b0 b1 b2 (changes_rest b0 b1 (m, v, (Some (record d { is_flushed = true }), e))) led
 
 -- the last of some files that were moved, and those before it
 abbrev Splits : List MailFile → MailFile → List MailFile → Type 0
@@ -410,57 +400,42 @@ split_last (x ∷ ss) s (t ∷ ts) h =
     let r = split_last ss s ts h.1 in
     (t ∷ r.0, r.1, ap (λ (us : List MailFile). t ∷ us) r.2, (h.0, r.3), r.4)
 
--- the file made was flushed, others were moved, and it was put
-module _ (b0 b1 b2 b3 : Directories) (name : List ℕ) (f : Then (FlushesDraft {T = Unit {0}} (Ok tt)) b0 b1)
-    (r : SameFiles b1 b2) (led : b1.made ≡ b2.made) (p : Then (PutsIntoNew name) b2 b3) where
+-- a file that was flushed was put, once others were moved
+module _ (b0 b1 b2 : Directories) (content name : List ℕ) (file : MadeFile)
+    (filled : file ≡ record { content = content; is_flushed = true }) (r : SameFiles b0 b1) (p : Then (PutsIntoNew file name) b1 b2) where
   before : SameFiles b0 p.0
-  before = rests_on_at b0 b2 p.0 (flushed_rests b0 b1 b2 f r)
-      (record { there = p.1.there; taken = p.1.taken; files = files_moved b2.entries p.0.entries p.1.moves })
+  before = rests_on_at b0 b1 p.0 r (moved_rests b1 p.0 p.1)
 
-  drafted : record f.2.0 { is_flushed = true } ≡ p.2.draft
-  drafted = same_Some (record f.2.0 { is_flushed = true }) p.2.draft (sym (ap (λ (b : Directories). b.made) f.2.2) ∙ led
-      ∙ sym p.1.made ∙ p.2.made)
-
-  made_at : b0.made ≡ Some f.2.0
-  made_at = sym f.1.made ∙ f.2.1
-
-  put_is : IsUnknown name b0 → b3 ≡ record p.0 { entries = p.0.entries ++ put_as name p.2.draft ∷ []; new_rests = false; made = None }
-  put_is unknown = p.2.is (free_from p.0.entries name (rw before.files unknown))
+  put_is : IsUnknown name b0 → b2 ≡ record p.0 { entries = p.0.entries ++ put_as name file ∷ []; new_rests = false }
+  put_is unknown = p.2 (free_from p.0.entries name (rw before.files unknown))
 
   -- the names weren't flushed
-  pub put_unnamed : StandsIn b0 name b3
-  put_unnamed = (
-    f.2.0,
-    made_at,
-    λ unknown. (
-      false,
-      rw (put_is unknown) (record {
-        there = before.there;
-        taken = before.taken;
-        risen = files_at p.0.entries;
-        reached = rw before.files (named_same (files_at b0.entries));
-        files = map-append mail_at p.0.entries (put_as name p.2.draft ∷ [])
-            ∙ ap (λ (x : MadeFile). files_at p.0.entries ++ mail_at (put_as name x) ∷ []) (sym drafted);
-      }),
-    ),
+  pub put_unnamed : StandsIn b0 content name b2
+  put_unnamed = λ unknown. (
+    false,
+    rw (put_is unknown) (record {
+      there = before.there;
+      taken = before.taken;
+      risen = files_at p.0.entries;
+      reached = rw before.files (named_same (files_at b0.entries));
+      files = map-append mail_at p.0.entries (put_as name file ∷ [])
+          ∙ ap (λ (x : MadeFile). files_at p.0.entries ++ mail_at (put_as name x) ∷ []) filled;
+    }),
   )
 
-  mail_is : (t : MailFile) (content : List ℕ) → base t.name ≡ base name → t.content ≡ content → t.is_named ≡ true → t.is_flushed ≡ true
+  mail_is : (t : MailFile) → base t.name ≡ base name → t.content ≡ content → t.is_named ≡ true → t.is_flushed ≡ true
       → mail_at t ≡ mail name content
-  mail_is t content title same named with_flushed = rw (title, same, named, with_flushed) refl
+  mail_is t title same named with_flushed = rw (title, same, named, with_flushed) refl
 
   -- or were
-  put_named : (m b4 : Directories) → Moved b3 m → b4 ≡ names_flushed_in New m → IsUnknown name b0
-      → BringsFiles b0 (mail name f.2.0.content ∷ []) b4
-  put_named m b4 v e unknown =
-      let put = put_as name p.2.draft in
-      let last = split_last p.0.entries put m.entries (rw (put_is unknown) at v.moves) in
+  put_named : (m b3 : Directories) → Moved b2 m → b3 ≡ names_flushed_in New m → IsUnknown name b0
+      → BringsFiles b0 (mail name content ∷ []) b3
+  put_named m b3 v e unknown =
+      let last = split_last p.0.entries (put_as name file) m.entries (rw (put_is unknown) at v.moves) in
       let t = last.1 in
       let moved = last.4 in
-      let with_flushed : p.2.draft.is_flushed ≡ true = ap (λ (x : MadeFile). x.is_flushed) (sym drafted) in
-      let is = mail_is (named_by New t) f.2.0.content moved.keeps.title (moved.keeps.content
-      ∙ ap (λ (x : MadeFile). x.content) (sym drafted))
-      (or_right t.is_named (touches_new t) (moved.new refl)) (moved.flushed ∙ with_flushed) in
+      let is = mail_is (named_by New t) moved.keeps.title (moved.keeps.content ∙ ap (λ (x : MadeFile). x.content) filled)
+      (or_right t.is_named (touches_new t) (moved.new refl)) (moved.flushed ∙ ap (λ (x : MadeFile). x.is_flushed) filled) in
       let risen = files_at (map (named_by New) last.0) in
       rw e (record {
         there = v.there ∙ ap (λ (d : Directories). d.there) (put_is unknown) ∙ before.there;
@@ -474,135 +449,74 @@ module _ (b0 b1 b2 b3 : Directories) (name : List ℕ) (f : Then (FlushesDraft {
             ∙ ap (λ (x : File). risen ++ x ∷ []) is;
       })
 
-  pub put_all : (b4 : Directories) (r : Result (Unit {0}) StoreFault) → Then (FlushesNamesIn New r) b3 b4 → PutsForGood b0 name r b4
+  pub put_all : (b3 : Directories) (r : Result (Unit {0}) StoreFault) → Then (FlushesNamesIn New r) b2 b3
+      → PutsForGood b0 content name r b3
   unfolding put_unnamed
-  put_all b4 (Ok done) (m, v, e) = (f.2.0, made_at, put_named m b4 v e)
-  put_all b4 (Err fault) (m, v, inl lacks) = inr (
-    f.2.0,
-    made_at,
-    λ unknown.
-        let stands = (put_unnamed).2 unknown in
-        let same = same_rests_at b3 m b4 v lacks.0 in (
-          stands.0,
-          record {
-            there = same.there ∙ stands.1.there;
-            taken = same.taken ∙ stands.1.taken;
-            risen = stands.1.risen;
-            reached = stands.1.reached;
-            files = same.files ∙ stands.1.files;
-          },
-        ),
-  )
-  put_all b4 (Err fault) (m, v, inr (refused, e)) = inr (f.2.0, made_at, λ unknown. (true, put_named m b4 v e unknown))
+  put_all b3 (Ok done) (m, v, e) = put_named m b3 v e
+  put_all b3 (Err fault) (m, v, inl lacks) = inr (λ unknown.
+      let stands = put_unnamed unknown in
+      let same = same_rests_at b2 m b3 v lacks.0 in (
+        stands.0,
+        record {
+          there = same.there ∙ stands.1.there;
+          taken = same.taken ∙ stands.1.taken;
+          risen = stands.1.risen;
+          reached = stands.1.reached;
+          files = same.files ∙ stands.1.files;
+        },
+      ))
+  put_all b3 (Err fault) (m, v, inr (refused, e)) = inr (λ unknown. (true, put_named m b3 v e unknown))
+
+pub not_put : (b0 b1 b2 : Directories) (content name : List ℕ) (file : MadeFile) (fault x : StoreFault)
+    → file ≡ record { content = content; is_flushed = true } → SameFiles b0 b1
+    → Then (PutsDraft {T = Unit {0}} file name (Err fault)) b1 b2 → PutsForGood {T = Unit {0}} b0 content name (Err x) b2
+not_put b0 b1 b2 content name file fault x filled r (m, v, inl same) = inl (rests_on_at b0 b1 b2 r (same_rests_at b1 m b2 v same))
+not_put b0 b1 b2 content name file fault x filled r (m, v, inr p) = inr (put_unnamed b0 b1 b2 content name file filled r (m, v, p))
 
 -- ---- the Maildir of the folders
 
-pub makes_rest : (a b : Directories) (r : Result (Unit {0}) StoreFault) → Then (MakesDraft r) a b → SameFiles a b
-makes_rest a b (Ok done) (m, v, (there, e)) = changes_rest a b (m, v, (Some (record { content = []; is_flushed = false }), e))
-makes_rest a b (Err fault) (m, v, (change, missing)) = changes_rest a b (m, v, change)
+pub none_begun : {T : Type 0} (begun : Option T) (P : T → Type 0) → is_some begun ≡ false → IfSome begun P
+none_begun None P none = tt
+none_begun (Some x) P none = absurd cc
 
-pub begun_anew : (a b : Directories) (begun : Option (List ℕ)) (title name : List ℕ) (n : ℕ) → title ≡ name
-    → Then (MakesDraft {T = Unit {0}} (Ok tt)) a b
-    → (a.there.tmp ≡ true) × (maildir_in b (Some title) n ≡ record (maildir_in a begun n) { begun = Some (draft name []) })
-begun_anew a b begun title name n same (m, v, (there, e)) =
-    let h = makes_rest a b (Ok tt) (m, v, (there, e)) in
-    (rw (sym v.there) there, rw (h.there, h.taken, h.files, ap (λ (x : Directories). x.made) e, same) refl)
+pub begun_anew : {N : Type 0} (made : N → MadeFile) (a b : Directories) (begun : Option Draft) (title : String Global)
+    (file : N) (name : List ℕ) (n : ℕ) → string_bytes title ≡ name → Then (MakesDraft made (Ok file)) a b
+    → (a.there.tmp ≡ true)
+    × (maildir_in b (Some (draft_begun made (title, file))) n ≡ record (maildir_in a begun n) { begun = Some (draft name []) })
+begun_anew made a b begun title file name n same (m, v, (there, empty, e)) =
+    let h = same_rests_at a m b v e in
+    (rw (sym v.there) there, rw (h.there, h.taken, h.files, same, empty) refl)
 
-pub begin_missing : (a b : Directories) (begun : Option (List ℕ)) (n : ℕ) (fault : StoreFault) → fault ≡ Missing
-    → Then (MakesDraft {T = Unit {0}} (Err fault)) a b
-    → (a.there.tmp ≡ false) × (maildir_in b begun n ≡ maildir_in a begun n)
-begin_missing a b begun n fault is (m, v, (change, missing)) =
-    let gone = missing is in
-    (rw (sym v.there) gone.0, moved_maildir a m b begun n v gone.1)
+pub begin_missing : {N : Type 0} (made : N → MadeFile) (a b : Directories) (begun : Option Draft) (n : ℕ) (fault : StoreFault)
+    → fault ≡ Missing → Then (MakesDraft made (Err fault)) a b → (a.there.tmp ≡ false) × (maildir_in b begun n ≡ maildir_in a begun n)
+begin_missing made a b begun n fault is (m, v, (e, missing)) = (rw (sym v.there) (missing is), moved_maildir a m b begun n v e)
 
-pub begin_refused : (a b : Directories) (begun : Option (List ℕ)) (n k : ℕ) → k ≡ n + 1 → SameFiles a b
-    → (maildir_in a begun n).begun ≡ None
-    → maildir_in b begun k ≡ maildir_refused (maildir_in a begun n)
-begin_refused a b None n k up h none = rw (h.there, h.taken, h.files, up) refl
-begin_refused a b (Some name) n k up h none = absurd cc
+pub begin_refused : {N : Type 0} (made : N → MadeFile) (a b : Directories) (begun : Option Draft) (n k : ℕ) (fault : StoreFault)
+    → k ≡ n + 1 → Then (MakesDraft made (Err fault)) a b → maildir_in b begun k ≡ maildir_refused (maildir_in a begun n)
+begin_refused made a b begun n k fault up (m, v, (e, missing)) = rw up (moved_maildir a m b begun (n + 1) v e)
 
 -- ---- add
 
-begun_is : (a : Directories) (begun : Option (List ℕ)) (n : ℕ) (f : Begun) → (maildir_in a begun n).begun ≡ Some f
-    → (begun ≡ Some f.name) × (content_made a.made ≡ f.content)
-begun_is a None n f h = absurd cc
-begun_is a (Some title) n f h = rw (sym (same_Some (draft title (content_made a.made)) f h)) (refl, refl)
-
-pub writes_rest : (a b : Directories) (bytes : List ℕ) (r : Result (Unit {0}) StoreFault) → Then (WritesDraft bytes r) a b → SameFiles a b
-writes_rest a b bytes (Ok done) (m, v, (d, made, e)) =
-    changes_rest a b (m, v, (Some (record { content = d.content ++ bytes; is_flushed = false }), e))
-writes_rest a b bytes (Err fault) t = changes_rest a b t
-
-pub added : (a b : Directories) (begun : Option (List ℕ)) (bytes : List ℕ) (n : ℕ)
-    → Then (WritesDraft {T = Unit {0}} bytes (Ok tt)) a b → (f : Begun) → (maildir_in a begun n).begun ≡ Some f
-    → maildir_in b begun n ≡ record (maildir_in a begun n) { begun = Some (draft f.name (f.content ++ bytes)) }
-added a b begun bytes n (m, v, (d, made, e)) f h =
-    let is = begun_is a begun n f h in
-    let rests = writes_rest a b bytes (Ok tt) (m, v, (d, made, e)) in
-    rw (is.0, sym is.1, sym v.made ∙ made, rests.there, rests.taken, rests.files, ap (λ (x : Directories). x.made) e) refl
-
-pub not_added : (a b : Directories) (begun : Option (List ℕ)) (n k : ℕ) → k ≡ n + 1 → Then ChangesDraft a b
-    → (f : Begun) → (maildir_in a begun n).begun ≡ Some f
-    → (content : List ℕ) × (maildir_in b begun k ≡ maildir_refused (record (maildir_in a begun n) { begun = Some (draft f.name content) }))
-not_added a b begun n k up t f h =
-    let came = changes_rest a b t in
-    (content_made b.made, rw (came.there, came.taken, came.files, up, (begun_is a begun n f h).0) refl)
+pub not_added : {N : Type 0} (made : N → MadeFile) (d : Directories) (title : String Global) (file new : N) (n k : ℕ) (f : Draft)
+    → k ≡ n + 1 → Some (draft_begun made (title, file)) ≡ Some f
+    → (content : List ℕ) × (maildir_in d (Some (draft_begun made (title, new))) k
+    ≡ maildir_refused (record (maildir_in d (Some (draft_begun made (title, file))) n) { begun = Some (draft f.name content) }))
+not_added made d title file new n k f up h = ((made new).content, rw (sym (same_Some (draft_begun made (title, file)) f h), up) refl)
 
 -- ---- abandon and settle
 
-pub gives_up : (a b : Directories) → Then GivesUp a b → SameFiles a b
-gives_up a b (m, v, e) = changes_rest a b (m, v, (None, e))
+pub maildir_same : (a b : Directories) (begun : Option Draft) (n : ℕ) → SameFiles a b → maildir_in b begun n ≡ maildir_in a begun n
+maildir_same a b begun n h = rw (h.there, h.taken, h.files) refl
 
--- none is being written, and the files are as they were
-pub maildir_dropped : (a b : Directories) (begun : Option (List ℕ)) (n k : ℕ) → SameFiles a b
-    → maildir_in b None k ≡ record (dropped (maildir_in a begun n)) { failures = k }
-maildir_dropped a b begun n k h = rw (h.there, h.taken, h.files) refl
-
-pub settled : (a b : Directories) (begun : Option (List ℕ)) (name : List ℕ) (n : ℕ)
-    → PutsForGood {T = Unit {0}} a name (Ok tt) b → IsUnknown name a
-    → (f : Begun) → (maildir_in a begun n).begun ≡ Some f
-    → AfterFlushing (maildir_in a begun n) (λ risen. maildir_in b None n ≡ with_file risen (mail name f.content))
-settled a b begun name n (d, made, put) unknown f h =
+pub not_settled : (a b : Directories) (d f : Draft) (name : List ℕ) (n k : ℕ) (fault : StoreFault) → k ≡ n + 1 → IsUnknown name a
+    → Some d ≡ Some f → PutsForGood {T = Unit {0}} a d.content name (Err fault) b
+    → (maildir_in b None k ≡ maildir_refused (dropped (maildir_in a (Some d) n)))
+    ⊎ AfterFlushing (maildir_in a (Some d) n) (λ risen. MayHave risen (mail name f.content) (maildir_in b None k))
+not_settled a b d f name n k fault up unknown h (inl none) = inl (rw (none.there, none.taken, none.files, up) refl)
+not_settled a b d f name n k fault up unknown h (inr put) =
     let came = put unknown in
-    let same : d.content ≡ f.content = ap content_made (sym made) ∙ (begun_is a begun n f h).1 in
-    (came.risen, came.reached, rw (came.there, came.taken, came.files, same) refl)
-
-pub not_settled : (a b c : Directories) (begun : Option (List ℕ)) (name : List ℕ) (n k : ℕ) (fault : StoreFault)
-    → k ≡ n + 1 → PutsForGood {T = Unit {0}} a name (Err fault) b
-    → Then GivesUp b c → IsUnknown name a → (f : Begun) → (maildir_in a begun n).begun ≡ Some f
-    → (maildir_in c None k ≡ maildir_refused (dropped (maildir_in a begun n)))
-    ⊎ AfterFlushing (maildir_in a begun n) (λ risen. MayHave risen (mail name f.content) (maildir_in c None k))
-not_settled a b c begun name n k fault up (inl none) gives unknown f h =
-    let came = rests_on_at a b c none (gives_up b c gives) in
-    inl (rw (came.there, came.taken, came.files, up) refl)
-not_settled a b c begun name n k fault up (inr (d, made, put)) gives unknown f h =
-    let came = put unknown in
-    let gone = gives_up b c gives in
-    let same : d.content ≡ f.content = ap content_made (sym made) ∙ (begun_is a begun n f h).1 in
-    inr (
-      came.1.risen,
-      came.1.reached,
-      (
-        came.0,
-        rw (
-          gone.there ∙ came.1.there,
-          gone.taken ∙ came.1.taken,
-          gone.files
-              ∙ came.1.files,
-          up,
-          same,
-        ) refl,
-      ),
-    )
-
--- ---- the calls of settling
-
-pub not_put : (b0 b1 b2 b3 : Directories) (name : List ℕ) (fault x : StoreFault) → Then (FlushesDraft {T = Unit {0}} (Ok tt)) b0 b1
-    → SameFiles b1 b2 → b1.made ≡ b2.made
-    → Then (PutsDraft {T = Unit {0}} name (Err fault)) b2 b3 → PutsForGood {T = Unit {0}} b0 name (Err x) b3
-not_put b0 b1 b2 b3 name fault x f led same (m, v, inl change) =
-    inl (rests_on_at b0 b2 b3 (flushed_rests b0 b1 b2 f led) (changes_rest b2 b3 (m, v, change)))
-not_put b0 b1 b2 b3 name fault x f led same (m, v, inr p) = inr (put_unnamed b0 b1 b2 b3 name f led same (m, v, p))
+    let same : d.content ≡ f.content = ap (λ (x : Draft). x.content) (same_Some d f h) in
+    inr (came.1.risen, came.1.reached, (came.0, rw (came.1.there, came.1.taken, came.1.files, up, same) refl))
 
 -- ---- what a flush of files does to the folders of a Maildir
 
@@ -611,13 +525,13 @@ module _ {A : Type 0} (stems : List (String A)) where
   flushed_at [] = refl
   flushed_at (s ∷ ss) = rw (stem_base s.name, flushed_at ss) refl
 
-  pub files_flush : (a b : Directories) (begun : Option (List ℕ)) (n : ℕ) (done : Bool) → Then (FlushesFiles stems (Ok done)) a b
+  pub files_flush : (a b : Directories) (begun : Option Draft) (n : ℕ) (done : Bool) → Then (FlushesFiles stems (Ok done)) a b
       → Flushes (maildir_in a begun n) stems (Ok done) (maildir_in b begun n)
   files_flush a b begun n true (m, v, e) =
-      rw (e, v.there, v.made, v.taken) (rw (flushed_at m.entries, files_moved a.entries m.entries v.moves) refl)
+      rw (e, v.there, v.taken) (rw (flushed_at m.entries, files_moved a.entries m.entries v.moves) refl)
   files_flush a b begun n false (m, v, e) = moved_maildir a m b begun n v e
 
-pub files_refused : {A : Type 0} (stems : List (String A)) (a b : Directories) (begun : Option (List ℕ)) (n k : ℕ)
+pub files_refused : {A : Type 0} (stems : List (String A)) (a b : Directories) (begun : Option Draft) (n k : ℕ)
     (fault : StoreFault) → k ≡ n + 1
     → Then (FlushesFiles stems (Err fault)) a b → maildir_in b begun k ≡ maildir_refused (maildir_in a begun n)
 files_refused stems a b begun n k fault up (m, v, e) = rw up (moved_maildir a m b begun (n + 1) v e)

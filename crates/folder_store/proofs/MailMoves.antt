@@ -1,14 +1,14 @@
 -- What others' moves and flushes of names leave as it was.
 use Rattle.std.proofs.Common.{◌≡◌, ◌⊎◌, ◌||◌, Contains, inl, inr, ⊎_elim, ℕ, zero, suc, Bool, true, false, not, List}
-use Rattle.std.proofs.Common.{[], ◌∷◌, ◌++◌, map, None, Option, refl, sym, ap, ◌∙◌, arith}
+use Rattle.std.proofs.Common.{[], ◌∷◌, ◌++◌, map, Option, refl, ap, ◌∙◌, arith}
 use Rattle.std.specs.List.{AllByRecursion, AllZip}
 use Rattle.std.proofs.lemmas.Bool.{or_left}
 use Rattle.mail_terms.specs.MaildirName.{base}
 use Rattle.mail_store.specs.declared.maildir.disk.Folder.{Folder}
 use Rattle.mail_store.specs.declared.maildir.disk.Folder.TheVariants.{New, Cur}
 use Rattle.mail_store.specs.Loss.{AreLeftAs}
-use Rattle.mail_store.specs.Maildir.{AreReached, File, IsAsDurable, AllNamed}
-use Rattle.folder_store.specs.MailFolders.{MadeFile, MailFile, Directories, KeepsFile, MovesFile, RestsFile, Moved}
+use Rattle.mail_store.specs.Maildir.{AreReached, Draft, File, IsAsDurable, AllNamed}
+use Rattle.folder_store.specs.MailFolders.{MailFile, Directories, KeepsFile, MovesFile, RestsFile, Moved}
 use Rattle.folder_store.specs.MailFolders.{mail_at, files_at, name_at, entries_in, touches_new, touches_cur, maildir_in}
 use Rattle.folder_store.specs.MailFolders.{OneMoves, is_in}
 use Rattle.folder_store.specs.MailPower.{EntriesLeftAs, IsMailLeftAs, MailCanLosePower}
@@ -73,7 +73,7 @@ pub each_keeps : (a b : List MailFile) → AllZip MovesFile a b → AllZip Keeps
 each_keeps a b = each_by MovesFile (AllZip KeepsFile) tt (λ s t ss ts m rest. (m.keeps, rest)) a b
 
 pub moved_leads : (a b : Directories) → Moved a b → Leads a b
-moved_leads a b m = record { there = m.there; made = m.made; taken = m.taken; keeps = each_keeps a.entries b.entries m.moves }
+moved_leads a b m = record { there = m.there; taken = m.taken; keeps = each_keeps a.entries b.entries m.moves }
 
 -- others moved files, and a call changed nothing
 pub moved_same : (a m b : Directories) → Moved a m → b ≡ m → Leads a b
@@ -87,7 +87,7 @@ pub same_keeps : (s : MailFile) → KeepsFile s s
 same_keeps s = record { title = refl; content = refl; flushed = λ h. h; named = λ h. h }
 
 pub leads_same : (a : Directories) → Leads a a
-leads_same a = record { there = refl; made = refl; taken = refl; keeps = zip_same KeepsFile same_keeps a.entries }
+leads_same a = record { there = refl; taken = refl; keeps = zip_same KeepsFile same_keeps a.entries }
 
 -- ---- one after another
 
@@ -104,25 +104,21 @@ pub mapped_leads : (f : MailFile → MailFile) → ((s : MailFile) → KeepsFile
     → Leads a (record m { entries = map f m.entries })
 mapped_leads f keeps a m v = record {
   there = v.there;
-  made = v.made;
   taken = v.taken;
   keeps = each_by MovesFile (λ a b. AllZip KeepsFile a (map f b)) tt
       (λ s t ss ts m rest. (keeps_on s t (f t) m.keeps (keeps t), rest)) a.entries m.entries v.moves;
 }
 
 -- the Maildir is as it was
-pub moved_maildir : (a m b : Directories) (begun : Option (List ℕ)) (n : ℕ) → Moved a m → b ≡ m
+pub moved_maildir : (a m b : Directories) (begun : Option Draft) (n : ℕ) → Moved a m → b ≡ m
     → maildir_in b begun n ≡ maildir_in a begun n
-moved_maildir a m b begun n v e = rw e (rw (v.there, v.made, v.taken, files_moved a.entries m.entries v.moves) refl)
+moved_maildir a m b begun n v e = rw e (rw (v.there, v.taken, files_moved a.entries m.entries v.moves) refl)
 
-pub moved_rests : (a m : Directories) (d : Option MadeFile) → Moved a m → SameFiles a (record m { made = d })
-moved_rests a m d v = record { there = v.there; taken = v.taken; files = files_moved a.entries m.entries v.moves }
+pub moved_rests : (a b : Directories) → Moved a b → SameFiles a b
+moved_rests a b v = record { there = v.there; taken = v.taken; files = files_moved a.entries b.entries v.moves }
 
 pub same_rests_at : (a m b : Directories) → Moved a m → b ≡ m → SameFiles a b
-same_rests_at a m b v e = rw e (record { there = v.there; taken = v.taken; files = files_moved a.entries m.entries v.moves })
-
-pub made_same : (a m b : Directories) → Moved a m → b ≡ m → a.made ≡ b.made
-made_same a m b v e = rw e (sym v.made)
+same_rests_at a m b v e = rw e (moved_rests a m v)
 
 pub rests_on_at : (a b c : Directories) → SameFiles a b → SameFiles b c → SameFiles a c
 rests_on_at a b c first then = record {
@@ -167,7 +163,6 @@ same_rests folder s = record { place = refl; name = λ h. refl; gone = λ h. ref
 pub rest : (b : Directories) → Moved b b
 rest b = record {
   there = refl;
-  made = refl;
   taken = refl;
   moves = zip_same MovesFile same_moves b.entries;
   rests = λ folder quiet. (quiet, zip_same (RestsFile folder) (same_rests folder) b.entries);
@@ -183,7 +178,6 @@ pub one : (old : Directories) (front back : List MailFile) (s t : MailFile) (new
     → OneMoves old front back s t new → Moved old new
 one old front back s t new o = record {
   there = o.there;
-  made = o.made;
   taken = o.taken;
   moves = rw (o.before, o.after) (each_one MovesFile same_moves front back s t o.moves);
   rests = λ folder quiet.
@@ -215,7 +209,6 @@ rests_on folder s t u a b = record {
 pub on : (a b c : Directories) → Moved a b → Moved b c → Moved a c
 on a b c first then = record {
   there = then.there ∙ first.there;
-  made = then.made ∙ first.made;
   taken = then.taken ∙ first.taken;
   moves = zip_on MovesFile moves_on a.entries b.entries c.entries first.moves then.moves;
   rests = λ folder quiet.
@@ -257,7 +250,7 @@ staying_left s = record {
 pub mail_can_lose_power : MailCanLosePower
 mail_can_lose_power old =
     let r = all_staying old.entries in
-    (record old { entries = r.0; made = None }, record { there = refl; each = r.1; made = refl; taken = refl })
+    (record old { entries = r.0 }, record { there = refl; each = r.1; taken = refl })
   where
     all_staying : (ss : List MailFile) → (left : List MailFile) × EntriesLeftAs ss left
     all_staying [] = ([], refl)

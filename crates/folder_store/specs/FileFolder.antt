@@ -1,6 +1,6 @@
 -- A folder of a file system: what its calls see, what of it is on the disk, and what each call does,
 -- for either outcome.
-use Rattle.std.specs.Prelude.{◌≡◌, ℕ, List, [], ◌∷◌, ◌++◌, length, take, map, Bool, true, false}
+use Rattle.std.specs.Prelude.{◌≡◌, ℕ, List, [], ◌∷◌, ◌++◌, length, take, map, Bool, false}
 use Rattle.std.specs.Prelude.{Option, Some, None, option_map, Result, Ok, Err, ◌⊎◌, Vec}
 use Rattle.std.specs.Prelude.{bytes_eq, if◌then◌else◌}
 use Rattle.mail_store.specs.declared.fault.StoreFault.{StoreFault}
@@ -20,14 +20,16 @@ pub record Older : Type 0 where
   pub name : List ℕ
   pub was : Option Blob
 
--- a folder: whether a file can be made, the files by their names in the order in
--- which they came, what names led to before they were changed, since the names were last flushed, and
--- the file that was made and has no name here yet
+-- a folder: the files by their names in the order in which they came, and what names led to before they were
+-- changed, since the names were last flushed
 pub record Directory : Type 0 where
-  pub can_make : Bool
   pub entries : List Entry
   pub older : List Older
-  pub made : Option Blob
+
+-- a file that was made and has no name yet: its bytes, and whether they are on the disk
+pub record MadeFile : Type 0 where
+  pub content : List ℕ
+  pub is_flushed : Bool
 
 abbrev pub entry : List ℕ → Blob → Entry
 entry name blob = record { name = name; blob = blob }
@@ -52,56 +54,33 @@ abbrev pub content_at : Directory → List ℕ → Option (List ℕ)
 content_at d name = option_map content_in (find name d.entries)
 
 -- a file without bytes
-abbrev pub empty_blob : Blob
-empty_blob = record { content = []; flushed = []; uncut = 0; is_doubted = false }
+abbrev pub empty_made : MadeFile
+empty_made = record { content = []; is_flushed = false }
 
--- the file made is another, or none
-abbrev pub making : Directory → Option Blob → Directory
-making d m = record d { made = m }
+-- a file that was made, once it has a name
+abbrev pub blob_made : MadeFile → Blob
+blob_made file = if file.is_flushed then secured file.content
+    else record { content = file.content; flushed = []; uncut = 0; is_doubted = false }
 
 -- the file of this name has other bytes
 abbrev pub with_blob : Directory → List ℕ → Blob → Directory
 with_blob d name blob = record d { entries = placed name blob d.entries }
 
--- the file made has a name here
-abbrev pub put_in : Directory → Blob → List ℕ → Directory
-put_in d blob name = record d {
-  entries = placed name blob d.entries;
+-- the file that was made has a name here
+abbrev pub put_in : Directory → MadeFile → List ℕ → Directory
+put_in d file name = record {
+  entries = placed name (blob_made file) d.entries;
   older = record { name = name; was = find name d.entries } ∷ d.older;
-  made = None;
 }
 
 -- the names are on the disk
 abbrev pub names_flushed : Directory → Directory
 names_flushed d = record d { older = [] }
 
--- a call changed only the file made
-abbrev pub ChangesMade : Directory → Directory → Type 0
-ChangesMade old new = (m : Option Blob) × (new ≡ making old m)
-
--- `make`: a file without bytes and without a name here; Missing if none can be made
-abbrev pub Makes : {T : Type 0} → Directory → Result T StoreFault → Directory → Type 0
-Makes old (Ok done) new = (old.can_make ≡ true) × (new ≡ making old (Some empty_blob))
-Makes old (Err fault) new = ChangesMade old new × (fault ≡ Missing → (old.can_make ≡ false) × (new ≡ old))
-
--- `write`: the bytes are appended to the file made
-abbrev pub WritesMade : {T : Type 0} → Directory → List ℕ → Result T StoreFault → Directory → Type 0
-WritesMade old bytes (Ok done) new = (b : Blob) × (old.made ≡ Some b) × (new ≡ making old (Some (appended b bytes)))
-WritesMade old bytes (Err fault) new = ChangesMade old new
-
--- `flush_made`: the bytes of the file made are on the disk; a refused call gives the file up
-abbrev pub FlushesMade : {T : Type 0} → Directory → Result T StoreFault → Directory → Type 0
-FlushesMade old (Ok done) new = (b : Blob) × (old.made ≡ Some b) × (new ≡ making old (Some (secured b.content)))
-FlushesMade old (Err fault) new = new ≡ making old None
-
--- the file made is put under the name
-abbrev pub PutsIn : Directory → List ℕ → Directory → Type 0
-PutsIn old name new = (b : Blob) × (old.made ≡ Some b) × (new ≡ put_in old b name)
-
--- `put`: the file made is put under the name; a refused call did that, or changed only the file made
-abbrev pub PutsFile : {T : Type 0} → Directory → List ℕ → Result T StoreFault → Directory → Type 0
-PutsFile old name (Ok done) new = PutsIn old name new
-PutsFile old name (Err fault) new = ChangesMade old new ⊎ PutsIn old name new
+-- `put`: the file that was made is put under the name; a refused call did that, or nothing
+abbrev pub PutsFile : {T : Type 0} → Directory → MadeFile → List ℕ → Result T StoreFault → Directory → Type 0
+PutsFile old file name (Ok done) new = new ≡ put_in old file name
+PutsFile old file name (Err fault) new = (new ≡ old) ⊎ (new ≡ put_in old file name)
 
 -- a call that only reads a file answered a fault: there is no such file, or the call was refused
 abbrev pub LacksFile : Directory → List ℕ → StoreFault → Directory → Type 0
@@ -166,4 +145,4 @@ FlushesNames old (Err fault) new = (new ≡ old) ⊎ (new ≡ names_flushed old)
 
 -- a folder of which nothing is known
 abbrev pub unknown_directory : Directory
-unknown_directory = record { can_make = false; entries = []; older = []; made = None }
+unknown_directory = record { entries = []; older = [] }

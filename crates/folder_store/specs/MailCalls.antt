@@ -1,6 +1,6 @@
 -- What each call does to the folders of a Maildir, once others have moved files.
 use Rattle.std.specs.Prelude.{◌≡◌, ◌≢◌, ◌⊎◌, ◌||◌, ◌↔◌, ℕ, Bool, true, false, IsTrue, List, [], ◌∷◌, ◌++◌, map, Option}
-use Rattle.std.specs.Prelude.{Some, None, Result, Ok, Err, IfErr, IfOk, IfSome, OnOk, Vec, String, string_bytes}
+use Rattle.std.specs.Prelude.{Result, Ok, Err, IfErr, IfOk, IfSome, OnOk, Vec, String, string_bytes}
 use Rattle.std.specs.Prelude.{IsPermutation, Contains}
 use Rattle.std.specs.List.{AllByRecursion, AllZip, filter}
 use Rattle.mail_terms.specs.MaildirName.{base}
@@ -15,17 +15,14 @@ use Rattle.mail_store.specs.Held.{is_sought}
 use Rattle.mail_store.specs.Loss.{is_among}
 use Rattle.folder_store.specs.declared.mail_folders.Sought.{Sought}
 use Rattle.folder_store.specs.declared.mail_folders.Sought.TheVariants.{All, Stems}
-use Rattle.folder_store.specs.MailFolders.{Directories, MailFile, MadeFile, KeepsFile, Moved, files_at, is_left}
+use Rattle.folder_store.specs.FileFolder.{MadeFile, empty_made}
+use Rattle.folder_store.specs.MailFolders.{Directories, MailFile, KeepsFile, Moved, files_at, is_left}
 use Rattle.folder_store.specs.MailFolders.{is_taken}
 use Rattle.folder_store.specs.MailFolders.{name_at, entries_in, rests_in, touches_new, touches_cur}
 
 -- others moved files, and then the call did this
 abbrev pub Then : (Directories → Directories → Type 0) → Directories → Directories → Type 0
 Then Does old new = (mid : Directories) × Moved old mid × Does mid new
-
--- the call changed only the file made
-abbrev pub ChangesDraft : Directories → Directories → Type 0
-ChangesDraft old new = (m : Option MadeFile) × (new ≡ record old { made = m })
 
 -- a call that needs a folder answered a fault, and nothing changed
 abbrev pub Lacks : Directories → Folder → StoreFault → Directories → Type 0
@@ -81,34 +78,17 @@ LooksUpNew name r old new =
     (new ≡ old) × IfOk r (λ found. IsTrue found ↔ Contains (map name_at (entries_in New old.entries)) name)
 
 -- `make`: a file without bytes and without a name
-abbrev pub MakesDraft : {T : Type 0} → Result T StoreFault → Directories → Directories → Type 0
-MakesDraft (Ok done) old new = (old.there.tmp ≡ true)
-    × (new ≡ record old { made = Some (record { content = []; is_flushed = false }) })
-MakesDraft (Err fault) old new = ChangesDraft old new × (fault ≡ Missing → (old.there.tmp ≡ false) × (new ≡ old))
+abbrev pub MakesDraft : {N : Type 0} → (N → MadeFile) → Result N StoreFault → Directories → Directories → Type 0
+MakesDraft made (Ok file) old new = (old.there.tmp ≡ true) × (made file ≡ empty_made) × (new ≡ old)
+MakesDraft made (Err fault) old new = (new ≡ old) × (fault ≡ Missing → old.there.tmp ≡ false)
 
--- `write`: the bytes are appended to the file made
-abbrev pub WritesDraft : {T : Type 0} → List ℕ → Result T StoreFault → Directories → Directories → Type 0
-WritesDraft bytes (Ok done) old new = (d : MadeFile) × (old.made ≡ Some d)
-    × (new ≡ record old { made = Some (record { content = d.content ++ bytes; is_flushed = false }) })
-WritesDraft bytes (Err fault) old new = ChangesDraft old new
-
--- `flush_made`: the bytes of the file made are durable; a refused call gives the file up
-abbrev pub FlushesDraft : {T : Type 0} → Result T StoreFault → Directories → Directories → Type 0
-FlushesDraft (Ok done) old new = (d : MadeFile) × (old.made ≡ Some d)
-    × (new ≡ record old { made = Some (record d { is_flushed = true }) })
-FlushesDraft (Err fault) old new = new ≡ record old { made = None }
-
--- `discard`: no file is made
-abbrev pub GivesUp : Directories → Directories → Type 0
-GivesUp old new = new ≡ record old { made = None }
-
--- the file made, in `new`
+-- a file that was made, in `new`
 abbrev pub put_as : List ℕ → MadeFile → MailFile
-put_as name d = record {
+put_as name file = record {
   is_new = true;
   name = name;
-  content = d.content;
-  is_flushed = d.is_flushed;
+  content = file.content;
+  is_flushed = file.is_flushed;
   is_named = false;
   left_new = false;
   left_cur = false;
@@ -119,17 +99,15 @@ put_as name d = record {
 abbrev pub IsFree : List ℕ → Directories → Type 0
 IsFree name d = AllByRecursion (λ (s : MailFile). s.is_new ≡ true → s.name ≢ name) d.entries
 
--- the file made is put into `new`, if no file there has the name
-pub record PutsIntoNew (name : List ℕ) (old new : Directories) : Type 0 where
-  pub draft : MadeFile
-  pub made : old.made ≡ Some draft
-  pub is : IsFree name old → new
-      ≡ record old { entries = old.entries ++ put_as name draft ∷ []; new_rests = false; made = None }
+-- a file that was made is put into `new`, if no file there has the name
+abbrev pub PutsIntoNew : MadeFile → List ℕ → Directories → Directories → Type 0
+PutsIntoNew file name old new = IsFree name old
+    → new ≡ record old { entries = old.entries ++ put_as name file ∷ []; new_rests = false }
 
--- `put`: a refused call did it, or changed only the file made
-abbrev pub PutsDraft : {T : Type 0} → List ℕ → Result T StoreFault → Directories → Directories → Type 0
-PutsDraft name (Ok done) old new = PutsIntoNew name old new
-PutsDraft name (Err fault) old new = ChangesDraft old new ⊎ PutsIntoNew name old new
+-- `put`: a refused call did it, or nothing
+abbrev pub PutsDraft : {T : Type 0} → MadeFile → List ℕ → Result T StoreFault → Directories → Directories → Type 0
+PutsDraft file name (Ok done) old new = PutsIntoNew file name old new
+PutsDraft file name (Err fault) old new = (new ≡ old) ⊎ PutsIntoNew file name old new
 
 -- a file once the names of a folder were flushed: if it is in this folder, or left it since they last were, some name
 -- of it is durable
@@ -177,14 +155,12 @@ pub record BringsFiles (old : Directories) (added : List File) (new : Directorie
 -- all that calls see of the folders is as it was
 pub record Leads (old new : Directories) : Type 0 where
   pub there : new.there ≡ old.there
-  pub made : new.made ≡ old.made
   pub taken : new.taken ≡ old.taken
   pub keeps : AllZip KeepsFile old.entries new.entries
 
 -- the same, but files that readers took away may be known no longer, except as taken
 pub record Learns (old new : Directories) : Type 0 where
   pub there : new.there ≡ old.there
-  pub made : new.made ≡ old.made
   pub gone : List File
   pub taken : new.taken ≡ old.taken ++ gone
   pub left : IsWithout (files_at old.entries) gone (files_at new.entries)
@@ -226,15 +202,13 @@ TellsOne old folder r new =
 abbrev pub IsUnknown : List ℕ → Directories → Type 0
 IsUnknown name d = Contains (names_of (files_at d.entries)) (base name) → ⊥
 
--- the file made was flushed and is in one of the folders, if no file had its name; its name may be durable
-abbrev pub StandsIn : Directories → List ℕ → Directories → Type 0
-StandsIn old name new = (d : MadeFile) × (old.made ≡ Some d)
-    × (IsUnknown name old → (is_named : Bool)
-    × BringsFiles old (record (mail name d.content) { is_named = is_named } ∷ []) new)
+-- a file that was flushed is in one of the folders, if no file had its name; its name may be durable
+abbrev pub StandsIn : Directories → List ℕ → List ℕ → Directories → Type 0
+StandsIn old content name new = IsUnknown name old → (is_named : Bool)
+    × BringsFiles old (record (mail name content) { is_named = is_named } ∷ []) new
 
--- the file made was flushed, put under the name, and then the names of `new` were flushed; a refused call did a part
--- of this
-abbrev pub PutsForGood : {T : Type 0} → Directories → List ℕ → Result T StoreFault → Directories → Type 0
-PutsForGood old name (Ok done) new = (d : MadeFile) × (old.made ≡ Some d)
-    × (IsUnknown name old → BringsFiles old (mail name d.content ∷ []) new)
-PutsForGood old name (Err fault) new = SameFiles old new ⊎ StandsIn old name new
+-- a file that was made was flushed, put under the name, and then the names of `new` were flushed; a refused call did
+-- a part of this
+abbrev pub PutsForGood : {T : Type 0} → Directories → List ℕ → List ℕ → Result T StoreFault → Directories → Type 0
+PutsForGood old content name (Ok done) new = IsUnknown name old → BringsFiles old (mail name content ∷ []) new
+PutsForGood old content name (Err fault) new = SameFiles old new ⊎ StandsIn old content name new

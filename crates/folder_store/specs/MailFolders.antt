@@ -1,12 +1,13 @@
 -- The folders `new` and `cur` of a Maildir, in which mail readers move files, and from which they take files away, at
 -- any moment.
-use Rattle.std.specs.Prelude.{◌≡◌, ◌||◌, ◌&&◌, ℕ, Bool, true, false, not, List, [], ◌∷◌, ◌++◌, map, Option, Some, None}
-use Rattle.std.specs.Prelude.{option_map}
+use Rattle.std.specs.Prelude.{◌≡◌, ◌||◌, ◌&&◌, ℕ, Bool, true, false, not, List, [], ◌∷◌, ◌++◌, map, Option, None}
+use Rattle.std.specs.Prelude.{String, string_bytes}
 use Rattle.std.specs.List.{AllZip, filter}
 use Rattle.mail_terms.specs.MaildirName.{base}
 use Rattle.mail_store.specs.declared.maildir.disk.Folder.{Folder}
 use Rattle.mail_store.specs.declared.maildir.disk.Folder.TheVariants.{New, Cur}
-use Rattle.mail_store.specs.Maildir.{Maildir, File, Folders, draft, mail}
+use Rattle.mail_store.specs.Maildir.{Draft, Maildir, File, Folders, draft, mail}
+use Rattle.folder_store.specs.FileFolder.{MadeFile}
 
 -- a file of one of the two folders: whether it is in `new`, its name with its marks, and its bytes; whether its
 -- bytes are durable, and whether some name of it in one of the folders is; whether it left `new`, or `cur`,
@@ -22,20 +23,14 @@ pub record MailFile : Type 0 where
   pub left_cur : Bool
   pub is_gone : Bool
 
--- a file that was made and has no name in the folders yet
-pub record MadeFile : Type 0 where
-  pub content : List ℕ
-  pub is_flushed : Bool
-
 -- which of the folders are there; the files of `new` and `cur` in the order in which they came; whether `new`, and
--- `cur`, have rested since they were last listed: no file came, went or got another name there; the file that was
--- made; and the files that readers took away, in the order in which that was seen
+-- `cur`, have rested since they were last listed: no file came, went or got another name there; and the files that
+-- readers took away, in the order in which that was seen
 pub record Directories : Type 0 where
   pub there : Folders
   pub entries : List MailFile
   pub new_rests : Bool
   pub cur_rests : Bool
-  pub made : Option MadeFile
   pub taken : List File
 
 -- what a flush of the names of `new`, or of `cur`, makes durable
@@ -104,7 +99,6 @@ pub record RestsFile (folder : Folder) (s t : MailFile) : Type 0 where
 -- others moved and marked files, or took some away; a folder that still rests wasn't touched
 pub record Moved (old new : Directories) : Type 0 where
   pub there : new.there ≡ old.there
-  pub made : new.made ≡ old.made
   pub taken : new.taken ≡ old.taken
   pub moves : AllZip MovesFile old.entries new.entries
   pub rests : (folder : Folder) → rests_in folder new ≡ true
@@ -113,7 +107,6 @@ pub record Moved (old new : Directories) : Type 0 where
 -- a reader moved or marked one file, or took it away; each folder that it touched no longer rests
 pub record OneMoves (old : Directories) (front back : List MailFile) (s t : MailFile) (new : Directories) : Type 0 where
   pub there : new.there ≡ old.there
-  pub made : new.made ≡ old.made
   pub taken : new.taken ≡ old.taken
   pub before : old.entries ≡ front ++ s ∷ back
   pub after : new.entries ≡ front ++ t ∷ back
@@ -128,15 +121,15 @@ mail_at s = record (mail s.name s.content) { is_named = s.is_named; is_flushed =
 abbrev pub files_at : List MailFile → List File
 files_at entries = map mail_at entries
 
-abbrev pub content_made : Option MadeFile → List ℕ
-content_made None = []
-content_made (Some d) = d.content
+-- a file that was made, and is to have this name
+abbrev pub draft_begun : {N A : Type 0} → (N → MadeFile) → String A × N → Draft
+draft_begun made begun = draft (string_bytes begun.0) (made begun.1).content
 
-abbrev pub maildir_in : Directories → Option (List ℕ) → ℕ → Maildir
+abbrev pub maildir_in : Directories → Option Draft → ℕ → Maildir
 maildir_in d begun failures = record {
   there = d.there;
   files = files_at d.entries;
-  begun = option_map (λ name. draft name (content_made d.made)) begun;
+  begun = begun;
   failures = failures;
   taken = d.taken;
 }
@@ -148,7 +141,6 @@ unknown_directories = record {
   entries = [];
   new_rests = false;
   cur_rests = false;
-  made = None;
   taken = [];
 }
 

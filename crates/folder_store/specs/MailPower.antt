@@ -1,6 +1,6 @@
 -- What a loss of power may leave of the folders of a Maildir. A rename is one step, which a loss of power leaves done
 -- or not, and a flush of either of the folders that it changed makes it durable.
-use Rattle.std.specs.Prelude.{◌≡◌, ◌⊎◌, true, false, List, [], ◌∷◌, None}
+use Rattle.std.specs.Prelude.{◌≡◌, ◌⊎◌, true, false, List, [], ◌∷◌}
 use Rattle.mail_terms.specs.MaildirName.{base}
 use Rattle.folder_store.specs.MailFolders.{MailFile, Directories, touches_new, touches_cur}
 
@@ -23,11 +23,10 @@ EntriesLeftAs (s ∷ entries) left =
     ((s.is_named ≡ false) × EntriesLeftAs entries left)
     ⊎ ((t : MailFile) × (rest : List MailFile) × (left ≡ t ∷ rest) × IsMailLeftAs s t × EntriesLeftAs entries rest)
 
--- the folders after a loss of power; no file is being made
+-- the folders after a loss of power
 pub record LosesMail (old new : Directories) : Type 0 where
   pub there : new.there ≡ old.there
   pub each : EntriesLeftAs old.entries new.entries
-  pub made : new.made ≡ None
   pub taken : new.taken ≡ old.taken
 
 -- a loss of power is possible in each state

@@ -31,12 +31,10 @@ abbrev pub IsOnDisk : Directory → List ℕ → Type 0
 IsOnDisk d name = IsDurable (disk_at d name)
 
 -- the folder after a loss of power: under each name is something that may be left there, whatever is under the
--- others, all of it is on the disk, and no file is being made
+-- others, and all of it is on the disk
 pub record Loses (old new : Directory) : Type 0 where
-  pub can_make : new.can_make ≡ old.can_make
   pub each : (name : List ℕ) → MayBe old name (content_at new name)
   pub on_disk : (name : List ℕ) → IsOnDisk new name
-  pub made : new.made ≡ None
 
 -- a loss of power leaves one of these under the name, and each of them may be what it leaves
 abbrev pub PowerLeaves : Type 0

@@ -2,6 +2,29 @@
 
 use mail_store::{Edges, StoreFault};
 
+/// A file that was made and has no name in a folder yet.
+pub trait NewFile {
+    ghost use Rattle.std.specs.Prelude.{◌≡◌, ◌++◌, false, true, OnOk};
+    ghost use Rattle.folder_store.specs.FileFolder.{MadeFile};
+
+    // What it holds, and whether that is durable.
+    ghost made: { Self → MadeFile };
+
+    // The premise: so far the file system did what its calls promise. If it holds after a call, it held
+    // before.
+    ghost sound: { Self → Type 0 };
+
+    /// Appends bytes. If refused, the file may hold anything.
+    fn write(&mut self, bytes: &[u8]) -> Result<(), StoreFault>
+        ensures { sound self.new → sound self.old × OnOk result (made self.new
+            ≡ record { content = (made self.old).content ++ bytes.now; is_flushed = false }) };
+
+    /// Flushes the bytes.
+    fn flush(&mut self) -> Result<(), StoreFault>
+        ensures { sound self.new → sound self.old
+            × OnOk result (made self.new ≡ record (made self.old) { is_flushed = true }) };
+}
+
 /// What is known of a folder of a file system.
 pub trait FolderState {
     ghost use Rattle.folder_store.specs.FileFolder.{Directory};
@@ -19,39 +42,29 @@ pub trait FolderState {
 /// A file is made without a name in the folder, at a place that no other call sees, and then put
 /// under a name at one step. No call removes a file that has a name.
 pub trait FileFolder: FolderState {
-    ghost use Rattle.std.specs.Prelude.{◌≡◌, ◌≤◌, length, IfErr, IfOk, None};
+    ghost use Rattle.std.specs.Prelude.{◌≡◌, ◌≤◌, length, IfErr, IfOk};
     ghost use Rattle.mail_store.specs.Fault.{IsDeviceFault};
-    ghost use Rattle.folder_store.specs.FileFolder.{Makes, WritesMade, FlushesMade};
-    ghost use Rattle.folder_store.specs.FileFolder.{PutsFile, ReadsFile, MeasuresFile, ReadsPiece, TellsFileSize};
-    ghost use Rattle.folder_store.specs.FileFolder.{AppendsTo};
-    ghost use Rattle.folder_store.specs.FileFolder.{CutsTo, FlushesFile, FlushesNames, making};
+    ghost use Rattle.folder_store.specs.FileFolder.{AppendsTo, CutsTo, FlushesFile, FlushesNames, MeasuresFile};
+    ghost use Rattle.folder_store.specs.FileFolder.{PutsFile, ReadsFile, ReadsPiece, TellsFileSize, empty_made};
+
+    // It can't be let go: whoever makes one puts it or gives it up.
+    type File: NewFile;
 
     /// Makes a file, which its owner alone can read. The name tells it from others that were made.
-    /// Missing if the place for such files isn't there.
-    fn make(&mut self, name: &str) -> Result<(), StoreFault>
-        ensures makes { Self.sound self.new → Self.sound self.old
-            × Makes (Self.directory self.old) result (Self.directory self.new) }
+    fn make(&mut self, name: &str) -> Result<Self::File, StoreFault>
+        ensures makes { Self.sound self.new → Self.sound self.old × (Self.directory self.new ≡ Self.directory self.old)
+            × IfOk result (λ file. Self.File.made file ≡ empty_made) }
         ensures fault { IfErr result IsDeviceFault };
 
-    /// Appends bytes to the file made.
-    fn write(&mut self, bytes: &[u8]) -> Result<(), StoreFault>
-        ensures { Self.sound self.new → Self.sound self.old
-            × WritesMade (Self.directory self.old) bytes.now result (Self.directory self.new) };
+    /// Puts a file that was made under a name, in the place of another, if there is one.
+    fn put(&mut self, file: Self::File, name: &str) -> Result<(), StoreFault>
+        ensures { Self.sound self.new → Self.sound self.old × Self.File.sound file
+            × PutsFile (Self.directory self.old) (Self.File.made file) name.now result (Self.directory self.new) };
 
-    /// Flushes the bytes of the file made. If refused, gives the file up.
-    fn flush_made(&mut self) -> Result<(), StoreFault>
-        ensures { Self.sound self.new → Self.sound self.old
-            × FlushesMade (Self.directory self.old) result (Self.directory self.new) };
-
-    /// Puts the file made under a name, in the place of another, if there is one.
-    fn put(&mut self, name: &str) -> Result<(), StoreFault>
-        ensures { Self.sound self.new → Self.sound self.old
-            × PutsFile (Self.directory self.old) name.now result (Self.directory self.new) };
-
-    /// Gives up the file made, if there is one.
-    fn discard(&mut self)
-        ensures { Self.sound self.new → Self.sound self.old
-            × (Self.directory self.new ≡ making (Self.directory self.old) None) };
+    /// Gives up a file that was made.
+    fn discard(&mut self, file: Self::File)
+        ensures { Self.sound self.new → Self.sound self.old × Self.File.sound file
+            × (Self.directory self.new ≡ Self.directory self.old) };
 
     /// The bytes of a file. Missing if there is none.
     fn read(&mut self, name: &str) -> Result<Vec<u8>, StoreFault>

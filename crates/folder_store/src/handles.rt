@@ -15,13 +15,6 @@ use system_calls::Refusals;
 /// Why a watched file isn't used any more.
 const CHANGED: &str = "changed by another program";
 
-/// A file that was made, and its path.
-#[derive(Drop)]
-struct Made<F: Drop> {
-    file: F,
-    path: String,
-}
-
 /// The handle by which a file is changed, which appends, and the file's name.
 #[derive(Drop)]
 pub struct Changed<F: Drop> {
@@ -57,7 +50,6 @@ impl<F: OpenFile + Drop> Names<F> {
 /// The files of a folder that are open, and how a watched one was left.
 #[derive(Drop)]
 pub struct Handles<F: Drop> {
-    made: Option<Made<F>>,
     changed: Option<Changed<F>>,
     /// Whether the handle of the file that was changed last is kept for its next change.
     keeps_handle: bool,
@@ -76,7 +68,6 @@ impl<F: Drop> Handles<F> {
     /// Nothing is open.
     pub fn new(keeps_handle: bool, watches: bool) -> Handles<F> {
         Handles {
-            made: None,
             changed: None,
             keeps_handle,
             watches,
@@ -91,33 +82,11 @@ impl<F: Drop> Handles<F> {
         self.keeps_handle
     }
 
-    /// Takes a file that was made.
-    pub fn take_in(&mut self, file: F, path: String) {
-        self.made = Some(Made { file, path });
-    }
-
-    /// The path of the file made, if there is one.
-    pub fn made_path(&self) -> Option<&str> {
-        match &self.made {
-            Some(made) => Some(made.path.as_str()),
-            None => None,
-        }
-    }
-
-    /// Closes the file that was changed last, before the file made is put under a name, and forgets how it
-    /// was left. False if no file was made.
-    pub fn begin_put(&mut self) -> bool {
-        if self.made.is_none() {
-            return false;
-        }
+    /// Closes the file that was changed last, before another is put under a name, and forgets how it was
+    /// left.
+    pub fn forget_changed(&mut self) {
         self.changed = None;
         self.left = None;
-        true
-    }
-
-    /// Closes the file made, if there is one.
-    pub fn close_made(&mut self) {
-        self.made = None;
     }
 
     /// The handle kept from the file's last change, if it is. Another is closed.
@@ -142,14 +111,6 @@ impl<F: Drop> Handles<F> {
 }
 
 impl<F: OpenFile + Drop> Handles<F> {
-    /// Flushes the file made, if there is one.
-    pub fn sync_made(&self) -> Option<io::Result<()>> {
-        match &self.made {
-            Some(made) => Some(made.file.sync_all()),
-            None => None,
-        }
-    }
-
     // A watched file must be as it was left.
     fn check_left(
         &mut self,
@@ -244,16 +205,6 @@ impl<F: OpenFile + Drop> Handles<F> {
         self.is_unflushed |= !flush_folder(&names.folder, refusals)?;
         self.names = Some(names);
         Ok(())
-    }
-}
-
-impl<F: Write + Drop> Handles<F> {
-    /// Writes to the file made, if there is one.
-    pub fn write_made(&mut self, bytes: &[u8]) -> Option<io::Result<()>> {
-        match &mut self.made {
-            Some(made) => Some(made.file.write_all(bytes)),
-            None => None,
-        }
     }
 }
 

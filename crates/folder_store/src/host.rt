@@ -2,9 +2,9 @@
 
 ghost use Rattle.std.specs.Prelude.{◌≡◌, ◌≤◌, length, IfErr, IfOk, Ok};
 ghost use Rattle.mail_store.specs.Fault.{IsDeviceFault};
-ghost use Rattle.folder_store.specs.FileFolder.{unknown_directory};
+ghost use Rattle.folder_store.specs.FileFolder.{empty_made, unknown_directory};
 
-use crate::device::{FileFolder, FolderState};
+use crate::device::{FileFolder, FolderState, NewFile};
 use crate::exact_listing::{FolderNames, list_names};
 use crate::handles::{Changed, Handles, Names, bytes_in, piece_in};
 use crate::host_paths::HostPaths;
@@ -14,7 +14,7 @@ use crate::system::{folder_of, make_file, sweep};
 use mail_store::{Edges, StoreFault};
 use std::alloc::Global;
 use std::fs::{Metadata, OpenFile, OpenOptions};
-use std::io::{self, ErrorKind};
+use std::io::{self, ErrorKind, Write};
 use std::os::unix::fs::MetadataExt;
 use std::rt::Files;
 use std::time::Clock;
@@ -34,6 +34,14 @@ pub struct HostFolder<'a, R: Files> {
     system: &'a System<'a, R>,
     paths: HostPaths<'a>,
     handles: Handles<Noted<'a, R::File>>,
+}
+
+/// A file of the machine's file system that was made, and its path.
+#[derive(Drop)]
+pub struct HostNewFile<'a, R: Files> {
+    refusals: &'a Refusals,
+    file: Noted<'a, R::File>,
+    path: String,
 }
 
 impl<'a, R: Files + AllocGlobal> HostFolder<'a, R> {
@@ -180,23 +188,20 @@ impl<'a, R: Files + AllocGlobal> HostFolder<'a, R> {
         self.system.lstat(self.paths.path_of(name)?.as_str())
     }
 
-    fn make_marked(&mut self, name: &str) -> io::Result<()> {
+    fn make_marked(&self, name: &str) -> io::Result<HostNewFile<'a, R>> {
         let path = self.paths.made_path(name)?;
         let file = make_file(self.system, path.as_str())?;
-        self.handles.take_in(file, path);
-        Ok(())
+        Ok(HostNewFile {
+            refusals: self.system.refusals,
+            file,
+            path,
+        })
     }
 
-    fn rename_made(&mut self, name: &str) -> io::Result<()> {
+    fn rename_made(&mut self, path: &str, name: &str) -> io::Result<()> {
         let to = self.paths.path_of(name)?;
-        if !self.handles.begin_put() {
-            return Err(io::Error::from(ErrorKind::InvalidInput));
-        }
-        if let Some(path) = self.handles.made_path() {
-            self.system.rename(path, to.as_str())?;
-        }
-        self.handles.close_made();
-        Ok(())
+        self.handles.forget_changed();
+        self.system.rename(path, to.as_str())
     }
 
     fn read_all(&self, name: &str) -> io::Result<Vec<u8>> {
@@ -365,38 +370,40 @@ impl<'a, R: Files> FolderState for HostFolder<'a, R> {
     ghost sound = { λ _. ⊥ };
 }
 
+impl<'a, R: Files + AllocGlobal> NewFile for HostNewFile<'a, R> {
+    ghost made = { λ _. empty_made };
+
+    ghost sound = { λ _. ⊥ };
+
+    fn write(&mut self, bytes: &[u8]) -> Result<(), StoreFault> {
+        answer_of(self.refusals, self.file.write_all(bytes))
+    }
+
+    fn flush(&mut self) -> Result<(), StoreFault> {
+        answer_of(self.refusals, self.file.sync_all())
+    }
+}
+
 impl<'a, R: Files + AllocGlobal> FileFolder for HostFolder<'a, R> {
-    fn make(&mut self, name: &str) -> Result<(), StoreFault> {
+    type File = HostNewFile<'a, R>;
+
+    fn make(&mut self, name: &str) -> Result<HostNewFile<'a, R>, StoreFault> {
         answer_of(self.system.refusals, self.make_marked(name))
     }
 
-    fn write(&mut self, bytes: &[u8]) -> Result<(), StoreFault> {
-        match self.handles.write_made(bytes) {
-            Some(answer) => answer_of(self.system.refusals, answer),
-            None => Err(StoreFault::Refused),
+    fn put(&mut self, file: HostNewFile<'a, R>, name: &str) -> Result<(), StoreFault> {
+        let answer = self.rename_made(file.path.as_str(), name);
+        match answer_of(self.system.refusals, answer) {
+            Ok(()) => Ok(()),
+            Err(fault) => {
+                self.discard(file);
+                Err(fault)
+            }
         }
     }
 
-    fn flush_made(&mut self) -> Result<(), StoreFault> {
-        let Some(answer) = self.handles.sync_made() else {
-            return Err(StoreFault::Refused);
-        };
-        let answer = answer_of(self.system.refusals, answer);
-        if answer.is_err() {
-            self.discard();
-        }
-        answer
-    }
-
-    fn put(&mut self, name: &str) -> Result<(), StoreFault> {
-        answer_of(self.system.refusals, self.rename_made(name))
-    }
-
-    fn discard(&mut self) {
-        if let Some(path) = self.handles.made_path() {
-            let _ = self.system.unlink(path);
-        }
-        self.handles.close_made();
+    fn discard(&mut self, file: HostNewFile<'a, R>) {
+        let _ = self.system.unlink(file.path.as_str());
     }
 
     fn read(&mut self, name: &str) -> Result<Vec<u8>, StoreFault> {

@@ -6,7 +6,7 @@ ghost use Rattle.folder_store.specs.MailFolders.{unknown_directories};
 use crate::device::FileFolder;
 use crate::exact_listing::{ChangeTime, FolderNames};
 use crate::flush_pass::{Found, unsettled};
-use crate::host::{HostFolder, answer_of};
+use crate::host::{HostFolder, HostNewFile, answer_of};
 use crate::mail_folders::{MailFolders, Sought};
 use crate::process_mark::ProcessMark;
 use mail_store::{Folder, StoreFault, stem};
@@ -179,6 +179,8 @@ fn sync_named<R: Files + AllocGlobal>(
 }
 
 impl<'a, R: Files + Clock + AllocGlobal + Clone + Drop> MailFolders for HostFolders<'a, R> {
+    type File = HostNewFile<'a, R>;
+
     ghost directories = { λ _. unknown_directories };
 
     // Of the file system nothing is known.
@@ -248,24 +250,16 @@ impl<'a, R: Files + Clock + AllocGlobal + Clone + Drop> MailFolders for HostFold
         Err(StoreFault::Refused)
     }
 
-    fn make(&mut self, name: &str) -> Result<(), StoreFault> {
+    fn make(&mut self, name: &str) -> Result<HostNewFile<'a, R>, StoreFault> {
         self.new_folder.host.make(name)
     }
 
-    fn write(&mut self, bytes: &[u8]) -> Result<(), StoreFault> {
-        self.new_folder.host.write(bytes)
+    fn put(&mut self, file: HostNewFile<'a, R>, name: &str) -> Result<(), StoreFault> {
+        self.new_folder.host.put(file, name)
     }
 
-    fn flush_made(&mut self) -> Result<(), StoreFault> {
-        self.new_folder.host.flush_made()
-    }
-
-    fn put(&mut self, name: &str) -> Result<(), StoreFault> {
-        self.new_folder.host.put(name)
-    }
-
-    fn discard(&mut self) {
-        self.new_folder.host.discard()
+    fn discard(&mut self, file: HostNewFile<'a, R>) {
+        self.new_folder.host.discard(file)
     }
 
     fn flush_names(&mut self, folder: Folder) -> Result<(), StoreFault> {

@@ -20,7 +20,7 @@ mod steps;
 mod system;
 mod tally;
 
-pub use device::{FileFolder, FolderState};
+pub use device::{FileFolder, FolderState, NewFile};
 pub use exact_listing::{ChangeTime, FolderNames, list_names};
 pub use file::{HostFile, new_files_keep_bytes};
 pub use host::HostFolder;

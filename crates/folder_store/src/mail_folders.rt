@@ -1,5 +1,6 @@
 //! What a Maildir asks of the file system that keeps it.
 
+use crate::device::NewFile;
 use mail_store::{Folder, StoreFault};
 
 /// Which names a listing tells.
@@ -20,10 +21,11 @@ pub enum Sought<'a> {
 pub trait MailFolders {
     ghost use Rattle.std.specs.Prelude.{◌≡◌, false, true, IfErr, Ok};
     ghost use Rattle.mail_store.specs.Fault.{IsDeviceFault};
-    ghost use Rattle.folder_store.specs.MailFolders.{Directories};
-    ghost use Rattle.folder_store.specs.MailCalls.{ChecksIn, FlushesDraft, FlushesFiles, FlushesNamesIn};
-    ghost use Rattle.folder_store.specs.MailCalls.{GivesUp, ListsIn, LooksUpNew, MakesDraft};
-    ghost use Rattle.folder_store.specs.MailCalls.{PutsDraft, TellsRest, Then, WritesDraft};
+    ghost use Rattle.folder_store.specs.MailFolders.{Directories, Moved};
+    ghost use Rattle.folder_store.specs.MailCalls.{ChecksIn, FlushesFiles, FlushesNamesIn, ListsIn, LooksUpNew};
+    ghost use Rattle.folder_store.specs.MailCalls.{MakesDraft, PutsDraft, TellsRest, Then};
+
+    type File: NewFile + Drop;
 
     // What calls see of the folders, and what of it is durable.
     ghost directories: { Self → Directories };
@@ -70,29 +72,20 @@ pub trait MailFolders {
 
     /// Makes a file, which its owner alone can read. The name tells it from others that were made.
     /// Missing if the place for such files isn't there.
-    fn make(&mut self, name: &str) -> Result<(), StoreFault>
+    fn make(&mut self, name: &str) -> Result<Self::File, StoreFault>
         ensures makes { sound self.new → sound self.old
-            × Then (MakesDraft result) (directories self.old) (directories self.new) }
+            × Then (MakesDraft Self.File.made result) (directories self.old) (directories self.new) }
         ensures fault { IfErr result IsDeviceFault };
 
-    /// Appends bytes to the file made.
-    fn write(&mut self, bytes: &[u8]) -> Result<(), StoreFault>
-        ensures { sound self.new → sound self.old
-            × Then (WritesDraft bytes.now result) (directories self.old) (directories self.new) };
+    /// Puts a file that was made into `new`.
+    fn put(&mut self, file: Self::File, name: &str) -> Result<(), StoreFault>
+        ensures { sound self.new → sound self.old × Self.File.sound file
+            × Then (PutsDraft (Self.File.made file) name.now result) (directories self.old) (directories self.new) };
 
-    /// Flushes the bytes of the file made. If refused, gives the file up.
-    fn flush_made(&mut self) -> Result<(), StoreFault>
-        ensures { sound self.new → sound self.old
-            × Then (FlushesDraft result) (directories self.old) (directories self.new) };
-
-    /// Puts the file made into `new`.
-    fn put(&mut self, name: &str) -> Result<(), StoreFault>
-        ensures { sound self.new → sound self.old
-            × Then (PutsDraft name.now result) (directories self.old) (directories self.new) };
-
-    /// Gives up the file made, if there is one.
-    fn discard(&mut self)
-        ensures { sound self.new → sound self.old × Then GivesUp (directories self.old) (directories self.new) };
+    /// Gives up a file that was made.
+    fn discard(&mut self, file: Self::File)
+        ensures { sound self.new → sound self.old × Self.File.sound file
+            × Moved (directories self.old) (directories self.new) };
 
     /// Flushes the names of a folder. Missing if it isn't there.
     fn flush_names(&mut self, folder: Folder) -> Result<(), StoreFault>

@@ -1,9 +1,10 @@
 //! What a Maildir does to its folders in several calls.
 
-ghost use Rattle.std.specs.Prelude.{◌≡◌, ◌++◌, IfErr, IfOk};
+ghost use Rattle.std.specs.Prelude.{◌≡◌, ◌++◌, true, IfErr, IfOk, OnOk};
 ghost use Rattle.mail_store.specs.Fault.{IsDeviceFault};
-ghost use Rattle.folder_store.specs.MailCalls.{LooksAtBoth, PutsForGood, TellsBoth, TellsOne};
+ghost use Rattle.folder_store.specs.MailCalls.{LooksAtBoth, PutsForGood, SameFiles, TellsBoth, TellsOne};
 
+use crate::device::NewFile;
 use crate::mail_folders::{MailFolders, Sought};
 use mail_store::{Folder, StoreFault};
 
@@ -68,16 +69,39 @@ pub fn told_names_of<F: MailFolders>(
     Ok(names)
 }
 
-/// Flushes the file made, puts it into `new` under a name, and flushes the names of `new`. Refused if
-/// a file of `new` has the name.
-pub fn put_for_good<F: MailFolders>(folders: &mut F, name: &str) -> Result<(), StoreFault>
-    ensures { F.sound folders.new → F.sound folders.old
-        × PutsForGood (F.directories folders.old) name.now result (F.directories folders.new) }
+/// Flushes a file that was made. Refused if a file of `new` has the name.
+fn flush_unnamed<F: MailFolders>(
+    folders: &mut F,
+    file: &mut F::File,
+    name: &str,
+) -> Result<(), StoreFault>
+    ensures { F.sound folders.new → F.File.sound file.new → F.sound folders.old × F.File.sound file.old
+        × SameFiles (F.directories folders.old) (F.directories folders.new)
+        × OnOk result (F.File.made file.new ≡ record (F.File.made file.old) { is_flushed = true }) }
 {
-    folders.flush_made()?;
+    file.flush()?;
     if folders.has(name)? {
         return Err(StoreFault::Refused);
     }
-    folders.put(name)?;
+    Ok(())
+}
+
+/// Flushes a file that was made, puts it into `new` under a name, and flushes the names of `new`. Refused
+/// if a file of `new` has the name.
+pub fn put_for_good<F: MailFolders>(
+    folders: &mut F,
+    file: F::File,
+    name: &str,
+) -> Result<(), StoreFault>
+    ensures { F.sound folders.new → F.sound folders.old × F.File.sound file
+        × PutsForGood (F.directories folders.old) (F.File.made file).content name.now result
+        (F.directories folders.new) }
+{
+    let mut file = file;
+    if let Err(fault) = flush_unnamed(folders, &mut file, name) {
+        folders.discard(file);
+        return Err(fault);
+    }
+    folders.put(file, name)?;
     folders.flush_names(Folder::New)
 }

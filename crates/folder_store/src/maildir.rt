@@ -1,10 +1,11 @@
 //! A Maildir in folders of a file system.
 
-ghost use Rattle.std.specs.Prelude.{◌≡◌, ◌<◌, ◌+◌, option_map, string_bytes};
+ghost use Rattle.std.specs.Prelude.{◌≡◌, ◌<◌, ◌+◌, option_map, IfSome};
 ghost use Rattle.mail_terms.specs.FailureCount.{greatest_count};
-ghost use Rattle.folder_store.specs.MailFolders.{maildir_in, unknown_maildir};
+ghost use Rattle.folder_store.specs.MailFolders.{draft_begun, maildir_in, unknown_maildir};
 ghost use Rattle.folder_store.specs.NewDevices.{LeftMaildirsStay, LossesMayLeave, NewMaildirsKeepMail};
 
+use crate::device::NewFile;
 use crate::host_folders::HostFolders;
 use crate::mail_folders::{MailFolders, Sought};
 use crate::mail_steps::{put_for_good, told_names, told_names_of};
@@ -24,10 +25,11 @@ use system_calls::System;
 /// delivered text is durable. The names of both folders are flushed before they are returned, so that
 /// no loss of power takes one back.
 #[derive(Drop)]
-pub struct FolderMaildir<F> {
+pub struct FolderMaildir<F: MailFolders> {
     alloc: Global,
     folders: F,
-    begun: Option<String>,
+    /// The name and the file that is being written.
+    begun: Option<(String, F::File)>,
     failures: FailureCount,
 }
 
@@ -99,9 +101,11 @@ fn is_file_name(name: &str) -> bool {
 }
 
 impl<F: MailFolders + Drop> MaildirDisk for FolderMaildir<F> {
-    ghost maildir = { λ d. maildir_in (F.directories d.folders) (option_map string_bytes d.begun) d.failures };
+    ghost maildir = { λ d. maildir_in (F.directories d.folders) (option_map (draft_begun F.File.made) d.begun)
+        d.failures };
 
-    ghost sound = { λ d. F.sound d.folders × (d.failures < greatest_count) };
+    ghost sound = { λ d. F.sound d.folders × IfSome d.begun (λ begun. F.File.sound begun.1)
+        × (d.failures < greatest_count) };
 
     fn names(&mut self, folder: Folder) -> Result<Vec<String>, StoreFault> {
         admit(&self.failures)?;
@@ -146,8 +150,8 @@ impl<F: MailFolders + Drop> MaildirDisk for FolderMaildir<F> {
             return Err(refuse(&mut self.failures));
         };
         match self.folders.make(name) {
-            Ok(()) => {
-                self.begun = Some(title);
+            Ok(file) => {
+                self.begun = Some((title, file));
                 Ok(())
             }
             Err(StoreFault::Missing) => Err(StoreFault::Missing),
@@ -157,10 +161,13 @@ impl<F: MailFolders + Drop> MaildirDisk for FolderMaildir<F> {
 
     fn add(&mut self, bytes: &[u8]) -> Result<(), StoreFault> {
         admit(&self.failures)?;
-        if self.begun.is_none() {
+        let Some((title, file)) = self.begun.take() else {
             return Err(refuse(&mut self.failures));
-        }
-        match self.folders.write(bytes) {
+        };
+        let mut file = file;
+        let answer = file.write(bytes);
+        self.begun = Some((title, file));
+        match answer {
             Ok(()) => Ok(()),
             Err(_) => Err(refuse(&mut self.failures)),
         }
@@ -171,23 +178,22 @@ impl<F: MailFolders + Drop> MaildirDisk for FolderMaildir<F> {
             self.abandon();
             return Err(fault);
         }
-        let begun = self.begun.take();
-        if begun.is_none() || !is_file_name(name) {
-            self.folders.discard();
+        let Some((_, file)) = self.begun.take() else {
+            return Err(refuse(&mut self.failures));
+        };
+        if !is_file_name(name) {
+            self.folders.discard(file);
             return Err(refuse(&mut self.failures));
         }
-        match put_for_good(&mut self.folders, name) {
+        match put_for_good(&mut self.folders, file, name) {
             Ok(()) => Ok(()),
-            Err(_) => {
-                self.folders.discard();
-                Err(refuse(&mut self.failures))
-            }
+            Err(_) => Err(refuse(&mut self.failures)),
         }
     }
 
     fn abandon(&mut self) {
-        if self.begun.take().is_some() {
-            self.folders.discard();
+        if let Some((_, file)) = self.begun.take() {
+            self.folders.discard(file);
         }
     }
 

@@ -1,11 +1,10 @@
 //! What the devices do to a folder in several calls.
 
-ghost use Rattle.std.specs.Prelude.{◌≡◌, None, OnErr};
-ghost use Rattle.folder_store.specs.HostFile.{PutsFlushed};
+ghost use Rattle.std.specs.Prelude.{◌≡◌, ◌++◌, true, OnOk};
 ghost use Rattle.folder_store.specs.PowerLoss.{disk_at};
 ghost use Rattle.mail_store.specs.DiskCalls.{AppendsDisk, CutsDisk, FlushesBoth, ReplacesDisk};
 
-use crate::device::FileFolder;
+use crate::device::{FileFolder, NewFile};
 use mail_store::StoreFault;
 
 /// How many octets of a file a disk writes at once, at least.
@@ -19,16 +18,6 @@ pub enum Appending {
     /// Each block is flushed before the next is written, so that at any moment a front of it is there, and
     /// perhaps zeros behind it.
     ByBlocks,
-}
-
-/// Flushes the file made, puts it under a name, and flushes the names.
-fn put_flushed<F: FileFolder>(folder: &mut F, name: &str) -> Result<(), StoreFault>
-    ensures { F.sound folder.new → F.sound folder.old
-        × PutsFlushed (F.directory folder.old) name.now result (F.directory folder.new) }
-{
-    folder.flush_made()?;
-    folder.put(name)?;
-    folder.flush_names()
 }
 
 /// Appends bytes to a file, and flushes them.
@@ -85,35 +74,32 @@ pub fn cut_flushed<F: FileFolder>(folder: &mut F, name: &str, len: u64) -> Resul
     folder.flush(name)
 }
 
-/// Makes a file of these bytes, flushes it, puts it under a name, and flushes the names.
-fn put_new<F: FileFolder>(folder: &mut F, name: &str, bytes: &[u8]) -> Result<(), StoreFault>
-    ensures { F.sound folder.new → F.sound folder.old
-        × ReplacesDisk (disk_at (F.directory folder.old) name.now) bytes.now result
-        (disk_at (F.directory folder.new) name.now) }
+/// Appends bytes to a file that was made, and flushes it.
+fn write_flushed<N: NewFile>(file: &mut N, bytes: &[u8]) -> Result<(), StoreFault>
+    ensures { N.sound file.new → N.sound file.old × OnOk result (N.made file.new
+        ≡ record { content = (N.made file.old).content ++ bytes.now; is_flushed = true }) }
 {
-    folder.make(name)?;
-    folder.write(bytes)?;
-    put_flushed(folder, name)
+    file.write(bytes)?;
+    file.flush()
 }
 
-/// The same, and gives the file up if a call was refused.
+/// Makes a file of these bytes, flushes it, puts it under a name, and flushes the names.
 pub fn replace_flushed<F: FileFolder>(
     folder: &mut F,
     name: &str,
     bytes: &[u8],
 ) -> Result<(), StoreFault>
-    ensures replaces { F.sound folder.new → F.sound folder.old
+    ensures { F.sound folder.new → F.sound folder.old
         × ReplacesDisk (disk_at (F.directory folder.old) name.now) bytes.now result
         (disk_at (F.directory folder.new) name.now) }
-    ensures given_up { F.sound folder.new → OnErr result ((F.directory folder.new).made ≡ None) }
 {
-    match put_new(folder, name, bytes) {
-        Ok(()) => Ok(()),
-        Err(fault) => {
-            folder.discard();
-            Err(fault)
-        }
+    let mut file = folder.make(name)?;
+    if let Err(fault) = write_flushed(&mut file, bytes) {
+        folder.discard(file);
+        return Err(fault);
     }
+    folder.put(file, name)?;
+    folder.flush_names()
 }
 
 /// Flushes a file and the names.

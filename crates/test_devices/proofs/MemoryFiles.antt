@@ -266,21 +266,19 @@ survives_names older (e ∷ es) left (inr (bytes, rest, is, may, more)) distinct
     rw is (distinct_cons e.name (names_in rest) (found e.name rest gone)
     (survives_names older es rest more (distinct_tail e.name (names_in es) distinct)))
 
-abbrev pub memory_in : List Pair → List Before → Option Blob → Directory
-memory_in files older made = record { can_make = true; entries = folder_entries files; older = map older_of older; made = made }
+abbrev pub memory_in : List Pair → List Before → Directory
+memory_in files older = record { entries = folder_entries files; older = map older_of older }
 
 -- the folder of what is left
-pub memory_loses : (files left : List Pair) (was now : List Before) (made : Option Blob) → AreDistinct (names_in (folder_entries files))
+pub memory_loses : (files left : List Pair) (was now : List Before) → AreDistinct (names_in (folder_entries files))
     → Survive (map older_of was) (folder_entries files) (folder_entries left) → now ≡ []
-    → Loses (memory_in files was made) (memory_in left now None)
-memory_loses files left was now made distinct h e =
+    → Loses (memory_in files was) (memory_in left now)
+memory_loses files left was now distinct h e =
     let found : (name : List ℕ) → Stays (map older_of was) (folder_entries files) (folder_entries left) name = λ name.
     survives_find (map older_of was) (folder_entries files) (folder_entries left) name distinct h in rw e (record {
-      can_make = refl;
       each = λ name.
           let s = found name in
-          let d = memory_in files was made in
+          let d = memory_in files was in
           rw (s.1, seen_all s.0) (⊎_elim (may_now d name s.0) (may_once d name s.0) s.2);
       on_disk = λ name. let s = found name in record { named = refl; flushed = rw s.1 (flushed_all s.0) };
-      made = refl;
     })

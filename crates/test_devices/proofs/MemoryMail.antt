@@ -13,7 +13,7 @@ use Rattle.mail_store.specs.declared.maildir.disk.Folder.{Folder}
 use Rattle.mail_store.specs.declared.maildir.disk.Folder.TheVariants.{New, Cur}
 use Rattle.mail_store.specs.Maildir.{File, all_there}
 use Rattle.test_devices.specs.declared.memory_folders.StoredMail.{StoredMail}
-use Rattle.folder_store.specs.MailFolders.{MadeFile, MailFile, Directories, MovesFile, RestsFile, Moved, OneMoves}
+use Rattle.folder_store.specs.MailFolders.{MailFile, Directories, MovesFile, RestsFile, Moved, OneMoves}
 use Rattle.folder_store.specs.MailFolders.{is_in, is_left, name_at, rests_in}
 use Rattle.folder_store.specs.MailPower.{EntriesLeftAs}
 use Rattle.test_devices.specs.MemoryFolders.{MayBeLeftAs, list_of, stored_file}
@@ -59,13 +59,12 @@ around (f ∷ files) (suc i) x y below is =
     let (front, back, was, now) = around files i x y (omega (arith, below)) is in
     (stored_file f ∷ front, back, ap (λ (ss : List MailFile). stored_file f ∷ ss) was, ap (λ (ss : List MailFile). stored_file f ∷ ss) now)
 
-abbrev pub memory_dirs : List StoredMail → Bool → Bool → Option MadeFile → List File → Directories
-memory_dirs files new_rests cur_rests made taken = record {
+abbrev pub memory_dirs : List StoredMail → Bool → Bool → List File → Directories
+memory_dirs files new_rests cur_rests taken = record {
   there = all_there;
   entries = map stored_file files;
   new_rests = new_rests;
   cur_rests = cur_rests;
-  made = made;
   taken = taken;
 }
 
@@ -86,25 +85,23 @@ not_in folder s t was is = record {
 
 pub file_moves : ((old : Directories) (front back : List MailFile) (s t : MailFile) (new : Directories)
     → OneMoves old front back s t new → Moved old new)
-    → (files : List StoredMail) (i : ℕ) (x y : StoredMail) (new new' cur cur' : Bool) (made : Option MadeFile)
-    (taken : List File) → i < length files → x ≡ get_or files i x
+    → (files : List StoredMail) (i : ℕ) (x y : StoredMail) (new new' cur cur' : Bool) (taken : List File) → i < length files
+    → x ≡ get_or files i x
     → MovesFile (stored_file x) (stored_file y) → Rested new' new x.is_new y.is_new → Rested cur' cur (not x.is_new) (not y.is_new)
-    → Moved (memory_dirs files new cur made taken) (memory_dirs (set files i y) new' cur' made taken)
-file_moves one files i x y new new' cur cur' made taken below is moves in_new in_cur =
+    → Moved (memory_dirs files new cur taken) (memory_dirs (set files i y) new' cur' taken)
+file_moves one files i x y new new' cur cur' taken below is moves in_new in_cur =
     let (front, back, before, after) = around files i x y below is in
     one _ front back (stored_file x) (stored_file y) _ (record {
       there = refl;
-      made = refl;
       taken = refl;
-      before =
-          before;
+      before = before;
       after = after;
       moves = moves;
       rests = rests_of;
     })
   where
-    rests_of : (folder : Folder) → rests_in folder (memory_dirs (set files i y) new' cur' made taken) ≡ true
-        → (rests_in folder (memory_dirs files new cur made taken) ≡ true) × RestsFile folder (stored_file x) (stored_file y)
+    rests_of : (folder : Folder) → rests_in folder (memory_dirs (set files i y) new' cur' taken) ≡ true
+        → (rests_in folder (memory_dirs files new cur taken) ≡ true) × RestsFile folder (stored_file x) (stored_file y)
     rests_of New quiet = let r = in_new quiet in (r.0, not_in New (stored_file x) (stored_file y) r.1 r.2)
     rests_of Cur quiet = let r = in_cur quiet in (r.0, not_in Cur (stored_file x) (stored_file y) r.1 r.2)
 

@@ -1,7 +1,7 @@
 -- The folders of a Maildir in memory.
-use Rattle.std.specs.Prelude.{◌≡◌, ℕ, Bool, true, false, List, [], ◌∷◌, Option, Some, None, Vec, string_bytes}
+use Rattle.std.specs.Prelude.{◌≡◌, ℕ, Bool, true, false, List, [], ◌∷◌, Option, Some, None, string_bytes}
 use Rattle.test_devices.specs.declared.memory_folders.StoredMail.{StoredMail}
-use Rattle.folder_store.specs.MailFolders.{MadeFile, MailFile}
+use Rattle.folder_store.specs.MailFolders.{MailFile}
 use Rattle.folder_store.specs.MailPower.{IsMailLeftAs}
 
 -- a file
@@ -16,10 +16,6 @@ stored_file k = record {
   left_cur = k.left_cur;
   is_gone = k.is_gone;
 }
-
--- the file that was made
-abbrev pub made_draft : {A : Type 0} → Vec ℕ A × Bool → MadeFile
-made_draft pair = record { content = pair.0.items; is_flushed = pair.1 }
 
 -- one thing, or none
 abbrev pub list_of : {A : Type 0} → Option A → List A

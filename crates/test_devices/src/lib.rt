@@ -6,6 +6,7 @@ mod fused;
 mod fused_wire;
 mod memory_folder;
 mod memory_folders;
+mod new_file;
 mod script_wire;
 
 pub use fused::Fused;

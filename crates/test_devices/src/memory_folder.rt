@@ -1,16 +1,17 @@
 //! A folder in memory.
 
 ghost use Rattle.std.specs.Prelude.{◌≡◌, ◌≢◌, ◌<◌, ◌≤◌, ◌++◌, ℕ, [], ◌∷◌, length, map, slice_index_or, string_bytes};
-ghost use Rattle.std.specs.Prelude.{take, true};
-ghost use Rattle.std.specs.Prelude.{HoldsAt, IfErr, IfNone, IfOk, IfSome, OnErr, OnOk, option_map};
+ghost use Rattle.std.specs.Prelude.{HoldsAt, IfErr, IfNone, IfOk, IfSome, IsOk, OnErr, OnOk, option_map, take};
 ghost use Rattle.mail_store.specs.Fault.{IsDeviceFault};
-ghost use Rattle.folder_store.specs.FileFolder.{with_blob, find, placed, put_in};
-ghost use Rattle.folder_store.specs.FileFolder.{FlushesNames, Makes, MeasuresFile, ReadsPiece, TellsFileSize};
+ghost use Rattle.folder_store.specs.FileFolder.{empty_made, find, placed, put_in, with_blob};
+ghost use Rattle.folder_store.specs.FileFolder.{FlushesNames, MeasuresFile, ReadsPiece, TellsFileSize};
 ghost use Rattle.folder_store.specs.PowerLoss.{Loses, left_under};
 ghost use Rattle.mail_store.specs.DiskCalls.{appended, cut, flushed};
 ghost use Rattle.mail_store.specs.Durable.{IsLeft, secured};
-ghost use Rattle.test_devices.specs.MemoryFolder.{MayBeOf, Survive, blob_of, folder_entries, folder_entry, older_of};
+ghost use Rattle.test_devices.specs.MemoryFolder.{MayBeOf, Survive, blob_of, folder_entries, folder_entry};
+ghost use Rattle.test_devices.specs.MemoryFolder.{made_of, older_of};
 
+use crate::new_file::MemoryNewFile;
 use folder_store::{FileFolder, FolderState};
 use mail_store::{Edges, StoreFault, edges_of, read_piece};
 use std::alloc::{AllocError, Global};
@@ -43,30 +44,24 @@ pub enum Left {
     Older,
 }
 
-/// A folder in memory. It refuses a call only if memory runs out, or if no file was made.
+/// A folder in memory. It refuses a call only if memory runs out.
 #[derive(Drop)]
 pub struct MemoryFolder {
     alloc: Global,
     files: Vec<(String, MemoryBlob)>,
     older: Vec<(String, Option<MemoryBlob>)>,
-    made: Option<MemoryBlob>,
 }
 
 impl Model for MemoryFolder {
-    ghost use Rattle.std.specs.Prelude.{map, option_map, true};
+    ghost use Rattle.std.specs.Prelude.{map};
     ghost use Rattle.mail_terms.specs.Distinct.{AreDistinct};
     ghost use Rattle.folder_store.specs.FileFolder.{Directory, names_in};
 
     ghost Value = { Directory };
 
-    ghost use Rattle.test_devices.specs.MemoryFolder.{blob_of, folder_entries, older_of};
+    ghost use Rattle.test_devices.specs.MemoryFolder.{folder_entries, older_of};
 
-    ghost view = { λ m. record {
-      can_make = true;
-      entries = folder_entries m.files.items;
-      older = map older_of m.older.items;
-      made = option_map blob_of m.made;
-    } };
+    ghost view = { λ m. record { entries = folder_entries m.files.items; older = map older_of m.older.items } };
 
     ghost invariant = { λ m. AreDistinct (names_in (folder_entries m.files.items)) };
 }
@@ -178,7 +173,21 @@ fn survivors(
 }
 
 impl MemoryBlob {
-    ghost use Rattle.test_devices.specs.MemoryFolder.{IsZeroed, blob_of};
+    ghost use Rattle.folder_store.specs.FileFolder.{blob_made};
+    ghost use Rattle.test_devices.specs.MemoryFolder.{IsZeroed, blob_of, made_of};
+
+    fn of(alloc: Global, file: MemoryNewFile) -> Result<MemoryBlob, AllocError>
+        ensures { IfOk result (λ blob. blob_of blob ≡ blob_made (made_of file)) }
+    {
+        if file.is_flushed {
+            return MemoryBlob::whole(file.content);
+        }
+        Ok(MemoryBlob {
+            content: file.content,
+            flushed: Vec::new(alloc),
+            uncut: 0,
+        })
+    }
 
     fn whole(bytes: Vec<u8>) -> Result<MemoryBlob, AllocError>
         ensures { IfOk result (λ blob. blob_of blob ≡ secured bytes.items) }
@@ -261,19 +270,18 @@ impl MemoryBlob {
 impl MemoryFolder {
     /// A folder without files.
     pub fn new(alloc: Global) -> MemoryFolder
-        ensures { result ≡ record { can_make = true; entries = []; older = []; made = None } }
+        ensures { result ≡ record { entries = []; older = [] } }
     {
         MemoryFolder {
             alloc,
             files: Vec::new(alloc),
             older: Vec::new(alloc),
-            made: None,
         }
     }
 
     /// Loses the power: what is left of each file is what its choice says, or what calls see if it
-    /// has none. The choices are in the order in which the files came. The file that was made is
-    /// gone. Refused if memory runs out: then nothing is lost.
+    /// has none. The choices are in the order in which the files came. Refused if memory runs out: then
+    /// nothing is lost.
     pub fn lose_power(&mut self, choices: &[Left]) -> Result<(), StoreFault>
         ensures ok { OnOk result (Loses self.old self.new) }
         ensures err { OnErr result (self.new ≡ self.old) }
@@ -282,7 +290,6 @@ impl MemoryFolder {
             Ok(files) => {
                 self.files = files;
                 self.older.clear();
-                self.made = None;
                 Ok(())
             }
             Err(_) => Err(StoreFault::Refused),
@@ -304,13 +311,13 @@ impl MemoryFolder {
     }
 
     /// Puts a file under a name, in the place of another, if there is one.
-    fn put_file(&mut self, name: &str, file: MemoryBlob) -> Result<(), AllocError>
-        requires { self.old.made ≡ None }
-        ensures ok { OnOk result (self.new ≡ put_in self.old (blob_of file) name.now) }
+    fn put_file(&mut self, name: &str, file: MemoryNewFile) -> Result<(), AllocError>
+        ensures ok { OnOk result (self.new ≡ put_in self.old (made_of file) name.now) }
         ensures err { OnErr result (self.new ≡ self.old) }
     {
         let title = String::from_str(self.alloc, name)?;
         let link = String::from_str(self.alloc, name)?;
+        let file = MemoryBlob::of(self.alloc, file)?;
         self.older.reserve(1)?;
         let was = place(&mut self.files, title, file)?;
         self.older.insert(0, (link, was)).unwrap();
@@ -325,55 +332,25 @@ impl FolderState for MemoryFolder {
 }
 
 impl FileFolder for MemoryFolder {
+    type File = MemoryNewFile;
+
     // The calls that take no memory answer.
-    fn make(&mut self, _name: &str) -> Result<(), StoreFault>
-        ensures makes { Unit {0} → Unit {0} × Makes self.old result self.new }
+    fn make(&mut self, _name: &str) -> Result<MemoryNewFile, StoreFault>
+        ensures makes { Unit {0} → Unit {0} × (self.new ≡ self.old) × IfOk result (λ file. made_of file ≡ empty_made) }
         ensures fault { IfErr result IsDeviceFault }
-        ensures answers { result ≡ Ok tt }
+        ensures answers { IsOk result }
     {
-        self.made = Some(MemoryBlob {
-            content: Vec::new(self.alloc),
-            flushed: Vec::new(self.alloc),
-            uncut: 0,
-        });
-        Ok(())
+        Ok(MemoryNewFile::new(self.alloc))
     }
 
-    fn write(&mut self, bytes: &[u8]) -> Result<(), StoreFault> {
-        let Some(file) = &self.made else {
-            return Err(StoreFault::Refused);
-        };
-        let Ok(file) = file.appended(bytes) else {
-            return Err(StoreFault::Refused);
-        };
-        self.made = Some(file);
-        Ok(())
-    }
-
-    fn flush_made(&mut self) -> Result<(), StoreFault> {
-        let Some(file) = self.made.take() else {
-            return Err(StoreFault::Refused);
-        };
-        let Ok(file) = file.flushed() else {
-            return Err(StoreFault::Refused);
-        };
-        self.made = Some(file);
-        Ok(())
-    }
-
-    fn put(&mut self, name: &str) -> Result<(), StoreFault> {
-        let Some(file) = self.made.take() else {
-            return Err(StoreFault::Refused);
-        };
+    fn put(&mut self, file: MemoryNewFile, name: &str) -> Result<(), StoreFault> {
         match self.put_file(name, file) {
             Ok(()) => Ok(()),
             Err(_) => Err(StoreFault::Refused),
         }
     }
 
-    fn discard(&mut self) {
-        self.made = None;
-    }
+    fn discard(&mut self, _file: MemoryNewFile) {}
 
     fn read(&mut self, name: &str) -> Result<Vec<u8>, StoreFault> {
         let Some(file) = stored_at(&self.files, name) else {

@@ -13,6 +13,7 @@ ghost use Rattle.folder_store.specs.MailFolders.{touches};
 ghost use Rattle.folder_store.specs.MailPower.{EntriesLeftAs, LosesMail};
 ghost use Rattle.test_devices.specs.MemoryFolders.{list_of, stored_file};
 
+use crate::new_file::MemoryNewFile;
 use folder_store::{MailFolders, Sought, readers_move};
 use mail_store::{Folder, StoreFault, sought_names, stem};
 use mail_terms::base;
@@ -59,24 +60,23 @@ pub enum MailLeft {
 }
 
 /// The folders of a Maildir in memory, and a reader that moves files, or takes them away, before each call. A call is
-/// refused only if memory runs out, or if no file was made.
+/// refused only if memory runs out.
 #[derive(Drop)]
 pub struct MemoryFolders {
     alloc: Global,
     files: Vec<StoredMail>,
     new_rests: bool,
     cur_rests: bool,
-    made: Option<(Vec<u8>, bool)>,
     taken: Vec<StoredMail>,
     steps: Vec<ReaderStep>,
     next: usize,
 }
 
 impl Model for MemoryFolders {
-    ghost use Rattle.std.specs.Prelude.{map, option_map};
+    ghost use Rattle.std.specs.Prelude.{map};
     ghost use Rattle.mail_store.specs.Maildir.{all_there};
     ghost use Rattle.folder_store.specs.MailFolders.{Directories, files_at};
-    ghost use Rattle.test_devices.specs.MemoryFolders.{made_draft, stored_file};
+    ghost use Rattle.test_devices.specs.MemoryFolders.{stored_file};
 
     ghost Value = { Directories };
 
@@ -85,7 +85,6 @@ impl Model for MemoryFolders {
       entries = map stored_file m.files.items;
       new_rests = m.new_rests;
       cur_rests = m.cur_rests;
-      made = option_map made_draft m.made;
       taken = files_at (map stored_file m.taken.items);
     } };
 }
@@ -392,7 +391,6 @@ impl MemoryFolders {
           entries = [];
           new_rests = false;
           cur_rests = false;
-          made = None;
           taken = [];
         } }
     {
@@ -401,7 +399,6 @@ impl MemoryFolders {
             files: Vec::new(alloc),
             new_rests: false,
             cur_rests: false,
-            made: None,
             taken: Vec::new(alloc),
             steps,
             next: 0,
@@ -420,8 +417,8 @@ impl MemoryFolders {
     }
 
     /// Loses the power: what is left of each file is what its choice says, or what calls see if it
-    /// has none. The choices are in the order in which the files came. The file that was made is
-    /// gone. Refused if memory runs out: then nothing is lost.
+    /// has none. The choices are in the order in which the files came. Refused if memory runs out: then
+    /// nothing is lost.
     pub fn lose_power(&mut self, choices: &[MailLeft]) -> Result<(), StoreFault>
         ensures ok { OnOk result (LosesMail self.old self.new) }
         ensures err { OnErr result (self.new ≡ self.old) }
@@ -429,7 +426,6 @@ impl MemoryFolders {
         match files_left(self.alloc, &self.files, choices) {
             Ok(files) => {
                 self.files = files;
-                self.made = None;
                 Ok(())
             }
             Err(_) => Err(StoreFault::Refused),
@@ -502,6 +498,8 @@ impl MemoryFolders {
 }
 
 impl MailFolders for MemoryFolders {
+    type File = MemoryNewFile;
+
     ghost directories = { λ m. m };
 
     ghost sound = { λ _. Unit {0} };
@@ -561,46 +559,21 @@ impl MailFolders for MemoryFolders {
         }
     }
 
-    fn make(&mut self, _name: &str) -> Result<(), StoreFault> {
+    fn make(&mut self, _name: &str) -> Result<MemoryNewFile, StoreFault> {
         self.let_reader_move();
-        self.made = Some((Vec::new(self.alloc), false));
-        Ok(())
+        Ok(MemoryNewFile::new(self.alloc))
     }
 
-    fn write(&mut self, bytes: &[u8]) -> Result<(), StoreFault> {
+    fn put(&mut self, file: MemoryNewFile, name: &str) -> Result<(), StoreFault> {
         self.let_reader_move();
-        let Some((mut content, _)) = self.made.take() else {
-            return Err(StoreFault::Refused);
-        };
-        if content.extend_from_slice(bytes).is_err() {
-            return Err(StoreFault::Refused);
-        }
-        self.made = Some((content, false));
-        Ok(())
-    }
-
-    fn flush_made(&mut self) -> Result<(), StoreFault> {
-        self.let_reader_move();
-        let Some((content, _)) = self.made.take() else {
-            return Err(StoreFault::Refused);
-        };
-        self.made = Some((content, true));
-        Ok(())
-    }
-
-    fn put(&mut self, name: &str) -> Result<(), StoreFault> {
-        self.let_reader_move();
-        let Some((content, is_flushed)) = self.made.take() else {
-            return Err(StoreFault::Refused);
-        };
         let Ok(name) = String::from_str(self.alloc, name) else {
             return Err(StoreFault::Refused);
         };
         let file = StoredMail {
             is_new: true,
             name,
-            content,
-            is_flushed,
+            content: file.content,
+            is_flushed: file.is_flushed,
             is_named: false,
             left_new: false,
             left_cur: false,
@@ -613,9 +586,8 @@ impl MailFolders for MemoryFolders {
         Ok(())
     }
 
-    fn discard(&mut self) {
+    fn discard(&mut self, _file: MemoryNewFile) {
         self.let_reader_move();
-        self.made = None;
     }
 
     fn flush_names(&mut self, folder: Folder) -> Result<(), StoreFault> {

@@ -30,8 +30,8 @@ fn told_of_one(alloc: Global, number: usize, step: ReaderStep) -> Result<(usize,
     }
     steps.push(step)?;
     let mut folders = MemoryFolders::new(alloc, steps);
-    folders.make("one")?;
-    folders.put("one")?;
+    let file = folders.make("one")?;
+    folders.put(file, "one")?;
     folders.rests(Folder::New)?;
     folders.rests(Folder::New)?;
     let mut disk = FolderMaildir::over(alloc, folders);

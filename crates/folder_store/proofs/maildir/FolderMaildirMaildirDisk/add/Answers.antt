@@ -1,12 +1,11 @@
-use Rattle.folder_store.proofs.MailCalls.{added, not_added}
+use Rattle.std.proofs.Common.{◌∙◌, sym}
+use Rattle.folder_store.proofs.MailCalls.{not_added}
 use Rattle.folder_store.proofs.maildir.FolderMaildirMaildirDisk.add.Goals as goal
 
-pub returns-in-Ok-clause-adds : goal.returns-in-Ok-clause-adds
-returns-in-Ok-clause-adds g c = λ s.
-    let t = c.in-Ok.ensures s.0 in
-    ((t.0, s.1), added _ _ _ _ _ t.1)
-
 pub returns-in-Err-clause-adds : goal.returns-in-Err-clause-adds
-returns-in-Err-clause-adds g c = λ s.
-    let t = c.in-Err.ensures s.0 in
-    ((t.0, c.in_ok-admit.ensures.admitted), not_added _ _ _ _ _ c.refuse-in-Err.ensures.counted t.1)
+returns-in-Err-clause-adds g c = rw (sym c.take.ensures.value ∙ c.in-Some.is) (λ s. (
+  (s.0, (c.in-Err.ensures s.1).0, c.in_ok-admit.ensures.admitted),
+  λ f h. not_added g.F.File.NewFile.made (g.F.MailFolders.directories c.args.self.now.folders) c.in-Some.title c.in-Some.file
+      c.write-answer.new.self _ _ f
+      c.refuse-in-Err.ensures.counted h,
+))

@@ -1,13 +1,14 @@
-use Rattle.std.proofs.Common.{IsPermutation, subst, sym, string_bytes, option_map}
+use Rattle.std.proofs.Common.{IsPermutation, subst, sym, option_map}
+use Rattle.folder_store.specs.MailFolders.{draft_begun}
 use Rattle.folder_store.proofs.MailCalls.{told_names}
 use Rattle.folder_store.specs.declared.mail_folders.Sought.TheVariants.{All}
 use Rattle.folder_store.proofs.maildir.FolderMaildirMaildirDisk.all_names.Goals as goal
 
 pub returns-clause-lists : goal.returns-clause-lists
 returns-clause-lists g c = rw c.tally.ensures.same (λ s.
-    let begun = option_map string_bytes c.args.self.now.begun in
+    let begun = option_map (draft_begun g.F.File.NewFile.made) c.args.self.now.begun in
     let t = c.told_names.ensures.tells s.0 in (
-      (t.0, c.in_ok-admit.ensures.admitted),
+      (t.0, s.1, c.in_ok-admit.ensures.admitted),
       told_names IsPermutation All (λ names told t. subst (IsPermutation names) (sym t.2) t.1) _ _ begun _
           c.tally.new.failures c.told_names.result t.1 c.told_names.ensures.fault c.tally.ensures.counted,
     ))

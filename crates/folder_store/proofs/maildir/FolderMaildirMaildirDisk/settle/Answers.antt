@@ -1,29 +1,22 @@
-use Rattle.std.proofs.Common.{inl, string_bytes, option_map}
-use Rattle.folder_store.proofs.MailCalls.{gives_up, maildir_dropped, not_settled, settled}
+use Rattle.std.proofs.Common.{◌∙◌, None, inl, sym}
+use Rattle.folder_store.proofs.MailCalls.{maildir_same, not_settled}
+use Rattle.folder_store.proofs.MailMoves.{moved_rests}
 use Rattle.folder_store.proofs.maildir.FolderMaildirMaildirDisk.settle.Goals as goal
 
-pub returns-in-Ok-clause-settles : goal.returns-in-Ok-clause-settles
-returns-in-Ok-clause-settles g c = rw c.take-begun.ensures.after (λ s.
-    let t = c.in-Ok.ensures s.0 in
-    let begun = option_map string_bytes c.args.self.now.begun in
-    ((t.0, s.1), settled _ _ begun c.args.name.now _ t.1 (c.requires.not_there (t.0, s.1))))
-
-pub returns-clause-settles : goal.returns-clause-settles
-returns-clause-settles g c = rw c.take-begun.ensures.after (λ s.
-    let gone = c.discard-in-Err-put_for_good.ensures s.0 in
-    let t = c.in-Err-put_for_good.ensures gone.0 in
-    let begun = option_map string_bytes c.args.self.now.begun in
-    let below = c.in_default.ensures.admitted in (
-      (t.0, below),
-      not_settled _ _ _ begun c.args.name.now _ _ c.in-Err-put_for_good.field-0 c.refuse-in-Err-put_for_good.ensures.counted t.1 gone.1
-          (c.requires.not_there (t.0, below)),
+pub returns-then-not-is_file_name-clause-settles : goal.returns-then-not-is_file_name-clause-settles
+returns-then-not-is_file_name-clause-settles g c = rw (sym c.take.ensures.value ∙ c.in-Some.is, c.take.ensures.after) (λ s.
+    let t = c.discard.ensures s.0 in (
+      (t.0, t.1, c.in_default.ensures.admitted),
+      λ f h. inl (rw c.refuse-then-not-is_file_name.ensures.counted (maildir_same _ _ None _ (moved_rests _ _ t.2))),
     ))
 
-pub returns-then-is_none-clause-settles : goal.returns-then-is_none-clause-settles
-returns-then-is_none-clause-settles g c = rw c.take-begun.ensures.after (λ s.
-    let begun = option_map string_bytes c.args.self.now.begun in
-    let gone = c.discard.ensures s.0 in (
-      (gone.0, c.in_default.ensures.admitted),
-      λ f h. inl
-          (rw c.refuse.ensures.counted (maildir_dropped _ _ begun c.args.self.now.failures _ (gives_up _ _ gone.1))),
+pub returns-in-Err-put_for_good-clause-settles : goal.returns-in-Err-put_for_good-clause-settles
+returns-in-Err-put_for_good-clause-settles g c =
+    let was = sym c.take.ensures.value ∙ c.in-Some.is in
+    rw (was, c.take.ensures.after) (λ s.
+    let t = c.in-Err-put_for_good.ensures s.0 in
+    let below = c.in_default.ensures.admitted in (
+      (t.0, t.1, below),
+      λ f h. not_settled _ _ _ f c.args.name.now _ _ c.in-Err-put_for_good.field-0
+          c.refuse-in-Err-put_for_good.ensures.counted (c.requires.not_there (t.0, rw was t.1, below)) h t.2,
     ))

@@ -1,5 +1,5 @@
-use Rattle.std.proofs.Common.{map, option_map}
-use Rattle.test_devices.specs.MemoryFolder.{blob_of, folder_entries, older_of}
+use Rattle.std.proofs.Common.{map}
+use Rattle.test_devices.specs.MemoryFolder.{folder_entries, older_of}
 use Rattle.test_devices.proofs.MemoryFiles.{survives_names, memory_loses}
 use Rattle.test_devices.proofs.memory_folder.MemoryFolder.lose_power.Goals as goal
 
@@ -11,5 +11,5 @@ invariant_of-self c = survives_names (map older_of c.self.inside.older.items) (f
 pub returns-in-Ok-clause-ok : goal.returns-in-Ok-clause-ok
 returns-in-Ok-clause-ok c = rw c.self.view_is at
     (memory_loses c.self.inside.files.items c.in-Ok.files.items c.self.inside.older.items c.clear.new.self.items
-    (option_map blob_of c.self.inside.made) c.self.invariant
+    c.self.invariant
     (rw (c.deref.ensures.value, c.deref-2.ensures.value) at c.in-Ok.ensures) c.clear.ensures.items)

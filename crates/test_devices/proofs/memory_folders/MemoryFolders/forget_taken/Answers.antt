@@ -1,16 +1,15 @@
-use Rattle.std.proofs.Common.{◌∙◌, ◌++◌, List, ap, map, option_map, refl, rules}
+use Rattle.std.proofs.Common.{◌∙◌, ◌++◌, List, ap, map, refl, rules}
 use Rattle.std.proofs.lemmas.List.{map-append}
 use Rattle.std.proofs.lemmas.List.Elements.{filter_from_retain}
 use Rattle.folder_store.specs.MailFolders.{MailFile, files_at, mail_at}
 use Rattle.test_devices.specs.declared.memory_folders.StoredMail.{StoredMail}
-use Rattle.test_devices.specs.MemoryFolders.{made_draft, stored_file}
+use Rattle.test_devices.specs.MemoryFolders.{stored_file}
 use Rattle.test_devices.proofs.MemoryMail.{not_gone, left_files}
 use Rattle.test_devices.proofs.memory_folders.MemoryFolders.forget_taken.Goals as goal
 
 pub returns-clause-ok : goal.returns-clause-ok
 returns-clause-ok c =
     let was = c.self.inside in
-    let made = option_map made_draft was.made in
     let left = filter_from_retain _ not_gone (λ p x b q h. search rules) _ _ _ c.retain.ensures.filtered in
     let stay = ap (λ (files : List StoredMail). map stored_file files) left ∙ left_files was.files.items in
     let taken = ap (λ (files : List StoredMail). files_at (map stored_file files)) c.in_ok-append.ensures.items

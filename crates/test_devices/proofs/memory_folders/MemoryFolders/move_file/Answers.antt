@@ -1,6 +1,6 @@
-use Rattle.std.proofs.Common.{arith, map, not, option_map, ◌∙◌, ap}
+use Rattle.std.proofs.Common.{arith, map, not, ◌∙◌, ap}
 use Rattle.folder_store.specs.MailFolders.{files_at}
-use Rattle.test_devices.specs.MemoryFolders.{made_draft, stored_file}
+use Rattle.test_devices.specs.MemoryFolders.{stored_file}
 use Rattle.test_devices.proofs.MemoryMail.{file_moves}
 use Rattle.test_devices.proofs.memory_folders.MemoryFolders.move_file.Goals as goal
 
@@ -15,7 +15,7 @@ returns c =
     let was = c.self.inside in
     rw c.self.view_is at (file_moves c.readers_move.ensures.one was.files.items c.args.place c.index-file.result.now
     c.in-Ok.moved was.new_rests c.still_rests-self-inside.result
-    was.cur_rests c.still_rests-self-inside-2.result (option_map made_draft was.made) (files_at (map stored_file was.taken.items))
+    was.cur_rests c.still_rests-self-inside-2.result (files_at (map stored_file was.taken.items))
     (omega (arith, c.if-place-len.false, c.len.ensures)) c.index-file.ensures c.in-Ok.ensures.moves
     (λ quiet. let r = c.still_rests-self-inside.ensures quiet in (r.0, r.1, c.in-Ok.ensures.place ∙ r.2))
     (λ quiet. let r = c.still_rests-self-inside-2.ensures quiet in (r.0, r.1, ap not c.in-Ok.ensures.place ∙ r.2)))

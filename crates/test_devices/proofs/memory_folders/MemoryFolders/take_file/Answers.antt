@@ -1,6 +1,6 @@
-use Rattle.std.proofs.Common.{arith, map, option_map, refl, true}
+use Rattle.std.proofs.Common.{arith, map, refl, true}
 use Rattle.folder_store.specs.MailFolders.{files_at}
-use Rattle.test_devices.specs.MemoryFolders.{made_draft, stored_file}
+use Rattle.test_devices.specs.MemoryFolders.{stored_file}
 use Rattle.test_devices.proofs.MemoryMail.{file_moves}
 use Rattle.test_devices.proofs.memory_folders.MemoryFolders.take_file.Goals as goal
 
@@ -13,7 +13,7 @@ returns c =
     let file = c.index_mut-file.result.now in
     rw c.self.view_is at (file_moves c.readers_move.ensures.one was.files.items c.args.place file
     (record file { is_gone = true }) was.new_rests c.still_rests-self-inside.result
-    was.cur_rests c.still_rests-self-inside-2.result (option_map made_draft was.made) (files_at (map stored_file was.taken.items))
+    was.cur_rests c.still_rests-self-inside-2.result (files_at (map stored_file was.taken.items))
     (omega (arith, c.if-place-len.false, c.len.ensures)) c.index_mut-file.ensures.value
     (record {
       keeps = record { title = refl; content = refl; flushed = λ h. h; named = λ h. h };
