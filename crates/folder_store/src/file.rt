@@ -8,11 +8,11 @@ ghost use Rattle.folder_store.specs.HostFile.{IsSettled, stored_in, unknown_file
 ghost use Rattle.folder_store.specs.NewDevices.{LeftFilesStand, NewFilesKeepBytes};
 ghost use Rattle.folder_store.specs.PowerLoss.{disk_at};
 
-use crate::device::{FileFolder, FolderState};
+use crate::durable_file::{Appending, flush_both, replace_flushed};
+use crate::file_folder::{FileFolder, FolderState};
 use crate::host::HostFolder;
 use crate::process_mark::ProcessMark;
 use crate::rests::{Rests, append_noting, cut_keeping};
-use crate::steps::{Appending, flush_both, replace_flushed};
 use crate::system::name_in;
 use crate::tally::tally;
 use mail_store::{Edges, FlatFile, StoreFault, admit, refuse};

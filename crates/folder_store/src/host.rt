@@ -4,8 +4,8 @@ ghost use Rattle.std.specs.Prelude.{◌≡◌, ◌≤◌, length, IfErr, IfOk, O
 ghost use Rattle.mail_store.specs.Fault.{IsDeviceFault};
 ghost use Rattle.folder_store.specs.FileFolder.{empty_made, unknown_directory};
 
-use crate::device::{FileFolder, FolderState, NewFile};
 use crate::exact_listing::{FolderNames, list_names};
+use crate::file_folder::{FileFolder, FolderState, NewFile};
 use crate::handles::{Changed, Handles, Names, bytes_in, piece_in};
 use crate::host_paths::HostPaths;
 use crate::mail_folders::Sought;

@@ -3,8 +3,8 @@
 ghost use Rattle.std.specs.Prelude.{◌≡◌};
 ghost use Rattle.folder_store.specs.MailFolders.{unknown_directories};
 
-use crate::device::FileFolder;
 use crate::exact_listing::{ChangeTime, FolderNames};
+use crate::file_folder::FileFolder;
 use crate::flush_pass::{Found, unsettled};
 use crate::host::{HostFolder, HostNewFile, answer_of};
 use crate::mail_folders::{MailFolders, Sought};

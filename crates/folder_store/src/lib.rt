@@ -1,9 +1,11 @@
 //! A Maildir and files in folders of a file system.
 #![tactic(auto)]
 
-mod device;
+mod durable_file;
+mod durable_names;
 mod exact_listing;
 mod file;
+mod file_folder;
 mod file_state;
 mod flush_pass;
 mod handles;
@@ -12,21 +14,19 @@ mod host_folders;
 mod host_paths;
 mod laws;
 mod mail_folders;
-mod mail_steps;
 mod maildir;
 mod process_mark;
 mod rests;
-mod steps;
 mod system;
 mod tally;
 
-pub use device::{FileFolder, FolderState, NewFile};
+pub use durable_file::Appending;
 pub use exact_listing::{ChangeTime, FolderNames, list_names};
 pub use file::{HostFile, new_files_keep_bytes};
+pub use file_folder::{FileFolder, FolderState, NewFile};
 pub use host::HostFolder;
 pub use host_folders::HostFolders;
 pub use laws::{mail_can_lose_power, power_leaves, readers_move};
 pub use mail_folders::{MailFolders, Sought};
 pub use maildir::{FolderMaildir, new_maildirs_keep_mail};
 pub use process_mark::ProcessMark;
-pub use steps::Appending;

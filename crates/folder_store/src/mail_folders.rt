@@ -1,6 +1,6 @@
 //! What a Maildir asks of the file system that keeps it.
 
-use crate::device::NewFile;
+use crate::file_folder::NewFile;
 use mail_store::{Folder, StoreFault};
 
 /// Which names a listing tells.

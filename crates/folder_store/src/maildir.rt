@@ -5,10 +5,10 @@ ghost use Rattle.mail_terms.specs.FailureCount.{greatest_count};
 ghost use Rattle.folder_store.specs.MailFolders.{draft_begun, maildir_in, unknown_maildir};
 ghost use Rattle.folder_store.specs.NewDevices.{LeftMaildirsStay, LossesMayLeave, NewMaildirsKeepMail};
 
-use crate::device::NewFile;
+use crate::durable_names::{put_for_good, told_names, told_names_of};
+use crate::file_folder::NewFile;
 use crate::host_folders::HostFolders;
 use crate::mail_folders::{MailFolders, Sought};
-use crate::mail_steps::{put_for_good, told_names, told_names_of};
 use crate::process_mark::ProcessMark;
 use crate::tally::tally;
 use mail_store::{AccountId, Folder, MaildirDisk, StoreFault, admit, refuse};

@@ -4,8 +4,8 @@ ghost use Rattle.std.specs.Prelude.{◌≡◌, ◌≤◌, length, IsTrue};
 ghost use Rattle.folder_store.specs.PowerLoss.{disk_at};
 ghost use Rattle.mail_store.specs.DiskCalls.{AppendsDisk, CutsDisk};
 
-use crate::device::FileFolder;
-use crate::steps::{Appending, append_in, cut_flushed, replace_flushed};
+use crate::durable_file::{Appending, append_in, cut_flushed, replace_flushed};
+use crate::file_folder::FileFolder;
 use mail_store::StoreFault;
 
 /// How many octets are kept by one write.

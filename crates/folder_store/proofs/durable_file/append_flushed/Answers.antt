@@ -4,7 +4,7 @@ use Rattle.mail_store.specs.Durable.{Blob}
 use Rattle.mail_store.specs.DiskCalls.{appended}
 use Rattle.mail_store.proofs.DiskLemmas.{one_piece}
 use Rattle.folder_store.proofs.Files.{flushed_becomes, refused_becomes}
-use Rattle.folder_store.proofs.steps.append_flushed.Goals as goal
+use Rattle.folder_store.proofs.durable_file.append_flushed.Goals as goal
 
 pub returns-in_err-append : goal.returns-in_err-append
 returns-in_err-append g c = rw (err_from_is_err_and c.from_residual.result c.from_residual.ensures.1).1 (λ s.

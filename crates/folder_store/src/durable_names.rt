@@ -4,7 +4,7 @@ ghost use Rattle.std.specs.Prelude.{◌≡◌, ◌++◌, true, IfErr, IfOk, OnOk
 ghost use Rattle.mail_store.specs.Fault.{IsDeviceFault};
 ghost use Rattle.folder_store.specs.MailCalls.{LooksAtBoth, PutsForGood, SameFiles, TellsBoth, TellsOne};
 
-use crate::device::NewFile;
+use crate::file_folder::NewFile;
 use crate::mail_folders::{MailFolders, Sought};
 use mail_store::{Folder, StoreFault};
 

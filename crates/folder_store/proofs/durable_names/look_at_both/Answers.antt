@@ -4,10 +4,10 @@ use Rattle.folder_store.specs.MailFolders.{Directories}
 use Rattle.folder_store.specs.MailCalls.{Learns, ToldBoth}
 use Rattle.folder_store.proofs.MailCalls.{leads_learns, learned, learns_same, flushes_leads, lists_learns, lacked, unflushed, looked}
 use Rattle.folder_store.proofs.MailMoves.{moved_same}
-use Rattle.folder_store.proofs.mail_steps.look_at_both.Given.{Over}
-use Rattle.folder_store.proofs.mail_steps.look_at_both.Goals.{In_ok-flush_names, In_ok-flush_names-2, In_ok-names}
-use Rattle.folder_store.proofs.mail_steps.look_at_both.Goals.{In_ok-in_cur, In_ok-rests}
-use Rattle.folder_store.proofs.mail_steps.look_at_both.Goals as goal
+use Rattle.folder_store.proofs.durable_names.look_at_both.Given.{Over}
+use Rattle.folder_store.proofs.durable_names.look_at_both.Goals.{In_ok-flush_names, In_ok-flush_names-2, In_ok-names}
+use Rattle.folder_store.proofs.durable_names.look_at_both.Goals.{In_ok-in_cur, In_ok-rests}
+use Rattle.folder_store.proofs.durable_names.look_at_both.Goals as goal
 
 -- what is learned by the calls so far; each begins four steps after the one before it went well
 abbrev Learned : {S : Type 0} → (S → Type 0) → (S → Directories) → S → S → Type 0

@@ -1,6 +1,6 @@
 use Rattle.std.proofs.lemmas.Result.{err_from_is_err_and}
 use Rattle.folder_store.proofs.Files.{not_replaced, replaced}
-use Rattle.folder_store.proofs.steps.replace_flushed.Goals as goal
+use Rattle.folder_store.proofs.durable_file.replace_flushed.Goals as goal
 
 pub returns-in_err-put : goal.returns-in_err-put
 returns-in_err-put g c =

@@ -1,7 +1,7 @@
 use Rattle.std.proofs.Common.{◌≡◌, ◌++◌, ℕ, List, length}
 use Rattle.mail_store.specs.DiskCalls.{Becomes, IsAppended}
 use Rattle.folder_store.specs.PowerLoss.{disk_at}
-use Rattle.folder_store.proofs.steps.append_blocks.Given as goal
+use Rattle.folder_store.proofs.durable_file.append_blocks.Given as goal
 
 abbrev pub invariant-loop-rest : goal.invariant-loop-rest
 invariant-loop-rest g l =

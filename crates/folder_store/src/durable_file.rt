@@ -4,7 +4,7 @@ ghost use Rattle.std.specs.Prelude.{◌≡◌, ◌++◌, true, OnOk};
 ghost use Rattle.folder_store.specs.PowerLoss.{disk_at};
 ghost use Rattle.mail_store.specs.DiskCalls.{AppendsDisk, CutsDisk, FlushesBoth, ReplacesDisk};
 
-use crate::device::{FileFolder, NewFile};
+use crate::file_folder::{FileFolder, NewFile};
 use mail_store::StoreFault;
 
 /// How many octets of a file a disk writes at once, at least.

@@ -2,7 +2,7 @@ use Rattle.std.proofs.Common.{inl}
 use Rattle.std.proofs.lemmas.Result.{err_from_is_err_and}
 use Rattle.mail_store.specs.DiskCalls.{cut}
 use Rattle.folder_store.proofs.Files.{flushed_becomes, refused_becomes}
-use Rattle.folder_store.proofs.steps.cut_flushed.Goals as goal
+use Rattle.folder_store.proofs.durable_file.cut_flushed.Goals as goal
 
 pub returns-in_err-cut_to : goal.returns-in_err-cut_to
 returns-in_err-cut_to g c = rw (err_from_is_err_and c.from_residual.result c.from_residual.ensures.1).1 (λ s.

@@ -1,6 +1,6 @@
 use Rattle.folder_store.proofs.MailCalls.{learns_on, learns_same}
 use Rattle.mail_terms.proofs.ErrLemmas.{is_err}
-use Rattle.folder_store.proofs.mail_steps.told_names.Goals as goal
+use Rattle.folder_store.proofs.durable_names.told_names.Goals as goal
 
 pub loop-times-init : goal.loop-times-init
 loop-times-init g c = λ s. (s, learns_same (g.F.MailFolders.directories c.args.folders.now))

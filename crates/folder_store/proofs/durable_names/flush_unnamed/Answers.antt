@@ -1,6 +1,6 @@
 use Rattle.std.proofs.lemmas.Result.{err_from_is_err_and}
 use Rattle.folder_store.proofs.MailMoves.{same_rests_at}
-use Rattle.folder_store.proofs.mail_steps.flush_unnamed.Goals as goal
+use Rattle.folder_store.proofs.durable_names.flush_unnamed.Goals as goal
 
 pub returns-in_err-has : goal.returns-in_err-has
 returns-in_err-has g c =

@@ -1,6 +1,6 @@
 use Rattle.std.proofs.lemmas.Result.{err_from_is_err_and}
 use Rattle.folder_store.proofs.Files.{both_flushed, both_refused}
-use Rattle.folder_store.proofs.steps.flush_both.Goals as goal
+use Rattle.folder_store.proofs.durable_file.flush_both.Goals as goal
 
 pub returns-in_err-flush : goal.returns-in_err-flush
 returns-in_err-flush g c = rw (err_from_is_err_and c.from_residual.result c.from_residual.ensures.1).1 (λ s.
