@@ -1,15 +1,16 @@
--- Loops over a listing, ids that occur once in it, and the plan: item by item, with a count, it is the plan by the wanted messages.
+-- Loops over a listing, ids that occur once in it, and the plan, item by item with a count of what is fetched.
 use Rattle.std.proofs.Common.{Bool, List, [], ap, append_assoc, arith, cond, count_by, false, filter, get_or, inl, inr}
-use Rattle.std.proofs.Common.{length, length-append, map, nat_lt, ne_eqb, refl, subst, suc, sym, take, take_all}
+use Rattle.std.proofs.Common.{length, length-append, map, refl, subst, suc, sym, take, take_all}
 use Rattle.std.proofs.Common.{take_at, true, zero, zip, ℕ, ◌&&◌, ◌++◌, ◌+◌, ◌-◌, ◌<◌, ◌==◌, ◌||◌, ◌∙◌, ◌∷◌, ◌≡◌, ◌≤◌}
-use Rattle.std.proofs.Common.{◌⊎◌, Less, All, bytes_eq, drop, length-set, nat_cmp, not, replicate, set, ◌≢◌}
+use Rattle.std.proofs.Common.{◌⊎◌, Less, All, Option, Some, None, bytes_eq, drop, if◌then◌else◌, is_none, length-set, nat_cmp, nat_le, not}
+use Rattle.std.proofs.Common.{replicate, set, true≢false, ◌≢◌}
 use Rattle.mail_terms.specs.Listing.{Item, has_item, is_first, numbered, HasDistinctIds, Joins, ids_of, is_last, UidRow}
 use Rattle.mail_terms.specs.Numbering.{IsNumbering}
 use Rattle.mail_terms.specs.UniqueId.{has_id}
 use Rattle.mail_terms.specs.declared.listing.ScanRow.{ScanRow}
 use Rattle.mail_terms.proofs.IdLemmas.{nobody, test_from_other}
 use Rattle.rc_file.specs.declared.settings.Settings.{Settings}
-use Rattle.std.proofs.Math.Bool.{or_comm}
+use Rattle.std.proofs.Math.Bool.{and-false, and-true, or_comm}
 use Rattle.std.proofs.Math.Seq.{get_or-append_seam}
 use Rattle.std.proofs.lemmas.Bool.{and_parts, cases_Bool, cond-false, cond-true, eq-eqb, lt-ltb, not-true, cases_lt, not_from_false}
 use Rattle.std.proofs.lemmas.Bool.Decides.{nat_tests, Decides-at}
@@ -19,198 +20,246 @@ use Rattle.std.proofs.lemmas.List.{get_or-map, get_or-take, length-drop, length-
 use Rattle.std.proofs.lemmas.List.Elements.{All-filter, All-take, All-weaker, All-head, All-tail}
 use Rattle.std.proofs.lemmas.List.Folds.{list_any_none, list_any_more}
 use Rattle.std.proofs.lemmas.List.FromFn.{get_or-enumerate_from, length-enumerate_from}
-use Rattle.std.proofs.lemmas.List.Sums.{count_by-le-length, length-filter, sum_by-cons, sum_by_more}
+use Rattle.std.proofs.lemmas.List.Filters.{length-filter_more}
 use Rattle.std.proofs.lemmas.Map.Keys.{IsDistinct-from_sorted, sorted_from_all_adjacent}
 use Rattle.std.proofs.lemmas.Map.Made.{AllPairs-from_IsDistinct}
 use Rattle.std.proofs.lemmas.Map.Text.{is_eq-slice_cmp}
 use Rattle.std.proofs.lemmas.Slice.Eq.{bytes_eq-Decides}
 use Rattle.std.specs.Cmp.Lexicographic.{slice_cmp}
 use Rattle.std.specs.List.{enumerate_from}
-use Rattle.fetch_record.specs.Record.{Row}
+use Rattle.fetch_record.specs.Record.{Row, is_delivered}
 use Rattle.fetch_rules.specs.Due.{is_due, may_delete}
-use Rattle.fetch_rules.specs.Laws.{FetchesAsked, FetchesFirsts, PassesOver}
-use Rattle.fetch_rules.specs.Plan.{has_number, is_deleted, planned, retrieved, step_of}
-use Rattle.fetch_rules.specs.Wanted.{candidates, at_most, is_asked_for, is_candidate, is_within, wanted, DistinctAreFiltered}
+use Rattle.fetch_rules.specs.Laws.{FetchesAsked, FetchesFirsts}
+use Rattle.fetch_rules.specs.Plan.{fetches, is_deleted, planned, retrieved, step_of}
+use Rattle.fetch_rules.specs.Wanted.{is_candidate, is_full, is_limit, is_within, skip_for, skip_of, wanted}
+use Rattle.fetch_rules.specs.Wanted.{DistinctAreFiltered, WantedAreFirst}
+use Rattle.fetch_rules.specs.declared.steps.Skip.{Skip}
+use Rattle.fetch_rules.specs.declared.steps.Skip.TheVariants.{Delivered, TooLarge, PastLimit, SameId}
 use Rattle.fetch_rules.specs.declared.steps.Step.{Step}
 
 -- a message with its number
 abbrev pub Message : Type 0
 Message = ℕ × Item
 
--- no number below is among them
-pub none_below : (p : Message → Bool) (n m k : ℕ) (items : List Item) → k < n
-    → has_number (take m (filter p (enumerate_from n items))) k ≡ false
-none_below p n m k items below = list_any_none (λ message. message.0 == k) _
-    (All-weaker (λ message. n ≤ message.0) (λ message. (message.0 == k) ≡ false)
-    (λ message above. ne_eqb message.0 k (λ same. absurd (omega (arith, above, same)))) _
-    (All-take (λ message. n ≤ message.0) m _ (All-filter p (λ message. n ≤ message.0) _
-    (λ i d inside. rw (get_or-enumerate_from n items i d (omega (arith, length-enumerate_from n items)))
-    (omega arith)))))
+passes : (known within first full : Bool)
+    → is_none (if known then Some Delivered else if not within then Some TooLarge else if full then Some PastLimit
+    else if first then None else Some SameId) ≡ not known && (within && (first && not full))
+passes true within first full = refl
+passes false false first full = refl
+passes false true true true = refl
+passes false true true false = refl
+passes false true false true = refl
+passes false true false false = refl
 
--- fewer than m, one more on both sides
-lt_step : (c m : ℕ) → nat_lt (1 + c) (suc m) ≡ nat_lt c m
-lt_step c m = grind (arith, nat_tests)
+-- a message is fetched exactly if none of the reasons holds
+pub passes_for : (settings : Settings) (rows : List Row) (first full : Bool) (item : Item)
+    → is_none (skip_for settings rows first full item) ≡ not (not settings.read_all && is_delivered rows item.uid) &&
+    (is_within settings.max_size item.size && (first && not full))
+passes_for settings rows first full item =
+    passes (not settings.read_all && is_delivered rows item.uid) (is_within settings.max_size item.size) first full
 
-count_by-cons : (p : Message → Bool) (x : Message) (xs : List Message) (b : Bool) → p x ≡ b
-    → count_by p (x ∷ xs) ≡ cond b 1 0 + count_by p xs
-count_by-cons p x xs b is = sum_by-cons (λ (m : Message). cond (p m) 1 0) x xs ∙ ap (λ (t : Bool). cond t 1 0 + count_by p xs) is
+-- what is fetched is the first with its id
+pub first_for : (settings : Settings) (rows : List Row) (first full : Bool) (item : Item)
+    → is_none (skip_for settings rows first full item) ≡ true → first ≡ true
+first_for settings rows first full item fetched = (and_parts first (not full) (and_parts (is_within settings.max_size item.size)
+    (first && not full) (and_parts (not (not settings.read_all && is_delivered rows item.uid))
+    (is_within settings.max_size item.size && (first && not full)) (sym (passes_for settings rows first full item) ∙ fetched)).1).1).0
 
--- the one at i is among the first m that pass exactly if it passes and fewer than m before it do
-pub has_number-take : (p : Message → Bool) (n m i k : ℕ) (items : List Item) (d : Message) → i < length items → k ≡ n + i
-    → has_number (take m (filter p (enumerate_from n items))) k ≡ p (get_or (enumerate_from n items) i d) && nat_lt
-    (count_by p (take i (enumerate_from n items))) m
-has_number-take p n m i k [] d inside is = absurd (omega arith)
-has_number-take p n zero i k (item ∷ items) d inside is = grind (arith, nat_tests)
-has_number-take p n (suc m) zero k (item ∷ items) d inside is = elim (cases_Bool (p (n, item))) [
-  | inl hit ↦ rw (hit, eq-eqb n k (omega (arith, is))) (sym (lt-ltb 0 (suc m) (omega arith)))
-  | inr miss ↦ rw miss (none_below p (n + 1) (suc m) k items (omega (arith, is)))
-]
-has_number-take p n (suc m) (suc i) k (item ∷ items) d inside is =
-    let more = count_by-cons p (n, item) (take i (enumerate_from (n + 1) items)) in
-    elim (cases_Bool (p (n, item))) [
-      | inl hit ↦ rw (
-        more true hit,
-        lt_step (count_by p (take i (enumerate_from (n + 1) items))) m,
-        hit,
-        ne_eqb n k
-            (λ same. absurd (omega (arith, is, same))),
-      )
-          (has_number-take p (n + 1) m i k items d (omega arith) (omega (arith, is)))
-      | inr miss ↦
-          let same : count_by p ((n, item) ∷ take i (enumerate_from (n + 1) items))
-          ≡ count_by p (take i (enumerate_from (n + 1) items)) = omega (arith, more false miss) in
-          rw (same, miss) (has_number-take p (n + 1) (suc m) i k items d (omega arith) (omega (arith, is)))
+-- a message with its own id is fetched, or known, or a limit leaves it out
+pub left_for : (settings : Settings) (rows : List Row) (full : Bool) (item : Item)
+    → (is_none (skip_for settings rows true full item) ≡ true)
+    ⊎ ((is_delivered rows item.uid ≡ true) ⊎ (is_limit (skip_for settings rows true full item) ≡ true))
+left_for settings rows full item = elim (cases_Bool (not settings.read_all && is_delivered rows item.uid)) [
+  | inl known ↦ inr (inl (and_parts _ _ known).1)
+  | inr new ↦ elim (cases_Bool (is_within settings.max_size item.size)) [
+    | inr large ↦ inr (inr (rw (new, large) refl))
+    | inl fits ↦ elim (cases_Bool full) [
+      | inl past ↦ inr (inr (rw (new, fits, past) refl))
+      | inr room ↦ inl (rw (new, fits, room) refl)
     ]
-
--- a number that isn't there makes no difference
-filter_skip : (messages : List Message) (n k : ℕ) (item : Item) (items : List Item) → n < k
-    → filter (λ message. has_number ((n, item) ∷ messages) message.0) (enumerate_from k items) ≡ filter
-    (λ message. has_number messages message.0) (enumerate_from k items)
-filter_skip messages n k item [] below = refl
-filter_skip messages n k item (first ∷ items) below =
-    rw (ne_eqb n k (λ same. absurd (omega (arith, below, same))), filter_skip messages n (k + 1) item items (omega (arith, below))) refl
-
-filter_nothing : (messages : List Message) → filter (λ _. false) messages ≡ []
-filter_nothing [] = refl
-filter_nothing (message ∷ messages) = filter_nothing messages
-
--- the messages that are among the first m that pass are these
-pub filter_among : (p : Message → Bool) (n m : ℕ) (items : List Item)
-    → filter (λ message. has_number (take m (filter p (enumerate_from n items))) message.0) (enumerate_from n items)
-    ≡ take m (filter p (enumerate_from n items))
-filter_among p n zero items = filter_nothing (enumerate_from n items)
-filter_among p n (suc m) [] = refl
-filter_among p n (suc m) (item ∷ items) = elim (cases_Bool (p (n, item))) [
-  | inl hit ↦ subst (λ (ms : List Message). filter (λ message. has_number (take (suc m) ms) message.0)
-      (enumerate_from n (item ∷ items)) ≡ take (suc m) ms) (sym (cond-true (p (n, item)) _ _ hit))
-      (rw (
-        eq-eqb n n refl,
-        filter_skip (take m (filter p (enumerate_from (n + 1) items))) n (n + 1) item items
-            (omega arith),
-        filter_among p (n + 1) m items,
-      ) refl)
-  | inr miss ↦ subst (λ (ms : List Message). filter (λ message. has_number (take (suc m) ms) message.0)
-      (enumerate_from n (item ∷ items)) ≡ take (suc m) ms) (sym (cond-false (p (n, item)) _ _ miss))
-      (rw (none_below p (n + 1) (suc m) n items (omega arith)) (filter_among p (n + 1) (suc m) items))
+  ]
 ]
 
--- the same for a limit; 0 sets none
-at_most_is : (limit n : ℕ) (messages : List Message) → length messages ≤ n
-    → at_most limit messages ≡ take (cond (limit == 0) n limit) messages
-at_most_is limit n messages few = elim (cases_Bool (limit == 0)) [
-  | inl none ↦ rw none (sym (take_all n messages few))
-  | inr some ↦ rw some refl
-]
-
-few_pass : (p : Message → Bool) (items : List Item) → length (filter p (numbered items)) ≤ length items
-few_pass p items = omega (arith, length-filter p (numbered items), count_by-le-length p (numbered items), length-enumerate_from 1 items)
-
-pub has_number-at_most : (p : Message → Bool) (limit i : ℕ) (items : List Item) (d : Message) → i < length items
-    → has_number (at_most limit (filter p (numbered items))) (i + 1) ≡ p (get_or (numbered items) i d) &&
-    (limit == 0 || nat_lt (count_by p (take i (numbered items))) limit)
-has_number-at_most p limit i items d inside =
-    ap (λ (ms : List Message). has_number ms (i + 1)) (at_most_is limit (length items) (filter p (numbered items)) (few_pass p items))
-    ∙ has_number-take p 1 (cond (limit == 0) (length items) limit) i (i + 1) items d inside (omega arith)
-    ∙ ap (λ (b : Bool). p (get_or (numbered items) i d) && b) (elim (cases_Bool (limit == 0)) [
-      | inl none ↦ rw (none, lt-ltb _ _ few) refl
-      | inr some ↦ rw some refl
-    ])
+-- it may be fetched, and the session isn't full before it
+wanted_by : (settings : Settings) (rows : List Row) (first full : Bool) (item : Item)
+    → is_none (skip_for settings rows first full item) ≡ is_none (skip_for settings rows first false item) && not full
+wanted_by settings rows first full item = rw (passes_for settings rows first full item, passes_for settings rows first false item)
+    (by (not (not settings.read_all && is_delivered rows item.uid)) (is_within settings.max_size item.size) first full)
   where
-    few : count_by p (take i (numbered items)) < length items
-    few = omega (arith, count_by-le-length p (take i (numbered items)), length-take i (numbered items))
+    by : (a b c full : Bool) → a && (b && (c && not full)) ≡ (a && (b && (c && true))) && not full
+    by true true true full = refl
+    by true true false full = refl
+    by true false c full = refl
+    by false b c full = refl
 
 -- what steps fetch
 retrieved_steps : (f : Message → Step) (messages : List Message)
-    → map (λ pair. pair.1) (filter (λ pair. pair.0.retrieve) (zip (map f messages) messages)) ≡ filter
-    (λ message. (f message).retrieve) messages
+    → map (λ pair. pair.1) (filter (λ pair. fetches pair.0) (zip (map f messages) messages)) ≡ filter
+    (λ message. fetches (f message)) messages
 retrieved_steps f [] = refl
-retrieved_steps f (message ∷ messages) = elim (cases_Bool (f message).retrieve) [
+retrieved_steps f (message ∷ messages) = elim (cases_Bool (fetches (f message))) [
   | inl hit ↦ rw (hit, retrieved_steps f messages) refl
   | inr miss ↦ rw miss (retrieved_steps f messages)
 ]
 
 pub retrieved-planned : (settings : Settings) (rows : List Row) (listing : List Item) (now : ℕ)
     → retrieved (planned settings rows listing now) listing ≡ wanted settings rows listing
-retrieved-planned settings rows listing now =
-    retrieved_steps (step_of settings rows listing now) (numbered listing)
-    ∙ rw (at_most_is settings.max_count (length listing) (candidates settings rows listing)
-    (few_pass (is_candidate settings rows listing) listing))
-    (filter_among (is_candidate settings rows listing) 1 (cond (settings.max_count == 0) (length listing) settings.max_count) listing)
-
--- a loop over the listing: the steps of the first i messages, and how many of them are candidates
-pub record HasPlanned (settings : Settings) (rows : List Row) (listing : List Item) (now i : ℕ) (steps : List Step)
-    (count : ℕ) : Type 0 where
-  pub steps_are : steps ≡ map (step_of settings rows listing now) (take i (numbered listing))
-  pub count_is : count ≡ count_by (is_candidate settings rows listing) (take i (numbered listing))
+retrieved-planned settings rows listing now = retrieved_steps (step_of settings rows listing now) (numbered listing)
 
 pub message_at : (listing : List Item) (i : ℕ) (d : Item) → i < length listing
     → get_or (numbered listing) i (0, d) ≡ (i + 1, get_or listing i d)
 message_at listing i d inside = get_or-enumerate_from 1 listing i (0, d) inside ∙ ap (λ (n : ℕ). (n, get_or listing i d)) (omega arith)
 
+-- ---- what is fetched are the first of the messages that may be
+
+full_is : (max c : ℕ) → not (max == 0) && nat_le max c ≡ true → ((max == 0) ≡ false) × (max ≤ c)
+full_is max c full = (grind (arith, nat_tests), grind (arith, nat_tests))
+
+is_full_by : (max c : ℕ) → (max == 0) ≡ false → max ≤ c → not (max == 0) && nat_le max c ≡ true
+is_full_by max c some full = grind (arith, nat_tests)
+
+module _ (settings : Settings) (rows : List Row) (listing : List Item) where
+  -- those of the first i messages that may be fetched
+  abbrev before : ℕ → List Message
+  before i = filter (is_candidate settings rows listing) (take i (numbered listing))
+
+  abbrev gets : Message → Bool
+  gets message = is_none (skip_of settings rows listing message)
+
+  within : (i : ℕ) → i < length listing → i < length (numbered listing)
+  within i inside = omega (arith, inside, length-enumerate_from 1 listing)
+
+  pub before_more : (i : ℕ) → i < length listing → length (before (i + 1))
+      ≡ length (before i) + cond (is_candidate settings rows listing (i + 1, get_or listing i nobody)) 1 0
+  before_more i inside = length-filter_more (is_candidate settings rows listing) (numbered listing) i (0, nobody) (within i inside)
+      ∙ ap (λ (m : Message). length (before i) + cond (is_candidate settings rows listing m) 1 0) (message_at listing i nobody inside)
+
+  stays_full : (i : ℕ) → i < length listing → is_full settings (before i) ≡ true → is_full settings (before (i + 1)) ≡ true
+  stays_full i inside full =
+      let was = full_is settings.max_count (length (before i)) full in
+      is_full_by settings.max_count (length (before (i + 1))) was.0 (omega (arith, was.1, before_more i inside))
+
+  gets_at : (i : ℕ) → gets (i + 1, get_or listing i nobody)
+      ≡ is_candidate settings rows listing (i + 1, get_or listing i nobody) && not (is_full settings (before i))
+  gets_at i = let place : i + 1 - 1 ≡ i = omega arith in
+      ap (λ (k : ℕ). is_none (skip_for settings rows (is_first listing (i + 1, get_or listing i nobody))
+      (is_full settings (before k)) (get_or listing i nobody))) place
+      ∙ wanted_by settings rows (is_first listing (i + 1, get_or listing i nobody)) (is_full settings (before i)) (get_or listing i nobody)
+
+-- of a list what passes `gets`, if that is what passes `may` until it is full
+module _ (may gets : Message → Bool) (full : ℕ → Bool) (ms : List Message) (d : Message)
+    (stays : (i : ℕ) → i < length ms → full i ≡ true → full (i + 1) ≡ true)
+    (at : (i : ℕ) → i < length ms → gets (get_or ms i d) ≡ may (get_or ms i d) && not (full i)) where
+  none_after : (n i : ℕ) → i + n ≡ length ms → full i ≡ true → filter gets (drop i ms) ≡ []
+  none_after zero i all past = rw (drop_all i ms (omega (arith, all))) refl
+  none_after (suc n) i all past =
+      let inside : i < length ms = omega (arith, all) in
+      let none : gets (get_or ms i d) ≡ false = at i inside ∙ rw past (and-false (may (get_or ms i d))) in
+      rw (drop_more ms i d inside, none) (none_after n (i + 1) (omega (arith, all)) (stays i inside past))
+
+  firsts_after : (n i : ℕ) → i + n ≡ length ms
+      → filter gets (drop i ms) ≡ take (length (filter gets (drop i ms))) (filter may (drop i ms))
+  firsts_after zero i all = rw (drop_all i ms (omega (arith, all))) refl
+  firsts_after (suc n) i all =
+      let inside : i < length ms = omega (arith, all) in
+      let later = firsts_after n (i + 1) (omega (arith, all)) in
+      elim (cases_Bool (full i)) [
+        | inl past ↦ rw (none_after (suc n) i all past) refl
+        | inr room ↦
+            let same : gets (get_or ms i d) ≡ may (get_or ms i d) = at i inside ∙ rw room (and-true (may (get_or ms i d))) in
+            elim (cases_Bool (may (get_or ms i d))) [
+              | inl hit ↦
+                  let got : gets (get_or ms i d) ≡ true = same ∙ hit in
+                  rw (drop_more ms i d inside, got, hit) (ap (λ (l : List Message). get_or ms i d ∷ l) later)
+              | inr miss ↦
+                  let none : gets (get_or ms i d) ≡ false = same ∙ miss in
+                  rw (drop_more ms i d inside, none, miss) later
+            ]
+      ]
+
+pub wanted-first : WantedAreFirst
+wanted-first settings rows listing =
+    firsts_after (is_candidate settings rows listing) (gets settings rows listing)
+    (λ i. is_full settings (before settings rows listing i)) (numbered listing) (0, nobody)
+    (λ i inside. stays_full settings rows listing i (omega (arith, inside, length-enumerate_from 1 listing)))
+    (λ i inside. let there = message_at listing i nobody (omega (arith, inside, length-enumerate_from 1 listing)) in
+    ap (gets settings rows listing) there ∙ gets_at settings rows listing i
+    ∙ ap (λ (m : Message). is_candidate settings rows listing m && not (is_full settings (before settings rows listing i))) (sym there))
+    (length listing) 0 (omega (arith, length-enumerate_from 1 listing))
+
+-- ---- a loop over the listing: the steps of the first i messages, and how many of these are fetched
+
+-- so many are fetched of so many that may be
+abbrev pub IsCounted : ℕ → ℕ → ℕ → Type 0
+IsCounted max may fetched = (fetched ≡ may) ⊎ (((max == 0) ≡ false) × (max ≤ fetched) × (max ≤ may))
+
+pub record HasPlanned (settings : Settings) (rows : List Row) (listing : List Item) (now i : ℕ) (steps : List Step)
+    (fetched : ℕ) : Type 0 where
+  pub steps_are : steps ≡ map (step_of settings rows listing now) (take i (numbered listing))
+  pub count : IsCounted settings.max_count (length (before settings rows listing i)) fetched
+  pub few : fetched ≤ i
+
+full_same : (max may fetched : ℕ) → IsCounted max may fetched → not (max == 0) && nat_le max fetched ≡ not (max == 0) && nat_le max may
+full_same max may fetched (inl same) = ap (λ (n : ℕ). not (max == 0) && nat_le max n) same
+full_same max may fetched (inr (some, full, past)) = is_full_by max fetched some full ∙ sym (is_full_by max may some past)
+
+counted_more : (max may fetched : ℕ) (candidate : Bool) → IsCounted max may fetched
+    → IsCounted max (may + cond candidate 1 0) (fetched + cond (candidate && not (not (max == 0) && nat_le max fetched)) 1 0)
+counted_more max may fetched candidate was = elim (cases_Bool (not (max == 0) && nat_le max fetched)) [
+  | inl full ↦
+      let some = full_is max fetched full in
+      let past = full_is max may (sym (full_same max may fetched was) ∙ full) in
+      inr (some.0, omega (arith, some.1), omega (arith, past.1))
+  | inr room ↦ elim was [
+    | inl same ↦ inl (rw (room, and-true) (omega (arith, same)))
+    | inr (some, full, past) ↦ absurd (true≢false (sym (is_full_by max fetched some full) ∙ room))
+  ]
+]
+
 pub HasPlanned-more : (settings : Settings) (rows : List Row) (listing : List Item) (now i : ℕ) (steps : List Step)
-    (count : ℕ) (candidate fetched deleted : Bool) (next : ℕ)
-    → HasPlanned settings rows listing now i steps count → i < length listing
-    → ((d : Item) → candidate ≡ is_candidate settings rows listing (i + 1, get_or listing i d))
-    → fetched ≡ candidate && (settings.max_count == 0 || nat_lt count settings.max_count)
-    → ((d : Item) → deleted ≡ is_deleted settings rows listing now fetched (i + 1, get_or listing i d))
-    → next ≡ count + cond candidate 1 0
-    → HasPlanned settings rows listing now (i + 1) (steps ++ record { number = i + 1; retrieve = fetched; delete = deleted } ∷ []) next
-HasPlanned-more settings rows listing now i steps count candidate fetched deleted next has inside candidate_is
-    fetched_is deleted_is next_is = record {
-      steps_are = rw (
-        has.steps_are,
-        map_more (step_of settings rows listing now) (numbered listing) i (0, nobody) within,
-        message_is,
-        deleted_is nobody,
-        fetched_among,
-      ) refl;
-      count_is = rw (
-        next_is,
-        has.count_is,
-        candidate_is nobody,
-        sum_by_more
-            (λ (m : Message). cond (is_candidate settings rows listing m) 1 0) (numbered listing) i (0, nobody)
-            within,
-        message_is,
-      ) refl;
-    }
+    (fetched : ℕ) (full : Bool) (skip : Option Skip) (deleted : Bool) (next : ℕ)
+    → HasPlanned settings rows listing now i steps fetched → i < length listing
+    → full ≡ not (settings.max_count == 0) && nat_le settings.max_count fetched
+    → ((d : Item) → skip ≡ skip_for settings rows (is_first listing (i + 1, get_or listing i d)) full (get_or listing i d))
+    → ((d : Item) → deleted ≡ is_deleted settings rows listing now (is_none skip) (i + 1, get_or listing i d))
+    → next ≡ fetched + cond (is_none skip) 1 0
+    → HasPlanned settings rows listing now (i + 1) (steps ++ record { number = i + 1; skip = skip; delete = deleted } ∷ []) next
+HasPlanned-more settings rows listing now i steps fetched full skip deleted next has inside as_full skip_is deleted_is next_is = record {
+  steps_are = rw (
+    has.steps_are,
+    map_more (step_of settings rows listing now) (numbered listing) i (0, nobody) (within settings rows listing i inside),
+    message_at listing i nobody inside,
+    deleted_is nobody,
+    skip_there,
+  ) refl;
+  count = subst (λ (n : ℕ). IsCounted settings.max_count n next) (sym (before_more settings rows listing i inside))
+      (subst (λ (n : ℕ). IsCounted settings.max_count (length (before settings rows listing i)
+      + cond (is_candidate settings rows listing (i + 1, get_or listing i nobody)) 1 0) n)
+      (sym (next_is ∙ ap (λ (b : Bool). fetched + cond b 1 0) gets_it))
+      (counted_more settings.max_count (length (before settings rows listing i)) fetched
+      (is_candidate settings rows listing (i + 1, get_or listing i nobody)) has.count));
+  few = grind (arith, has.few, next_is);
+}
   where
-    within : i < length (numbered listing)
-    within = omega (arith, length-enumerate_from 1 listing)
+    place : i + 1 - 1 ≡ i
+    place = omega arith
 
-    message_is : get_or (numbered listing) i (0, nobody) ≡ (i + 1, get_or listing i nobody)
-    message_is = message_at listing i nobody inside
+    gets_it : is_none skip ≡ is_candidate settings rows listing (i + 1, get_or listing i nobody) &&
+        not (not (settings.max_count == 0) && nat_le settings.max_count fetched)
+    gets_it = ap (λ (s : Option Skip). is_none s) (skip_is nobody)
+        ∙ wanted_by settings rows (is_first listing (i + 1, get_or listing i nobody)) full (get_or listing i nobody)
+        ∙ ap (λ (b : Bool). is_candidate settings rows listing (i + 1, get_or listing i nobody) && not b) as_full
 
-    fetched_among : fetched ≡ has_number (wanted settings rows listing) (i + 1)
-    fetched_among = fetched_is
-        ∙ rw (candidate_is nobody, has.count_is)
-        (sym (rw message_is at (has_number-at_most (is_candidate settings rows listing) settings.max_count i
-        listing (0, nobody) inside)))
+    skip_there : skip ≡ skip_of settings rows listing (i + 1, get_or listing i nobody)
+    skip_there = skip_is nobody
+        ∙ ap (λ (b : Bool). skip_for settings rows (is_first listing (i + 1, get_or listing i nobody)) b (get_or listing i nobody))
+        (as_full ∙ full_same settings.max_count (length (before settings rows listing i)) fetched has.count
+        ∙ ap (λ (k : ℕ). is_full settings (before settings rows listing k)) (sym place))
 
 pub HasPlanned-all : (settings : Settings) (rows : List Row) (listing : List Item) (now i : ℕ) (steps : List Step)
-    (count : ℕ) → HasPlanned settings rows listing now i steps count → length listing ≤ i
+    (fetched : ℕ) → HasPlanned settings rows listing now i steps fetched → length listing ≤ i
     → steps ≡ planned settings rows listing now
-HasPlanned-all settings rows listing now i steps count has past =
+HasPlanned-all settings rows listing now i steps fetched has past =
     rw (← take_all i (numbered listing) (omega (arith, length-enumerate_from 1 listing))) has.steps_are
 
 -- nothing is due if the settings let nothing be deleted
@@ -219,38 +268,30 @@ never_due settings now since never = grind arith
 
 -- ---- A plan fetches only messages whose id no earlier message has
 
--- the plan fetches only such messages, of those that are asked for
-first_of : (settings : Settings) (rows : List Row) (front is : List Item) (i : Item) (now : ℕ)
-    → (step_of settings rows (front ++ i ∷ is) now (length front + 1, i)).retrieve ≡ true
-    → (has_item front i.uid ≡ false) × (is_asked_for settings rows (length front + 1, i) ≡ true)
-first_of settings rows front is i now fetched =
-    let inside : length front < length (front ++ i ∷ is) = omega (arith, length-append front (i ∷ is)) in
-    let here : get_or (numbered (front ++ i ∷ is)) (length front) (0, i) ≡ (length front + 1, i) =
-    rw (message_at (front ++ i ∷ is) (length front) i inside, get_or-append_seam front i is i) refl in
-    let candidate = (and_parts (is_candidate settings rows (front ++ i ∷ is) (get_or (numbered (front ++ i ∷ is)) (length front) (0, i))) _
-    (sym (has_number-at_most (is_candidate settings rows (front ++ i ∷ is)) settings.max_count (length front)
-    (front ++ i ∷ is) (0, i) inside) ∙ fetched)).0 in
-    let both = and_parts (is_first (front ++ i ∷ is) (length front + 1, i))
-    (is_asked_for settings rows (length front + 1, i)) (rw here at candidate) in (
-      rw (take_at front (i ∷ is) (length front + 1 - 1) (omega arith)) at
-          (not-true (has_item (take (length front + 1 - 1) (front ++ i ∷ is)) i.uid) both.0),
-      both.1,
-    )
+first_at : (settings : Settings) (rows : List Row) (listing front rest : List Item) (i : Item) (k : ℕ)
+    → listing ≡ front ++ i ∷ rest → k ≡ length front + 1 → is_none (skip_of settings rows listing (k, i)) ≡ true
+    → (has_item front i.uid ≡ false) × ((settings.read_all || not (is_delivered rows i.uid)) ≡ true)
+first_at settings rows listing front rest i k is at fetched = (
+  rw (is, at, take_at front (i ∷ rest) (length front + 1 - 1) (omega arith)) at
+      (not-true (has_item (take (k - 1) listing) i.uid) (first_for settings rows (is_first listing (k, i)) full i fetched)),
+  asked settings.read_all (is_delivered rows i.uid) (and_parts (not (not settings.read_all && is_delivered rows i.uid))
+      (is_within settings.max_size i.size && (is_first listing (k, i) && not full))
+      (sym (passes_for settings rows (is_first listing (k, i)) full i) ∙ fetched)).0,
+)
+  where
+    full : Bool
+    full = is_full settings (before settings rows listing (k - 1))
 
-first_at : (settings : Settings) (rows : List Row) (listing front rest : List Item) (i : Item) (now k : ℕ)
-    → listing ≡ front ++ i ∷ rest → k ≡ length front + 1
-    → (step_of settings rows listing now (k, i)).retrieve ≡ true → (has_item front i.uid ≡ false)
-    × (is_asked_for settings rows (length front + 1, i) ≡ true)
-first_at settings rows listing front rest i now k is at fetched = first_of settings rows front rest i now
-    (ap (λ (l : List Item). (step_of settings rows l now (length front + 1, i)).retrieve) (sym is)
-    ∙ ap (λ (n : ℕ). (step_of settings rows listing now (n, i)).retrieve) (sym at) ∙ fetched)
+    asked : (all delivered : Bool) → not (not all && delivered) ≡ true → (all || not delivered) ≡ true
+    asked true delivered is = refl
+    asked false delivered is = is
 
 asked_from : (settings : Settings) (rows : List Row) (listing front rest : List Item) (now k : ℕ)
     → listing ≡ front ++ rest → k ≡ length front + 1
     → FetchesAsked settings rows (map (step_of settings rows listing now) (enumerate_from k rest)) rest
 asked_from settings rows listing front [] now k is at = tt
 asked_from settings rows listing front (i ∷ rest) now k is at = (
-  λ fetched. (and_parts (is_within settings.max_size i.size) _ (first_at settings rows listing front rest i now k is at fetched).1).1,
+  λ fetched. (first_at settings rows listing front rest i k is at fetched).1,
   asked_from settings rows listing (front ++ i ∷ []) rest now (k + 1) (is ∙ sym (append_assoc front (i ∷ []) rest))
       (omega (arith, at, length-append front (i ∷ []))),
 )
@@ -264,7 +305,7 @@ firsts_from : (settings : Settings) (rows : List Row) (listing front rest : List
     → FetchesFirsts front (map (step_of settings rows listing now) (enumerate_from k rest)) rest
 firsts_from settings rows listing front [] now k is at = tt
 firsts_from settings rows listing front (i ∷ rest) now k is at = (
-  λ fetched. (first_at settings rows listing front rest i now k is at fetched).0,
+  λ fetched. (first_at settings rows listing front rest i k is at fetched).0,
   firsts_from settings rows listing (front ++ i ∷ []) rest now (k + 1) (is ∙ sym (append_assoc front (i ∷ []) rest))
       (omega (arith, at, length-append front (i ∷ []))),
 )
@@ -272,79 +313,6 @@ firsts_from settings rows listing front (i ∷ rest) now k is at = (
 pub firsts_planned : (settings : Settings) (rows : List Row) (listing : List Item) (now : ℕ)
     → FetchesFirsts [] (planned settings rows listing now) listing
 firsts_planned settings rows listing now = firsts_from settings rows listing [] listing now 1 refl (omega arith)
-
--- ---- A plan passes a message over only for one of three reasons
-
--- as many are fetched as may be, or the limit is reached
-abbrev IsFull : ℕ → ℕ → ℕ → Type 0
-IsFull may fetched max = (may ≤ fetched) ⊎ (max ≤ fetched)
-
-known_by : (b : Bool) → not b ≡ false → b ≡ true
-known_by true is = refl
-known_by false is = sym is
-
-none_left : (c max : ℕ) → (max == 0 || nat_lt c max) ≡ false → ((max == 0) ≡ false) × (max ≤ c)
-none_left c max is = (grind (arith, nat_tests), grind (arith, nat_tests))
-
--- one more message
-one_more : (c f max : ℕ) (may fetch : Bool) → fetch ≡ may && (max == 0 || nat_lt c max) → IsFull c f max
-    → IsFull (c + cond may 1 0) (f + cond fetch 1 0) max
-one_more c f max may fetch is (inr full) = inr (omega (arith, full))
-one_more c f max false fetch is (inl few) = inl (omega (arith, few))
-one_more c f max true true is (inl few) = inl (omega (arith, few))
-one_more c f max true false is (inl few) = inr (omega (arith, few, (none_left c max (sym is)).1))
-
-passed_for : (c f max : ℕ) (first asked : Bool) → first && asked && (max == 0 || nat_lt c max) ≡ false → IsFull c f max
-    → (asked ≡ false) ⊎ ((first ≡ false) ⊎ (((max == 0) ≡ false) × (max ≤ f)))
-passed_for c f max first false is so_far = inl refl
-passed_for c f max false true is so_far = inr (inl refl)
-passed_for c f max true true is (inr full) = inr (inr ((none_left c max is).0, full))
-passed_for c f max true true is (inl few) = inr (inr ((none_left c max is).0, omega (arith, few, (none_left c max is).1)))
-
-module _ (settings : Settings) (rows : List Row) (listing : List Item) (now : ℕ) where
-  -- how many of the first n may be fetched
-  abbrev counted : ℕ → ℕ
-  counted n = count_by (is_candidate settings rows listing) (take n (numbered listing))
-
-  passes_from : (front rest : List Item) (k fetched : ℕ) → listing ≡ front ++ rest → k ≡ length front + 1
-      → IsFull (counted (length front)) fetched settings.max_count
-      → PassesOver settings rows fetched front (map (step_of settings rows listing now) (enumerate_from k rest)) rest
-  passes_from front [] k fetched is at so_far = tt
-  passes_from front (i ∷ rest) k fetched is at so_far = (
-    λ quiet. elim (passed_for (counted (length front)) fetched settings.max_count (is_first listing (k, i))
-        (is_asked_for settings rows (k, i)) (sym fetches ∙ quiet) so_far) [
-          | inl unasked ↦ inl unasked
-          | inr (inl later) ↦ inr (inl (rw (is, at, take_at front (i ∷ rest) (length front + 1 - 1) (omega arith)) at (known_by _ later)))
-          | inr (inr full) ↦ inr (inr full)
-        ],
-    passes_from (front ++ i ∷ []) rest (k + 1) (fetched + cond (step_of settings rows listing now (k, i)).retrieve 1 0)
-        (is ∙ sym (append_assoc front (i ∷ []) rest)) (omega (arith, at, length-append front (i ∷ [])))
-        (rw (length-append front (i ∷ []), grows) (one_more (counted (length front)) fetched settings.max_count
-        (is_candidate settings rows listing (k, i))
-        (step_of settings rows listing now (k, i)).retrieve fetches so_far)),
-  )
-    where
-      inside : length front < length listing
-      inside = omega (arith, ap (λ (l : List Item). length l) is, length-append front (i ∷ rest))
-
-      here : get_or (numbered listing) (length front) (0, nobody) ≡ (k, i)
-      here = message_at listing (length front) nobody inside ∙ rw (is, get_or-append_seam front i rest nobody, at) refl
-
-      fetches : (step_of settings rows listing now (k, i)).retrieve ≡ is_candidate settings rows listing (k, i) &&
-          (settings.max_count == 0 || nat_lt (counted (length front)) settings.max_count)
-      fetches = rw at (rw (here, at) at (has_number-at_most (is_candidate settings rows listing) settings.max_count
-          (length front) listing (0, nobody) inside))
-
-      grows : counted (length front + 1) ≡ counted (length front) + cond (is_candidate settings rows listing (k, i)) 1 0
-      grows = rw (
-        sum_by_more (λ (m : Message). cond (is_candidate settings rows listing m) 1 0) (numbered listing)
-            (length front) (0, nobody) (omega (arith, inside, length-enumerate_from 1 listing)),
-        here,
-      ) refl
-
-pub passes_planned : (settings : Settings) (rows : List Row) (listing : List Item) (now : ℕ)
-    → PassesOver settings rows 0 [] (planned settings rows listing now) listing
-passes_planned settings rows listing now = passes_from settings rows listing now [] listing 1 0 refl refl (inl (omega arith))
 
 -- ---- loops that fill a set of ids from the front or from the back
 
@@ -492,24 +460,31 @@ are_last listing distinct = λ k d inside.
     (test_from_other _ _ (other_ids listing k (1 + k + j) d.1 e distinct (omega arith)
     (omega (arith, within, length-drop (1 + k) listing)))))))
 
--- a test that all pass
-all_pass : {X : Type 0} (test : X → Bool) (xs : List X) → All (λ x. test x ≡ true) xs
-    → (map test xs ≡ replicate (length xs) true) × ((q : X → Bool) → filter (λ x. test x && q x) xs ≡ filter q xs)
-all_pass test [] all = (refl, λ q. refl)
-all_pass test (x ∷ xs) all =
-    let first = All-head (λ y. test y ≡ true) x xs all in
-    let rest = all_pass test xs (All-tail (λ y. test y ≡ true) x xs all) in
-    (rw (first, rest.0) refl, λ q. rw (first, rest.1 q) refl)
+all_pass : {X : Type 0} (test : X → Bool) (xs : List X) → All (λ x. test x ≡ true) xs → map test xs ≡ replicate (length xs) true
+all_pass test [] all = refl
+all_pass test (x ∷ xs) all = rw (
+  All-head (λ y. test y ≡ true) x xs all,
+  all_pass test xs (All-tail (λ y. test y ≡ true) x xs all),
+) refl
 
 pub all_flags : (test : Message → Bool) (listing : List Item) (n : ℕ) (flags : List Bool)
     → All (λ message. test message ≡ true) (numbered listing)
     → n ≡ length listing → flags ≡ replicate n true → flags ≡ map test (numbered listing)
 all_flags test listing n flags all count are = rw (are, count, ← length-enumerate_from 1 listing)
-    (sym (all_pass test (numbered listing) all).0)
+    (sym (all_pass test (numbered listing) all))
 
 pub candidates-distinct : DistinctAreFiltered
 candidates-distinct settings rows listing distinct =
-    (all_pass (is_first listing) (numbered listing) (are_first listing distinct)).1 (is_asked_for settings rows)
+    only_firsts (λ first (message : Message). is_none (skip_for settings rows first false message.1)) (is_first listing) (numbered listing)
+    (are_first listing distinct)
+  where
+    only_firsts : (q : Bool → Message → Bool) (test : Message → Bool) (xs : List Message) → All (λ x. test x ≡ true) xs
+        → filter (λ x. q (test x) x) xs ≡ filter (q true) xs
+    only_firsts q test [] all = refl
+    only_firsts q test (x ∷ xs) all = rw (
+      All-head (λ y. test y ≡ true) x xs all,
+      only_firsts q test xs (All-tail (λ y. test y ≡ true) x xs all),
+    ) refl
 
 -- ---- rows are joined in one way
 
@@ -539,4 +514,4 @@ joined_once n uids sizes a b p q = ext_get_or nobody a b (p.count ∙ sym q.coun
     (λ j row below. q.octets j row below nobody) in
     λ i. record { uid = ids i; size = sizes' i })
 
-pub ruleset plan_laws = (firsts_planned, asked_planned, passes_planned, retrieved-planned, candidates-distinct)
+pub ruleset plan_laws = (firsts_planned, asked_planned, retrieved-planned, wanted-first, candidates-distinct)

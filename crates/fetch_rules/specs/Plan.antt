@@ -1,16 +1,11 @@
 -- What is done with each message of a listing.
-use Rattle.std.specs.Prelude.{◌≡◌, ℕ, Bool, false, ◌&&◌, ◌||◌, ◌==◌, List, map, filter, zip, unwrap_or}
-use Rattle.std.specs.List.{list_any}
+use Rattle.std.specs.Prelude.{◌≡◌, ℕ, Bool, false, ◌&&◌, ◌||◌, List, map, filter, zip, unwrap_or, is_none}
 use Rattle.mail_terms.specs.Listing.{Item, numbered, is_first, is_last}
 use Rattle.fetch_record.specs.Record.{Row, is_delivered, first_seen_of}
-use Rattle.fetch_rules.specs.Wanted.{wanted}
+use Rattle.fetch_rules.specs.Wanted.{skip_of}
 use Rattle.fetch_rules.specs.Due.{is_due}
 use Rattle.rc_file.specs.declared.settings.Settings.{Settings}
 use Rattle.fetch_rules.specs.declared.steps.Step.{Step}
-
--- whether a message of this number is among these
-abbrev pub has_number : List (ℕ × Item) → ℕ → Bool
-has_number messages number = list_any (λ message. message.0 == number) messages
 
 -- when the id was first seen: now, if it has no row
 abbrev pub seen_since : List Row → List ℕ → ℕ → ℕ
@@ -25,8 +20,16 @@ is_deleted settings rows listing now fetched message =
 
 abbrev pub step_of : Settings → List Row → List Item → ℕ → ℕ × Item → Step
 step_of settings rows listing now message =
-    let fetched = has_number (wanted settings rows listing) message.0 in
-    record { number = message.0; retrieve = fetched; delete = is_deleted settings rows listing now fetched message }
+    let skip = skip_of settings rows listing message in
+    record {
+      number = message.0;
+      skip = skip;
+      delete = is_deleted settings rows listing now (is_none skip) message;
+    }
+
+-- whether a step fetches its message
+abbrev pub fetches : Step → Bool
+fetches step = is_none step.skip
 
 -- the steps, one for each message, in order
 abbrev pub planned : Settings → List Row → List Item → ℕ → List Step
@@ -34,8 +37,8 @@ planned settings rows listing now = map (step_of settings rows listing now) (num
 
 -- a step neither fetches nor deletes
 abbrev pub IsQuiet : Step → Type 0
-IsQuiet step = (step.retrieve ≡ false) × (step.delete ≡ false)
+IsQuiet step = (fetches step ≡ false) × (step.delete ≡ false)
 
 -- the messages that steps fetch, in order
 abbrev pub retrieved : List Step → List Item → List (ℕ × Item)
-retrieved steps listing = map (λ pair. pair.1) (filter (λ pair. pair.0.retrieve) (zip steps (numbered listing)))
+retrieved steps listing = map (λ pair. pair.1) (filter (λ pair. fetches pair.0) (zip steps (numbered listing)))

@@ -5,9 +5,9 @@
 ghost use Rattle.std.specs.Prelude.{◌≡◌, ℕ, List, []};
 ghost use Rattle.mail_terms.specs.Listing.{Item, Joins, UidRow};
 ghost use Rattle.fetch_record.specs.Record.{Row};
-ghost use Rattle.fetch_rules.specs.Laws.{FetchesAsked, FetchesFirsts, PassesOver};
+ghost use Rattle.fetch_rules.specs.Laws.{FetchesAsked, FetchesFirsts};
 ghost use Rattle.fetch_rules.specs.Plan.{planned, retrieved};
-ghost use Rattle.fetch_rules.specs.Wanted.{DistinctAreFiltered, wanted};
+ghost use Rattle.fetch_rules.specs.Wanted.{DistinctAreFiltered, WantedAreFirst, wanted};
 
 use mail_terms::ScanRow;
 use rc_file::Settings;
@@ -22,13 +22,6 @@ pub fn firsts_are_fetched()
 pub fn plans_fetch_what_is_asked_for()
     ensures { (settings : Settings) (rows : List Row) (listing : List Item) (now : ℕ)
         → FetchesAsked settings rows (planned settings rows listing now) listing }
-{}
-
-/// A plan passes a message over only if it isn't asked for, a message before it has its id, or as many as may
-/// be are fetched before it.
-pub fn plans_pass_over()
-    ensures { (settings : Settings) (rows : List Row) (listing : List Item) (now : ℕ)
-        → PassesOver settings rows 0 [] (planned settings rows listing now) listing }
 {}
 
 /// The messages that a plan's steps fetch are those that are wanted.
@@ -47,4 +40,9 @@ pub fn rows_join_in_one_way()
 /// message's size and what is recorded of its id.
 pub fn distinct_messages_are_filtered()
     ensures { DistinctAreFiltered }
+{}
+
+/// What is fetched are the first of the messages that may be.
+pub fn wanted_are_first()
+    ensures { WantedAreFirst }
 {}

@@ -16,11 +16,11 @@ pub use fetch_record::{
 };
 pub use laws::{
     distinct_messages_are_filtered, firsts_are_fetched, plans_fetch_wanted,
-    plans_fetch_what_is_asked_for, plans_pass_over, rows_join_in_one_way,
+    plans_fetch_what_is_asked_for, rows_join_in_one_way, wanted_are_first,
 };
 pub use mail_terms::{Listing, ListingFault, MESSAGE_LIMIT, ScanRow, UidRows, is_legal_id};
 pub use rc_file::{
     Dest, Flags, Key, RcFault, Section, Settings, Warning, full_path, override_with, rc_text,
     read_rc, warning_text,
 };
-pub use steps::{SECONDS_PER_DAY, Step, ask_nothing, plan, plan_of_known};
+pub use steps::{SECONDS_PER_DAY, Skip, Step, ask_nothing, plan, plan_of_known};

@@ -1,10 +1,10 @@
 //! Which messages of a listing are fetched, and which are deleted.
 
-ghost use Rattle.std.specs.Prelude.{◌≡◌, ◌==◌, false, nat_lt, ◌+◌, ◌<◌, ◌&&◌, ◌||◌, ◌↔◌, true, length, map, All};
+ghost use Rattle.std.specs.Prelude.{◌≡◌, ◌==◌, false, not, nat_le, ◌<◌, ◌&&◌, ◌||◌, ◌↔◌, true, length, map, All};
 ghost use Rattle.std.specs.Prelude.{IsTrue, HoldsAt, IfOk};
 ghost use Rattle.mail_terms.specs.Listing.{numbered, is_last};
 ghost use Rattle.fetch_record.specs.Record.{is_delivered};
-ghost use Rattle.fetch_rules.specs.Wanted.{is_asked_for, wanted};
+ghost use Rattle.fetch_rules.specs.Wanted.{skip_for, wanted};
 ghost use Rattle.fetch_rules.specs.Due.{is_due, may_delete};
 ghost use Rattle.fetch_rules.specs.Plan.{IsQuiet, seen_since, planned, retrieved};
 
@@ -18,13 +18,26 @@ use std::hash::BuildHasher;
 /// How many seconds a day has.
 pub const SECONDS_PER_DAY: u64 = 86_400;
 
+/// Why a message isn't fetched.
+#[derive(Clone, Copy, Debug, PartialEq, Eq)]
+pub enum Skip {
+    /// The record has it as delivered.
+    Delivered,
+    /// Its size is above the limit.
+    TooLarge,
+    /// As many messages as a session may fetch come before it.
+    PastLimit,
+    /// An earlier message has its id.
+    SameId,
+}
+
 /// What is done with the message of a number.
 #[derive(Clone, Copy, Debug, PartialEq, Eq)]
 pub struct Step {
     /// The message's number in the listing, from 1.
     pub number: u32,
-    /// Whether its text is fetched.
-    pub retrieve: bool,
+    /// Why its text isn't fetched, if it isn't.
+    pub skip: Option<Skip>,
     /// Whether it is deleted, after it was fetched if it is.
     pub delete: bool,
 }
@@ -64,22 +77,36 @@ fn lasts_where_asked(
     Ok(flags)
 }
 
-/// Whether the message of number `i + 1` may be fetched; `first` says whether it is the first with
-/// its id.
-fn is_candidate<H: BuildHasher>(
+/// Whether a session that fetched this many messages fetches no more.
+fn is_full(settings: &Settings, fetched: u64) -> bool
+    ensures { result ≡ (not (settings.now.max_count == 0) && nat_le settings.now.max_count fetched) }
+{
+    settings.max_count != 0 && settings.max_count <= fetched
+}
+
+/// Why the message of number `i + 1` isn't fetched, if there is a reason; `first` says whether it is the
+/// first with its id, and `full` whether a session is full before it.
+fn skip_for<H: BuildHasher>(
     settings: &Settings,
     seen: &Seen<H>,
     listing: &Listing,
     first: bool,
+    full: bool,
     i: u32,
-) -> bool
+) -> Option<Skip>
     requires { i < length listing.now }
-    ensures { HoldsAt (λ item. result ≡ (first && is_asked_for settings.now seen.now.rows (i + 1, item)))
-        listing.now i }
+    ensures { HoldsAt (λ item. result ≡ skip_for settings.now seen.now.rows first full item) listing.now i }
 {
-    first
-        && (settings.max_size == 0 || listing.size(i) <= settings.max_size)
-        && (settings.read_all || !seen.is_delivered(listing.uid(i)))
+    if !settings.read_all && seen.is_delivered(listing.uid(i)) {
+        return Some(Skip::Delivered);
+    }
+    if settings.max_size != 0 && settings.max_size < listing.size(i) {
+        return Some(Skip::TooLarge);
+    }
+    if full {
+        return Some(Skip::PastLimit);
+    }
+    if first { None } else { Some(Skip::SameId) }
 }
 
 /// Whether the message of number `i + 1` is to be deleted; `alone` says whether no other message has
@@ -103,21 +130,15 @@ fn is_done_with<H: BuildHasher>(
         && (seen.is_delivered(uid) || fetched)
 }
 
-/// Whether a candidate may be fetched after this many.
-fn is_below_limit(settings: &Settings, candidate: bool, count: u64) -> bool
-    ensures { result ≡ (candidate && (settings.now.max_count == 0 || nat_lt count settings.now.max_count)) }
-{
-    candidate && (settings.max_count == 0 || count < settings.max_count)
-}
-
 /// One step for each message of the listing, in order.
 ///
-/// A message is fetched if it is the first with its id, its size is at most `max_size`, and
-/// `read_all` is true or it isn't recorded as delivered; of these the first `max_count`. A 0 sets no
-/// limit. A message is deleted if it is recorded as delivered or is fetched, no other message has
-/// its id, and `delete` is true or it was first seen `delete_after` days ago or more; a 0 sets no
-/// age. An id without a row is not delivered, and is first seen now. `now` is in seconds since 1970.
-/// Takes n log n comparisons of ids for n messages, and up to three look-ups in the record for each.
+/// A message is fetched unless it is recorded as delivered and `read_all` is false, its size is above
+/// `max_size`, `max_count` others that may be fetched come before it, or an earlier one has its id; the
+/// first of these reasons is given. A 0 sets no limit. A message is deleted if it is recorded as delivered
+/// or is fetched, no other message has its id, and `delete` is true or it was first seen `delete_after`
+/// days ago or more; a 0 sets no age. An id without a row is not delivered, and is first seen now. `now`
+/// is in seconds since 1970. Takes n log n comparisons of ids for n messages, and up to three look-ups in
+/// the record for each.
 pub fn plan<H: BuildHasher>(
     alloc: Global,
     settings: &Settings,
@@ -127,27 +148,27 @@ pub fn plan<H: BuildHasher>(
 ) -> Result<Vec<Step>, AllocError>
     ensures steps { IfOk result (λ steps. steps.items ≡ planned settings.now seen.now.rows listing.now now) }
 
-    // What is fetched is, in order, the wanted messages: the first `max_count` of the candidates.
+    // What is fetched is, in order, the wanted messages.
     ensures fetched { IfOk result
         (λ steps. retrieved steps.items listing.now ≡ wanted settings.now seen.now.rows listing.now) }
 {
     let firsts = are_first(alloc, listing)?;
     let lasts = lasts_where_asked(alloc, settings, listing)?;
     let mut steps = Vec::with_capacity(alloc, listing.len() as usize)?;
-    let mut candidates: u64 = 0;
+    let mut fetched: u64 = 0;
     for i in 0..listing.len() {
         let first = firsts[i as usize];
         // Both are known: `&&` would only be a branch more to prove.
         let alone = first & lasts[i as usize];
-        let candidate = is_candidate(settings, seen, listing, first, i);
-        let retrieve = is_below_limit(settings, candidate, candidates);
-        let delete = is_done_with(settings, seen, listing, now, alone, retrieve, i);
+        let full = is_full(settings, fetched);
+        let skip = skip_for(settings, seen, listing, first, full, i);
+        let delete = is_done_with(settings, seen, listing, now, alone, skip.is_none(), i);
         steps.push(Step {
             number: i + 1,
-            retrieve,
+            skip,
             delete,
         })?;
-        candidates += u64::from(candidate);
+        fetched += u64::from(skip.is_none());
     }
     Ok(steps)
 }
@@ -156,7 +177,7 @@ pub fn plan<H: BuildHasher>(
 fn is_quiet(step: &Step) -> bool
     ensures { IsTrue result ↔ IsQuiet step.now }
 {
-    !step.retrieve && !step.delete
+    step.skip.is_some() && !step.delete
 }
 
 /// Whether steps neither fetch nor delete anything.
@@ -186,7 +207,7 @@ pub fn plan_of_known<H: BuildHasher>(
     for i in 0..listing.len() {
         steps.push(Step {
             number: i + 1,
-            retrieve: false,
+            skip: Some(Skip::Delivered),
             delete: false,
         })?;
     }

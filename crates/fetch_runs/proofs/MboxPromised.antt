@@ -285,7 +285,7 @@ module _ (base : Base) where
       was = done ++ origin.0
 
       pub fetch : Fetch v.settings rows v.maildrop did
-      fetch = record { filtered = laws.filtered; distinct = distinct_is _ is.distinct; honest = honest }
+      fetch = record { filtered = laws.filtered; firsts = laws.firsts; distinct = distinct_is v.maildrop is.distinct; honest = honest }
 
       abbrev pub new : ℕ → List Message
       new n = take n (wants v.settings rows v.maildrop)
@@ -411,7 +411,7 @@ module _ (base : Base) where
               ∙ sym (length_is fetch) ∙ sym (all_retrieved (ended.1 uncut) uncut),
         );
         left_out = λ uncut. all_map _
-            (left_out fetch (is_entered base was) (all_map _ (members v.maildrop) (λ m _ entered. known m.uid ∙ entered))
+            (left_out fetch (is_entered base was) (all_map _ (members v.maildrop) (λ m there. known m.uid))
             s.stored v.report.retrieved (let all = (s.ended (ended.1 uncut)).0 in omega (arith, all))
             (all_retrieved (ended.1 uncut) uncut)) (λ m out. elim out [
               | inl got ↦ inl (in_more was (new s.stored) m.uid ∙ or_right _ _ got)

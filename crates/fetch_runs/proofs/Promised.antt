@@ -152,7 +152,7 @@ module _ {W S F : Type 0} (laws : Below) {mail : Mail} (account_is : IsAccountTe
   after = state_with mail state o.vanished now
 
   fetch : Fetch o.settings rows o.maildrop e
-  fetch = record { filtered = laws.filtered; distinct = distinct_is _ is.distinct; honest = honest }
+  fetch = record { filtered = laws.filtered; firsts = laws.firsts; distinct = distinct_is o.maildrop is.distinct; honest = honest }
 
   -- ---- what came
 
@@ -209,12 +209,13 @@ module _ {W S F : Type 0} (laws : Below) {mail : Mail} (account_is : IsAccountTe
   known_parts : (id : List ℕ) → is_delivered rows id ≡ (is_delivered state.account.rows id || (has_item e.listing id && held id))
   known_parts = delivered_merged laws mail.account state.account.maildir _ _ e.now
 
-  -- what is known before is recorded after the merge, if it is listed
+  -- what is listed is recorded after the merge exactly if it is known before
   abbrev known : List ℕ → Bool
   known id = is_delivered state.account.rows id || held id
 
-  known_listed : AllByRecursion (λ (m : Message). known m.uid ≡ true → is_delivered rows m.uid ≡ true) o.maildrop
-  known_listed = all_map _ (members o.maildrop) (λ m there before. grind (arith, before, there, known_parts, has_listed))
+  known_listed : AllByRecursion (λ (m : Message). is_delivered rows m.uid ≡ known m.uid) o.maildrop
+  known_listed = all_map _ (members o.maildrop)
+      (λ m there. known_parts m.uid ∙ rw (has_listed o.maildrop honest.listing m.uid, there) refl)
 
   known_safe : (id : List ℕ) → is_delivered rows id ≡ true → IsSafe mail state id
   known_safe id d = ⊎_elim (kept.recorded id) (λ now'. let parts = and_parts _ _ now' in (

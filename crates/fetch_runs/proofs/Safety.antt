@@ -2,7 +2,7 @@
 use Rattle.std.proofs.Common.{◌≡◌, inl, inr, ◌≤◌, ◌<◌, ◌-◌, ℕ, suc, Bool, true, false, List, ◌∷◌, ◌++◌, map, take}
 use Rattle.std.proofs.Common.{zip, length, refl, sym, ap, ◌∙◌, arith, append_assoc, length-take, get_or-take, ◌⊎◌}
 use Rattle.std.proofs.Common.{Some, slice_get, slice_set, zero, subst, None, []}
-use Rattle.std.specs.Prelude.{bytes_eq}
+use Rattle.std.specs.Prelude.{bytes_eq, is_none}
 use Rattle.std.specs.List.{filter, AllByRecursion}
 use Rattle.std.proofs.lemmas.Bool.{or_cases, and_parts, cases_Bool, true≢false, both_ways}
 use Rattle.std.proofs.lemmas.List.{append-nil, map-append, take-map, length-map, take_all}
@@ -12,7 +12,8 @@ use Rattle.std.proofs.lemmas.Option.{slice_get_within, get_or_from_slice_get, sa
 use Rattle.std.proofs.lemmas.Grind.{flat_map-append}
 use Rattle.std.proofs.Math.Logic.{⊎_elim, ⊎_map}
 use Rattle.mail_terms.specs.Listing.{Item, numbered, is_first}
-use Rattle.fetch_rules.specs.Wanted.{wanted}
+use Rattle.fetch_rules.specs.Wanted.{skip_of, wanted}
+use Rattle.fetch_rules.proofs.PlanLemmas.{first_for}
 use Rattle.rc_file.specs.declared.settings.Settings.{Settings}
 use Rattle.fetch_record.specs.Record.{Row, is_delivered}
 use Rattle.mail_store.specs.FileName.{is_held, mail_file}
@@ -28,7 +29,7 @@ use Rattle.pop3_wire.specs.declared.command.Command.TheVariants.{Dele, User, Pas
 use Rattle.fetch_runs.specs.Steps.{IsAmong, WasFetched, DeletesAllowed, StandsAfter, IsIn, AddsTexts, AppendsMessages}
 use Rattle.fetch_runs.specs.Steps.{BringsMessages, IsSafeSession, MboxIsSafe}
 use Rattle.fetch_runs.specs.Below.{Below}
-use Rattle.fetch_runs.proofs.Core.{IsNumbered as IsPlaced, are_numbered, all_at_most, fetched, mbox_fetched, order}
+use Rattle.fetch_runs.proofs.Core.{IsNumbered as IsPlaced, are_numbered, fetched, mbox_fetched, order}
 use Rattle.std.specs.Option.{option_map}
 use Rattle.pop3_wire.specs.World.{Message}
 use Rattle.pop3_wire.specs.Honest.{Grants, Replies, no_marks, Honest}
@@ -70,9 +71,9 @@ one_number listing m n at at' same = grind (arith, not_before m n at at' same, n
 
 pub wanted_first : (settings : Settings) (rows : List Row) (listing : List Item)
     → AllByRecursion (IsFirstAt listing) (wanted settings rows listing)
-wanted_first _ _ listing =
-    all_at_most _ _ _ (all_both {P = IsPlaced listing} _ (all_filter _ _ _ (are_numbered listing)) (all_passing _ (numbered listing))
-    (λ q h e. (h.0, h.1, (and_parts _ _ e).0)))
+wanted_first settings rows listing = all_both {P = IsPlaced listing} _ (all_filter _ _ _ (are_numbered listing))
+    (all_passing (λ m. is_none (skip_of settings rows listing m)) (numbered listing))
+    (λ q h e. (h.0, h.1, first_for settings rows (is_first listing q) _ q.1 e))
 
 behind_one : {X : Type 0} {x : X} (y : X) (xs : List X) → IsAmong x xs → IsAmong x (y ∷ xs)
 behind_one y _ (front, behind, is) = (y ∷ front, behind, ap (λ l. y ∷ l) is)

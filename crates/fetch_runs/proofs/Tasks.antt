@@ -13,7 +13,7 @@ use Rattle.rc_file.specs.declared.settings.Settings.{Settings}
 use Rattle.fetch_record.specs.Record.{Row, is_delivered, is_of, has_row, with_delivered, marked, marked_all, new_ids}
 use Rattle.fetch_record.specs.Record.{merged, none_open}
 use Rattle.fetch_rules.specs.Wanted.{wanted}
-use Rattle.fetch_rules.specs.Plan.{step_of}
+use Rattle.fetch_rules.specs.Plan.{fetches, step_of}
 use Rattle.fetch_rules.specs.declared.steps.Step.{Step}
 use Rattle.mail_store.specs.Maildir.{Maildir}
 use Rattle.mail_store.specs.FileName.{is_held}
@@ -116,10 +116,12 @@ tasks_are p = rw (by_message (steps_on p) (is_held p.account p.maildir) 1 p.item
 -- ---- what is fetched
 
 fetched_plan : (f : ℕ × Item → Step) (held : List ℕ → Bool) → ((q : ℕ × Item) → (f q).number ≡ q.0) → (qs : List (ℕ × Item))
-    → fetched (flat_map (tasks_at f held) qs) ≡ map key (map (λ (p : Step × (ℕ × Item)). p.1)
-    (filter (λ (p : Step × (ℕ × Item)). p.0.retrieve) (zip (map f qs) qs)))
-fetched_plan f _ _ [] = refl
-fetched_plan f held same (q ∷ qs) = grind (arith, same q, flat_map-append, fetched_plan f held same qs)
+    → fetched (flat_map (tasks_at f held) qs)
+    ≡ map key (map (λ (p : Step × (ℕ × Item)). p.1)
+    (filter (λ (p : Step × (ℕ × Item)). fetches p.0) (zip (map f qs) qs)))
+fetched_plan f held same [] = refl
+fetched_plan f held same (q ∷ qs) =
+    grind (arith, same q, flat_map-append fetched_in (tasks_at f held q) (flat_map (tasks_at f held) qs), fetched_plan f held same qs)
 
 -- ---- what is listed
 
@@ -149,8 +151,10 @@ module _ (D : List ℕ → Type 0) (p : Inputs) (delivered : (uid : List ℕ) �
       → AreFit (flat_map (tasks_at (steps_on p) (is_held p.account p.maildir)) qs) later
   fit_all [] later at = (tt, λ safe. safe)
   fit_all (q ∷ qs) later at =
-      let more = fit_all qs _ at.1 in
-      let first = fit_by _ _ _ _ _ _ _ refl (listed_at _ _ _ at.0.1) (λ is. (q.1, at.0.1, at.0.0, grind (arith, is)))
+      let more = fit_all qs later at.1 in
+      let first = fit_by (fetches (steps_on p q)) (is_held p.account p.maildir q.1.uid) (steps_on p q).delete q.0 q.1.uid
+      q.1.size (flat_map (tasks_at (steps_on p) (is_held p.account p.maildir)) qs ++ later) refl
+      (listed_at p.items (q.0 - 1) q.1 at.0.1) (λ is. (q.1, at.0.1, at.0.0, grind (arith, is)))
       (λ is not. delivered q.1.uid (grind (arith, is, not))) (λ is. rw at.0.1 (is, tt)) in (
         all_append _ _ _ first.0 more.0,
         λ safe. rw append_assoc (first.1 (more.1 safe)),

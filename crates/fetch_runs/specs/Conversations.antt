@@ -15,7 +15,7 @@ use Rattle.mail_terms.specs.Listing.{Item}
 use Rattle.fetch_record.specs.Record.{Row, merged}
 use Rattle.mail_store.specs.Held.{flags_of}
 use Rattle.fetch_session.specs.Record.{KeepsRows}
-use Rattle.fetch_rules.specs.Plan.{planned}
+use Rattle.fetch_rules.specs.Plan.{fetches, planned}
 use Rattle.rc_file.specs.Settings.{IsValid}
 use Rattle.rc_file.specs.declared.settings.Settings.{Settings}
 use Rattle.fetch_runs.specs.Sessions.{IsListed, tail_behind}
@@ -32,7 +32,7 @@ asked_if yes' command = if yes' then command ∷ [] else []
 
 -- RETR before DELE
 abbrev pub step_commands : Step → List Command
-step_commands step = asked_if step.retrieve (Retr step.number) ++ asked_if step.delete (Dele step.number)
+step_commands step = asked_if (fetches step) (Retr step.number) ++ asked_if step.delete (Dele step.number)
 
 abbrev pub plan_commands : List ℕ → List ℕ → List Step → List Command
 plan_commands name word steps = User name ∷ Pass word ∷ Stat ∷ UidlAll ∷ ListAll ∷

@@ -10,15 +10,15 @@ use Rattle.mail_terms.specs.Distinct.{AreDistinct}
 use Rattle.mail_terms.specs.Text.{IsWhole}
 use Rattle.mail_terms.specs.UniqueId.{is_legal_id, has_id}
 use Rattle.rc_file.specs.declared.settings.Settings.{Settings}
-use Rattle.fetch_record.specs.Record.{is_delivered}
-use Rattle.fetch_rules.specs.Wanted.{is_within}
+use Rattle.fetch_record.specs.Record.{Row, is_delivered}
+use Rattle.fetch_rules.specs.Wanted.{is_limit, is_within, skip_of, wanted}
 use Rattle.mail_store.specs.FileName.{is_held, name_of, stem_of}
 use Rattle.mail_store.specs.Maildir.{file}
 use Rattle.mail_store.specs.Mboxrd.{entry_of}
 use Rattle.mail_store.specs.Settling.{MayBeLeft}
 use Rattle.fetch_session.specs.declared.report.Outcome.TheVariants.{Ended}
 use Rattle.fetch_session.specs.declared.report.Report.{Report}
-use Rattle.fetch_runs.specs.Accounts.{AccountMail, copies, has_named, message_ids, without_flags}
+use Rattle.fetch_runs.specs.Accounts.{AccountMail, copies, has_named, item_of, listing_of, message_ids, without_flags}
 use Rattle.fetch_runs.specs.Sessions.{SendsOnly, is_retr, MboxMail, entries_of, entry_intent}
 use Rattle.std.proofs.Common.{inr}
 
@@ -88,32 +88,27 @@ pub record IsBetween (mail : Mail) (before after : AccountMail) : Type 0 where
   pub holds : HoldsEachOnce mail after
   pub shows_no_more : (id : List ℕ) → is_delivered after.rows id ≡ true → is_delivered before.rows id ≡ true
 
--- whether a session may fetch a message, if it knows those with such ids
-abbrev pub may_fetch : Settings → (List ℕ → Bool) → Message → Bool
-may_fetch settings is_known m = is_within settings.max_size m.size && (settings.read_all || not (is_known m.uid))
-
--- the message may be fetched, and as many that may be come before it, and were retrieved, as the limit says; 0 is none
-pub record IsPastCount (settings : Settings) (is_known : List ℕ → Bool) (maildrop : List Message) (retrieved : ℕ)
-    (m : Message) : Type 0 where
-  pub may : may_fetch settings is_known m ≡ true
-  pub limit : 0 < settings.max_count
-  pub full : retrieved ≡ settings.max_count
-  pub front : List Message
-  pub behind : List Message
-  pub place : maildrop ≡ front ++ m ∷ behind
-  pub before : settings.max_count ≤ length (filter (may_fetch settings is_known) front)
-
 -- a DELE gives the number, counted from 1, of a message of the maildrop whose id is of this kind
 abbrev pub DeletesOneOf : List Message → (List ℕ → Type 0) → Command → Type 0
 DeletesOneOf maildrop Is (Dele number) = (0 < number) × (message : Message)
     × (slice_get maildrop (number - 1) ≡ Some message) × Is message.uid
 DeletesOneOf maildrop Is _ = Unit {0}
 
--- after an uncut session each message of the maildrop is of this kind, or too large for it, or past its count
+-- a limit of a session that knows the messages with such ids leaves this one out, which has this number; and as many
+-- were retrieved as it wants
+pub record IsLeftOut (settings : Settings) (is_known : List ℕ → Bool) (maildrop : List Message) (retrieved : ℕ)
+    (m : Message) : Type 0 where
+  pub rows : List Row
+  pub known : AllByRecursion (λ (other : Message). is_delivered rows other.uid ≡ is_known other.uid) maildrop
+  pub number : ℕ
+  pub place : (0 < number) × (slice_get maildrop (number - 1) ≡ Some m)
+  pub limit : is_limit (skip_of settings rows (listing_of maildrop) (number, item_of m)) ≡ true
+  pub all : retrieved ≡ length (wanted settings rows (listing_of maildrop))
+
+-- after an uncut session each message of the maildrop is of this kind, unless a limit leaves it out
 abbrev pub LeavesOut : {W S F : Type 0} → Call W S F → (List ℕ → Bool) → (List ℕ → Type 0) → Type 0
 LeavesOut call is_known Is = call.report.outcome ≡ Ended → AllByRecursion (λ (m : Message).
-    Is m.uid ⊎ (is_within call.settings.max_size m.size ≡ false)
-    ⊎ IsPastCount call.settings is_known call.maildrop call.report.retrieved m) call.maildrop
+    Is m.uid ⊎ IsLeftOut call.settings is_known call.maildrop call.report.retrieved m) call.maildrop
 
 -- what a maildrop has within the session's limit and isn't done is the first of these
 abbrev pub ShowsNext : Settings → List Message → List Message → List Message → Type 0

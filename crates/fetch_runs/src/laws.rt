@@ -14,6 +14,7 @@ use fetch_rules::{
     appended_counts, bytes_have_one_meaning, distinct_messages_are_filtered,
     files_stand_for_one_record, held_is_delivered, listed_has_row, marked_is_delivered,
     marked_keeps_rows, open_intents_have_rows, plans_fetch_wanted, torn_is_ignored_or_seen,
+    wanted_are_first,
 };
 use fetch_session::{
     sessions_are_durable, sessions_by_store, sessions_keep_files, steady_files_keep,
@@ -41,6 +42,7 @@ fn laws_below()
     account_texts_are_digits();
     flags_tell_what_is_held();
     distinct_messages_are_filtered();
+    wanted_are_first();
     plans_fetch_wanted();
     held_is_delivered();
     listed_has_row();

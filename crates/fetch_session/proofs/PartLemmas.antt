@@ -11,6 +11,7 @@ use Rattle.mail_store.specs.declared.maildir.disk.MaildirDisk.{Ghosts as DiskGho
 use Rattle.mail_store.specs.FileName.{stem_of}
 use Rattle.mail_store.specs.Maildir.{AllNamed, Maildir}
 use Rattle.fetch_record.specs.Record.{Intent, Row, has_row, none_open, marked, marked_all}
+use Rattle.fetch_rules.specs.Plan.{fetches}
 use Rattle.fetch_rules.specs.declared.steps.Step.{Step}
 use Rattle.mail_terms.specs.FailureCount.{Tallies}
 use Rattle.pop3_client.specs.Client.{HasSameLink, link_of, place_of}
@@ -122,7 +123,7 @@ pub most_planned : (steps : List Step) (items : List Item) (held : List Bool)
 most_planned (s ∷ ss) (i ∷ is) (h ∷ hs) =
     let first = tasks_in s i h in
     let later = tasks_planned ss is hs in
-    let a = most_step s.retrieve h s.delete s.number i.uid i.size in
+    let a = most_step (fetches s) h s.delete s.number i.uid i.size in
     let more = most_planned ss is hs in
     (omega (arith, most_ahead first later, a.0, more.0), omega (arith, length-append first later, a.1, more.1))
 most_planned _ _ _ = (omega arith, omega arith)
@@ -132,8 +133,8 @@ pub planned_all : (P : List ℕ → Type 0) (steps : List Step) (items : List It
     → AllByRecursion (λ (item : Item). P item.uid) items
     → AllByRecursion P (ids_ahead (tasks_planned steps items held))
 planned_all P (s ∷ ss) (i ∷ is) (h ∷ hs) all =
-    rw (ahead s i h (tasks_planned ss is hs)) (all_append P _
-    _ (fetched_all P _ h _ _ _ (λ _. all.0))
+    rw (ahead s i h (tasks_planned ss is hs)) (all_append P (ids_ahead (fetching (fetches s) h s.number i.uid i.size))
+    (ids_ahead (tasks_planned ss is hs)) (fetched_all P (fetches s) h s.number i.uid i.size (λ _. all.0))
     (planned_all P ss is hs all.1))
 planned_all P _ _ _ _ = tt
 

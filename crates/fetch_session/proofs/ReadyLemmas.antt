@@ -37,7 +37,7 @@ use Rattle.fetch_session.specs.Readiness.{CausesUnready, FindsRefused, MboxUnrea
 use Rattle.fetch_session.specs.Readiness.{merged_in, AreAsHeld, ChecksStore, HasPlan, IsAnew, IsIdle, IsFileKept}
 use Rattle.fetch_session.specs.Readiness.{Readies, Rests}
 use Rattle.fetch_session.specs.Record.{FileReadAs, IsSecured, ReadsRecord, Keeps, Merges, Steady, record_state_in}
-use Rattle.fetch_rules.specs.Plan.{IsQuiet, planned, step_of}
+use Rattle.fetch_rules.specs.Plan.{IsQuiet, fetches, planned, step_of}
 use Rattle.mail_store.specs.FlatFile.{Stored, holding}
 use Rattle.fetch_record.specs.RecordFile.{file_of}
 use Rattle.mail_store.specs.Power.{LeavesNoMore}
@@ -97,15 +97,15 @@ no_ids_deleting false _ = refl
 
 pub ahead : (step : Step) (item : Item) (held : Bool) (later : List Task)
     → ids_ahead (tasks_in step item held ++ later)
-    ≡ ids_ahead (fetching step.retrieve held step.number item.uid item.size) ++ ids_ahead later
-ahead _ _ _ _ = simp (flat_map-append, no_ids_deleting, append_assoc)
+    ≡ ids_ahead (fetching (fetches step) held step.number item.uid item.size) ++ ids_ahead later
+ahead step item held later = simp (flat_map-append, no_ids_deleting, append_assoc)
 
 pub no_item : Item
 no_item = record { uid = []; size = 0 }
 
 -- the i-th step, and the tasks after it
 abbrev pub step_at : List Step → ℕ → Step
-step_at steps i = get_or steps i (record { number = 0; retrieve = false; delete = false })
+step_at steps i = get_or steps i (record { number = 0; skip = None; delete = false })
 
 abbrev pub later_at : List Step → List Item → List Bool → ℕ → List Task
 later_at steps items held i = tasks_planned (drop (i + 1) steps) (drop (i + 1) items) (drop (i + 1) held)
@@ -114,12 +114,12 @@ later_at steps items held i = tasks_planned (drop (i + 1) steps) (drop (i + 1) i
 pub tasks_left : (steps : List Step) (items : List Item) (held : List Bool) (i : ℕ) (uid : List ℕ) (size : ℕ)
     (first : Task) → i < length items → length steps ≡ length items
     → length held ≡ length items → uid ≡ (get_or items i no_item).uid → size ≡ (get_or items i no_item).size
-    → fetching (step_at steps i).retrieve (get_or held i false) (step_at steps i).number uid size ≡ first ∷ []
+    → fetching (fetches (step_at steps i)) (get_or held i false) (step_at steps i).number uid size ≡ first ∷ []
     → tasks_planned (drop i steps) (drop i items) (drop i held)
     ≡ (first ∷ deleting (step_at steps i).delete (step_at steps i).number) ++ later_at steps items held i
 tasks_left steps items held i uid size _ within all_steps all_flags u s is =
     let next : suc i ≡ i + 1 = omega arith in
-    let of_steps = drop-cons steps i (record { number = 0; retrieve = false; delete = false }) (omega (arith, within, all_steps)) in
+    let of_steps = drop-cons steps i (record { number = 0; skip = None; delete = false }) (omega (arith, within, all_steps)) in
     let of_items = drop-cons items i no_item within in
     let of_held = drop-cons held i false (omega (arith, within, all_flags)) in
     (λ j. tasks_planned (of_steps j) (of_items j) (of_held j))
@@ -146,8 +146,8 @@ not_in : (front : List Item) (steps : List Step) (items : List Item) (held : Lis
     → AllByRecursion (λ (id : List ℕ). has_item front id ≡ false) (ids_ahead (tasks_planned steps items held))
 not_in front (s ∷ ss) (i ∷ is) (h ∷ hs) firsts =
     rw (ahead s i h (tasks_planned ss is hs)) (all_append (λ (id : List ℕ). has_item front id ≡ false)
-    (ids_ahead (fetching s.retrieve h s.number i.uid i.size)) (ids_ahead (tasks_planned ss is hs))
-    (fetched_all (λ (id : List ℕ). has_item front id ≡ false) s.retrieve h s.number i.uid i.size firsts.0)
+    (ids_ahead (fetching (fetches s) h s.number i.uid i.size)) (ids_ahead (tasks_planned ss is hs))
+    (fetched_all (λ (id : List ℕ). has_item front id ≡ false) (fetches s) h s.number i.uid i.size firsts.0)
     (all_weaker (λ (id : List ℕ). has_item (front ++ i ∷ []) id ≡ false) (λ (id : List ℕ). has_item front id ≡ false)
     (ids_ahead (tasks_planned ss is hs))
     (λ id none. (has_item-last front i id none).0) (not_in (front ++ i ∷ []) ss is hs firsts.1)))
@@ -167,7 +167,7 @@ pub fresh_firsts : (account : List ℕ) (maildir : Maildir) (front : List Item) 
 fresh_firsts account maildir front (s ∷ ss) (i ∷ is) firsts legal =
     let later = tasks_planned ss is (flags_of account maildir is) in
     rw (ahead s i (is_held account maildir i.uid) later)
-    (fresh_head account maildir s.retrieve (is_held account maildir i.uid) s.number i.size i.uid
+    (fresh_head account maildir (fetches s) (is_held account maildir i.uid) s.number i.size i.uid
     (ids_ahead later) legal.0 refl
     (all_weaker (λ (id : List ℕ). has_item (front ++ i ∷ []) id ≡ false) (λ (other : List ℕ). other ≢ i.uid) (ids_ahead later)
     (λ id none. (has_item-last front i id none).1) (not_in (front ++ i ∷ []) ss is (flags_of account maildir is) firsts.1))
@@ -314,7 +314,7 @@ tasks_sought account maildir settings was rows [] items not_all new asked = refl
 tasks_sought account maildir settings was rows (s ∷ ss) [] not_all new asked = refl
 tasks_sought account maildir settings was rows (s ∷ ss) (i ∷ is) not_all new asked =
     let rest = tasks_sought account maildir settings was rows ss is not_all new asked.1 in
-    elim (cases_Bool s.retrieve) [
+    elim (cases_Bool (fetches s)) [
       | inl fetched ↦
           let here : is_delivered was i.uid ≡ false = new i.uid (not-true (is_delivered rows i.uid) (rw not_all at (asked.0 fetched))) in
           rw (here, rest) refl

@@ -16,7 +16,7 @@ use Rattle.rc_file.specs.declared.settings.Settings.{Settings}
 use Rattle.fetch_record.specs.Record.{RecordState, Row}
 use Rattle.fetch_record.specs.RecordGrowth.{OneMeaning}
 use Rattle.fetch_record.specs.RecordMeaning.{Meaning, Rows, Fault as Faulty}
-use Rattle.fetch_rules.specs.Plan.{planned, retrieved, step_of}
+use Rattle.fetch_rules.specs.Plan.{fetches, planned, retrieved, step_of}
 use Rattle.fetch_rules.specs.Wanted.{wanted}
 use Rattle.fetch_rules.specs.declared.steps.Step.{Step}
 use Rattle.pop3_wire.proofs.BodyLemmas.{first_lines, IsLine-front, no_body, one_line, one_reading, two_statuses}
@@ -508,7 +508,7 @@ module _ (is_there : Item → Bool) (D : Task → Type 0) (P : ℕ × Item → T
     (so : (number : ℕ) (item : Item) → AllByRecursion D (fetching true (is_there item) number item.uid item.size) → P (number, item)) where
   abbrev fetched_from : ℕ → List Item → List (ℕ × Item)
   fetched_from k items = map (λ (pair : Step × (ℕ × Item)). pair.1)
-      (filter (λ (pair : Step × (ℕ × Item)). pair.0.retrieve)
+      (filter (λ (pair : Step × (ℕ × Item)). fetches pair.0)
       (zip (map step (enumerate_from k items)) (enumerate_from k items)))
 
   each_fetched : (k : ℕ) (items : List Item)
@@ -517,11 +517,11 @@ module _ (is_there : Item → Bool) (D : Task → Type 0) (P : ℕ × Item → T
   each_fetched k [] all = tt
   each_fetched k (item ∷ items) all =
       let rest = tasks_planned (map step (enumerate_from (k + 1) items)) items (map is_there items) in
-      let fetch = all_front D (fetching (step (k, item)).retrieve (is_there item) (step (k, item)).number item.uid
+      let fetch = all_front D (fetching (fetches (step (k, item))) (is_there item) (step (k, item)).number item.uid
       item.size) (deleting (step (k, item)).delete (step (k, item)).number)
       (all_front D (tasks_in (step (k, item)) item (is_there item)) rest all) in
       let later = each_fetched (k + 1) items (all_back D (tasks_in (step (k, item)) item (is_there item)) rest all) in
-      elim (cases_Bool (step (k, item)).retrieve) [
+      elim (cases_Bool (fetches (step (k, item)))) [
         | inl hit ↦ rw hit (so k item (rw (hit, same (k, item)) at fetch), later)
         | inr miss ↦ rw miss later
       ]

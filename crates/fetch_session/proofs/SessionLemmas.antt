@@ -524,7 +524,7 @@ pub carried : {D F : Type 0} (disk : DiskGhosts D) (files : FileGhosts F) {safe 
     {r : Result (Unit {0}) Cut} {new : Scene}
     → mid_lines ≡ lines → (is : IsReady settings target items now store file ready after (stores_of disk files before)
     file') → steps ≡ ready.steps.items → held ≡ ready.held.items
-    → skipped ≡ skips_of settings after items now ready.steps.items
+    → skipped ≡ skips_of ready.steps.items
     → (AreSure files was from → UnlessQuiet files was from after file file' is.durable safe before mid_file)
     → (ids_ahead (tasks_planned steps items held ++ says quit ∷ []) ≡ [] → (f ≡ mid_file) × LeavesStore files before end)
     → DoesAndLasts files safe target (tasks_planned steps items held ++ says quit ∷ [])
@@ -552,7 +552,7 @@ carried {D} {F} disk files {safe} {settings} {target} {items} {now} {place} {sto
           lines_are = lines_are;
         };
         does = good.does;
-        skips = skipped_is ∙ ap (skips_of settings after items now) is.steps;
+        skips = skipped_is ∙ ap skips_of is.steps;
       },
       λ sure. by (Lasts files target (tasks_ahead settings target items now store after) mid r new good.does end f)
           good.lasts is.durable (firm sure),
@@ -587,9 +587,10 @@ carried {D} {F} disk files {safe} {settings} {target} {items} {now} {place} {sto
 
 pub previews_are : (settings : Settings) (rows rows' : List Row) (items : List Item) (held : List Bool) (now : ℕ) (steps : List Step)
     → rows' ≡ merged rows items held now → steps ≡ planned settings rows' items now
-    → message_previews settings rows' now 0 steps items held ≡ previews_of settings (merged rows items held now) items held now
-previews_are settings _ rows' items held now _ rows_are steps_are =
-    cc
+    → message_previews settings rows' now steps items held ≡ previews_of settings (merged rows items held now) items held now
+previews_are settings rows rows' items held now steps rows_are steps_are =
+    ap (λ (ss : List Step). message_previews settings rows' now ss items held) steps_are
+    ∙ ap (λ (r : List Row). previews_of settings r items held now) rows_are
 
 -- ---- an mboxrd file that was only looked at
 

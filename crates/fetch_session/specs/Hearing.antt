@@ -9,15 +9,14 @@ use Rattle.pop3_wire.specs.Place.{Place, at}
 use Rattle.rc_file.specs.declared.settings.Settings.{Settings}
 use Rattle.fetch_record.specs.Record.{Row, RecordState}
 use Rattle.fetch_rules.specs.Plan.{planned}
+use Rattle.fetch_rules.specs.declared.steps.Step.{Step}
 use Rattle.fetch_session.specs.Account.{Holding, digits_of}
-use Rattle.fetch_session.specs.MessagePreview.{message_previews}
 use Rattle.fetch_session.specs.Readiness.{merged_in}
 use Rattle.fetch_session.specs.Record.{Keeps}
 use Rattle.fetch_session.specs.Report.{skips_planned}
 use Rattle.fetch_session.specs.Session.{Enters_with}
-use Rattle.fetch_session.specs.Target.{AfterTakingIn, is_sound, none_held, stores_of, target_of}
+use Rattle.fetch_session.specs.Target.{AfterTakingIn, is_sound, stores_of, target_of}
 use Rattle.fetch_session.specs.declared.account.Store.{Store}
-use Rattle.fetch_session.specs.declared.message_preview.MessagePreview.{MessagePreview}
 use Rattle.fetch_session.specs.declared.report.Report.{Report}
 use Rattle.fetch_session.specs.declared.report.Skips.{Skips}
 
@@ -28,13 +27,13 @@ passed_over report = record { all = report.skipped; left_out = report.left_out }
 -- it is what is planned for each message of a listing, by rows of the record, of which this holds; so many are listed,
 -- and these are passed over
 pub record IsPlanned (settings : Settings) (now total : ℕ) (skipped : Skips) (Known : List Item → List Row → Type 0)
-    (plan : List MessagePreview) : Type 0 where
+    (plan : List Step) : Type 0 where
   pub items : List Item
   pub rows : List Row
   pub known : Known items rows
   pub total_is : total ≡ length items
   pub skips : skipped ≡ skips_planned settings rows items now
-  pub is : plan ≡ message_previews settings rows now 0 (planned settings rows items now) items (none_held items)
+  pub is : plan ≡ planned settings rows items now
 
 -- if the store and the record's file are sound, these rows are those of the record that was read, once the listing was
 -- merged into it
@@ -52,14 +51,14 @@ IsServersListing settings link link' items = (mid : Place) × Enters_with settin
 
 -- it is the plan of a session of an account over these devices, with this report
 abbrev pub IsPlanOf : {W D F : Type 0} → WireGhosts W → DiskGhosts D → FileGhosts F → ℕ → Holding D F → W → Holding D F
-    → W → Report → List MessagePreview → Type 0
+    → W → Report → List Step → Type 0
 IsPlanOf link disk files now old wire new wire' report plan =
     IsPlanned old.settings now report.total (passed_over report) (λ items rows.
     (link.sound wire' → IsServersListing old.settings (link.history wire) (link.history wire') items)
     × AreMerged disk files (digits_of old.settings) now old.store old.file new.store new.file items rows) plan
 
 -- a listener was told of no plan, or of one of which this holds
-abbrev pub HearsOne : {L : Type 0} → (L → List (List MessagePreview) → L → Type 0) → (List MessagePreview → Type 0) → L
+abbrev pub HearsOne : {L : Type 0} → (L → List (List Step) → L → Type 0) → (List Step → Type 0) → L
     → L → Type 0
 HearsOne hears Is old new = hears old [] new
-    ⊎ ((plan : List MessagePreview) × Is plan × hears old (plan ∷ []) new)
+    ⊎ ((plan : List Step) × Is plan × hears old (plan ∷ []) new)

@@ -75,7 +75,7 @@ LooksIn AsEntries intent old items result new = LooksAtMbox intent old.mbox item
 
 -- what a preview says of a listing once the record has these rows
 abbrev pub previews_of : Settings → List Row → List Item → List Bool → ℕ → List MessagePreview
-previews_of settings rows items flags now = message_previews settings rows now 0
+previews_of settings rows items flags now = message_previews settings rows now
     (planned settings rows items now) items flags
 
 -- the record's file stands for a record; with what a session would find in the store, and settle there, it gives this

@@ -1,26 +1,24 @@
 -- What a report says about a session.
 use Rattle.std.specs.Prelude.{◌≡◌, ◌+◌, ◌*◌, ◌≤◌, ℕ, Bool, true, false, not, List, [], min, if◌then◌else◌, Vec}
+use Rattle.std.specs.Prelude.{Option, Some}
 use Rattle.std.specs.Vec.{vec_len, vec_capacity}
 use Rattle.std.specs.List.{filter, count_by, list_any, sum_by}
 use Rattle.mail_terms.specs.Numeral.{greatest_size}
 use Rattle.mail_terms.specs.Listing.{Item, message_limit}
 use Rattle.rc_file.specs.declared.settings.Settings.{Settings}
 use Rattle.fetch_record.specs.Record.{Row}
-use Rattle.fetch_rules.specs.Plan.{planned}
+use Rattle.fetch_rules.specs.Plan.{fetches, planned}
+use Rattle.fetch_rules.specs.declared.steps.Skip.{Skip}
+use Rattle.fetch_rules.specs.declared.steps.Skip.TheVariants.{Delivered as DeliveredBefore, TooLarge, PastLimit}
+use Rattle.fetch_rules.specs.declared.steps.Skip.TheVariants.{SameId}
 use Rattle.fetch_rules.specs.declared.steps.Step.{Step}
 use Rattle.fetch_session.specs.declared.fault.Fault.TheVariants.{StoreRefused, SeenRefused, BadSeen}
-use Rattle.fetch_session.specs.declared.message_preview.Fate.{Fate}
-use Rattle.fetch_session.specs.declared.message_preview.Fate.TheVariants.{TooLarge, PastLimit, SameId}
-use Rattle.fetch_session.specs.declared.message_preview.MessagePreview.{MessagePreview}
-use Rattle.fetch_session.specs.declared.report.LeftOut.{LeftOut}
 use Rattle.fetch_session.specs.declared.report.Skips.{Skips}
 use Rattle.fetch_session.specs.declared.report.Report.{Report}
 use Rattle.fetch_session.specs.declared.report.Outcome.{Outcome}
 use Rattle.fetch_session.specs.declared.report.Outcome.TheVariants.{Cut}
 use Rattle.fetch_session.specs.declared.report.ReportLine.{ReportLine}
 use Rattle.fetch_session.specs.declared.report.ReportLine.TheVariants.{Delivered, Held, Deleted}
-use Rattle.fetch_session.specs.MessagePreview.{message_previews}
-use Rattle.fetch_session.specs.Target.{none_held}
 
 -- there is room for `n` more lines
 abbrev pub HasRoom : {Z : Type 0} → Vec ReportLine Z → ℕ → Type 0
@@ -66,52 +64,45 @@ without_deletions lines = filter (λ line. not (is_deletion line)) lines
 
 -- how many steps fetch nothing
 abbrev pub skipped_in : List Step → ℕ
-skipped_in steps = count_by (λ (step : Step). not step.retrieve) steps
+skipped_in steps = count_by (λ (step : Step). not (fetches step)) steps
 
-abbrev pub is_for_size : Fate → Bool
-is_for_size TooLarge = true
+-- why a message is passed over, as it is told; one that is deleted was delivered before
+abbrev pub reason_of : Step → Option Skip
+reason_of step = if step.delete then Some DeliveredBefore else step.skip
+
+abbrev pub is_for_size : Option Skip → Bool
+is_for_size (Some TooLarge) = true
 is_for_size _ = false
 
-abbrev pub is_for_limit : Fate → Bool
-is_for_limit PastLimit = true
+abbrev pub is_for_limit : Option Skip → Bool
+is_for_limit (Some PastLimit) = true
 is_for_limit _ = false
 
-abbrev pub is_for_id : Fate → Bool
-is_for_id SameId = true
+abbrev pub is_for_id : Option Skip → Bool
+is_for_id (Some SameId) = true
 is_for_id _ = false
 
--- how many of these messages have such a fate
-abbrev pub count_fates : (Fate → Bool) → List MessagePreview → ℕ
-count_fates test told = count_by (λ (message_preview : MessagePreview). test message_preview.fate) told
+-- how many of these steps pass their message over for such a reason
+abbrev pub count_reasons : (Option Skip → Bool) → List Step → ℕ
+count_reasons test steps = count_by (λ (step : Step). test (reason_of step)) steps
 
--- how many of these messages are left out, by their reasons
-abbrev pub left_out_of : List MessagePreview → LeftOut
-left_out_of told = record {
-  too_large = count_fates is_for_size told;
-  past_limit = count_fates is_for_limit told;
-  repeated = count_fates is_for_id told;
-}
-
--- the same, with one more such message
-abbrev pub with_fate : LeftOut → Fate → LeftOut
-with_fate left TooLarge = record left { too_large = left.too_large + 1 }
-with_fate left PastLimit = record left { past_limit = left.past_limit + 1 }
-with_fate left SameId = record left { repeated = left.repeated + 1 }
-with_fate left _ = left
-
--- what these steps pass over, by a merged record: it has each message that the store holds as delivered
-abbrev pub skips_of : Settings → List Row → List Item → ℕ → List Step → Skips
-skips_of settings rows items now steps = record {
+-- what these steps pass over
+abbrev pub skips_of : List Step → Skips
+skips_of steps = record {
   all = skipped_in steps;
-  left_out = left_out_of (message_previews settings rows now 0 steps items (none_held items));
+  left_out = record {
+    too_large = count_reasons is_for_size steps;
+    past_limit = count_reasons is_for_limit steps;
+    repeated = count_reasons is_for_id steps;
+  };
 }
 
 -- what the plan passes over
 abbrev pub skips_planned : Settings → List Row → List Item → ℕ → Skips
-skips_planned settings rows items now = skips_of settings rows items now (planned settings rows items now)
+skips_planned settings rows items now = skips_of (planned settings rows items now)
 
 abbrev pub none_skipped : Skips
-none_skipped = record { all = 0; left_out = left_out_of [] }
+none_skipped = skips_of []
 
 -- whether the server is asked to take back its marks
 abbrev pub takes_back : Outcome → Bool

@@ -3,6 +3,7 @@ use Rattle.std.specs.Prelude.{◌≡◌, ◌≢◌, ℕ, Bool, true, false, List
 use Rattle.std.specs.List.{flat_map, AllByRecursion, AllZip}
 use Rattle.mail_terms.specs.UniqueId.{IsLegalId}
 use Rattle.mail_terms.specs.Listing.{Item}
+use Rattle.fetch_rules.specs.Plan.{fetches}
 use Rattle.fetch_rules.specs.declared.steps.Step.{Step}
 use Rattle.mail_store.specs.Maildir.{Maildir, File}
 use Rattle.mail_store.specs.FileName.{mail_file, is_held}
@@ -59,7 +60,8 @@ deleting true number = deletes number ∷ []
 deleting false number = []
 
 abbrev pub tasks_in : Step → Item → Bool → List Task
-tasks_in step item held = fetching step.retrieve held step.number item.uid item.size ++ deleting step.delete step.number
+tasks_in step item held = fetching (fetches step) held step.number item.uid item.size
+    ++ deleting step.delete step.number
 
 -- the tasks of all steps, in order; the i-th step is for the i-th message
 abbrev pub tasks_planned : List Step → List Item → List Bool → List Task

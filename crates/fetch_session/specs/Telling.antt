@@ -5,10 +5,10 @@ use Rattle.std.specs.List.{count_by}
 use Rattle.std.specs.Fmt.{decimal}
 use Rattle.rc_file.specs.declared.settings.Settings.{Settings}
 use Rattle.fetch_rules.specs.Due.{seconds_per_day}
+use Rattle.fetch_rules.specs.Plan.{fetches}
+use Rattle.fetch_rules.specs.declared.steps.Skip.{Skip}
+use Rattle.fetch_rules.specs.declared.steps.Skip.TheVariants.{Delivered, TooLarge, PastLimit, SameId}
 use Rattle.fetch_session.specs.declared.preview.Preview.{Preview}
-use Rattle.fetch_session.specs.declared.message_preview.Fate.{Fate}
-use Rattle.fetch_session.specs.declared.message_preview.Fate.TheVariants.{Fetched, FetchedAndDeleted, Deleted, Held}
-use Rattle.fetch_session.specs.declared.message_preview.Fate.TheVariants.{DeliveredBefore, TooLarge, PastLimit, SameId}
 use Rattle.fetch_session.specs.declared.message_preview.MessagePreview.{MessagePreview}
 use Rattle.fetch_session.specs.declared.telling.Date.{Date}
 use Rattle.fetch_session.specs.Text.{heading, message_text}
@@ -53,15 +53,19 @@ date_text second = date_digits (date_of second)
 
 -- ---- lines
 
-abbrev pub fate_text : Fate → List ℕ
-fate_text Fetched = codes "would be fetched"
-fate_text FetchedAndDeleted = codes "would be fetched and deleted"
-fate_text Deleted = codes "would be deleted"
-fate_text Held = codes "held"
-fate_text DeliveredBefore = codes "delivered before"
-fate_text TooLarge = codes "too large"
-fate_text PastLimit = codes "past the limit of this session"
-fate_text SameId = codes "same id as an earlier message"
+-- why a message is passed over, which the store holds or not
+abbrev pub skip_text : Skip → Bool → List ℕ
+skip_text Delivered held = if held then codes "held" else codes "delivered before"
+skip_text TooLarge held = codes "too large"
+skip_text PastLimit held = codes "past the limit of this session"
+skip_text SameId held = codes "same id as an earlier message"
+
+-- what would be done with a message, or why it would be passed over
+abbrev pub fate_text : Option Skip → Bool → Bool → List ℕ
+fate_text None false held = codes "would be fetched"
+fate_text None true held = codes "would be fetched and deleted"
+fate_text (Some skip) true held = codes "would be deleted"
+fate_text (Some skip) false held = skip_text skip held
 
 abbrev pub due_text : Option ℕ → List ℕ
 due_text None = []
@@ -69,28 +73,15 @@ due_text (Some second) = codes ", not due before " ++ date_text second
 
 -- the line of one message
 abbrev pub message_preview_text : ℕ → MessagePreview → List ℕ
-message_preview_text total message_preview = message_text total message_preview.number
-    (codes "(" ++ (decimal message_preview.size ++ (codes " octets) "
-    ++ (fate_text message_preview.fate ++ (due_text message_preview.due ++ codes "\n")))))
-
--- whether a message would be fetched, and whether deleted
-abbrev pub is_fetch : Fate → Bool
-is_fetch Fetched = true
-is_fetch FetchedAndDeleted = true
-is_fetch _ = false
-
-abbrev pub is_deletion_fate : Fate → Bool
-is_deletion_fate Deleted = true
-is_deletion_fate FetchedAndDeleted = true
-is_deletion_fate _ = false
+message_preview_text total told = message_text total told.step.number
+    (codes "(" ++ (decimal told.size ++ (codes " octets) "
+    ++ (fate_text told.step.skip told.step.delete told.held ++ (due_text told.due ++ codes "\n")))))
 
 abbrev pub fetched_in : List MessagePreview → ℕ
-fetched_in message_previews = count_by (λ (message_preview : MessagePreview). is_fetch message_preview.fate)
-    message_previews
+fetched_in message_previews = count_by (λ (told : MessagePreview). fetches told.step) message_previews
 
 abbrev pub deleted_ahead : List MessagePreview → ℕ
-deleted_ahead message_previews = count_by (λ (message_preview : MessagePreview). is_deletion_fate message_preview.fate)
-    message_previews
+deleted_ahead message_previews = count_by (λ (told : MessagePreview). told.step.delete) message_previews
 
 -- the last line
 abbrev pub counts_text : ℕ → ℕ → ℕ → List ℕ

@@ -27,12 +27,11 @@ mod work;
 pub use account::{Account, Store};
 pub use fault::{Cut, Fault, Why};
 pub use laws::{
-    cuts_have_causes, plans_have_causes, served_sessions_store_all, sessions_are_durable,
-    sessions_by_store, sessions_keep_files, steady_files_keep, stopping_cuts_short,
-    unsaved_files_keep,
+    cuts_have_causes, served_sessions_store_all, sessions_are_durable, sessions_by_store,
+    sessions_keep_files, steady_files_keep, stopping_cuts_short, unsaved_files_keep,
 };
 pub use listener::{Listener, Silent};
-pub use message_preview::{Fate, MessagePreview};
+pub use message_preview::MessagePreview;
 pub use one_session::{session, session_told};
 pub use preview::{Preview, pretend};
 pub use reasons::{explained_line, told_report};

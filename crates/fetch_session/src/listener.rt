@@ -1,22 +1,21 @@
 //! Who is told of a session's lines while it runs.
 ghost use Rattle.std.specs.Prelude.{List, [], ◌∷◌, ◌++◌};
-ghost use Rattle.fetch_session.specs.declared.message_preview.MessagePreview.{MessagePreview};
+ghost use Rattle.fetch_rules.specs.declared.steps.Step.{Step};
 
-use crate::message_preview::MessagePreview;
 use crate::report::ReportLine;
+use fetch_rules::Step;
 use std::vec::Vec;
 
 /// One that is told of the lines of a session as they are noted.
 pub trait Listener {
     // By calls it was told to expect these plans, in order, whatever lines it heard.
-    ghost hears: { Self → List (List MessagePreview) → Self → Type 0 };
+    ghost hears: { Self → List (List Step) → Self → Type 0 };
 
     /// Whether it asks why messages are passed over.
     fn asks_why(&self) -> bool;
 
-    /// Takes what is planned for each message, before there are lines. The record is asked for it, and not the
-    /// store.
-    fn expect(&mut self, plan: Vec<MessagePreview>)
+    /// Takes the plan, a step for each message, before there are lines.
+    fn expect(&mut self, plan: Vec<Step>)
         ensures { hears self.old (plan.items ∷ []) self.new };
 
     /// Takes the lines that a session with this many messages has noted so far.
@@ -26,7 +25,7 @@ pub trait Listener {
     // `hears` joins.
     ghost hears_none: { (a : Self) → hears a [] a };
 
-    ghost hears_on: { (a b c : Self) (ps qs : List (List MessagePreview)) → hears a ps b → hears b qs c
+    ghost hears_on: { (a b c : Self) (ps qs : List (List Step)) → hears a ps b → hears b qs c
         → hears a (ps ++ qs) c };
 }
 
@@ -41,7 +40,7 @@ impl Listener for Silent {
         false
     }
 
-    fn expect(&mut self, _plan: Vec<MessagePreview>) {}
+    fn expect(&mut self, _plan: Vec<Step>) {}
 
     fn hear(&mut self, _total: u32, _lines: &[ReportLine]) {}
 

@@ -15,10 +15,9 @@ ghost use Rattle.fetch_session.specs.Report.{HasRoom, none_skipped};
 use crate::ending::end;
 use crate::fault::Cut;
 use crate::listener::Listener;
-use crate::message_preview::skips_of;
 use crate::readiness::{Ready, prepare};
 use crate::reasons::tell_plan;
-use crate::report::Skips;
+use crate::report::{Skips, skips_of};
 use crate::step::{Planned, do_steps};
 use crate::terms::Terms;
 use crate::work::Work;
@@ -63,13 +62,13 @@ pub fn carry_out<W: Wire, D: MaildirDisk, F: FlatFile, H: BuildHasher, L: Listen
     firsts_are_fetched();
     let ready = prepare(work, terms, listing)?;
     let Ready { held, steps } = ready;
-    *skipped = skips_of(terms, &work.ledger.seen, listing, &steps);
+    *skipped = skips_of(&steps);
     let plan = Planned {
         listing,
         steps: &steps,
         held: &held,
     };
-    tell_plan(work.ledger.alloc, terms, &work.ledger.seen, plan, listener);
+    tell_plan(work.ledger.alloc, &steps, listener);
     do_steps(client, work, terms.account, plan, listener)?;
     end(client, work)?;
     Ok(())

@@ -3,10 +3,12 @@ ghost use Rattle.std.specs.Prelude.{◌≡◌, ◌≤◌, ◌+◌, ◌++◌, ◌
 ghost use Rattle.std.specs.Vec.{vec_capacity};
 ghost use Rattle.fetch_session.specs.Report.{HasRoom, is_deletion, length_in, takes_back, kept_lines, has_deletions};
 ghost use Rattle.fetch_session.specs.Report.{retrieved_in, length_of, deleted_in, skipped_in, most_bytes, most_lines};
-ghost use Rattle.fetch_session.specs.Report.{Reports, none_skipped};
+ghost use Rattle.fetch_session.specs.Report.{Reports, count_reasons, is_for_id, is_for_limit, is_for_size};
+ghost use Rattle.fetch_session.specs.Report.{none_skipped, reason_of, skips_of};
+ghost use Rattle.mail_terms.specs.Listing.{message_limit};
 
 use crate::fault::Fault;
-use fetch_rules::Step;
+use fetch_rules::{Skip, Step};
 use std::vec::Vec;
 
 /// What was done with one message. Numbers count from 1.
@@ -162,12 +164,70 @@ fn length_of(lines: &[ReportLine]) -> u64
     total
 }
 
+/// Why a message is passed over, as it is told; one that is deleted was delivered before.
+pub(crate) fn reason_of(step: Step) -> Option<Skip>
+    ensures { result ≡ reason_of step }
+{
+    if step.delete {
+        return Some(Skip::Delivered);
+    }
+    step.skip
+}
+
 /// How many steps fetch nothing.
-pub(crate) fn skipped_in(steps: &[Step]) -> usize
+fn skipped_in(steps: &[Step]) -> usize
     ensures value { result ≡ skipped_in steps.now }
     ensures few { result ≤ length steps.now }
 {
-    steps.iter().filter(|step| !step.retrieve).count()
+    steps.iter().filter(|step| !step.skip.is_none()).count()
+}
+
+/// How many of these steps pass over a message that is too large.
+fn too_large_in(steps: &[Step]) -> usize
+    ensures value { result ≡ count_reasons is_for_size steps.now }
+    ensures few { result ≤ length steps.now }
+{
+    steps
+        .iter()
+        .filter(|step| matches!(reason_of(**step), Some(Skip::TooLarge)))
+        .count()
+}
+
+/// How many of these steps pass over a message that is past the limit.
+fn past_limit_in(steps: &[Step]) -> usize
+    ensures value { result ≡ count_reasons is_for_limit steps.now }
+    ensures few { result ≤ length steps.now }
+{
+    steps
+        .iter()
+        .filter(|step| matches!(reason_of(**step), Some(Skip::PastLimit)))
+        .count()
+}
+
+/// How many of these steps pass over a message whose id an earlier one has.
+fn repeated_in(steps: &[Step]) -> usize
+    ensures value { result ≡ count_reasons is_for_id steps.now }
+    ensures few { result ≤ length steps.now }
+{
+    steps
+        .iter()
+        .filter(|step| matches!(reason_of(**step), Some(Skip::SameId)))
+        .count()
+}
+
+/// What these steps pass over.
+pub(crate) fn skips_of(steps: &[Step]) -> Skips
+    requires few { length steps.now ≤ message_limit }
+    ensures { result ≡ skips_of steps.now }
+{
+    Skips {
+        all: skipped_in(steps) as u32,
+        left_out: LeftOut {
+            too_large: too_large_in(steps) as u32,
+            past_limit: past_limit_in(steps) as u32,
+            repeated: repeated_in(steps) as u32,
+        },
+    }
 }
 
 /// The lines that a report keeps: all, or all but those of deletions, if the server is asked to

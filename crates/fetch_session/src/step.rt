@@ -1,6 +1,7 @@
 //! What is done with each message.
 ghost use Rattle.std.specs.Prelude.{◌≡◌, ◌∷◌, [], List, length};
 ghost use Rattle.fetch_record.specs.Record.{Row};
+ghost use Rattle.fetch_rules.specs.Plan.{fetches};
 ghost use Rattle.fetch_session.specs.Refusal.{TookTillCut};
 ghost use Rattle.fetch_session.specs.Parts.{DoesTasks, RunsTasks, IsReadyFor, KeepsLink, KeepsSession, task_of};
 ghost use Rattle.fetch_session.specs.Report.{AddsLines, HasRoom};
@@ -43,10 +44,10 @@ enum Task<'a> {
 /// What a step does first with its message, which has this id and size, and which the store holds
 /// or not.
 fn first_task<'a>(step: Step, uid: &'a [u8], size: u64, held: bool) -> Task<'a>
-    ensures { fetching step.retrieve held step.number uid.now size ≡ task_of result ∷ [] }
+    ensures { fetching (fetches step) held step.number uid.now size ≡ task_of result ∷ [] }
 {
     let number = step.number;
-    if !step.retrieve {
+    if step.skip.is_some() {
         return Task::Skip { number, size };
     }
     if held {

@@ -2,12 +2,12 @@
 ghost use Rattle.std.specs.Prelude.{◌≡◌, IfOk};
 ghost use Rattle.std.specs.String.{string_bytes};
 ghost use Rattle.fetch_session.specs.Telling.{counts, date_of, date_text, due_text, deleted_ahead, fate_text};
-ghost use Rattle.fetch_session.specs.Telling.{fetched_in, message_preview_text, preview_text};
+ghost use Rattle.fetch_session.specs.Telling.{fetched_in, message_preview_text, preview_text, skip_text};
 
-use crate::message_preview::{Fate, MessagePreview};
+use crate::message_preview::MessagePreview;
 use crate::preview::Preview;
 use crate::text::heading;
-use fetch_rules::{SECONDS_PER_DAY, Settings};
+use fetch_rules::{SECONDS_PER_DAY, Settings, Skip, Step};
 use std::alloc::{AllocError, Global};
 
 /// 9999-12-31, in days since 1970.
@@ -68,20 +68,28 @@ fn due_text(alloc: Global, due: Option<u64>) -> Result<String, AllocError>
     format!(in alloc; ", not due before {date}")
 }
 
-impl Fate {
-    pub(crate) fn text(self) -> &'static str
-        ensures { result.now ≡ fate_text self }
-    {
-        match self {
-            Fate::Fetched => "would be fetched",
-            Fate::FetchedAndDeleted => "would be fetched and deleted",
-            Fate::Deleted => "would be deleted",
-            Fate::Held => "held",
-            Fate::DeliveredBefore => "delivered before",
-            Fate::TooLarge => "too large",
-            Fate::PastLimit => "past the limit of this session",
-            Fate::SameId => "same id as an earlier message",
-        }
+/// Why a message is passed over, which the store holds or not.
+pub(crate) fn skip_text(skip: Skip, held: bool) -> &'static str
+    ensures { result.now ≡ skip_text skip held }
+{
+    match skip {
+        Skip::Delivered if held => "held",
+        Skip::Delivered => "delivered before",
+        Skip::TooLarge => "too large",
+        Skip::PastLimit => "past the limit of this session",
+        Skip::SameId => "same id as an earlier message",
+    }
+}
+
+/// What would be done with a message, or why it would be passed over.
+fn fate_text(step: Step, held: bool) -> &'static str
+    ensures { result.now ≡ fate_text step.skip step.delete held }
+{
+    match (step.skip, step.delete) {
+        (None, false) => "would be fetched",
+        (None, true) => "would be fetched and deleted",
+        (Some(_), true) => "would be deleted",
+        (Some(skip), false) => skip_text(skip, held),
     }
 }
 
@@ -93,8 +101,8 @@ fn message_preview_text(
 ) -> Result<String, AllocError>
     ensures { IfOk result (λ text. string_bytes text ≡ message_preview_text total message_preview.now) }
 {
-    let (number, size) = (message_preview.number, message_preview.size);
-    let what = message_preview.fate.text();
+    let (number, size) = (message_preview.step.number, message_preview.size);
+    let what = fate_text(message_preview.step, message_preview.held);
     let when = due_text(alloc, message_preview.due)?;
     format!(in alloc; "msg {number}/{total} ({size} octets) {what}{when}\n")
 }
@@ -105,7 +113,7 @@ fn fetched_in(message_previews: &[MessagePreview]) -> usize
 {
     message_previews
         .iter()
-        .filter(|told| matches!(told.fate, Fate::Fetched | Fate::FetchedAndDeleted))
+        .filter(|told| told.step.skip.is_none())
         .count()
 }
 
@@ -115,7 +123,7 @@ fn deleted_in(message_previews: &[MessagePreview]) -> usize
 {
     message_previews
         .iter()
-        .filter(|told| matches!(told.fate, Fate::Deleted | Fate::FetchedAndDeleted))
+        .filter(|told| told.step.delete)
         .count()
 }
 

@@ -8,7 +8,7 @@ use Rattle.rc_file.specs.declared.settings.Dest.{Dest}
 use Rattle.rc_file.specs.declared.settings.Settings.{Settings}
 use Rattle.fetch_session.specs.Account.{Holding}
 use Rattle.fetch_session.specs.declared.account.Store.{Store}
-use Rattle.fetch_session.specs.declared.message_preview.MessagePreview.{MessagePreview}
+use Rattle.fetch_rules.specs.declared.steps.Step.{Step}
 use Rattle.fetch_session.specs.declared.report.Report.{Report}
 use Rattle.getmail_setup.specs.Failures.{status_of}
 use Rattle.getmail_setup.specs.declared.errors.Errors.{Errors}
@@ -37,7 +37,7 @@ pub record FetchesAt {W D F : Type 0} (link : WireGhosts W) (disk : DiskGhosts D
 
 -- what a session said was written, and this is its exit status
 pub record TellsOf {O E : Type 0} (out_contents : O → Option (List ℕ)) (err_contents : E → Option (List ℕ))
-    (settings : Settings) (IsPlan : Report → List MessagePreview → Type 0) (told : Told) (out : Output O)
+    (settings : Settings) (IsPlan : Report → List Step → Type 0) (told : Told) (out : Output O)
     (errors : Errors E) (status : ℕ) (out' : Output O) : Type 0 where
   pub fetched : Fetched
   pub errors' : Errors E

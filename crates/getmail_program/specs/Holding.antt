@@ -5,6 +5,7 @@ use Rattle.pop3_wire.specs.declared.wire.Wire.{Ghosts as WireGhosts}
 use Rattle.mail_store.specs.declared.maildir.disk.MaildirDisk.{Ghosts as DiskGhosts}
 use Rattle.mail_store.specs.declared.file.flat_file.FlatFile.{Ghosts as FileGhosts}
 use Rattle.mail_store.specs.Maildir.{Maildir as InMaildir}
+use Rattle.fetch_rules.specs.Plan.{fetches}
 use Rattle.fetch_session.specs.declared.fault.Fault.{Fault}
 use Rattle.fetch_session.specs.declared.fault.Fault.TheVariants.{NoMemory}
 use Rattle.fetch_session.specs.declared.message_preview.MessagePreview.{MessagePreview}
@@ -19,7 +20,6 @@ use Rattle.fetch_session.specs.Refusal.{IsWithinLimits}
 use Rattle.fetch_session.specs.Session.{keeping}
 use Rattle.fetch_session.specs.Store.{StartsFile}
 use Rattle.fetch_session.specs.Target.{AfterTakingIn, Entries, Files, Kind, is_sound, stores_of, target_of}
-use Rattle.fetch_session.specs.Telling.{is_fetch}
 use Rattle.rc_file.specs.declared.settings.Dest.{Dest}
 use Rattle.rc_file.specs.declared.settings.Dest.TheVariants.{Maildir, Mboxrd}
 use Rattle.getmail_program.specs.declared.told.Told.{Told}
@@ -47,7 +47,7 @@ PreviewsAccount link disk file now old wire preview new wire' =
 
 -- a run would put a message into a Maildir
 abbrev pub would_store : MessagePreview → Bool
-would_store told = not told.held && is_fetch told.fate
+would_store told = not told.held && fetches told.step
 
 -- a run that begins the file of a message in a Maildir can have this fault; or memory runs out before
 abbrev pub RefusesFile : Fault → Type 0

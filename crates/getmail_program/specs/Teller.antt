@@ -7,7 +7,7 @@ use Rattle.rc_file.specs.declared.settings.Settings.{Settings}
 use Rattle.fetch_session.specs.Reasons.{explained_line}
 use Rattle.fetch_session.specs.Text.{heading}
 use Rattle.fetch_session.specs.Report.{is_deletion}
-use Rattle.fetch_session.specs.declared.message_preview.MessagePreview.{MessagePreview}
+use Rattle.fetch_rules.specs.declared.steps.Step.{Step}
 use Rattle.fetch_session.specs.declared.report.ReportLine.{ReportLine}
 use Rattle.getmail_program.specs.declared.teller.Teller.{Teller}
 use Rattle.getmail_setup.specs.declared.output.Output.{Output}
@@ -16,7 +16,7 @@ use Rattle.getmail_setup.specs.Output.{Puts}
 -- a line of a report, of a session with this many messages and this plan
 pub record EarlyLine : Type 0 where
   pub total : ℕ
-  pub plan : List MessagePreview
+  pub plan : List Step
   pub line : ReportLine
 
 -- what is written of it: nothing if it tells a deletion
@@ -30,12 +30,12 @@ HasSameLinks old new =
     × (new.verbose ≡ old.verbose)
 
 -- the last of these plans, or else this one
-abbrev pub last_plan : List MessagePreview → List (List MessagePreview) → List MessagePreview
+abbrev pub last_plan : List Step → List (List Step) → List Step
 last_plan kept [] = kept
 last_plan kept (plan ∷ plans) = last_plan plan plans
 
 -- it keeps the last of the plans that it was told of, or else the one that it had
-abbrev pub HasLast : {O : Type 0} → List (List MessagePreview) → Teller O → Teller O → Type 0
+abbrev pub HasLast : {O : Type 0} → List (List Step) → Teller O → Teller O → Type 0
 HasLast plans old new = new.notes.now.plan.items ≡ last_plan old.notes.now.plan.items plans
 
 -- these octets were written to the output, and are kept
@@ -67,12 +67,12 @@ pub record TellsEarly {O : Type 0} (contents : O → Option (List ℕ)) (setting
   pub is_text : text ≡ first ++ flat_map (early_text settings.verbose) lines
   pub puts : Puts contents out text out'
 
-last_on : (kept : List MessagePreview) (ps qs : List (List MessagePreview))
+last_on : (kept : List Step) (ps qs : List (List Step))
     → last_plan kept (ps ++ qs) ≡ last_plan (last_plan kept ps) qs
 last_on kept [] qs = refl
 last_on kept (p ∷ ps) qs = last_on p ps qs
 
-pub has_last : {O : Type 0} (a b c : Teller O) (ps qs : List (List MessagePreview)) → HasLast ps a b → HasLast qs b c
+pub has_last : {O : Type 0} (a b c : Teller O) (ps qs : List (List Step)) → HasLast ps a b → HasLast qs b c
     → HasLast (ps ++ qs) a c
 has_last a b c ps qs p q = q ∙ ap (λ kept. last_plan kept qs) p ∙ sym (last_on a.notes.now.plan.items ps qs)
 

@@ -7,7 +7,7 @@ use Rattle.fetch_session.specs.declared.fault.Fault.{Fault}
 use Rattle.fetch_session.specs.declared.report.LeftOut.{LeftOut}
 use Rattle.fetch_session.specs.declared.report.Outcome.{Outcome}
 use Rattle.fetch_session.specs.declared.report.Outcome.TheVariants.{Ended, Cut}
-use Rattle.fetch_session.specs.declared.message_preview.MessagePreview.{MessagePreview}
+use Rattle.fetch_rules.specs.declared.steps.Step.{Step}
 use Rattle.fetch_session.specs.declared.report.Report.{Report}
 use Rattle.fetch_session.specs.Reasons.{told_report}
 use Rattle.fetch_session.specs.Telling.{preview_text}
@@ -30,20 +30,20 @@ told_outcome (Done report) = report.outcome
 told_outcome (Ahead preview) = preview.outcome
 
 -- a report has the reasons why messages were passed over, if a plan is known
-abbrev pub told_text : Settings → List MessagePreview → Told → List ℕ
+abbrev pub told_text : Settings → List Step → Told → List ℕ
 told_text settings plan (Done report) = told_report plan report settings
 told_text settings plan (Ahead preview) = preview_text preview settings
 
 -- a report's plan is none, or the session's own
-abbrev pub IsOwnPlan : (Report → List MessagePreview → Type 0) → Told → List MessagePreview → Type 0
+abbrev pub IsOwnPlan : (Report → List Step → Type 0) → Told → List Step → Type 0
 IsOwnPlan IsPlan (Done report) plan = (plan ≡ []) ⊎ IsPlan report plan
 IsOwnPlan IsPlan (Ahead preview) plan = Unit {0}
 
 -- what a session said was written to `out`, and nothing else; there are reasons only if they are asked for
 pub record Reported {O : Type 0} (contents : O → Option (List ℕ)) (explains : Bool) (settings : Settings)
-    (IsPlan : Report → List MessagePreview → Type 0) (told : Told) (out out' : Output O)
+    (IsPlan : Report → List Step → Type 0) (told : Told) (out out' : Output O)
     : Type 0 where
-  pub plan : List MessagePreview
+  pub plan : List Step
   pub own : IsOwnPlan IsPlan told plan
   pub asked : explains ≡ false → plan ≡ []
   pub puts : Puts contents out (told_text settings plan told) out'
@@ -130,7 +130,7 @@ pub record TellsErrors {E : Type 0} (contents : E → Option (List ℕ)) (settin
 
 -- what a session said was written to `out`, and nothing else; and the rest to `err`
 pub record TellsAll {O E : Type 0} (out_contents : O → Option (List ℕ)) (err_contents : E → Option (List ℕ))
-    (explains : Bool) (settings : Settings) (IsPlan : Report → List MessagePreview → Type 0) (told : Told)
+    (explains : Bool) (settings : Settings) (IsPlan : Report → List Step → Type 0) (told : Told)
     (out : Output O) (old : Errors E) (fetched : Fetched) (out' : Output O) (new : Errors E)
     : Type 0 where
   pub reported : Reported out_contents explains settings IsPlan told out out'

@@ -5,7 +5,7 @@ ghost use Rattle.getmail_program.specs.Holding.{Doubts, RefusesFile, SaysAhead, 
 
 use crate::told::Manner;
 use fetch_rules::Dest;
-use fetch_session::{Fate, Fault, Outcome, Preview, Why};
+use fetch_session::{Fault, Outcome, Preview, Why};
 use getmail_setup::joined;
 use std::io::{self, ErrorKind};
 use std::rt::Files;
@@ -44,9 +44,10 @@ fn doubt_of_maildir<R: Files + AllocGlobal>(system: &System<'_, R>, path: &str) 
 fn would_store(preview: &Preview) -> bool
     ensures { result ≡ list_any would_store preview.now.message_previews.items }
 {
-    preview.message_previews.iter().any(|told| {
-        !told.held && matches!(told.fate, Fate::Fetched | Fate::FetchedAndDeleted)
-    })
+    preview
+        .message_previews
+        .iter()
+        .any(|told| !told.held && told.step.skip.is_none())
 }
 
 /// What would cut a run that puts messages into this destination.

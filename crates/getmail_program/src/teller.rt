@@ -6,7 +6,8 @@ ghost use Rattle.fetch_session.specs.Report.{is_deletion};
 ghost use Rattle.getmail_program.specs.Teller.{HasLast, HasSameLinks, StaysClosed, WroteMore, WroteText};
 ghost use Rattle.getmail_program.specs.Teller.{early_text, has_last, wrote_both, wrote_nothing};
 
-use fetch_session::{Listener, MessagePreview, ReportLine, explained_line};
+use fetch_rules::Step;
+use fetch_session::{Listener, ReportLine, explained_line};
 use getmail_setup::Output;
 use std::alloc::{AllocError, Global};
 use std::io::Write;
@@ -18,7 +19,7 @@ pub struct Notes {
     /// What it wrote.
     pub written: Vec<u8>,
     /// What is planned for each message, if it asks for it.
-    pub plan: Vec<MessagePreview>,
+    pub plan: Vec<Step>,
 }
 
 impl Notes {
@@ -119,7 +120,7 @@ impl<'a, O: Write> Listener for Teller<'a, O> {
         self.explains && self.verbose == 2
     }
 
-    fn expect(&mut self, plan: Vec<MessagePreview>) {
+    fn expect(&mut self, plan: Vec<Step>) {
         self.notes.plan = plan;
     }
 

@@ -13,10 +13,9 @@ ghost use Rattle.getmail_program.specs.Telling.{Reported, is_idle, told_outcome}
 
 use crate::doubt::said_ahead;
 use crate::teller::{Notes, Teller};
-use fetch_rules::Settings;
+use fetch_rules::{Settings, Step};
 use fetch_session::{
-    Account, MessagePreview, Outcome, Preview, Report, heading, pretend, preview_text,
-    session_told, told_report,
+    Account, Outcome, Preview, Report, heading, pretend, preview_text, session_told, told_report,
 };
 use getmail_setup::{Output, ShownWire};
 use mail_store::{FlatFile, MaildirDisk};
@@ -88,7 +87,7 @@ fn put_report<O: Write>(
     alloc: Global,
     report: &Report,
     settings: &Settings,
-    plan: &[MessagePreview],
+    plan: &[Step],
     written: &[u8],
     out: &mut Output<O>,
 )
@@ -151,7 +150,7 @@ fn hold_telling<W: Wire, S: Write, D: MaildirDisk, F: FlatFile, H: BuildHasher, 
 }
 
 /// The plan, if reasons are asked for.
-fn asked_for(explains: bool, plan: &[MessagePreview]) -> &[MessagePreview]
+fn asked_for(explains: bool, plan: &[Step]) -> &[Step]
     ensures { result.now ≡ (if explains then plan.entry.now else []) }
 {
     if explains { plan } else { &[] }

@@ -1,7 +1,6 @@
 -- From nothing on, a call keeps what it removes from the server, and an uncut one all that was there, up to its limits.
-use Rattle.std.proofs.Common.{◌≡◌, inl, inr, ℕ, Bool, true, false, List, [], ◌∷◌, ◌++◌, refl, sym, ◌∙◌, true≢false, ◌≤◌, arith, length}
-use Rattle.std.specs.List.{AllByRecursion, filter, list_any}
-use Rattle.std.proofs.lemmas.List.Sums.{count_by-le-length, length-filter}
+use Rattle.std.proofs.Common.{◌≡◌, inl, inr, ℕ, Bool, true, false, List, [], ◌∷◌, ◌++◌, refl, sym, ◌∙◌, true≢false}
+use Rattle.std.specs.List.{AllByRecursion, list_any}
 use Rattle.std.specs.Prelude.{bytes_eq}
 use Rattle.std.proofs.lemmas.Bool.{cases_Bool}
 use Rattle.mail_store.specs.declared.maildir.disk.MaildirDisk.{Ghosts as DiskGhosts}
@@ -12,9 +11,10 @@ use Rattle.pop3_wire.specs.World.{Message}
 use Rattle.pop3_wire.specs.declared.wire.Wire.{Ghosts as WireGhosts}
 use Rattle.pop3_server.specs.declared.maildrop.Maildrop.{Ghosts as DropGhosts}
 use Rattle.pop3_server.specs.LoopLink.{Loop}
+use Rattle.rc_file.specs.declared.settings.Settings.{Settings}
 use Rattle.fetch_runs.specs.Accounts.{AccountMail, copies}
-use Rattle.fetch_runs.specs.Promises.{DeletesOneOf, IsSafe, Mail, MboxStarts, state_with}
-use Rattle.fetch_runs.proofs.Lists.{all_back}
+use Rattle.fetch_runs.specs.Promises.{DeletesOneOf, IsLeftOut, IsSafe, Mail, MboxStarts, state_with}
+use Rattle.fetch_runs.proofs.Lists.{all_back, all_map}
 use Rattle.pop3_wire.specs.declared.command.Command.{Command}
 use Rattle.pop3_wire.specs.declared.command.Command.TheVariants.{Dele}
 use Rattle.fetch_runs.specs.Calls.{Called, EmptyAccountsAreKept, with_left}
@@ -65,8 +65,18 @@ its_message : (messages : List Message) (Is : List ℕ → Type 0) (commands fro
 its_message messages Is commands front behind number is all =
     (all_back (DeletesOneOf messages Is) front (Dele number ∷ behind) (rw is at all)).0
 
-no_longer : (p : Message → Bool) {n : ℕ} (ms : List Message) → n ≤ length (filter p ms) → n ≤ length ms
-no_longer p ms most = omega (arith, most, length-filter p ms, count_by-le-length p ms)
+-- what is known of it is known to be of this kind
+left_as : {settings : Settings} {is_known is_too : List ℕ → Bool} {maildrop : List Message} {retrieved : ℕ} {m : Message}
+    → ((id : List ℕ) → is_known id ≡ is_too id) → IsLeftOut settings is_known maildrop retrieved m
+    → IsLeftOut settings is_too maildrop retrieved m
+left_as same out = record {
+  rows = out.rows;
+  known = all_map _ out.known (λ other is. is ∙ same other.uid);
+  number = out.number;
+  place = out.place;
+  limit = out.limit;
+  all = out.all;
+}
 
 pub keep_mail : {M D F : Type 0} (link : WireGhosts (Loop M)) (disk : DiskGhosts D) (file : FileGhosts F) (drop : DropGhosts M)
     → EmptyAccountsAreKept → FetchesKeepPromises link disk file drop → FirstFetchesKeepMail link disk file drop
@@ -92,7 +102,7 @@ keep_mail link disk file drop empty law mail devices fetch no_file no_record acc
             (m, at, rw (← shows'.maildir) (safe_held m.uid safe));
         retrieved = promised.promises.retrieved;
       },
-      λ ended no_size. each (λ m of p. elim p [
+      λ ended. each (λ m of p. elim p [
         | inl safe ↦
             let is_there = safe_held m.uid safe in
             elim (kept'.holds m.uid of.legal) [
@@ -100,8 +110,7 @@ keep_mail link disk file drop empty law mail devices fetch no_file no_record acc
                   ∙ no_copies (stem_of mail.account m.uid) promised.after.maildir.files none))
               | inr one ↦ inl (rw (← shows'.maildir, of.text) one)
             ]
-        | inr (inl large) ↦ absurd (true≢false (rw no_size at large))
-        | inr (inr past) ↦ inr (past.front, past.behind, past.place, past.limit, no_longer _ past.front past.before, past.full)
+        | inr out ↦ inr (left_as (λ id. rw left_none refl) out)
       ]) (shown_by drop fetch.server) is.maildrop.each (promised.promises.left_out ended),
     )
 
@@ -131,10 +140,7 @@ keep_entries link disk file drop starts law text_of devices fetch no_record only
       λ ended. (
         sym shows.bytes ∙ kept.whole ended,
         (after.rows, rw (kept.closed ended) at shows.record_is),
-        λ no_size. each (λ m of p. elim p [
-          | inl entered ↦ inl entered
-          | inr (inl large) ↦ absurd (true≢false (rw no_size at large))
-          | inr (inr past) ↦ inr (past.front, past.behind, past.place, past.limit, no_longer _ past.front past.before, past.full)
-        ]) (shown_by drop fetch.server) is.maildrop.each (kept.left_out ended),
+        kept.found,
+        kept.left_out ended,
       ),
     )

@@ -11,7 +11,7 @@ use Rattle.mail_terms.specs.declared.listing.ScanRow.{ScanRow}
 use Rattle.rc_file.specs.Settings.{IsValid}
 use Rattle.rc_file.specs.declared.settings.Settings.{Settings}
 use Rattle.fetch_record.specs.Record.{Row}
-use Rattle.fetch_rules.specs.Plan.{step_of}
+use Rattle.fetch_rules.specs.Plan.{fetches, step_of}
 use Rattle.fetch_rules.specs.declared.steps.Step.{Step}
 use Rattle.mail_store.specs.Maildir.{Maildir, WereTaken}
 use Rattle.mail_store.specs.declared.maildir.disk.MaildirDisk.{Ghosts as DiskGhosts}
@@ -77,7 +77,7 @@ module _ (name word : List ℕ) (n : ℕ) where
       let rest = tasks_planned (map step (enumerate_from (j + 1) items)) items held in
       subst (λ (ts : List Task). IsPlan name word n (Opened k) (turns_ahead ts))
       (sym (append_assoc (tasks_in s item h) rest (says quit ∷ [])))
-      (one_step k s.number item.uid item.size s.retrieve h s.delete (rest ++ says quit ∷ []) (omega (arith, some, is))
+      (one_step k s.number item.uid item.size (fetches s) h s.delete (rest ++ says quit ∷ []) (omega (arith, some, is))
       (omega (arith, from, is)) (omega (arith, fits, is))
       (λ next less. all_steps next (j + 1) step same items held (omega arith) (omega (arith, less, is)) (omega (arith, fits))))
 

@@ -1,6 +1,6 @@
 -- Calls of `fetch_local`, and what others do between them: what is promised of any list of these. Here the server's
 -- honesty is no premise: it follows from the contract of `fetch_local`.
-use Rattle.std.specs.Prelude.{◌≡◌, ◌⊎◌, ◌<◌, ◌≤◌, ◌-◌, ℕ, true, false, length, List, [], ◌∷◌, ◌++◌, None, Some}
+use Rattle.std.specs.Prelude.{◌≡◌, ◌⊎◌, ◌-◌, ℕ, true, false, length, List, [], ◌∷◌, ◌++◌, None, Some}
 use Rattle.std.specs.Prelude.{slice_get}
 use Rattle.std.specs.List.{AllByRecursion, count_by}
 use Rattle.mail_store.specs.declared.maildir.disk.MaildirDisk.{Ghosts as DiskGhosts}
@@ -27,7 +27,7 @@ use Rattle.fetch_session.specs.declared.report.Report.{Report}
 use Rattle.fetch_session.specs.Account.{digits_of}
 use Rattle.fetch_session.specs.Target.{is_sound, mail_in}
 use Rattle.fetch_runs.specs.Accounts.{AccountMail, copies, message_ids}
-use Rattle.fetch_runs.specs.Promises.{Call, Devices, IsBetween, IsMaildrop, Kept, Mail, State, state_with}
+use Rattle.fetch_runs.specs.Promises.{Call, Devices, IsBetween, IsLeftOut, IsMaildrop, Kept, Mail, State, state_with}
 use Rattle.fetch_runs.specs.Sessions.{MboxMail, entries_of, is_retr}
 use Rattle.fetch_runs.specs.Promises.{AppendsMail, Base, HoldsEntries}
 use Rattle.fetch_runs.specs.Calls.{Called, Happening, HoldsNoMore, IsLeftByLoss, IsPromised, Left, Shows}
@@ -132,15 +132,9 @@ pub record SendsFor (messages : List Message) (Is : List ℕ → Type 0) (report
       → (message : Message) × (slice_get messages (number - 1) ≡ Some message) × Is message.uid
   pub retrieved : report.outcome ≡ Ended → report.retrieved ≡ count_by is_retr commands
 
--- as many messages come before this one, and were retrieved, as the limit on their number says
-abbrev pub IsPast : {M S F : Type 0} → DropGhosts M → Fetch M S F → Message → Type 0
-IsPast drop fetch m = (front behind : List Message) × (shown_by drop fetch.server ≡ front ++ m ∷ behind)
-    × (0 < fetch.settings.max_count) × (fetch.settings.max_count ≤ length front)
-    × (fetch.report.retrieved ≡ fetch.settings.max_count)
-
 -- a law: from a Maildir without files and no record on, each message that a call removed from its server, or that it
--- sent DELE for, is held; and if the call is uncut and has no limit on sizes, each message that the server had is in
--- one file, with its text, unless it is past the limit on their number
+-- sent DELE for, is held; and if the call is uncut, each message that the server had is in one file, with its text,
+-- unless a limit leaves it out
 abbrev pub FirstFetchesKeepMail : {M D F : Type 0} → WireGhosts (Loop M) → DiskGhosts D → FileGhosts F → DropGhosts M
     → Type 0
 FirstFetchesKeepMail {M} {D} {F} link disk file drop = (mail : Mail) (devices : Devices D F)
@@ -151,9 +145,9 @@ FirstFetchesKeepMail {M} {D} {F} link disk file drop = (mail : Mail) (devices : 
     × (sent : List ℕ) × ((link.history fetch.wire).sent ≡ (link.history (loop_to fetch.server)).sent ++ sent)
     × SendsFor (shown_by drop fetch.server) (λ id. is_held mail.account (disk.maildir fetch.after.store) id ≡ true)
     fetch.report sent
-    × (fetch.report.outcome ≡ Ended → fetch.settings.max_size ≡ 0 → AllByRecursion (λ (m : Message).
+    × (fetch.report.outcome ≡ Ended → let maildrop = shown_by drop fetch.server in AllByRecursion (λ (m : Message).
     (copies (disk.maildir fetch.after.store).files (stem_of mail.account m.uid) ≡ m.text ∷ [])
-    ⊎ IsPast drop fetch m) (shown_by drop fetch.server))
+    ⊎ IsLeftOut fetch.settings (λ id. false) maildrop fetch.report.retrieved m) maildrop)
 
 -- ---- with an mboxrd file
 
@@ -199,8 +193,8 @@ MboxFetchesFromNothing {M} {D} {F} link disk file drop = (text_of : List ℕ →
     (record { rows = []; intent = None; file = bytes }) devices list
 
 -- a law: from any mboxrd file and no record on, each message that a call removed from its server, or that it sent DELE
--- for, has an entry; and if the call is uncut, the file is what it was and then entries, no intent is open, and if it
--- has no limit on sizes, each message that the server had has one, unless it is past the limit on their number
+-- for, has an entry; and if the call is uncut, the file is what it was and then entries, no intent is open, and each
+-- message that the server had has one, unless a limit leaves it out; some of these messages may have been known
 abbrev pub MboxFirstFetchesKeepMail : {M D F : Type 0} → WireGhosts (Loop M) → DiskGhosts D → FileGhosts F
     → DropGhosts M → Type 0
 MboxFirstFetchesKeepMail {M} {D} {F} link disk file drop = (text_of : List ℕ → List ℕ) (devices : Devices F F)
@@ -213,5 +207,6 @@ MboxFirstFetchesKeepMail {M} {D} {F} link disk file drop = (text_of : List ℕ �
     × (fetch.report.outcome ≡ Ended
     → (mail_in (file.stored fetch.after.store).content ≡ mail_in (file.stored devices.store).content ++ entries_of done)
     × ((rows : List Row) × FileStandsFor (file.stored fetch.after.file).content rows None)
-    × (fetch.settings.max_size ≡ 0 → AllByRecursion (λ (m : Message). (has_id (message_ids done) m.uid ≡ true)
-    ⊎ IsPast drop fetch m) (shown_by drop fetch.server)))
+    × (found : List Message) × (let maildrop = shown_by drop fetch.server in AllByRecursion (λ (m : Message).
+    (has_id (message_ids done) m.uid ≡ true)
+    ⊎ IsLeftOut fetch.settings (has_id (message_ids found)) maildrop fetch.report.retrieved m) maildrop))

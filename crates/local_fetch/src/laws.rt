@@ -47,8 +47,7 @@ pub fn fetches_keep_promises<M: Maildrop, D: MaildirDisk, F: FlatFile>()
 
 /// What the promises come to, for the first call of an account with a Maildir: each message that is no longer on
 /// the server, or that DELE was sent for, is held; and if the call is uncut, it reports as many texts as it sent
-/// RETRs, and if it has no limit on sizes, each message that the server had is in one file, with its text, unless
-/// as many come before it, and were retrieved, as the limit on their number says.
+/// RETRs, and each message that the server had is in one file, with its text, unless a limit leaves it out.
 pub fn first_fetches_keep_mail<M: Maildrop, D: MaildirDisk, F: FlatFile>()
     ensures { FirstFetchesKeepMail ⟦<LoopWire<M> as Wire>⟧ D.MaildirDisk F.FlatFile M.Maildrop }
 {

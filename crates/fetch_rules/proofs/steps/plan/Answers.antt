@@ -1,8 +1,10 @@
-use Rattle.std.proofs.Common.{◌≡◌, ℕ, ◌+◌, Bool, true, false, ◌&&◌, ◌∙◌, ap, inl, inr, arith, refl, cond, get_or}
+use Rattle.std.proofs.Common.{◌≡◌, ℕ, ◌+◌, Bool, true, false, ◌&&◌, ◌∙◌, ap, inl, inr, arith, refl, cond, get_or, Option, Some, None, not}
+use Rattle.std.specs.Prelude.{is_none, is_some}
+use Rattle.fetch_rules.specs.declared.steps.Skip.{Skip}
 use mir.Val.{bool_byte}
 use Rattle.std.proofs.lemmas.Bool.{cases_Bool}
 use Rattle.mail_terms.specs.Listing.{Item, is_first, is_last}
-use Rattle.fetch_rules.specs.Wanted.{is_asked_for, is_candidate}
+use Rattle.fetch_rules.specs.Wanted.{skip_for}
 use Rattle.fetch_rules.specs.Due.{may_delete}
 use Rattle.fetch_rules.specs.Plan.{seen_since, is_deleted}
 use Rattle.fetch_rules.proofs.PlanLemmas.{never_due, HasPlanned-more, HasPlanned-all, retrieved-planned, flags_count, flag_at}
@@ -11,6 +13,12 @@ use Rattle.fetch_rules.proofs.steps.plan.Goals as goal
 byte_of : (b : Bool) → bool_byte b ≡ cond b 1 0
 byte_of true = refl
 byte_of false = refl
+
+none_by : (skip : Option Skip) (none : Bool) → is_some skip ≡ not none → none ≡ is_none skip
+none_by None true is = refl
+none_by None false is = is
+none_by (Some why) true is = is
+none_by (Some why) false is = refl
 
 pub index-first-requires : goal.index-first-requires
 index-first-requires g c =
@@ -23,12 +31,12 @@ index-first-requires g c =
 pub index-requires : goal.index-requires
 index-requires g c = omega (arith, c.in_ok-lasts.ensures.count)
 
-first : (g : _) (c : goal.After-from-candidates g) (item : Item)
+first : (g : _) (c : goal.After-from-fetched g) (item : Item)
     → c.index-first.result.now ≡ is_first c.args.listing.now (c.loop-i.i + 1, get_or c.args.listing.now c.loop-i.i item)
 first g c = flag_at (is_first c.args.listing.now) c.args.listing.now c.in_ok-firsts.firsts.items c.loop-i.i
     c.index-first.result.now c.in_ok-firsts.ensures (omega arith) c.index-first.ensures
 
-alone : (g : _) (c : goal.After-from-candidates g) (item : Item) → may_delete c.args.settings.now ≡ true
+alone : (g : _) (c : goal.After-from-fetched g) (item : Item) → may_delete c.args.settings.now ≡ true
     → (c.index-first.result.now && c.index.result.now)
     ≡ (is_first c.args.listing.now (c.loop-i.i + 1, get_or c.args.listing.now c.loop-i.i item) && is_last
     c.args.listing.now (c.loop-i.i + 1, get_or c.args.listing.now c.loop-i.i item))
@@ -39,16 +47,17 @@ alone g c item asked = rw (
       c.index.ensures item,
 ) refl
 
-candidate : (g : _) (c : goal.After-from-candidates g) (item : Item)
-    → c.is_candidate-candidate.result ≡ is_candidate c.args.settings.now c.args.seen.now.rows c.args.listing.now
-    (c.loop-i.i + 1, get_or c.args.listing.now c.loop-i.i item)
-candidate g c item = c.is_candidate-candidate.ensures item
-    ∙ ap (λ (b : Bool). b && is_asked_for c.args.settings.now c.args.seen.now.rows
-    (c.loop-i.i + 1, get_or c.args.listing.now c.loop-i.i item)) (first g c item)
+skip : (g : _) (c : goal.After-from-fetched g) (item : Item)
+    → c.skip_for-skip.result ≡ skip_for c.args.settings.now c.args.seen.now.rows
+    (is_first c.args.listing.now (c.loop-i.i + 1, get_or c.args.listing.now c.loop-i.i item)) c.is_full-full.result
+    (get_or c.args.listing.now c.loop-i.i item)
+skip g c item = c.skip_for-skip.ensures item
+    ∙ ap (λ (b : Bool). skip_for c.args.settings.now c.args.seen.now.rows b c.is_full-full.result
+    (get_or c.args.listing.now c.loop-i.i item)) (first g c item)
 
-deleted : (g : _) (c : goal.After-from-candidates g) (item : Item)
+deleted : (g : _) (c : goal.After-from-fetched g) (item : Item)
     → c.is_done_with-delete.result ≡ is_deleted c.args.settings.now c.args.seen.now.rows c.args.listing.now c.args.now
-    c.is_below_limit-retrieve.result (c.loop-i.i + 1, get_or c.args.listing.now c.loop-i.i item)
+    c.is_none.result (c.loop-i.i + 1, get_or c.args.listing.now c.loop-i.i item)
 deleted g c item = c.is_done_with-delete.ensures item ∙ elim (cases_Bool (may_delete c.args.settings.now)) [
   | inl asked ↦ rw (alone g c item asked) refl
   | inr never ↦ rw (never_due c.args.settings.now c.args.now
@@ -58,10 +67,13 @@ deleted g c item = c.is_done_with-delete.ensures item ∙ elim (cases_Bool (may_
 pub loop-i-preserved : goal.loop-i-preserved
 loop-i-preserved g c =
     rw c.in_ok-push.ensures.items
-    (HasPlanned-more _ _ _ _ _ _ _ c.is_candidate-candidate.result c.is_below_limit-retrieve.result
-    c.is_done_with-delete.result _ c.loop-i.invariant (omega arith)
-    (candidate g c) c.is_below_limit-retrieve.ensures (deleted g c)
-    (ap (λ (k : ℕ). c.loop-i.candidates + k) (c.from-candidates.ensures ∙ byte_of c.is_candidate-candidate.result)))
+    (HasPlanned-more _ _ _ _ _ _ _ c.is_full-full.result c.skip_for-skip.result c.is_done_with-delete.result _
+    c.loop-i.invariant (omega arith) c.is_full-full.ensures (skip g c)
+    (λ item. deleted g c item ∙ ap (λ (b : Bool). is_deleted c.args.settings.now c.args.seen.now.rows c.args.listing.now
+    c.args.now b (c.loop-i.i + 1, get_or c.args.listing.now c.loop-i.i item))
+    (none_by c.skip_for-skip.result c.is_none.result c.is_none.ensures))
+    (ap (λ (k : ℕ). c.loop-i.fetched + k) (c.from-fetched.ensures ∙ byte_of c.is_none-in-loop-i.result
+    ∙ ap (λ (b : Bool). cond b 1 0) (none_by c.skip_for-skip.result c.is_none-in-loop-i.result c.is_none-in-loop-i.ensures))))
 
 pub returns-clause-steps : goal.returns-clause-steps
 returns-clause-steps g c = HasPlanned-all _ _ _ _ _ _ _ c.loop-i.invariant (omega arith)

@@ -7,9 +7,8 @@ use Rattle.fetch_rules.specs.Plan.{IsQuiet, planned}
 use Rattle.fetch_rules.specs.declared.steps.Step.{Step}
 use Rattle.pop3_client.specs.Turns.{quit}
 use Rattle.fetch_session.proofs.TalkLemmas.{err_is}
-use Rattle.fetch_session.specs.Target.{AfterTakingIn, is_sound, none_held, stores_of, target_of}
+use Rattle.fetch_session.specs.Target.{AfterTakingIn, is_sound, stores_of, target_of}
 use Rattle.fetch_session.specs.Hearing.{AreMerged, HearsOne, IsPlanned}
-use Rattle.fetch_session.specs.MessagePreview.{message_previews}
 use Rattle.fetch_session.proofs.HearingLemmas.{heard_as, heard_then}
 use Rattle.fetch_session.specs.Lasting.{CarriesLast}
 use Rattle.fetch_session.specs.Plan.{Carries}
@@ -130,8 +129,7 @@ carries g c r (keeps, does) = λ w d f.
     carried g.D.MaildirDisk g.F.FlatFile was.store before.store was.ledger.file before.ledger.file
     before.ledger.lines.items c.deref-2.result.now c.deref-3.result.now
     (ap (λ lines. lines.items) c.prepare.ensures.store.lines) is.readies c.deref-2.ensures.value c.deref-3.ensures.value
-    (c.skips_of.ensures ∙ ap (skips_of c.args.terms.settings.now before.ledger.seen.rows c.args.listing.now
-    c.args.terms.now) c.deref.ensures.value)
+    (c.skips_of.ensures ∙ ap skips_of c.deref.ensures.value)
     is.lasts (λ none. ((keeps.idle none).0, (keeps.idle none).1 d))
     (in_kind before.store was.store c.args.terms.account.now c.prepare.ensures.store.kind done.4 (λ safe. safe)))
 
@@ -180,9 +178,8 @@ told g c store file back =
             (ready.0, ready.1, (ready.2.readies.was, ready.2.readies.stood, ready.2.readies.rows)),
       );
       total_is = refl;
-      skips = c.skips_of.ensures ∙ ap (skips_of settings rows items now) (c.deref.ensures.value ∙ c.in_ok-ready.ensures.plans.steps);
-      is = is ∙ ap (λ (steps : List Step). message_previews settings rows now 0 steps items (none_held items))
-          (c.deref-2.ensures.value ∙ c.in_ok-ready.ensures.plans.steps);
+      skips = c.skips_of.ensures ∙ ap skips_of (c.deref.ensures.value ∙ c.in_ok-ready.ensures.plans.steps);
+      is = is ∙ c.deref-2.ensures.value ∙ c.in_ok-ready.ensures.plans.steps;
     }) c.tell_plan.ensures) c.do_steps.ensures.heard
 
 pub returns-in_err-do_steps : goal.returns-in_err-do_steps

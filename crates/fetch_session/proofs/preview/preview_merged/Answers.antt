@@ -22,7 +22,7 @@ returns g c =
     ∙ ap (λ (seen : Loaded). merged seen.rows items c.deref-held.result.now now) c.close.ensures.after
     ∙ ap (λ (flags : List Bool). merged ended items flags now) c.deref-held.ensures.value in
     IfOk-weaker c.message_previews.result _ _
-    (λ told is. is ∙ ap (λ (flags : List Bool). message_previews settings c.merge.new.self.rows now 0 c.deref.result.now
+    (λ told is. is ∙ ap (λ (flags : List Bool). message_previews settings c.merge.new.self.rows now c.deref.result.now
     items flags) c.deref-held.ensures.value
     ∙ previews_are settings ended _ items c.args.found.now.held.items now c.deref.result.now rows (c.deref.ensures.value
     ∙ c.in_ok-steps.ensures.steps))

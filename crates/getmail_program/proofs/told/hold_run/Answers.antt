@@ -1,6 +1,6 @@
 use Rattle.std.proofs.Common.{refl, subst, sym, inl, ◌≡◌, ◌⊎◌, ◌∙◌, ap, Bool, true, false, List, [], if◌then◌else◌}
 use Rattle.fetch_session.specs.Hearing.{IsPlanOf}
-use Rattle.fetch_session.specs.declared.message_preview.MessagePreview.{MessagePreview}
+use Rattle.fetch_rules.specs.declared.steps.Step.{Step}
 use Rattle.fetch_session.specs.declared.report.Report.{Report}
 use Rattle.fetch_session.specs.Lasting.{RunsSession}
 use Rattle.fetch_session.specs.Refusal.{IsWithinLimits}
@@ -9,7 +9,7 @@ use Rattle.getmail_program.specs.declared.told.Told.TheVariants.{Done}
 use Rattle.getmail_program.proofs.told.hold_run.Goals as goal
 
 -- the plan that is told, if reasons are asked for
-told_plan : (IsPlan : Report → List MessagePreview → Type 0) (report : Report) (explains : Bool) (plan kept : List MessagePreview)
+told_plan : (IsPlan : Report → List Step → Type 0) (report : Report) (explains : Bool) (plan kept : List Step)
     → plan ≡ (if explains then kept else []) → (kept ≡ []) ⊎ IsPlan report kept → IsOwnPlan IsPlan (Done report) plan
 told_plan IsPlan report true plan kept is own = rw is own
 told_plan IsPlan report false plan kept is own = inl is
@@ -18,7 +18,7 @@ pub returns-clause-reported : goal.returns-clause-reported
 returns-clause-reported g c =
     let said = c.hold_telling-report in
     let asked = c.asked_for-plan.ensures
-    ∙ ap (λ (kept : List MessagePreview). if c.args.manner.explains then kept else []) c.deref.ensures.value in
+    ∙ ap (λ (kept : List Step). if c.args.manner.explains then kept else []) c.deref.ensures.value in
     record {
       plan = c.asked_for-plan.result.now;
       own = told_plan (IsPlanOf g.W.Wire g.D.MaildirDisk g.F.FlatFile c.args.manner.now c.args.account.now
