@@ -33,9 +33,9 @@ use Rattle.fetch_rules.specs.Laws.{FetchesAsked, FetchesFirsts}
 use Rattle.fetch_rules.specs.Plan.{fetches, is_deleted, planned, retrieved, step_of}
 use Rattle.fetch_rules.specs.Wanted.{is_candidate, is_full, is_limit, is_within, skip_for, skip_of, wanted}
 use Rattle.fetch_rules.specs.Wanted.{DistinctAreFiltered, WantedAreFirst}
-use Rattle.fetch_rules.specs.declared.steps.Skip.{Skip}
-use Rattle.fetch_rules.specs.declared.steps.Skip.TheVariants.{Delivered, TooLarge, PastLimit, SameId}
-use Rattle.fetch_rules.specs.declared.steps.Step.{Step}
+use Rattle.fetch_rules.specs.declared.plans.Skip.{Skip}
+use Rattle.fetch_rules.specs.declared.plans.Skip.TheVariants.{Delivered, TooLarge, PastLimit, SameId}
+use Rattle.fetch_rules.specs.declared.plans.Step.{Step}
 
 -- a message with its number
 abbrev pub Message : Type 0

@@ -5,7 +5,7 @@ use Rattle.fetch_record.specs.Record.{Row, is_delivered, first_seen_of}
 use Rattle.fetch_rules.specs.Wanted.{skip_of}
 use Rattle.fetch_rules.specs.Due.{is_due}
 use Rattle.rc_file.specs.declared.settings.Settings.{Settings}
-use Rattle.fetch_rules.specs.declared.steps.Step.{Step}
+use Rattle.fetch_rules.specs.declared.plans.Step.{Step}
 
 -- when the id was first seen: now, if it has no row
 abbrev pub seen_since : List Row → List ℕ → ℕ → ℕ

@@ -4,8 +4,8 @@ use Rattle.std.specs.Prelude.{Option, Some, None, is_none, if◌then◌else◌}
 use Rattle.mail_terms.specs.Listing.{Item, HasDistinctIds, numbered, is_first}
 use Rattle.fetch_record.specs.Record.{Row, is_delivered}
 use Rattle.rc_file.specs.declared.settings.Settings.{Settings}
-use Rattle.fetch_rules.specs.declared.steps.Skip.{Skip}
-use Rattle.fetch_rules.specs.declared.steps.Skip.TheVariants.{Delivered, TooLarge, PastLimit, SameId}
+use Rattle.fetch_rules.specs.declared.plans.Skip.{Skip}
+use Rattle.fetch_rules.specs.declared.plans.Skip.TheVariants.{Delivered, TooLarge, PastLimit, SameId}
 
 -- whether a size is within the limit; 0 sets none
 abbrev pub is_within : ℕ → ℕ → Bool

@@ -13,13 +13,13 @@ use mail_terms::ScanRow;
 use rc_file::Settings;
 
 /// A plan fetches only messages whose id no earlier message has, so no id twice.
-pub fn firsts_are_fetched()
+pub fn only_firsts_are_fetched()
     ensures { (settings : Settings) (rows : List Row) (listing : List Item) (now : ℕ)
         → FetchesFirsts [] (planned settings rows listing now) listing }
 {}
 
 /// A plan fetches only messages that aren't recorded as delivered, unless all are to be read.
-pub fn plans_fetch_what_is_asked_for()
+pub fn only_asked_for_are_fetched()
     ensures { (settings : Settings) (rows : List Row) (listing : List Item) (now : ℕ)
         → FetchesAsked settings rows (planned settings rows listing now) listing }
 {}

@@ -6,7 +6,7 @@
 
 mod laws;
 mod occurrence;
-mod steps;
+mod plans;
 
 pub use fetch_record::{
     Intent, Seen, SeenFault, appended_counts, bytes_have_one_meaning, bytes_stand, cut_is_ignored,
@@ -15,12 +15,12 @@ pub use fetch_record::{
     merges_ask_only_for_new_ids, open_intents_have_rows, torn_is_ignored_or_seen,
 };
 pub use laws::{
-    distinct_messages_are_filtered, firsts_are_fetched, plans_fetch_wanted,
-    plans_fetch_what_is_asked_for, rows_join_in_one_way, wanted_are_first,
+    distinct_messages_are_filtered, only_asked_for_are_fetched, only_firsts_are_fetched,
+    plans_fetch_wanted, rows_join_in_one_way, wanted_are_first,
 };
 pub use mail_terms::{Listing, ListingFault, MESSAGE_LIMIT, ScanRow, UidRows, is_legal_id};
+pub use plans::{SECONDS_PER_DAY, Skip, Step, ask_nothing, plan, plan_of_known};
 pub use rc_file::{
     Dest, Flags, Key, RcFault, Section, Settings, Warning, full_path, override_with, rc_text,
     read_rc, warning_text,
 };
-pub use steps::{SECONDS_PER_DAY, Skip, Step, ask_nothing, plan, plan_of_known};

@@ -38,13 +38,14 @@ use Rattle.mail_store.specs.Durable.{seen_on}
 use Rattle.fetch_runs.proofs.Promised.{IsSession, others_leave_kept, sessions_keep_promises, copies_came}
 use Rattle.fetch_runs.proofs.Promised.{copies_messages, held_copies, named_messages, one_text}
 use Rattle.fetch_runs.proofs.Safety.{texts_stand}
-use Rattle.fetch_runs.proofs.Steps.{mbox_session_is_a_step, session_is_a_step}
+use Rattle.fetch_runs.proofs.Steps.{mbox_sessions_lose_nothing, sessions_lose_nothing}
 use Rattle.std.specs.List.{AllByRecursion}
 use Rattle.std.proofs.lemmas.Bool.{both_ways, false_from_ne_true, or_left, cases_Bool}
 use Rattle.std.proofs.lemmas.List.{append-nil}
 use Rattle.mail_terms.specs.UniqueId.{is_legal_id, has_id}
 use Rattle.fetch_record.specs.Record.{is_delivered}
-use Rattle.fetch_runs.specs.Headline.{World, IsSound, HoldsAPrefix, EmptyFrontsBegin, NoneTaken, StaysAway, selected_of, MboxStartsInOrder}
+use Rattle.fetch_runs.specs.Headline.{World, IsSound, HoldsAPrefix, EmptyFrontsBegin}
+use Rattle.fetch_runs.specs.Headline.{NoneTaken, TakenStaysAway, selected_of, MboxFrontsBegin}
 use Rattle.fetch_runs.specs.Headline.{EntriesMeanTexts, IsInOrder, world_without, Headline, MboxHeadline, HoldsAMboxPrefix, IsUnbegun}
 use Rattle.fetch_runs.proofs.Core.{next_here, prefix_left, done_legal, done_distinct}
 use Rattle.mail_terms.specs.Text.{IsWhole}
@@ -75,7 +76,7 @@ calls_leave : Below → {W D F : Type 0} (link : WireGhosts W) (disk : DiskGhost
 calls_leave laws link disk file mail account devices call shows account_is is =
     let met = is.made.2 is.link_sound is.store_sound is.file_sound in
     let left : Maildir = met.4.0 in
-    let s = (session_is_a_step laws call.settings (digits_of call.settings) call.now (link.history call.wire)
+    let s = (sessions_lose_nothing laws call.settings (digits_of call.settings) call.now (link.history call.wire)
     (account_files left (file.stored devices.file)) account.rows call.report (link.history call.wire')
     (account_files (disk.maildir call.after.store) (file.stored call.after.file)) is.made.0 (shows.intent, shows.record_is) met.4.2.0).0 in
     let after : AccountMail = holds s.rows' (disk.maildir call.after.store) in
@@ -196,7 +197,7 @@ mbox_calls_append laws link _ file sessions base _ account devices call shows ho
     let met = sessions call.now (record { settings = call.settings; store = _; file = devices.file })
     (record { settings = call.settings; store = _; file = call.after.file }) call.wire call.wire' call.report is.made.1 is.made.2
     is.link_sound is.store_sound is.file_sound in
-    let s = (mbox_session_is_a_step laws call.settings call.now (link.history call.wire)
+    let s = (mbox_sessions_lose_nothing laws call.settings call.now (link.history call.wire)
     (mbox_account_files (file.stored devices.store) (file.stored devices.file))
     (record { rows = account.rows; intent = account.intent }) call.report (link.history call.wire')
     (mbox_account_files (file.stored call.after.store) (file.stored call.after.file)) is.made.0 shows.record_is met.4.0).0 in (
@@ -378,8 +379,9 @@ order_shows_next text_of limit all done rest _ _ are prefix order =
 pub none_taken : NoneTaken
 none_taken _ _ after none stays id = grind (arith, none id, stays id)
 
-pub stays_away : Below → {W D F : Type 0} (link : WireGhosts W) (disk : DiskGhosts D) (file : FileGhosts F) → StaysAway link disk file
-stays_away laws _ _ _ mail state _ call id account drop is new legal recorded unheld =
+pub taken_stays_away : Below → {W D F : Type 0} (link : WireGhosts W) (disk : DiskGhosts D) (file : FileGhosts F)
+    → TakenStaysAway link disk file
+taken_stays_away laws _ _ _ mail state _ call id account drop is new legal recorded unheld =
     let promises = is.promises in
     let legal_came = all_map _ promises.new
     (λ m h. all_at (λ x. is_legal_id x ≡ true) call.maildrop (all_map _ drop.each (λ n k. k.legal)) h.shown) in
@@ -425,8 +427,8 @@ withdrawn_leave_prefixes world done account ids sound is unbegun = (
     recorded_is id = is.holds.recorded id ∙ ap (λ b. b || has_id (message_ids done) id) (is.front.had id)
         ∙ sym (ids_both is.front.first done id)
 
-pub starts_in_order : MboxStartsInOrder
-starts_in_order world account first rest closed prefix recorded = record {
+pub mbox_fronts_begin : MboxFrontsBegin
+mbox_fronts_begin world account first rest closed prefix recorded = record {
   holds = starts world.start account closed;
   front = record {
     first = first;

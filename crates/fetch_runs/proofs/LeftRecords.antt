@@ -27,7 +27,7 @@ use Rattle.fetch_rules.specs.Plan.{IsQuiet, planned}
 use Rattle.fetch_session.specs.Lasting.{AreLeft, CarriedLasts, CarriesLast, IsRecordUntouched, Lasts, LeavesFile}
 use Rattle.fetch_session.specs.Lasting.{IsGrownAtMost, LeavesMerged, ProceedsLast, SessionLasts, UnlessQuiet, UnreadyLasts, IsSafeFile}
 use Rattle.fetch_session.specs.Laws.{LeavesDurable}
-use Rattle.fetch_session.specs.Plan.{Carried, Carries, tasks_ahead}
+use Rattle.fetch_session.specs.CarryingOut.{Carried, Carries, tasks_ahead}
 use Rattle.fetch_session.specs.Readiness.{AreDurable, IsMerged, IsMergedAtMost, IsAnew, IsFileKept}
 use Rattle.fetch_session.specs.Scene.{Does, FileNotSaved, NoFile, Scene, Stops, Went, scene}
 use Rattle.fetch_session.specs.Session.{Keeping, Proceeds, Session, account_files, keeps_files}

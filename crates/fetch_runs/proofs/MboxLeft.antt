@@ -21,7 +21,7 @@ use Rattle.mail_store.proofs.SettlingLemmas.{all_left}
 use Rattle.fetch_session.specs.Lasting.{AreSure, CarriesLast, IsCutLeft, IsEntryLeft, IsGrownAtMost, IsSafeFile}
 use Rattle.fetch_session.specs.Lasting.{KeptLasts, Lasts, LeavesSettled, LeavesStore, ProceedsLast, SessionLasts, UnlessQuiet, UnreadyLasts}
 use Rattle.fetch_session.specs.Mbox.{intent_of}
-use Rattle.fetch_session.specs.Plan.{Carried, Carries, tasks_ahead}
+use Rattle.fetch_session.specs.CarryingOut.{Carried, Carries, tasks_ahead}
 use Rattle.fetch_session.specs.Readiness.{AreDurable, IsFileKept, IsMerged, IsMergedAtMost, merged_in}
 use Rattle.fetch_session.specs.Record.{Keeps, record_state, with_open}
 use Rattle.fetch_session.specs.Report.{Reports}

@@ -23,7 +23,7 @@ use Rattle.pop3_client.specs.Texts.{body_text}
 use Rattle.fetch_session.specs.declared.fault.Cut.{Cut}
 use Rattle.fetch_session.specs.declared.fault.Fault.{Fault}
 use Rattle.fetch_session.specs.declared.fault.Fault.TheVariants.{SeenRefused, NoMemory, StoreRefused}
-use Rattle.fetch_session.specs.Plan.{Carried, tasks_ahead as tasks_for}
+use Rattle.fetch_session.specs.CarryingOut.{Carried, tasks_ahead as tasks_for}
 use Rattle.fetch_session.specs.Record.{Keeps, Steady, record_state, with_open}
 use Rattle.fetch_session.specs.Scene.{Scene, Went, Fell, NoEntry, Stops, Does, EntryNotSaved}
 use Rattle.fetch_session.specs.Session.{outcome_of, Keeping, Noted, Proceeds}

@@ -16,7 +16,7 @@ use Rattle.pop3_wire.specs.World.{Message}
 use Rattle.mail_store.specs.FlatFile.{Stored}
 use Rattle.pop3_wire.specs.declared.command.Command.{Command}
 use Rattle.pop3_wire.specs.declared.command.Command.TheVariants.{Dele, User, Pass, Stat, UidlAll, ListAll, Retr}
-use Rattle.fetch_runs.specs.Steps.{holds, IsStep, SessionIsAStep, IsMboxStep, MboxSessionIsAStep, mbox_holds}
+use Rattle.fetch_runs.specs.Steps.{holds, IsStep, SessionsLoseNothing, IsMboxStep, MboxSessionsLoseNothing, mbox_holds}
 use Rattle.fetch_runs.specs.Below.{Below}
 use Rattle.pop3_wire.specs.Honest.{HasSent}
 use Rattle.fetch_runs.proofs.Lists.{all_map, bytes_self, all_back}
@@ -94,8 +94,8 @@ module _ {settings : Settings} {target : Target} {now : ℕ} {link : Link} {befo
 
 -- ---- with a Maildir
 
-pub session_is_a_step : Below → SessionIsAStep
-session_is_a_step laws settings account now link before rows report link' after valid keeps is =
+pub sessions_lose_nothing : Below → SessionsLoseNothing
+sessions_lose_nothing laws settings account now link before rows report link' after valid keeps is =
     let step = joined (course_proceeded settings (AsFiles account) now (at link []) (keeps_files before) is.result
     is.mid (keeps_files after) is.notes is.proceeds)
     (course_leads laws settings account now before.maildir rows before.file keeps (at link []) is.result is.mid after is.notes is.proceeds)
@@ -165,8 +165,8 @@ no_message _ _ = tt
 
 -- ---- with an mboxrd file
 
-pub mbox_session_is_a_step : Below → MboxSessionIsAStep
-mbox_session_is_a_step laws settings now link before held report link' after valid keeps is =
+pub mbox_sessions_lose_nothing : Below → MboxSessionsLoseNothing
+mbox_sessions_lose_nothing laws settings now link before held report link' after valid keeps is =
     let step = joined (course_proceeded settings AsEntries now (at link []) (keeps_entries before) is.result is.mid
     (keeps_entries after) is.notes is.proceeds)
     (course_leaves laws settings now (keeps_entries before) held keeps (at link []) is.result is.mid

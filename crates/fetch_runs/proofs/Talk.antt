@@ -18,7 +18,7 @@ use Rattle.fetch_session.specs.declared.report.ReportLine.{ReportLine}
 use Rattle.fetch_session.specs.declared.report.Skips.{Skips}
 use Rattle.fetch_session.specs.Task.{Task, stores, rereads, Done, tasks_of, says, turns_in, turns_of}
 use Rattle.fetch_session.specs.Task.{IsAnswered, tasks_planned, report_lines, lines_in}
-use Rattle.fetch_session.specs.Plan.{tasks_ahead, Carried, Carries, Prepared}
+use Rattle.fetch_session.specs.CarryingOut.{tasks_ahead, Carried, Carries, Prepared}
 use Rattle.fetch_session.specs.Scene.{Scene, scene, Does}
 use Rattle.fetch_session.specs.Session.{Keeping, Dealt, Proceeds, LeavesLink, Enters_with, SessionIn, keeps_entries, keeps_files}
 use Rattle.fetch_session.specs.Target.{Target, AsFiles, AsEntries, Stores}
@@ -33,7 +33,7 @@ use Rattle.fetch_runs.specs.Conversations.{is_retrieval, retrieved_by, FollowsPl
 use Rattle.fetch_runs.specs.Conversations.{SessionsAreConversations, step_commands}
 use Rattle.fetch_record.specs.Record.{Row}
 use Rattle.fetch_rules.specs.Plan.{planned, step_of}
-use Rattle.fetch_rules.specs.declared.steps.Step.{Step}
+use Rattle.fetch_rules.specs.declared.plans.Step.{Step}
 use Rattle.pop3_client.specs.declared.fault.ClientFault.{ClientFault}
 use Rattle.pop3_client.specs.Conversation.{Talked, Talks}
 use Rattle.fetch_session.specs.Fault.{fault_of}

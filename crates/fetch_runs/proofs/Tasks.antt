@@ -14,7 +14,7 @@ use Rattle.fetch_record.specs.Record.{Row, is_delivered, is_of, has_row, with_de
 use Rattle.fetch_record.specs.Record.{merged, none_open}
 use Rattle.fetch_rules.specs.Wanted.{wanted}
 use Rattle.fetch_rules.specs.Plan.{fetches, step_of}
-use Rattle.fetch_rules.specs.declared.steps.Step.{Step}
+use Rattle.fetch_rules.specs.declared.plans.Step.{Step}
 use Rattle.mail_store.specs.Maildir.{Maildir}
 use Rattle.mail_store.specs.FileName.{is_held}
 use Rattle.pop3_client.specs.Turns.{quit, IsGood}
@@ -38,7 +38,7 @@ use Rattle.fetch_session.specs.declared.report.Outcome.TheVariants.{Cut as WasCu
 use Rattle.fetch_session.specs.Record.{Keeps, Steady}
 use Rattle.fetch_session.specs.Scene.{Scene, Went, Fell}
 use Rattle.fetch_session.specs.Session.{outcome_of}
-use Rattle.fetch_session.specs.Plan as Session
+use Rattle.fetch_session.specs.CarryingOut as Session
 use Rattle.std.proofs.lemmas.Option.{slice_get_within, get_or_from_slice_get}
 use Rattle.fetch_runs.proofs.Core.{IsNumbered, are_numbered}
 

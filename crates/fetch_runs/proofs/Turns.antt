@@ -19,7 +19,7 @@ use Rattle.fetch_session.specs.declared.report.Skips.{Skips}
 use Rattle.fetch_session.specs.Task.{Task, stores, rereads, deletes, Done, tasks_of, says, skips, turns_in, turns_of}
 use Rattle.fetch_session.specs.Task.{replies_of, IsAnswered, tasks_planned, task_in, report_lines, delivered}
 use Rattle.fetch_session.specs.Store.{RefusesText}
-use Rattle.fetch_session.specs.Plan.{tasks_ahead, Carried, Carries}
+use Rattle.fetch_session.specs.CarryingOut.{tasks_ahead, Carried, Carries}
 use Rattle.fetch_session.specs.Scene.{Scene, scene, NoFile, Stops, Does}
 use Rattle.fetch_session.specs.Session.{Keeping, Noted, Dealt, Proceeds, outcome_of}
 use Rattle.fetch_session.specs.Target.{Target, AsFiles, AsEntries, Stores}
@@ -37,7 +37,7 @@ use Rattle.std.proofs.lemmas.Bool.{true≢false}
 use Rattle.pop3_wire.specs.Body.{Body}
 use Rattle.fetch_record.specs.Record.{Row}
 use Rattle.fetch_rules.specs.Plan.{step_of}
-use Rattle.fetch_rules.specs.declared.steps.Step.{Step}
+use Rattle.fetch_rules.specs.declared.plans.Step.{Step}
 use Rattle.pop3_client.specs.declared.fault.ClientFault.{ClientFault}
 use Rattle.pop3_client.specs.Conversation.{Talked, Talks, Broke, IsFrontOfNext}
 use Rattle.fetch_session.specs.Fault.{fault_of}

@@ -5,7 +5,7 @@ use Rattle.std.specs.List.{flat_map, count_by, AllZip}
 use Rattle.pop3_wire.specs.declared.command.Command.{Command}
 use Rattle.pop3_wire.specs.declared.command.Command.TheVariants.{User, Pass, Stat, UidlAll, ListAll, Retr, Dele, Rset}
 use Rattle.pop3_wire.specs.declared.command.Command.TheVariants.{Quit}
-use Rattle.fetch_rules.specs.declared.steps.Step.{Step}
+use Rattle.fetch_rules.specs.declared.plans.Step.{Step}
 use Rattle.std.specs.String.{string_bytes}
 use Rattle.pop3_wire.specs.Honest.{HasSent}
 use Rattle.pop3_wire.specs.Link.{Link}

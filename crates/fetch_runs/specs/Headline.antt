@@ -79,8 +79,8 @@ NoneTaken = (mail : Mail) (state : State) (after : AccountMail) → ((id : List 
     → (id : List ℕ) → (state_with mail state [] after).taken id ≡ false
 
 -- a law: a call that reads only what is new doesn't store a message again that is recorded as delivered and isn't held
-abbrev pub StaysAway : {W D F : Type 0} → WireGhosts W → DiskGhosts D → FileGhosts F → Type 0
-StaysAway {W} {D} {F} link disk file = (mail : Mail) (state : State) (devices : Devices D F) (call : Call W D F)
+abbrev pub TakenStaysAway : {W D F : Type 0} → WireGhosts W → DiskGhosts D → FileGhosts F → Type 0
+TakenStaysAway {W} {D} {F} link disk file = (mail : Mail) (state : State) (devices : Devices D F) (call : Call W D F)
     (id : List ℕ) → IsAccountText mail.account → IsMaildrop mail.text call.maildrop
     → (is : IsPromised link disk file mail state devices call) → call.settings.read_all ≡ false
     → is_legal_id id ≡ true → is_delivered state.account.rows id ≡ true → is_held mail.account is.left id ≡ false
@@ -137,8 +137,8 @@ IsUnbegun account id = (is_delivered account.rows id ≡ false)
 
 -- a law: it may begin with any file, and with a record that has no open intent and shows exactly a prefix of the
 -- selected messages as delivered, as an empty one does; also after others wrote
-abbrev pub MboxStartsInOrder : Type 0
-MboxStartsInOrder = (world : World Base) (account : MboxMail) (first rest : List Message) → account.intent ≡ None
+abbrev pub MboxFrontsBegin : Type 0
+MboxFrontsBegin = (world : World Base) (account : MboxMail) (first rest : List Message) → account.intent ≡ None
     → selected_of world ≡ first ++ rest
     → ((id : List ℕ) → is_delivered account.rows id ≡ has_id (message_ids first) id)
     → HoldsAMboxPrefix (record world { start = base_from world.start account }) [] account
@@ -154,7 +154,7 @@ EntriesMeanTexts = (base : Base) (done : List Message) (account : MboxMail) (fir
 -- the devices show an account whose file holds a prefix. If messages that weren't begun are withdrawn, and the next
 -- call shows a beginning of all mail but for some that are entered, it appends entries and keeps its promises, and a
 -- prefix is held after it; and so on. What others left holds a prefix after some bytes, as each account in order does
--- without an open intent (`mbox_starts_in_order`); and so does what a loss of power left, if whatever it might leave
+-- without an open intent (`mbox_fronts_begin`); and so does what a loss of power left, if whatever it might leave
 -- does, and begins nothing that is withdrawn, which calls keep
 abbrev pub HoldMboxPrefixes : {W D F : Type 0} → WireGhosts W → DiskGhosts D → FileGhosts F → World Base → List Message
     → MboxMail → Devices F F → List (Happening (Call W F F) (Devices F F) MboxMail) → Type 0

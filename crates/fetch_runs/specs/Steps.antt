@@ -114,9 +114,9 @@ pub record IsStep (settings : Settings) (account : List ℕ) (now : ℕ) (link :
   pub session : SessionOverLink settings account (holds rows before.maildir) sent got report effect
       (holds rows' after.maildir)
 
--- a law: what `session_is_a_step` says in words
-abbrev pub SessionIsAStep : Type 0
-SessionIsAStep = (settings : Settings) (account : List ℕ) (now : ℕ) (link : Link) (before : AccountFiles)
+-- a law: what `sessions_lose_nothing` says in words
+abbrev pub SessionsLoseNothing : Type 0
+SessionsLoseNothing = (settings : Settings) (account : List ℕ) (now : ℕ) (link : Link) (before : AccountFiles)
     (rows : List Row) (report : Report) (link' : Link) (after : AccountFiles)
     → IsValid settings → KeepsRows before.file.content rows
     → SessionIn settings (AsFiles account) now link (keeps_files before) report link' (keeps_files after)
@@ -158,9 +158,9 @@ pub record AddsTexts (settings : Settings) (before : MboxMail) (effect : Effect)
   pub texts : (first : List (List ℕ)) → MboxFile (settled effect.listing before).file first
       → MboxFile after.file (first ++ effect.texts)
 
--- a law: what `mbox_session_is_a_step` says in words
-abbrev pub MboxSessionIsAStep : Type 0
-MboxSessionIsAStep = (settings : Settings) (now : ℕ) (link : Link) (before : MboxAccountFiles) (held : RecordState)
+-- a law: what `mbox_sessions_lose_nothing` says in words
+abbrev pub MboxSessionsLoseNothing : Type 0
+MboxSessionsLoseNothing = (settings : Settings) (now : ℕ) (link : Link) (before : MboxAccountFiles) (held : RecordState)
     (report : Report) (link' : Link) (after : MboxAccountFiles) → IsValid settings → Keeps before.file.content held
     → SessionIn settings AsEntries now link (keeps_entries before) report link' (keeps_entries after)
     → (step : IsMboxStep settings now link before held report link' after)

@@ -4,11 +4,11 @@ ghost use Rattle.fetch_runs.specs.Below.{Below};
 ghost use Rattle.fetch_runs.specs.Calls.{CallsKeepPromises, EmptyAccountsAreKept};
 ghost use Rattle.fetch_runs.specs.Conversations.{MboxSessionsFollowPlans, SessionsAreConversations};
 ghost use Rattle.fetch_runs.specs.Headline.{EmptyFrontsBegin, EntriesMeanTexts, Headline, MboxHeadline};
-ghost use Rattle.fetch_runs.specs.Headline.{MboxStartsInOrder, NoneTaken, StaysAway};
+ghost use Rattle.fetch_runs.specs.Headline.{MboxFrontsBegin, NoneTaken, TakenStaysAway};
 ghost use Rattle.fetch_runs.specs.Losses.{DurableAccountsAreSafe, DurableFrontsBegin};
 ghost use Rattle.fetch_runs.specs.Calls.{DurableMboxesAreSafe, MboxCallsKeepPromises};
 ghost use Rattle.fetch_runs.specs.Promises.{MboxStarts};
-ghost use Rattle.fetch_runs.specs.Steps.{MboxSessionIsAStep, SessionIsAStep};
+ghost use Rattle.fetch_runs.specs.Steps.{MboxSessionsLoseNothing, SessionsLoseNothing};
 
 use fetch_rules::{
     appended_counts, bytes_have_one_meaning, distinct_messages_are_filtered,
@@ -90,8 +90,8 @@ pub fn sessions_are_conversations()
 ///
 /// If its server is honest, whatever its maildrop, it leaves the account as it was; or its joined listing is the
 /// maildrop's, and each file that it stores is that of one of the maildrop's messages, with the message's text.
-pub fn session_is_a_step()
-    ensures { SessionIsAStep }
+pub fn sessions_lose_nothing()
+    ensures { SessionsLoseNothing }
 {
     laws_below();
 }
@@ -113,8 +113,8 @@ pub fn mbox_sessions_follow_plans()
 /// If its server is honest, whatever its maildrop, it leaves the account as it was, its file perhaps cut back; or
 /// its joined listing is the maildrop's, and what it appends are the entries of messages of the maildrop, with
 /// their texts, and at most a beginning of one more.
-pub fn mbox_session_is_a_step()
-    ensures { MboxSessionIsAStep }
+pub fn mbox_sessions_lose_nothing()
+    ensures { MboxSessionsLoseNothing }
 {
     laws_below();
 }
@@ -139,8 +139,8 @@ pub fn calls_keep_promises<W: Wire, D: MaildirDisk, F: FlatFile>()
 
 /// A message that is recorded as delivered and was taken away isn't stored again by a call that reads only what
 /// is new.
-pub fn stays_away<W: Wire, D: MaildirDisk, F: FlatFile>()
-    ensures { StaysAway W.Wire D.MaildirDisk F.FlatFile }
+pub fn taken_stays_away<W: Wire, D: MaildirDisk, F: FlatFile>()
+    ensures { TakenStaysAway W.Wire D.MaildirDisk F.FlatFile }
 {
     laws_below();
 }
@@ -251,6 +251,6 @@ pub fn mbox_headline<W: Wire, D: MaildirDisk, F: FlatFile>()
 
 /// With an mboxrd file: this may begin with any file, and with a record that has no open intent
 /// and shows exactly a prefix of the selected messages as delivered, as an empty one does.
-pub fn mbox_starts_in_order()
-    ensures { MboxStartsInOrder }
+pub fn mbox_fronts_begin()
+    ensures { MboxFrontsBegin }
 {}

@@ -33,7 +33,7 @@ use Rattle.fetch_session.specs.Cuts.{ArePlanned, CausesFault, CutsHaveCauses, Tu
 use Rattle.fetch_session.specs.Fault.{fault_of}
 use Rattle.fetch_session.specs.Mbox.{IsStoreFault, RefusesEntry}
 use Rattle.fetch_session.specs.Opening.{Enters, opening}
-use Rattle.fetch_session.specs.Plan.{Carried, tasks_ahead}
+use Rattle.fetch_session.specs.CarryingOut.{Carried, tasks_ahead}
 use Rattle.fetch_session.specs.Readiness.{CausesUnready, SettlesStore}
 use Rattle.fetch_session.specs.Record.{Saves}
 use Rattle.fetch_session.specs.Scene.{NotSaved, NotStored, Scene, Stops}

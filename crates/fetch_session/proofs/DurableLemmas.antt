@@ -23,7 +23,7 @@ use Rattle.fetch_session.specs.declared.fault.Fault.{Fault}
 use Rattle.fetch_session.specs.declared.report.ReportLine.{ReportLine}
 use Rattle.fetch_session.specs.declared.report.Skips.{Skips}
 use Rattle.fetch_session.specs.Laws.{LeavesDurable, SessionsAreDurable}
-use Rattle.fetch_session.specs.Plan.{Carried, Carries}
+use Rattle.fetch_session.specs.CarryingOut.{Carried, Carries}
 use Rattle.fetch_session.specs.Readiness.{IsMergedAtMost, are_undelivered}
 use Rattle.fetch_session.specs.Record.{KeepsRows}
 use Rattle.fetch_session.specs.Scene.{Does, Scene, Stops, Went}

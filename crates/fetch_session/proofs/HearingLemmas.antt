@@ -1,7 +1,7 @@
 -- What a listener was told of a plan, before and after other calls.
 use Rattle.std.proofs.Common.{List, [], ◌∷◌, ◌++◌, inl, inr}
 use Rattle.fetch_session.specs.Hearing.{HearsOne}
-use Rattle.fetch_rules.specs.declared.steps.Step.{Step}
+use Rattle.fetch_rules.specs.declared.plans.Step.{Step}
 
 pub heard_as : {L : Type 0} (hears : L → List (List Step) → L → Type 0) (Is IsToo : List Step → Type 0)
     (a b : L) → ((plan : List Step) → Is plan → IsToo plan) → HearsOne hears Is a b → HearsOne hears IsToo a b

@@ -5,7 +5,7 @@ use Rattle.std.proofs.lemmas.List.{drop_all}
 use Rattle.mail_terms.specs.Listing.{Item}
 use Rattle.rc_file.specs.declared.settings.Settings.{Settings}
 use Rattle.fetch_record.specs.Record.{Row}
-use Rattle.fetch_rules.specs.declared.steps.Step.{Step}
+use Rattle.fetch_rules.specs.declared.plans.Step.{Step}
 use Rattle.fetch_session.specs.declared.message_preview.MessagePreview.{MessagePreview}
 use Rattle.fetch_session.proofs.ReadyLemmas.{no_item, step_at}
 use Rattle.fetch_session.specs.MessagePreview.{message_preview_of, message_previews}

@@ -12,7 +12,7 @@ use Rattle.mail_store.specs.FileName.{stem_of}
 use Rattle.mail_store.specs.Maildir.{AllNamed, Maildir}
 use Rattle.fetch_record.specs.Record.{Intent, Row, has_row, none_open, marked, marked_all}
 use Rattle.fetch_rules.specs.Plan.{fetches}
-use Rattle.fetch_rules.specs.declared.steps.Step.{Step}
+use Rattle.fetch_rules.specs.declared.plans.Step.{Step}
 use Rattle.mail_terms.specs.FailureCount.{Tallies}
 use Rattle.pop3_client.specs.Client.{HasSameLink, link_of, place_of}
 use Rattle.pop3_client.specs.Conversation.{Broke, ConversationsArePaced, TurnsJoin, is_link_refusal, most_of}

@@ -8,7 +8,7 @@ use Rattle.std.proofs.lemmas.Grind.{flat_map-append}
 use Rattle.std.proofs.lemmas.Slice.Eq.{bytes_eq-Decides}
 use Rattle.mail_terms.specs.UniqueId.{IsLegalId}
 use Rattle.mail_terms.specs.Listing.{Item, has_item, is_flagged, numbered}
-use Rattle.fetch_rules.specs.declared.steps.Step.{Step}
+use Rattle.fetch_rules.specs.declared.plans.Step.{Step}
 use Rattle.mail_store.proofs.MaildirLemmas.{none_taken}
 use Rattle.mail_store.specs.Durable.{MayLeave}
 use Rattle.mail_store.specs.Maildir.{File, Maildir, WereTaken, with_file}

@@ -18,7 +18,7 @@ use Rattle.fetch_record.specs.RecordGrowth.{OneMeaning}
 use Rattle.fetch_record.specs.RecordMeaning.{Meaning, Rows, Fault as Faulty}
 use Rattle.fetch_rules.specs.Plan.{fetches, planned, retrieved, step_of}
 use Rattle.fetch_rules.specs.Wanted.{wanted}
-use Rattle.fetch_rules.specs.declared.steps.Step.{Step}
+use Rattle.fetch_rules.specs.declared.plans.Step.{Step}
 use Rattle.pop3_wire.proofs.BodyLemmas.{first_lines, IsLine-front, no_body, one_line, one_reading, two_statuses}
 use Rattle.pop3_wire.specs.Body.{HasNoBody, IsContent, body_of, dot, text_of}
 use Rattle.pop3_wire.specs.Line.{crlf, IsLine, ended}
@@ -45,7 +45,7 @@ use Rattle.fetch_session.specs.declared.report.Report.{Report}
 use Rattle.fetch_session.specs.declared.tail.Tail.TheVariants.{Nothing}
 use Rattle.fetch_session.specs.Cuts.{ArePlanned, CausesFault, CutsHaveCauses, Extends, IsMissing, IsUnusable, StoreRose, TurnBroke}
 use Rattle.fetch_session.specs.Fault.{fault_of}
-use Rattle.fetch_session.specs.Plan.{tasks_ahead}
+use Rattle.fetch_session.specs.CarryingOut.{tasks_ahead}
 use Rattle.fetch_session.specs.Readiness.{SettlesStore}
 use Rattle.fetch_session.specs.Record.{Misread}
 use Rattle.fetch_session.specs.Served.{refused_in, HasText, IsServed, IsStored, IsUsable, ServedSessionsStoreAll, StoresAll}

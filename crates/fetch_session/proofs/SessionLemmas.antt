@@ -46,12 +46,12 @@ use Rattle.fetch_session.specs.declared.fault.Fault.{Fault}
 use Rattle.fetch_session.specs.declared.fault.Fault.TheVariants.{StoreRefused, NoMemory}
 use Rattle.fetch_session.specs.declared.fault.Why.TheVariants as why
 use Rattle.fetch_session.specs.declared.report.ReportLine.{ReportLine}
-use Rattle.fetch_session.specs.Plan.{Carries, Carried, tasks_ahead}
+use Rattle.fetch_session.specs.CarryingOut.{Carries, Carried, tasks_ahead}
 use Rattle.fetch_session.specs.Session.{Dealt, Keeping, LeavesLink, Noted, Enters_with, Proceeds, SessionIn, outcome_of, keeping}
 use Rattle.fetch_session.specs.Report.{Reports, skips_of}
 use Rattle.fetch_session.specs.declared.report.Report.{Report}
 use Rattle.fetch_rules.specs.Plan.{IsQuiet, planned}
-use Rattle.fetch_rules.specs.declared.steps.Step.{Step}
+use Rattle.fetch_rules.specs.declared.plans.Step.{Step}
 use Rattle.pop3_client.specs.Turns.{quit}
 use Rattle.fetch_session.specs.declared.readiness.Ready.{Ready}
 use Rattle.fetch_session.specs.Fault.{cut_of, fault_of}

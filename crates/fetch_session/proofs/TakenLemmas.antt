@@ -15,7 +15,7 @@ use Rattle.fetch_session.specs.declared.fault.Why.TheVariants.{Missing, Refused}
 use Rattle.fetch_session.specs.declared.report.ReportLine.{ReportLine}
 use Rattle.fetch_session.specs.declared.report.Skips.{Skips}
 use Rattle.fetch_session.specs.Laws.{SessionsKeepFiles}
-use Rattle.fetch_session.specs.Plan.{Carried, Carries}
+use Rattle.fetch_session.specs.CarryingOut.{Carried, Carries}
 use Rattle.fetch_session.specs.Readiness.{UnreadyCause}
 use Rattle.fetch_session.specs.Scene.{Does, Scene, Stops}
 use Rattle.fetch_session.specs.Session.{Dealt, Keeping, Noted, Proceeds, keeps_files}

@@ -19,7 +19,7 @@ use Rattle.fetch_session.specs.declared.report.Outcome.TheVariants.{Cut as WasCu
 use Rattle.fetch_session.specs.declared.report.Report.{Report}
 use Rattle.fetch_session.specs.Fault.{Breaks}
 use Rattle.fetch_session.specs.Opening.{opening, SessionOpened}
-use Rattle.fetch_session.specs.Plan.{tasks_ahead}
+use Rattle.fetch_session.specs.CarryingOut.{tasks_ahead}
 use Rattle.fetch_session.specs.Readiness.{merged_in}
 use Rattle.fetch_session.specs.Record.{Keeps, Misread}
 use Rattle.fetch_session.specs.Session.{Enters_with, Keeping, SessionIn}

@@ -9,7 +9,7 @@ use Rattle.pop3_wire.specs.Place.{Place, at}
 use Rattle.rc_file.specs.declared.settings.Settings.{Settings}
 use Rattle.fetch_record.specs.Record.{Row, RecordState}
 use Rattle.fetch_rules.specs.Plan.{planned}
-use Rattle.fetch_rules.specs.declared.steps.Step.{Step}
+use Rattle.fetch_rules.specs.declared.plans.Step.{Step}
 use Rattle.fetch_session.specs.Account.{Holding, digits_of}
 use Rattle.fetch_session.specs.Readiness.{merged_in}
 use Rattle.fetch_session.specs.Record.{Keeps}

@@ -29,7 +29,7 @@ use Rattle.fetch_session.specs.declared.report.ReportLine.{ReportLine}
 use Rattle.fetch_session.specs.declared.report.Skips.{Skips}
 use Rattle.fetch_session.specs.declared.work.Work.{Work}
 use Rattle.fetch_session.specs.Account.{Holding, digits_of}
-use Rattle.fetch_session.specs.Plan.{Carried, Carries, tasks_ahead}
+use Rattle.fetch_session.specs.CarryingOut.{Carried, Carries, tasks_ahead}
 use Rattle.fetch_session.specs.Readiness.{IsFileKept, IsMergedAtMost, Readies, merged_in}
 use Rattle.fetch_session.specs.Mbox.{intent_of}
 use Rattle.fetch_session.specs.Record.{Keeps, Steady, record_state, with_open}

@@ -6,7 +6,7 @@ pub mod Record
 pub mod Scene
 pub mod Lasting
 pub mod Laws
-pub mod Plan
+pub mod CarryingOut
 pub mod Tail
 pub mod Report
 pub mod Opening

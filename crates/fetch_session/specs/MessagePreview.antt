@@ -7,7 +7,7 @@ use Rattle.rc_file.specs.declared.settings.Settings.{Settings}
 use Rattle.fetch_record.specs.Record.{Row, is_delivered}
 use Rattle.fetch_rules.specs.Due.{seconds_per_day}
 use Rattle.fetch_rules.specs.Plan.{fetches, seen_since}
-use Rattle.fetch_rules.specs.declared.steps.Step.{Step}
+use Rattle.fetch_rules.specs.declared.plans.Step.{Step}
 use Rattle.fetch_session.specs.declared.message_preview.MessagePreview.{MessagePreview}
 
 -- whether the age of a message decides if it is deleted: it is delivered, or will be

@@ -7,7 +7,7 @@ use Rattle.fetch_record.specs.Record.{Row, RecordState, IsRecord, Loaded, has_ro
 use Rattle.fetch_record.specs.Record.{merged}
 use Rattle.fetch_record.specs.RecordFile.{file_of}
 use Rattle.fetch_rules.specs.Plan.{IsQuiet, planned}
-use Rattle.fetch_rules.specs.declared.steps.Step.{Step}
+use Rattle.fetch_rules.specs.declared.plans.Step.{Step}
 use Rattle.fetch_session.specs.Task.{tasks_planned}
 use Rattle.rc_file.specs.declared.settings.Settings.{Settings}
 use Rattle.mail_store.specs.FlatFile.{Stored, holding}

@@ -3,8 +3,8 @@ use Rattle.std.specs.Prelude.{ℕ, ◌-◌, ◌==◌, List, [], ◌∷◌, ◌++
 use Rattle.std.specs.Prelude.{option_and_then, false, if◌then◌else◌, codes}
 use Rattle.std.specs.Fmt.{decimal}
 use Rattle.rc_file.specs.declared.settings.Settings.{Settings}
-use Rattle.fetch_rules.specs.declared.steps.Skip.{Skip}
-use Rattle.fetch_rules.specs.declared.steps.Step.{Step}
+use Rattle.fetch_rules.specs.declared.plans.Skip.{Skip}
+use Rattle.fetch_rules.specs.declared.plans.Step.{Step}
 use Rattle.fetch_session.specs.Report.{reason_of}
 use Rattle.fetch_session.specs.declared.report.Report.{Report}
 use Rattle.fetch_session.specs.declared.report.ReportLine.{ReportLine}

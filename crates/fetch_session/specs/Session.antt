@@ -17,7 +17,7 @@ use Rattle.fetch_session.specs.declared.report.ReportLine.{ReportLine}
 use Rattle.fetch_session.specs.declared.report.Skips.{Skips}
 use Rattle.fetch_session.specs.Fault.{cut_of, fault_of}
 use Rattle.fetch_session.specs.Opening.{Enters}
-use Rattle.fetch_session.specs.Plan.{Carries}
+use Rattle.fetch_session.specs.CarryingOut.{Carries}
 use Rattle.fetch_session.specs.Tail.{Left}
 use Rattle.fetch_session.specs.Report.{Reports, none_skipped}
 use Rattle.fetch_session.specs.Target.{Target, AsFiles, AsEntries, Stores, in_maildir, in_mbox}

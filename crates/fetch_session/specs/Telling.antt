@@ -6,8 +6,8 @@ use Rattle.std.specs.Fmt.{decimal}
 use Rattle.rc_file.specs.declared.settings.Settings.{Settings}
 use Rattle.fetch_rules.specs.Due.{seconds_per_day}
 use Rattle.fetch_rules.specs.Plan.{fetches}
-use Rattle.fetch_rules.specs.declared.steps.Skip.{Skip}
-use Rattle.fetch_rules.specs.declared.steps.Skip.TheVariants.{Delivered, TooLarge, PastLimit, SameId}
+use Rattle.fetch_rules.specs.declared.plans.Skip.{Skip}
+use Rattle.fetch_rules.specs.declared.plans.Skip.TheVariants.{Delivered, TooLarge, PastLimit, SameId}
 use Rattle.fetch_session.specs.declared.preview.Preview.{Preview}
 use Rattle.fetch_session.specs.declared.message_preview.MessagePreview.{MessagePreview}
 use Rattle.fetch_session.specs.declared.telling.Date.{Date}

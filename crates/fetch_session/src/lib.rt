@@ -3,6 +3,7 @@
 
 mod account;
 mod appending;
+mod carrying_out;
 mod ending;
 mod fault;
 mod laws;
@@ -10,7 +11,6 @@ mod listener;
 mod message_preview;
 mod one_session;
 mod opening;
-mod plan;
 mod preview;
 mod readiness;
 mod reasons;

@@ -1,6 +1,6 @@
 //! Who is told of a session's lines while it runs.
 ghost use Rattle.std.specs.Prelude.{List, [], ◌∷◌, ◌++◌};
-ghost use Rattle.fetch_rules.specs.declared.steps.Step.{Step};
+ghost use Rattle.fetch_rules.specs.declared.plans.Step.{Step};
 
 use crate::report::ReportLine;
 use fetch_rules::Step;

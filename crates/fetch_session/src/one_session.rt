@@ -16,10 +16,10 @@ ghost use Rattle.fetch_session.specs.Session.{Enters_with, Proceeds, keeping, no
 ghost use Rattle.fetch_session.specs.Target.{AfterTakingIn, NoneBegun, target_of};
 
 use crate::account::Account;
+use crate::carrying_out::carry_out;
 use crate::fault::Cut;
 use crate::listener::{Listener, Silent};
 use crate::opening::enter;
-use crate::plan::carry_out;
 use crate::report::{Outcome, Report, Skips, none_skipped, report_of};
 use crate::tail::leave;
 use crate::terms::Terms;

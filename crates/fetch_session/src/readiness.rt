@@ -29,7 +29,7 @@ use crate::work::{Ledger, Work};
 use fetch_rules::{
     Listing, Seen, SeenFault, Step, ask_nothing, delivered_has_row, held_is_delivered,
     known_listings_change_nothing, listed_has_row, marked_is_delivered,
-    merges_ask_only_for_new_ids, plan, plan_of_known, plans_fetch_what_is_asked_for,
+    merges_ask_only_for_new_ids, only_asked_for_are_fetched, plan, plan_of_known,
 };
 use mail_store::{
     Asked, FlatFile, Folder, MaildirDisk, StoreFault, check_mbox, flush_held, listed_size,
@@ -405,7 +405,7 @@ fn prepare_by_store<D: MaildirDisk, F: FlatFile, H: BuildHasher>(
     held_is_delivered();
     marked_is_delivered();
     merges_ask_only_for_new_ids();
-    plans_fetch_what_is_asked_for();
+    only_asked_for_are_fetched();
     let alloc = work.ledger.alloc;
     let found = ask_store(alloc, &mut work.store, &work.ledger.seen, terms, listing)?;
     let Ledger { file, seen, .. } = &mut work.ledger;

@@ -8,7 +8,7 @@ use Rattle.rc_file.specs.declared.settings.Dest.{Dest}
 use Rattle.rc_file.specs.declared.settings.Settings.{Settings}
 use Rattle.fetch_session.specs.Account.{Holding}
 use Rattle.fetch_session.specs.declared.account.Store.{Store}
-use Rattle.fetch_rules.specs.declared.steps.Step.{Step}
+use Rattle.fetch_rules.specs.declared.plans.Step.{Step}
 use Rattle.fetch_session.specs.declared.report.Report.{Report}
 use Rattle.getmail_setup.specs.Failures.{status_of}
 use Rattle.getmail_setup.specs.declared.errors.Errors.{Errors}

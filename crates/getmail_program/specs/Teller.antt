@@ -7,7 +7,7 @@ use Rattle.rc_file.specs.declared.settings.Settings.{Settings}
 use Rattle.fetch_session.specs.Reasons.{explained_line}
 use Rattle.fetch_session.specs.Text.{heading}
 use Rattle.fetch_session.specs.Report.{is_deletion}
-use Rattle.fetch_rules.specs.declared.steps.Step.{Step}
+use Rattle.fetch_rules.specs.declared.plans.Step.{Step}
 use Rattle.fetch_session.specs.declared.report.ReportLine.{ReportLine}
 use Rattle.getmail_program.specs.declared.teller.Teller.{Teller}
 use Rattle.getmail_setup.specs.declared.output.Output.{Output}

@@ -12,7 +12,7 @@ use Rattle.rc_file.specs.Settings.{IsValid}
 use Rattle.rc_file.specs.declared.settings.Settings.{Settings}
 use Rattle.fetch_record.specs.Record.{Row}
 use Rattle.fetch_rules.specs.Plan.{fetches, step_of}
-use Rattle.fetch_rules.specs.declared.steps.Step.{Step}
+use Rattle.fetch_rules.specs.declared.plans.Step.{Step}
 use Rattle.mail_store.specs.Maildir.{Maildir, WereTaken}
 use Rattle.mail_store.specs.declared.maildir.disk.MaildirDisk.{Ghosts as DiskGhosts}
 use Rattle.mail_store.specs.declared.file.flat_file.FlatFile.{Ghosts as FileGhosts}
@@ -36,7 +36,7 @@ use Rattle.pop3_server.specs.declared.state.State.TheVariants.{Authorization}
 use Rattle.fetch_session.proofs.ServedLemmas.{reads_all}
 use Rattle.fetch_session.specs.Cuts.{ArePlanned, Extends}
 use Rattle.fetch_session.specs.Opening.{SessionOpened, opening}
-use Rattle.fetch_session.specs.Plan.{tasks_ahead}
+use Rattle.fetch_session.specs.CarryingOut.{tasks_ahead}
 use Rattle.fetch_session.specs.Served.{AreAnswered, ServedSessionsStoreAll, refused_in}
 use Rattle.fetch_session.specs.Readiness.{merged_in}
 use Rattle.fetch_session.specs.Session.{Keeping, SessionIn, keeping}

@@ -76,7 +76,7 @@ pub fn mbox_first_fetches_keep_mail<M: Maildrop, D: MaildirDisk, F: FlatFile>()
 /// of any list of calls of [`fetch_local`](crate::fetch_local). The only premises are that the ids of a
 /// server's mail are distinct and name one text, which ends in LF, and that fewer calls lacked memory than can
 /// be counted.
-pub fn fetch_in_memory()
+pub fn promises_hold_in_memory()
     ensures { FetchesFromNothing ⟦<LoopWire<MemoryDrop> as Wire>⟧ ⟦<MemoryMaildir as MaildirDisk>⟧
         ⟦<MemoryFile as FlatFile>⟧ ⟦<MemoryDrop as Maildrop>⟧ }
 {
@@ -85,7 +85,7 @@ pub fn fetch_in_memory()
 }
 
 /// The same over folders in memory, where a mail reader moves files and takes them away before each call.
-pub fn fetch_in_folders<'a>()
+pub fn promises_hold_in_folders<'a>()
     ensures { FetchesFromNothing ⟦<LoopWire<MemoryDrop> as Wire>⟧ ⟦<FolderMaildir<MemoryFolders> as MaildirDisk>⟧
         ⟦<HostFile<'a, MemoryFolder> as FlatFile>⟧ ⟦<MemoryDrop as Maildrop>⟧ }
 {
@@ -94,7 +94,7 @@ pub fn fetch_in_folders<'a>()
 }
 
 /// The same for an mboxrd file in memory, whatever it holds at first, if each call reads only what is new.
-pub fn mbox_fetch_in_memory()
+pub fn mbox_promises_hold_in_memory()
     ensures { MboxFetchesFromNothing ⟦<LoopWire<MemoryDrop> as Wire>⟧ ⟦<MemoryMaildir as MaildirDisk>⟧
         ⟦<MemoryFile as FlatFile>⟧ ⟦<MemoryDrop as Maildrop>⟧ }
 {
@@ -103,7 +103,7 @@ pub fn mbox_fetch_in_memory()
 }
 
 /// The same for one in a folder in memory.
-pub fn mbox_fetch_in_folders<'a>()
+pub fn mbox_promises_hold_in_folders<'a>()
     ensures { MboxFetchesFromNothing ⟦<LoopWire<MemoryDrop> as Wire>⟧ ⟦<FolderMaildir<MemoryFolders> as MaildirDisk>⟧
         ⟦<HostFile<'a, MemoryFolder> as FlatFile>⟧ ⟦<MemoryDrop as Maildrop>⟧ }
 {
@@ -123,7 +123,7 @@ pub fn good_fetches_store_all<M: Maildrop, D: MaildirDisk, F: FlatFile>()
 }
 
 /// The same in memory.
-pub fn good_fetch_in_memory()
+pub fn all_is_stored_in_memory()
     ensures { GoodFetchesStoreAll ⟦<LoopWire<MemoryDrop> as Wire>⟧ ⟦<MemoryMaildir as MaildirDisk>⟧
         ⟦<MemoryFile as FlatFile>⟧ ⟦<MemoryDrop as Maildrop>⟧ }
 {

@@ -27,7 +27,7 @@ returns-clause-held g c = λ d.
     let rows = c.take_in.new.seen.rows in
     let steps = c.in_ok-steps.steps.items in
     let only_asked = rw (sym c.in_ok-steps.ensures.steps) at
-    (c.plans_fetch_what_is_asked_for.ensures settings rows c.args.listing.now c.args.terms.now) in (
+    (c.only_asked_for_are_fetched.ensures settings rows c.args.listing.now c.args.terms.now) in (
       rw stays.2.0 (found_as_held (target_of c.args.work.now.store c.args.terms.account.now) _ settings was.rows rows
           steps c.args.listing.now
           (not_before c.held_is_delivered.ensures c.marked_is_delivered.ensures c.in_ok-found.found.stored was.rows
@@ -91,7 +91,7 @@ pub returns-clause-readies : goal.returns-clause-readies
 returns-clause-readies g c = λ d f.
     let merges = c.in_ok-take_in.ensures.merges f in
     let only_asked = rw (sym c.in_ok-steps.ensures.steps) at
-    (c.plans_fetch_what_is_asked_for.ensures c.args.terms.settings.now c.take_in.new.seen.rows
+    (c.only_asked_for_are_fetched.ensures c.args.terms.settings.now c.take_in.new.seen.rows
     c.args.listing.now c.args.terms.now) in
     asked (c.in_ok-found.ensures.finds d) merges.0 (λ left finds.
     ready _ _ _ _ _ c.take_in.new.file c.args.terms.account.now _ _ _ left c.args.work.now.ledger.seen

@@ -1,6 +1,6 @@
 use Rattle.std.proofs.Common.{◌≡◌, ◌++◌, ◌∷◌, List, [], drop, Ok, Err, sym, ap, arith, refl, append_assoc, ◌∙◌}
 use Rattle.std.proofs.lemmas.List.{append-nil, drop_all}
-use Rattle.fetch_rules.specs.declared.steps.Step.{Step}
+use Rattle.fetch_rules.specs.declared.plans.Step.{Step}
 use Rattle.fetch_session.proofs.TalkLemmas.{err_is}
 use Rattle.fetch_session.specs.Parts.{task_of}
 use Rattle.fetch_session.specs.Task.{Task, deleting, tasks_planned}

@@ -1,6 +1,6 @@
 use Rattle.std.proofs.Common.{refl, subst, sym, inl, ◌≡◌, ◌⊎◌, ◌∙◌, ap, Bool, true, false, List, [], if◌then◌else◌}
 use Rattle.fetch_session.specs.Hearing.{IsPlanOf}
-use Rattle.fetch_rules.specs.declared.steps.Step.{Step}
+use Rattle.fetch_rules.specs.declared.plans.Step.{Step}
 use Rattle.fetch_session.specs.declared.report.Report.{Report}
 use Rattle.fetch_session.specs.Lasting.{RunsSession}
 use Rattle.fetch_session.specs.Refusal.{IsWithinLimits}

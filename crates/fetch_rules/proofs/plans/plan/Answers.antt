@@ -1,6 +1,6 @@
 use Rattle.std.proofs.Common.{◌≡◌, ℕ, ◌+◌, Bool, true, false, ◌&&◌, ◌∙◌, ap, inl, inr, arith, refl, cond, get_or, Option, Some, None, not}
 use Rattle.std.specs.Prelude.{is_none, is_some}
-use Rattle.fetch_rules.specs.declared.steps.Skip.{Skip}
+use Rattle.fetch_rules.specs.declared.plans.Skip.{Skip}
 use mir.Val.{bool_byte}
 use Rattle.std.proofs.lemmas.Bool.{cases_Bool}
 use Rattle.mail_terms.specs.Listing.{Item, is_first, is_last}
@@ -8,7 +8,7 @@ use Rattle.fetch_rules.specs.Wanted.{skip_for}
 use Rattle.fetch_rules.specs.Due.{may_delete}
 use Rattle.fetch_rules.specs.Plan.{seen_since, is_deleted}
 use Rattle.fetch_rules.proofs.PlanLemmas.{never_due, HasPlanned-more, HasPlanned-all, retrieved-planned, flags_count, flag_at}
-use Rattle.fetch_rules.proofs.steps.plan.Goals as goal
+use Rattle.fetch_rules.proofs.plans.plan.Goals as goal
 
 byte_of : (b : Bool) → bool_byte b ≡ cond b 1 0
 byte_of true = refl

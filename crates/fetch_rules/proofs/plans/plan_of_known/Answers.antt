@@ -1,8 +1,8 @@
 use Rattle.std.proofs.Common.{◌∙◌, Some, false, refl, sym, arith, get_or}
 use Rattle.fetch_rules.specs.Plan.{seen_since}
-use Rattle.fetch_rules.specs.declared.steps.Skip.TheVariants.{Delivered}
+use Rattle.fetch_rules.specs.declared.plans.Skip.TheVariants.{Delivered}
 use Rattle.fetch_rules.proofs.PlanLemmas.{never_due, HasPlanned-more, HasPlanned-all}
-use Rattle.fetch_rules.proofs.steps.plan_of_known.Goals as goal
+use Rattle.fetch_rules.proofs.plans.plan_of_known.Goals as goal
 
 pub loop-i-preserved : goal.loop-i-preserved
 loop-i-preserved g c =

@@ -4,14 +4,14 @@ use Rattle.mail_store.specs.Maildir.{AllNamed}
 use Rattle.mail_terms.specs.UniqueId.{IsLegalId}
 use Rattle.fetch_record.specs.Record.{has_row}
 use Rattle.fetch_rules.specs.Plan.{IsQuiet, planned}
-use Rattle.fetch_rules.specs.declared.steps.Step.{Step}
+use Rattle.fetch_rules.specs.declared.plans.Step.{Step}
 use Rattle.pop3_client.specs.Turns.{quit}
 use Rattle.fetch_session.proofs.TalkLemmas.{err_is}
 use Rattle.fetch_session.specs.Target.{AfterTakingIn, is_sound, stores_of, target_of}
 use Rattle.fetch_session.specs.Hearing.{AreMerged, HearsOne, IsPlanned}
 use Rattle.fetch_session.proofs.HearingLemmas.{heard_as, heard_then}
 use Rattle.fetch_session.specs.Lasting.{CarriesLast}
-use Rattle.fetch_session.specs.Plan.{Carries}
+use Rattle.fetch_session.specs.CarryingOut.{Carries}
 use Rattle.fetch_session.specs.declared.fault.Cut.{Cut}
 use Rattle.fetch_session.specs.declared.account.Store.{Store}
 use Rattle.fetch_session.specs.declared.work.Work.{Work}
@@ -24,8 +24,8 @@ use Rattle.fetch_session.proofs.ReadyLemmas.{flags_same, fresh_firsts, followed}
 use Rattle.fetch_session.proofs.SessionLemmas.{named_ahead, carried, in_kind}
 use Rattle.fetch_session.proofs.PartLemmas.{runs_before, goes_on, link_idle, link_less, link_on_tail, link_with_tail}
 use Rattle.fetch_session.proofs.PartLemmas.{most_planned, planned_all, store_less, store_on}
-use Rattle.fetch_session.proofs.plan.carry_out.Goals.{After-deref-3, After-do_steps, In_ok-do_steps}
-use Rattle.fetch_session.proofs.plan.carry_out.Goals as goal
+use Rattle.fetch_session.proofs.carrying_out.carry_out.Goals.{After-deref-3, After-do_steps, In_ok-do_steps}
+use Rattle.fetch_session.proofs.carrying_out.carry_out.Goals as goal
 
 pub returns-in_err-ready-clause-carries : goal.returns-in_err-ready-clause-carries
 returns-in_err-ready-clause-carries g c = rw (err_is c.from_residual.ensures.1) (λ w d f.
@@ -90,7 +90,7 @@ ready_to_do g c =
           )
           (fresh_firsts account (stores_of g.D.MaildirDisk g.F.FlatFile c.prepare.new.work.store).maildir []
           (planned c.args.terms.settings.now rows items c.args.terms.now) items
-          (c.firsts_are_fetched.ensures c.args.terms.settings.now rows items c.args.terms.now) c.requires.legal);
+          (c.only_firsts_are_fetched.ensures c.args.terms.settings.now rows items c.args.terms.now) c.requires.legal);
       named = λ kept. named_ahead steps items held (subst (λ (ss : List Step). All IsQuiet ss
           ⊎ AllNamed (stores_of g.D.MaildirDisk g.F.FlatFile c.prepare.new.work.store).maildir.files)
           (sym c.deref-2.ensures.value) (c.in_ok-ready.ensures.named kept));

@@ -9,7 +9,7 @@ ghost use Rattle.fetch_session.specs.Refusal.{TookWithTail, step_limit, tail_lim
 ghost use Rattle.fetch_session.specs.Hearing.{AreMerged, HearsOne, IsPlanned};
 ghost use Rattle.fetch_session.specs.Lasting.{CarriesLast};
 ghost use Rattle.fetch_session.specs.Parts.{KeepsLink, KeepsStore, WhereWorkSound};
-ghost use Rattle.fetch_session.specs.Plan.{Carries};
+ghost use Rattle.fetch_session.specs.CarryingOut.{Carries};
 ghost use Rattle.fetch_session.specs.Report.{HasRoom, none_skipped};
 
 use crate::ending::end;
@@ -21,7 +21,7 @@ use crate::report::{Skips, skips_of};
 use crate::step::{Planned, do_steps};
 use crate::terms::Terms;
 use crate::work::Work;
-use fetch_rules::{Listing, firsts_are_fetched};
+use fetch_rules::{Listing, only_firsts_are_fetched};
 use mail_store::{FlatFile, MaildirDisk};
 use pop3_client::{Client, turns_join};
 use pop3_wire::Wire;
@@ -59,7 +59,7 @@ pub fn carry_out<W: Wire, D: MaildirDisk, F: FlatFile, H: BuildHasher, L: Listen
         listener.old listener.new }
 {
     turns_join();
-    firsts_are_fetched();
+    only_firsts_are_fetched();
     let ready = prepare(work, terms, listing)?;
     let Ready { held, steps } = ready;
     *skipped = skips_of(&steps);
