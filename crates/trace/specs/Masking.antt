@@ -1,12 +1,11 @@
 -- What an answer tells of the password, and what is shown of such an answer.
-use Rattle.std.specs.Prelude.{◌≡◌, ◌≤◌, ◌<◌, ◌⊎◌, ◌+◌, ◌*◌, ◌-◌, ◌/◌, ◌%◌, ◌^◌, ◌==◌, ℕ, Bool, true, false}
+use Rattle.std.specs.Prelude.{◌≡◌, ◌≤◌, ◌<◌, ◌⊎◌, ◌+◌, ◌*◌, ◌-◌, ◌/◌, ◌%◌, ◌^◌, ◌==◌, ◌||◌, ℕ, Bool, true, false}
 use Rattle.std.specs.Prelude.{List, [], ◌∷◌, Option, None, Some, codes, drop, length, map, min, nat_lt, slice_index}
 use Rattle.std.specs.Prelude.{take, if◌then◌else◌}
 use Rattle.std.specs.List.{flat_map, starts_with}
 use Rattle.std.specs.Char.{to_ascii_lowercase}
 use Rattle.memchr.specs.Find.{OccursAt}
-use Rattle.pop3_wire.specs.declared.note.Asked.{Asked}
-use Rattle.pop3_wire.specs.declared.note.Asked.TheVariants.{User, Pass}
+use Rattle.trace.specs.Command.{is_word}
 
 -- ---- base64 (RFC 4648, section 4)
 
@@ -64,10 +63,8 @@ TellsARow answer password = (start : ℕ) × (start + row_length password ≤ le
     × TellsRow answer password start
 
 -- a command whose answer may repeat a part of what was typed
-abbrev pub is_login : Option Asked → Bool
-is_login (Some User) = true
-is_login (Some Pass) = true
-is_login _ = false
+abbrev pub is_login : List ℕ → Bool
+is_login command = is_word command (codes "USER") || is_word command (codes "PASS")
 
 -- an answer to USER or PASS tells of the password if it has a row of it, any other if it has all of it
 abbrev pub Tells : Bool → List ℕ → List ℕ → Type 0

@@ -32,7 +32,7 @@ Counts old text octets new = (new.lines ≡ min (old.lines + count_by (λ octet.
 -- the first line of an answer was shown, in which the password is hidden; nothing of a body came yet
 abbrev pub ShowsAnswer : {E : Type 0} → (E → Option (List ℕ)) → Trace E → List ℕ → Trace E → Type 0
 ShowsAnswer contents old answer new =
-    (shown : List ℕ) × IsShown (hidden_in old) (is_login old.asked) answer shown
+    (shown : List ℕ) × IsShown (hidden_in old) old.to_login answer shown
     × AddsTraceLine contents old.err new.err (codes "S: ") (take most_shown shown)
     × (new.lines ≡ 0) × (new.octets ≡ 0)
 
@@ -43,7 +43,7 @@ count_text lines octets = codes "(" ++ (decimal lines ++ (codes " lines, " ++ (d
 -- a part of a conversation was shown: of a body, how many lines and octets came, at its end
 abbrev pub ShowsPart : {E : Type 0} → (E → Option (List ℕ)) → Trace E → Note → Trace E → Type 0
 ShowsPart contents old (Command asked command) new =
-    (new.asked ≡ asked)
+    (new.to_login ≡ is_login command.now)
     × AddsTraceLine contents old.err new.err (codes "C: ") (take most_shown (shown_command command.now))
 ShowsPart contents old (Reply answer) new = ShowsAnswer contents old answer.now new
 ShowsPart contents old Refused new = new ≡ record old { talk = new.talk }

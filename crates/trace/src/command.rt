@@ -3,7 +3,7 @@ ghost use Rattle.std.specs.Prelude.{◌≡◌, ◌++◌, ℕ, List, codes, take}
 ghost use Rattle.trace.specs.Command.{is_word, most_shown, shown_command};
 
 /// Whether a command begins with this word of four octets, in upper or lower case.
-fn is_word(command: &[u8], word: &[u8]) -> bool
+pub(crate) fn is_word(command: &[u8], word: &[u8]) -> bool
     ensures { result ≡ is_word command.now word.now }
 {
     command[..command.len().min(4)].eq_ignore_ascii_case(word)

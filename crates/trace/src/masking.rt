@@ -5,22 +5,18 @@ ghost use Rattle.trace.specs.Masking.{IsShown, Occurs, OccursInBase64, Tells, Te
 ghost use Rattle.trace.specs.Masking.{hidden_answer, is_login, octet_at, password_row, row_length, sextet, symbol};
 ghost use Rattle.trace.specs.Masking.{symbol_at, symbols};
 
-use crate::command::cut;
+use crate::command::{cut, is_word};
 use memchr::memmem;
-use pop3_wire::Asked;
 use std::alloc::{AllocError, Global};
 
 /// So many octets of a password in a row aren't shown.
 const ROW: usize = 4;
 
-/// Whether the answer may repeat what was typed as a name or a password.
-pub fn is_login(asked: Option<Asked>) -> bool
-    ensures { result ≡ is_login asked }
+/// Whether the answer to a command may repeat what was typed as a name or a password.
+pub fn is_login(command: &[u8]) -> bool
+    ensures { result ≡ is_login command.now }
 {
-    match asked {
-        Some(Asked::User | Asked::Pass) => true,
-        _ => false,
-    }
+    is_word(command, b"USER") || is_word(command, b"PASS")
 }
 
 /// The base64 character of a number.

@@ -1,6 +1,7 @@
 //! A link that is traced.
 ghost use Rattle.std.specs.Prelude.{◌≡◌, ◌-◌, ℕ, List, Some, IsSome, OnOk, codes, option_map, take};
 ghost use Rattle.trace.specs.Command.{most_shown, shown_command};
+ghost use Rattle.trace.specs.Masking.{is_login};
 ghost use Rattle.trace.specs.Wire.{AddsTraceLine, Counts, Hides, ShowsAnswer, ShowsPart, count_text};
 
 use crate::command::{cut, shown_command};
@@ -23,8 +24,10 @@ struct Trace<'a, E> {
     talk: Option<&'a Talk>,
     /// The password, if answers are searched for it.
     password: Option<Vec<u8>>,
-    /// What the last command asked for.
+    /// What the last command asked for, as the client told it.
     asked: Option<Asked>,
+    /// Whether it was USER or PASS.
+    to_login: bool,
     /// How much has come of the body under way.
     lines: u64,
     octets: u64,
@@ -47,8 +50,7 @@ impl<'a, E: Write> Trace<'a, E> {
     {
         self.lines = 0;
         self.octets = 0;
-        let to_login = is_login(self.asked);
-        let answer = Shown::new(self.alloc, to_login, answer, self.password.as_deref())?;
+        let answer = Shown::new(self.alloc, self.to_login, answer, self.password.as_deref())?;
         if let Some(talk) = self.talk {
             talk.hear(self.asked, answer);
         }
@@ -95,12 +97,13 @@ impl<'a, E: Write> Trace<'a, E> {
 
     /// Shows a command.
     fn show_command(&mut self, asked: Option<Asked>, command: &[u8]) -> io::Result<()>
-        ensures shown { OnOk result ((self.new.asked ≡ asked)
+        ensures shown { OnOk result ((self.new.to_login ≡ is_login command.now)
             × AddsTraceLine E.contents self.old.err self.new.err (codes "C: ")
             (take most_shown (shown_command command.now))) }
         ensures same { self.new.password ≡ self.old.password }
     {
         self.asked = asked;
+        self.to_login = is_login(command);
         let command = cut(shown_command(command));
         if let Some(talk) = self.talk {
             talk.ask(command);
@@ -169,6 +172,7 @@ impl<'a, W: Wire, E: Write + Drop> TracedWire<'a, W, E> {
             talk,
             password,
             asked: None,
+            to_login: false,
             lines: 0,
             octets: 0,
         });
