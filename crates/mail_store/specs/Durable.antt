@@ -33,17 +33,14 @@ all_durable content = record { now = option_map secured content; older = [] }
 
 -- ---- a crash
 
--- the byte at a place and all after it in its block of the file are zeros
-abbrev pub IsZeroFrom : List ℕ → ℕ → Type 0
-IsZeroFrom left i = (j : ℕ) → i ≤ j → j < length left → j / block_size ≡ i / block_size → slice_index left j ≡ 0
-
 -- the byte at a place of what is left of a file: the one in memory, the one that was flushed, or zero, and then all
 -- after it in its block are zeros too
 abbrev pub IsByteLeft : List ℕ → List ℕ → List ℕ → ℕ → Type 0
 IsByteLeft content flushed left i =
     ((i < length content) × (slice_index left i ≡ slice_index content i))
     ⊎ (((i < length flushed) × (slice_index left i ≡ slice_index flushed i))
-    ⊎ ((i < length content) × IsZeroFrom left i))
+    ⊎ ((i < length content) × ((j : ℕ) → i ≤ j → j < length left → j / block_size ≡ i / block_size
+    → slice_index left j ≡ 0)))
 
 -- what is left of a file that reached the disk in part: the bytes that were flushed and not cut off since, and
 -- others after them. It has at most as many bytes as in memory, or exactly as many as were flushed.

@@ -28,13 +28,10 @@ from_words = codes "From "
 abbrev pub begins_entry : List ℕ → Bool
 begins_entry line = starts_with nat_eq line from_words
 
-abbrev pub is_greater : ℕ → Bool
-is_greater byte = byte == 62
-
 -- the line is `>` any number of times and then `From `
 abbrev pub is_marked : List ℕ → Bool
 is_marked [] = false
-is_marked (byte ∷ rest) = if is_greater byte then is_marked rest else begins_entry (byte ∷ rest)
+is_marked (byte ∷ rest) = if byte == 62 then is_marked rest else begins_entry (byte ∷ rest)
 
 -- a line as it is in an entry: with one more `>` if it is marked
 abbrev pub quoted : List ℕ → List ℕ
@@ -43,7 +40,7 @@ quoted line = if is_marked line then 62 ∷ line else line
 -- a line of an entry as it was: with one `>` less if it is `>` at least once and then `From `
 abbrev pub unquoted : List ℕ → List ℕ
 unquoted [] = []
-unquoted (byte ∷ rest) = if is_greater byte && is_marked rest then rest else byte ∷ rest
+unquoted (byte ∷ rest) = if byte == 62 && is_marked rest then rest else byte ∷ rest
 
 abbrev pub quoted_text : List ℕ → List ℕ
 quoted_text text = flat_map quoted (lines_of text)
