@@ -1,5 +1,5 @@
 -- Loops over a listing, ids that occur once in it, and the plan, item by item with a count of what is fetched.
-use Rattle.std.proofs.Common.{Bool, List, [], ap, append_assoc, arith, cond, count_by, false, filter, get_or, inl, inr}
+use Rattle.std.proofs.Common.{Bool, List, [], ap, append_assoc, arith, cond, false, filter, get_or, inl, inr}
 use Rattle.std.proofs.Common.{length, length-append, map, refl, subst, suc, sym, take, take_all}
 use Rattle.std.proofs.Common.{take_at, true, zero, zip, ℕ, ◌&&◌, ◌++◌, ◌+◌, ◌-◌, ◌<◌, ◌==◌, ◌||◌, ◌∙◌, ◌∷◌, ◌≡◌, ◌≤◌}
 use Rattle.std.proofs.Common.{◌⊎◌, Less, All, Option, Some, None, bytes_eq, drop, if◌then◌else◌, is_none, length-set, nat_cmp, nat_le, not}
@@ -10,14 +10,13 @@ use Rattle.mail_terms.specs.UniqueId.{has_id}
 use Rattle.mail_terms.specs.declared.listing.ScanRow.{ScanRow}
 use Rattle.mail_terms.proofs.IdLemmas.{nobody, test_from_other}
 use Rattle.rc_file.specs.declared.settings.Settings.{Settings}
-use Rattle.std.proofs.Math.Bool.{and-false, and-true, or_comm}
-use Rattle.std.proofs.Math.Seq.{get_or-append_seam}
-use Rattle.std.proofs.lemmas.Bool.{and_parts, cases_Bool, cond-false, cond-true, eq-eqb, lt-ltb, not-true, cases_lt, not_from_false}
+use Rattle.std.proofs.Math.Bool.{and-true, or_comm}
+use Rattle.std.proofs.lemmas.Bool.{and_parts, cases_Bool, cond_both, not-true, cases_lt, not_from_false}
 use Rattle.std.proofs.lemmas.Bool.Decides.{nat_tests, Decides-at}
 use Rattle.std.proofs.lemmas.Cmp.{nat_list_cmp_total}
 use Rattle.std.proofs.lemmas.List.{length-take, map_more, drop-set, drop_all, drop_more, ext_get_or, get_or-drop}
 use Rattle.std.proofs.lemmas.List.{get_or-map, get_or-take, length-drop, length-map}
-use Rattle.std.proofs.lemmas.List.Elements.{All-filter, All-take, All-weaker, All-head, All-tail}
+use Rattle.std.proofs.lemmas.List.Elements.{All-head, All-tail}
 use Rattle.std.proofs.lemmas.List.Folds.{list_any_none, list_any_more}
 use Rattle.std.proofs.lemmas.List.FromFn.{get_or-enumerate_from, length-enumerate_from}
 use Rattle.std.proofs.lemmas.List.Filters.{length-filter_more}
@@ -27,12 +26,12 @@ use Rattle.std.proofs.lemmas.Map.Text.{is_eq-slice_cmp}
 use Rattle.std.proofs.lemmas.Slice.Eq.{bytes_eq-Decides}
 use Rattle.std.specs.Cmp.Lexicographic.{slice_cmp}
 use Rattle.std.specs.List.{enumerate_from}
+use Rattle.std.specs.Option.{option_or}
 use Rattle.fetch_record.specs.Record.{Row, is_delivered}
 use Rattle.fetch_rules.specs.Due.{is_due, may_delete}
 use Rattle.fetch_rules.specs.Laws.{FetchesAsked, FetchesFirsts}
 use Rattle.fetch_rules.specs.Plan.{fetches, is_deleted, planned, retrieved, step_of}
-use Rattle.fetch_rules.specs.Wanted.{is_candidate, is_full, is_limit, is_within, skip_for, skip_of, wanted}
-use Rattle.fetch_rules.specs.Wanted.{DistinctAreFiltered, WantedAreFirst}
+use Rattle.fetch_rules.specs.Wanted.{WantedAreFirst, at_most, is_candidate, is_full, is_within, own_skip, skip_for, skip_of, wanted}
 use Rattle.fetch_rules.specs.declared.plans.Skip.{Skip}
 use Rattle.fetch_rules.specs.declared.plans.Skip.TheVariants.{Delivered, TooLarge, PastLimit, SameId}
 use Rattle.fetch_rules.specs.declared.plans.Step.{Step}
@@ -41,56 +40,38 @@ use Rattle.fetch_rules.specs.declared.plans.Step.{Step}
 abbrev pub Message : Type 0
 Message = ℕ × Item
 
-passes : (known within first full : Bool)
-    → is_none (if known then Some Delivered else if not within then Some TooLarge else if full then Some PastLimit
-    else if first then None else Some SameId) ≡ not known && (within && (first && not full))
-passes true within first full = refl
-passes false false first full = refl
-passes false true true true = refl
-passes false true true false = refl
-passes false true false true = refl
-passes false true false false = refl
-
--- a message is fetched exactly if none of the reasons holds
-pub passes_for : (settings : Settings) (rows : List Row) (first full : Bool) (item : Item)
-    → is_none (skip_for settings rows first full item) ≡ not (not settings.read_all && is_delivered rows item.uid) &&
-    (is_within settings.max_size item.size && (first && not full))
-passes_for settings rows first full item =
-    passes (not settings.read_all && is_delivered rows item.uid) (is_within settings.max_size item.size) first full
-
--- what is fetched is the first with its id
-pub first_for : (settings : Settings) (rows : List Row) (first full : Bool) (item : Item)
-    → is_none (skip_for settings rows first full item) ≡ true → first ≡ true
-first_for settings rows first full item fetched = (and_parts first (not full) (and_parts (is_within settings.max_size item.size)
-    (first && not full) (and_parts (not (not settings.read_all && is_delivered rows item.uid))
-    (is_within settings.max_size item.size && (first && not full)) (sym (passes_for settings rows first full item) ∙ fetched)).1).1).0
-
--- a message with its own id is fetched, or known, or a limit leaves it out
-pub left_for : (settings : Settings) (rows : List Row) (full : Bool) (item : Item)
-    → (is_none (skip_for settings rows true full item) ≡ true)
-    ⊎ ((is_delivered rows item.uid ≡ true) ⊎ (is_limit (skip_for settings rows true full item) ≡ true))
-left_for settings rows full item = elim (cases_Bool (not settings.read_all && is_delivered rows item.uid)) [
-  | inl known ↦ inr (inl (and_parts _ _ known).1)
-  | inr new ↦ elim (cases_Bool (is_within settings.max_size item.size)) [
-    | inr large ↦ inr (inr (rw (new, large) refl))
-    | inl fits ↦ elim (cases_Bool full) [
-      | inl past ↦ inr (inr (rw (new, fits, past) refl))
-      | inr room ↦ inl (rw (new, fits, room) refl)
-    ]
-  ]
-]
-
--- it may be fetched, and the session isn't full before it
-wanted_by : (settings : Settings) (rows : List Row) (first full : Bool) (item : Item)
-    → is_none (skip_for settings rows first full item) ≡ is_none (skip_for settings rows first false item) && not full
-wanted_by settings rows first full item = rw (passes_for settings rows first full item, passes_for settings rows first false item)
-    (by (not (not settings.read_all && is_delivered rows item.uid)) (is_within settings.max_size item.size) first full)
+-- a message has no reason of its own exactly if it is within the limit on sizes, and isn't known or all are to be read
+pub own_passes : (settings : Settings) (is_known : List ℕ → Bool) (uid : List ℕ) (size : ℕ)
+    → is_none (own_skip settings is_known uid size) ≡ not (not settings.read_all && is_known uid) && is_within settings.max_size size
+own_passes settings is_known uid size = by (not settings.read_all && is_known uid) (is_within settings.max_size size)
   where
-    by : (a b c full : Bool) → a && (b && (c && not full)) ≡ (a && (b && (c && true))) && not full
-    by true true true full = refl
-    by true true false full = refl
-    by true false c full = refl
-    by false b c full = refl
+    by : (known within : Bool) → is_none (if known then Some Delivered else if not within then Some TooLarge else None)
+        ≡ not known && within
+    by true within = refl
+    by false true = refl
+    by false false = refl
+
+-- it is fetched exactly if it has none, is the first with its id and no session is full before it
+pub passes_for : (settings : Settings) (rows : List Row) (first full : Bool) (item : Item)
+    → is_none (skip_for settings rows first full item)
+    ≡ (is_none (own_skip settings (is_delivered rows) item.uid item.size) && first) && not full
+passes_for settings rows first full item = by (own_skip settings (is_delivered rows) item.uid item.size) first full
+  where
+    by : (own : Option Skip) (first full : Bool)
+        → is_none (option_or own (if full then Some PastLimit else if first then None else Some SameId))
+        ≡ (is_none own && first) && not full
+    by (Some why) first full = refl
+    by None true true = refl
+    by None true false = refl
+    by None false true = refl
+    by None false false = refl
+
+pub parts_for : (settings : Settings) (rows : List Row) (first full : Bool) (item : Item)
+    → is_none (skip_for settings rows first full item) ≡ true
+    → (is_none (own_skip settings (is_delivered rows) item.uid item.size) ≡ true) × (first ≡ true)
+parts_for settings rows first full item fetched =
+    let own = is_none (own_skip settings (is_delivered rows) item.uid item.size) in
+    and_parts own first (and_parts (own && first) (not full) (sym (passes_for settings rows first full item) ∙ fetched)).0
 
 -- what steps fetch
 retrieved_steps : (f : Message → Step) (messages : List Message)
@@ -134,58 +115,64 @@ module _ (settings : Settings) (rows : List Row) (listing : List Item) where
   before_more i inside = length-filter_more (is_candidate settings rows listing) (numbered listing) i (0, nobody) (within i inside)
       ∙ ap (λ (m : Message). length (before i) + cond (is_candidate settings rows listing m) 1 0) (message_at listing i nobody inside)
 
-  stays_full : (i : ℕ) → i < length listing → is_full settings (before i) ≡ true → is_full settings (before (i + 1)) ≡ true
-  stays_full i inside full =
-      let was = full_is settings.max_count (length (before i)) full in
-      is_full_by settings.max_count (length (before (i + 1))) was.0 (omega (arith, was.1, before_more i inside))
-
   gets_at : (i : ℕ) → gets (i + 1, get_or listing i nobody)
       ≡ is_candidate settings rows listing (i + 1, get_or listing i nobody) && not (is_full settings (before i))
   gets_at i = let place : i + 1 - 1 ≡ i = omega arith in
       ap (λ (k : ℕ). is_none (skip_for settings rows (is_first listing (i + 1, get_or listing i nobody))
       (is_full settings (before k)) (get_or listing i nobody))) place
-      ∙ wanted_by settings rows (is_first listing (i + 1, get_or listing i nobody)) (is_full settings (before i)) (get_or listing i nobody)
+      ∙ passes_for settings rows (is_first listing (i + 1, get_or listing i nobody)) (is_full settings (before i)) (get_or listing i nobody)
 
--- of a list what passes `gets`, if that is what passes `may` until it is full
-module _ (may gets : Message → Bool) (full : ℕ → Bool) (ms : List Message) (d : Message)
-    (stays : (i : ℕ) → i < length ms → full i ≡ true → full (i + 1) ≡ true)
-    (at : (i : ℕ) → i < length ms → gets (get_or ms i d) ≡ may (get_or ms i d) && not (full i)) where
-  none_after : (n i : ℕ) → i + n ≡ length ms → full i ≡ true → filter gets (drop i ms) ≡ []
-  none_after zero i all past = rw (drop_all i ms (omega (arith, all))) refl
-  none_after (suc n) i all past =
-      let inside : i < length ms = omega (arith, all) in
-      let none : gets (get_or ms i d) ≡ false = at i inside ∙ rw past (and-false (may (get_or ms i d))) in
-      rw (drop_more ms i d inside, none) (none_after n (i + 1) (omega (arith, all)) (stays i inside past))
+-- what may be left of these if so many were before them
+abbrev left_of : ℕ → ℕ → List Message → List Message
+left_of max c ms = if max == 0 then ms else take (max - c) ms
 
+none_left : (max c : ℕ) → left_of max c [] ≡ []
+none_left max c = cond_both (max == 0) [] (take (max - c) []) (λ l. l ≡ []) (λ e. refl) (λ e. take_all (max - c) [] (omega arith))
+
+left_more : (max c : ℕ) (may : Bool) (m : Message) (ms : List Message)
+    → cond (may && not (not (max == 0) && nat_le max c)) (m ∷ left_of max (c + cond may 1 0) ms) (left_of max (c + cond may 1 0) ms)
+    ≡ left_of max c (cond may (m ∷ ms) ms)
+left_more max c false m ms = ap (λ (k : ℕ). left_of max k ms) (omega arith)
+left_more max c true m ms = elim (cases_Bool (max == 0)) [
+  | inl none ↦ rw none refl
+  | inr some ↦ elim (cases_Bool (nat_le max c)) [
+    | inl full ↦
+        let here : max - c ≡ 0 = grind (arith, nat_tests, full) in
+        let later : max - (c + 1) ≡ 0 = grind (arith, nat_tests, full) in
+        rw (some, full) (ap (λ (k : ℕ). take k ms) later ∙ sym (ap (λ (k : ℕ). take k (m ∷ ms)) here))
+    | inr room ↦
+        let here : max - c ≡ suc (max - (c + 1)) = grind (arith, nat_tests, room) in
+        rw (some, room) (sym (ap (λ (k : ℕ). take k (m ∷ ms)) here))
+  ]
+]
+
+-- of a list what passes `gets`, if that is what passes `may` until there are as many as the limit says
+module _ (max : ℕ) (may gets : Message → Bool) (ms : List Message) (d : Message)
+    (at : (i : ℕ) → i < length ms
+    → gets (get_or ms i d) ≡ may (get_or ms i d) && not (not (max == 0) && nat_le max (length (filter may (take i ms))))) where
   firsts_after : (n i : ℕ) → i + n ≡ length ms
-      → filter gets (drop i ms) ≡ take (length (filter gets (drop i ms))) (filter may (drop i ms))
-  firsts_after zero i all = rw (drop_all i ms (omega (arith, all))) refl
+      → filter gets (drop i ms) ≡ left_of max (length (filter may (take i ms))) (filter may (drop i ms))
+  firsts_after zero i all = rw (drop_all i ms (omega (arith, all))) (sym (none_left max (length (filter may (take i ms)))))
   firsts_after (suc n) i all =
       let inside : i < length ms = omega (arith, all) in
-      let later = firsts_after n (i + 1) (omega (arith, all)) in
-      elim (cases_Bool (full i)) [
-        | inl past ↦ rw (none_after (suc n) i all past) refl
-        | inr room ↦
-            let same : gets (get_or ms i d) ≡ may (get_or ms i d) = at i inside ∙ rw room (and-true (may (get_or ms i d))) in
-            elim (cases_Bool (may (get_or ms i d))) [
-              | inl hit ↦
-                  let got : gets (get_or ms i d) ≡ true = same ∙ hit in
-                  rw (drop_more ms i d inside, got, hit) (ap (λ (l : List Message). get_or ms i d ∷ l) later)
-              | inr miss ↦
-                  let none : gets (get_or ms i d) ≡ false = same ∙ miss in
-                  rw (drop_more ms i d inside, none, miss) later
-            ]
-      ]
+      rw (
+        drop_more ms i d inside,
+        at i inside,
+        firsts_after n (i + 1) (omega (arith, all)),
+        length-filter_more may ms i d inside,
+      ) (left_more max (length (filter may (take i ms))) (may (get_or ms i d)) (get_or ms i d) (filter may (drop (i + 1) ms)))
 
-pub wanted-first : WantedAreFirst
-wanted-first settings rows listing =
-    firsts_after (is_candidate settings rows listing) (gets settings rows listing)
-    (λ i. is_full settings (before settings rows listing i)) (numbered listing) (0, nobody)
-    (λ i inside. stays_full settings rows listing i (omega (arith, inside, length-enumerate_from 1 listing)))
-    (λ i inside. let there = message_at listing i nobody (omega (arith, inside, length-enumerate_from 1 listing)) in
-    ap (gets settings rows listing) there ∙ gets_at settings rows listing i
-    ∙ ap (λ (m : Message). is_candidate settings rows listing m && not (is_full settings (before settings rows listing i))) (sym there))
-    (length listing) 0 (omega (arith, length-enumerate_from 1 listing))
+  firsts : filter gets ms ≡ at_most max (filter may ms)
+  firsts = let none : max - 0 ≡ max = omega arith in
+      firsts_after (length ms) 0 (omega arith) ∙ ap (λ (k : ℕ). if max == 0 then filter may ms else take k (filter may ms)) none
+
+-- two tests that agree on these keep the same
+agree_on : (p q : Message → Bool) (ms : List Message) → All (λ m. p m ≡ q m) ms → filter p ms ≡ filter q ms
+agree_on p q [] all = refl
+agree_on p q (m ∷ ms) all = rw (
+  All-head (λ m. p m ≡ q m) m ms all,
+  agree_on p q ms (All-tail (λ m. p m ≡ q m) m ms all),
+) refl
 
 -- ---- a loop over the listing: the steps of the first i messages, and how many of these are fetched
 
@@ -247,7 +234,7 @@ HasPlanned-more settings rows listing now i steps fetched full skip deleted next
     gets_it : is_none skip ≡ is_candidate settings rows listing (i + 1, get_or listing i nobody) &&
         not (not (settings.max_count == 0) && nat_le settings.max_count fetched)
     gets_it = ap (λ (s : Option Skip). is_none s) (skip_is nobody)
-        ∙ wanted_by settings rows (is_first listing (i + 1, get_or listing i nobody)) full (get_or listing i nobody)
+        ∙ passes_for settings rows (is_first listing (i + 1, get_or listing i nobody)) full (get_or listing i nobody)
         ∙ ap (λ (b : Bool). is_candidate settings rows listing (i + 1, get_or listing i nobody) && not b) as_full
 
     skip_there : skip ≡ skip_of settings rows listing (i + 1, get_or listing i nobody)
@@ -271,17 +258,14 @@ never_due settings now since never = grind arith
 first_at : (settings : Settings) (rows : List Row) (listing front rest : List Item) (i : Item) (k : ℕ)
     → listing ≡ front ++ i ∷ rest → k ≡ length front + 1 → is_none (skip_of settings rows listing (k, i)) ≡ true
     → (has_item front i.uid ≡ false) × ((settings.read_all || not (is_delivered rows i.uid)) ≡ true)
-first_at settings rows listing front rest i k is at fetched = (
-  rw (is, at, take_at front (i ∷ rest) (length front + 1 - 1) (omega arith)) at
-      (not-true (has_item (take (k - 1) listing) i.uid) (first_for settings rows (is_first listing (k, i)) full i fetched)),
-  asked settings.read_all (is_delivered rows i.uid) (and_parts (not (not settings.read_all && is_delivered rows i.uid))
-      (is_within settings.max_size i.size && (is_first listing (k, i) && not full))
-      (sym (passes_for settings rows (is_first listing (k, i)) full i) ∙ fetched)).0,
-)
+first_at settings rows listing front rest i k is at fetched =
+    let parts = parts_for settings rows (is_first listing (k, i)) (is_full settings (before settings rows listing (k - 1))) i fetched in (
+      rw (is, at, take_at front (i ∷ rest) (length front + 1 - 1) (omega arith)) at
+          (not-true (has_item (take (k - 1) listing) i.uid) parts.1),
+      asked settings.read_all (is_delivered rows i.uid) (and_parts (not (not settings.read_all && is_delivered rows i.uid))
+          (is_within settings.max_size i.size) (sym (own_passes settings (is_delivered rows) i.uid i.size) ∙ parts.0)).0,
+    )
   where
-    full : Bool
-    full = is_full settings (before settings rows listing (k - 1))
-
     asked : (all delivered : Bool) → not (not all && delivered) ≡ true → (all || not delivered) ≡ true
     asked true delivered is = refl
     asked false delivered is = is
@@ -473,18 +457,21 @@ pub all_flags : (test : Message → Bool) (listing : List Item) (n : ℕ) (flags
 all_flags test listing n flags all count are = rw (are, count, ← length-enumerate_from 1 listing)
     (sym (all_pass test (numbered listing) all))
 
-pub candidates-distinct : DistinctAreFiltered
-candidates-distinct settings rows listing distinct =
-    only_firsts (λ first (message : Message). is_none (skip_for settings rows first false message.1)) (is_first listing) (numbered listing)
-    (are_first listing distinct)
+pub wanted-first : WantedAreFirst
+wanted-first settings rows listing distinct =
+    firsts settings.max_count (is_candidate settings rows listing) (gets settings rows listing) (numbered listing) (0, nobody)
+    (λ i inside.
+    let there = message_at listing i nobody (omega (arith, inside, length-enumerate_from 1 listing)) in
+    ap (gets settings rows listing) there ∙ gets_at settings rows listing i
+    ∙ ap (λ (m : Message). is_candidate settings rows listing m && not (is_full settings (before settings rows listing i))) (sym there))
+    ∙ ap (at_most settings.max_count) (agree_on (is_candidate settings rows listing) own (numbered listing)
+    (λ k d inside. same (get_or (numbered listing) k d) (are_first listing distinct k d inside)))
   where
-    only_firsts : (q : Bool → Message → Bool) (test : Message → Bool) (xs : List Message) → All (λ x. test x ≡ true) xs
-        → filter (λ x. q (test x) x) xs ≡ filter (q true) xs
-    only_firsts q test [] all = refl
-    only_firsts q test (x ∷ xs) all = rw (
-      All-head (λ y. test y ≡ true) x xs all,
-      only_firsts q test xs (All-tail (λ y. test y ≡ true) x xs all),
-    ) refl
+    own : Message → Bool
+    own m = is_none (own_skip settings (is_delivered rows) m.1.uid m.1.size)
+
+    same : (m : Message) → is_first listing m ≡ true → is_candidate settings rows listing m ≡ own m
+    same m first = ap (λ (b : Bool). own m && b) first ∙ and-true (own m)
 
 -- ---- rows are joined in one way
 
@@ -514,4 +501,4 @@ joined_once n uids sizes a b p q = ext_get_or nobody a b (p.count ∙ sym q.coun
     (λ j row below. q.octets j row below nobody) in
     λ i. record { uid = ids i; size = sizes' i })
 
-pub ruleset plan_laws = (firsts_planned, asked_planned, retrieved-planned, wanted-first, candidates-distinct)
+pub ruleset plan_laws = (firsts_planned, asked_planned, retrieved-planned, wanted-first)

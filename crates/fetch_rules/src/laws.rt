@@ -7,7 +7,7 @@ ghost use Rattle.mail_terms.specs.Listing.{Item, Joins, UidRow};
 ghost use Rattle.fetch_record.specs.Record.{Row};
 ghost use Rattle.fetch_rules.specs.Laws.{FetchesAsked, FetchesFirsts};
 ghost use Rattle.fetch_rules.specs.Plan.{planned, retrieved};
-ghost use Rattle.fetch_rules.specs.Wanted.{DistinctAreFiltered, WantedAreFirst, wanted};
+ghost use Rattle.fetch_rules.specs.Wanted.{WantedAreFirst, wanted};
 
 use mail_terms::ScanRow;
 use rc_file::Settings;
@@ -36,13 +36,8 @@ pub fn rows_join_in_one_way()
         → Joins n uids sizes one → Joins n uids sizes other → one ≡ other }
 {}
 
-/// If no id occurs twice in a listing, what may be fetched is a plain filter of it, by each
+/// If no id occurs twice in a listing, what is fetched are the first of a plain filter of it, by each
 /// message's size and what is recorded of its id.
-pub fn distinct_messages_are_filtered()
-    ensures { DistinctAreFiltered }
-{}
-
-/// What is fetched are the first of the messages that may be.
 pub fn wanted_are_first()
     ensures { WantedAreFirst }
 {}

@@ -15,8 +15,8 @@ pub use fetch_record::{
     merges_ask_only_for_new_ids, open_intents_have_rows, torn_is_ignored_or_seen,
 };
 pub use laws::{
-    distinct_messages_are_filtered, only_asked_for_are_fetched, only_firsts_are_fetched,
-    plans_fetch_wanted, rows_join_in_one_way, wanted_are_first,
+    only_asked_for_are_fetched, only_firsts_are_fetched, plans_fetch_wanted, rows_join_in_one_way,
+    wanted_are_first,
 };
 pub use mail_terms::{Listing, ListingFault, MESSAGE_LIMIT, ScanRow, UidRows, is_legal_id};
 pub use plans::{SECONDS_PER_DAY, Skip, Step, ask_nothing, plan, plan_of_known};

@@ -1,32 +1,29 @@
 -- Which messages are wanted, and that a session fetches the next of the selected ones if a prefix of them is done.
 -- Stores don't come in here.
-use Rattle.std.proofs.Common.{◌≡◌, ◌≤◌, ◌<◌, ◌+◌, ◌-◌, ℕ, zero, suc, List, [], ◌∷◌, ◌++◌, Bool, not, ◌&&◌, length}
-use Rattle.std.proofs.Common.{take, drop, map, refl, subst, sym, ◌∙◌, ap, arith, append_assoc, take-append-drop}
-use Rattle.std.proofs.Common.{Some, slice_get, ◌⊎◌, inl, inr, true, false}
-use Rattle.std.specs.Prelude.{bytes_eq, is_none, zip}
+use Rattle.std.proofs.Common.{◌≡◌, ◌≤◌, ◌<◌, ◌+◌, ◌-◌, ℕ, zero, suc, List, [], ◌∷◌, ◌++◌, Bool, not, ◌&&◌, ◌==◌, length}
+use Rattle.std.proofs.Common.{take, drop, map, refl, sym, ◌∙◌, ap, arith, append_assoc, take-append-drop}
+use Rattle.std.proofs.Common.{Some, slice_get, inl, inr, true, false}
+use Rattle.std.specs.Prelude.{bytes_eq, if◌then◌else◌, is_none, zip}
 use Rattle.std.specs.List.{filter, enumerate_from, AllByRecursion}
-use Rattle.std.proofs.Math.Bool.{and-true}
-use Rattle.std.proofs.lemmas.Bool.{or_left, cases_Bool, false_from_ne_true}
-use Rattle.std.proofs.lemmas.List.{take-map, take_all, length-map}
+use Rattle.std.proofs.lemmas.Bool.{cond_both, cases_Bool, false_from_ne_true}
+use Rattle.std.proofs.lemmas.List.{take-map, append-nil, take_all, length-map}
 use Rattle.std.proofs.lemmas.List.Elements.{recursion_from_All, filter-append}
 use Rattle.std.proofs.lemmas.List.FromFn.{length-enumerate_from, get_or-enumerate_from}
 use Rattle.std.proofs.lemmas.Option.{same_Some, slice_get-get_or}
 use Rattle.std.proofs.lemmas.Simd.{map-map}
 use Rattle.pop3_wire.specs.World.{Message, IsWorld, maildrop_of}
-use Rattle.mail_terms.specs.Listing.{Item, has_item, is_first, numbered}
+use Rattle.mail_terms.specs.Listing.{Item, has_item}
 use Rattle.fetch_record.specs.Record.{Row, is_delivered}
-use Rattle.fetch_rules.specs.Wanted.{is_within, is_asked_for, is_candidate, is_full, is_limit, candidates, skip_for, skip_of, wanted}
-use Rattle.fetch_rules.specs.Wanted.{DistinctAreFiltered, WantedAreFirst}
-use Rattle.fetch_rules.proofs.PlanLemmas.{are_first, left_for, passes_for}
+use Rattle.fetch_rules.specs.Wanted.{WantedAreFirst, at_most, own_skip, wanted}
+use Rattle.fetch_rules.proofs.PlanLemmas.{own_passes}
 use Rattle.rc_file.specs.declared.settings.Settings.{Settings}
 use Rattle.mail_store.specs.Maildir.{File, Maildir}
 use Rattle.mail_store.specs.FileName.{is_held, mail_file}
 use Rattle.mail_terms.specs.UniqueId.{has_id, is_legal_id}
 use Rattle.fetch_runs.specs.Accounts.{message_ids, item_of, listing_of, is_selected, selected, without, AccountMail}
-use Rattle.fetch_runs.specs.Promises.{IsLeftOut}
 use Rattle.fetch_runs.specs.Sessions.{AreTexts, file_for, is_unheld, Effect, IsHonest, ids_wanted, StoresTexts, MboxMail, MboxStores}
-use Rattle.fetch_runs.proofs.Lists.{filter-map, filter-swap, any_map, all_map, all_take, all_filter, Distinct, are_distinct, front_is}
-use Rattle.fetch_runs.proofs.Lists.{filter-filter, filter_all, all_both, all_passing, all_front, distinct_is, distinct_take}
+use Rattle.fetch_runs.proofs.Lists.{filter-map, filter-swap, any_map, all_append, all_map, all_take, all_filter, Distinct, are_distinct}
+use Rattle.fetch_runs.proofs.Lists.{front_is, filter-filter, filter_all, all_both, all_passing, all_front, distinct_is, distinct_take}
 use Rattle.fetch_runs.proofs.Lists.{distinct_filter, ids_both, all_at, all_ids_at, bytes_self, bytes_same, members, other_id}
 use Rattle.fetch_session.specs.declared.report.Report.{Report}
 use Rattle.pop3_wire.specs.declared.command.Command.{Command}
@@ -41,52 +38,45 @@ has_listed ms e id = rw e (any_map (λ (i : Item). bytes_eq id i.uid) item_of ms
 abbrev pub num_item : ℕ × Message → ℕ × Item
 num_item q = (q.0, item_of q.1)
 
-abbrev pub asked : Settings → List Row → Message → Bool
-asked settings rows m = is_asked_for settings rows (item_of m)
+-- whether a session may fetch a message, if it knows such ids
+abbrev pub may_fetch : Settings → (List ℕ → Bool) → Message → Bool
+may_fetch settings is_known m = is_none (own_skip settings is_known m.uid m.size)
 
-asks : (settings : Settings) (rows : List Row) (m : Message)
-    → asked settings rows m ≡ not (not settings.read_all && is_delivered rows m.uid) && is_within settings.max_size m.size
-asks settings rows m = passes_for settings rows true false (item_of m)
-    ∙ ap (λ (b : Bool). not (not settings.read_all && is_delivered rows m.uid) && b) (and-true (is_within settings.max_size m.size))
+abbrev pub asked : Settings → List Row → Message → Bool
+asked settings rows = may_fetch settings (is_delivered rows)
 
 abbrev pub offered : Settings → List Row → List Message → List Message
 offered settings rows ms = filter (asked settings rows) ms
 
--- how many are wanted
-abbrev pub many : Settings → List Row → List Message → ℕ
-many settings rows ms = length (wanted settings rows (listing_of ms))
-
 abbrev pub wants : Settings → List Row → List Message → List Message
-wants settings rows ms = take (many settings rows ms) (offered settings rows ms)
+wants settings rows ms = at_most settings.max_count (offered settings rows ms)
 
 abbrev pub offered_by_number : Settings → List Row → List Message → List (ℕ × Message)
 offered_by_number settings rows ms = filter (λ (q : ℕ × Message). asked settings rows q.1) (enumerate_from 1 ms)
 
 abbrev pub wants_by_number : Settings → List Row → List Message → List (ℕ × Message)
-wants_by_number settings rows ms = take (many settings rows ms) (offered_by_number settings rows ms)
+wants_by_number settings rows ms = at_most settings.max_count (offered_by_number settings rows ms)
 
 abbrev pub snd : ℕ × Message → Message
 snd q = q.1
 
+at_most-map : {X Y : Type 0} (f : X → Y) (n : ℕ) (xs : List X) → at_most n (map f xs) ≡ map f (at_most n xs)
+at_most-map f n xs = grind (arith, take-map)
+
 module _ (settings : Settings) (rows : List Row) where
-  pub candidates_are : DistinctAreFiltered → {listing : List Item} (ms : List Message) → listing ≡ listing_of ms → Distinct (message_ids ms)
-      → candidates settings rows listing ≡ map num_item (offered_by_number settings rows ms)
-  candidates_are filtered ms e d =
-      rw e (filtered settings rows (listing_of ms) (rw map-map (are_distinct (message_ids ms) d))
-      ∙ ap (filter (λ (message : ℕ × Item). is_asked_for settings rows message.1)) (enumerated 1 ms)
-      ∙ filter-map (λ (message : ℕ × Item). is_asked_for settings rows message.1) num_item (enumerate_from 1 ms))
+  pub wanted_are : WantedAreFirst → {listing : List Item} (ms : List Message) → listing ≡ listing_of ms → Distinct (message_ids ms)
+      → wanted settings rows listing ≡ map num_item (wants_by_number settings rows ms)
+  wanted_are firsts ms e d =
+      rw e (firsts settings rows (listing_of ms) (rw map-map (are_distinct (message_ids ms) d))
+      ∙ ap (at_most settings.max_count) (ap (filter may) (enumerated 1 ms) ∙ filter-map may num_item (enumerate_from 1 ms))
+      ∙ at_most-map num_item settings.max_count (offered_by_number settings rows ms))
     where
+      may : ℕ × Item → Bool
+      may message = is_none (own_skip settings (is_delivered rows) message.1.uid message.1.size)
+
       enumerated : (n : ℕ) (ms : List Message) → enumerate_from n (listing_of ms) ≡ map num_item (enumerate_from n ms)
       enumerated n [] = refl
       enumerated n (m ∷ ms) = ap (λ (l : List (ℕ × Item)). (n, item_of m) ∷ l) (enumerated (n + 1) ms)
-
-  pub wanted_are : DistinctAreFiltered → WantedAreFirst → {listing : List Item} (ms : List Message) → listing ≡ listing_of ms
-      → Distinct (message_ids ms) → wanted settings rows listing ≡ map num_item (wants_by_number settings rows ms)
-  wanted_are filtered firsts {listing} ms e d =
-      firsts settings rows listing
-      ∙ ap (take (length (wanted settings rows listing))) (candidates_are filtered ms e d)
-      ∙ ap (λ (l : List Item). take (length (wanted settings rows l)) (map num_item (offered_by_number settings rows ms))) e
-      ∙ take-map num_item (many settings rows ms) (offered_by_number settings rows ms)
 
   pub offered_snd : (ms : List Message) → map snd (offered_by_number settings rows ms) ≡ offered settings rows ms
   offered_snd ms = snds 1 ms
@@ -97,8 +87,7 @@ module _ (settings : Settings) (rows : List Row) where
       snds n (m ∷ ms) = grind (arith, snds (n + 1) ms)
 
   pub wants_snd : (ms : List Message) → map snd (wants_by_number settings rows ms) ≡ wants settings rows ms
-  wants_snd ms = sym (take-map snd (many settings rows ms) (offered_by_number settings rows ms))
-      ∙ ap (take (many settings rows ms)) (offered_snd ms)
+  wants_snd ms = sym (at_most-map _ _ _) ∙ ap (at_most _) (offered_snd ms)
 
 -- ---- each is at its number
 
@@ -112,9 +101,12 @@ are_numbered xs = recursion_from_All _ (enumerate_from 1 xs) (λ k d l.
     let place : 1 + k - 1 ≡ k = omega arith in
     rw get_or-enumerate_from (omega arith, ap (slice_get xs) place ∙ slice_get-get_or xs k _ inside))
 
+pub all_at_most : {X : Type 0} (P : X → Type 0) (n : ℕ) (xs : List X) → AllByRecursion P xs → AllByRecursion P (at_most n xs)
+all_at_most P n xs h = cond_both _ xs (take n xs) (AllByRecursion P) (λ e. h) (λ e. all_take P n xs h)
+
 pub wants_placed : (settings : Settings) (rows : List Row) (ms : List Message)
     → AllByRecursion (IsNumbered ms) (wants_by_number settings rows ms)
-wants_placed settings rows ms = all_take _ _ _ (all_filter _ _ _ (are_numbered ms))
+wants_placed _ _ ms = all_at_most _ _ _ (all_filter _ _ _ (are_numbered ms))
 
 -- ---- texts
 
@@ -150,11 +142,15 @@ stored_files account maildir (q ∷ qs) = grind (arith, stored_files account mai
 abbrev pub BeginsWith : List Message → List Message → Type 0
 BeginsWith front all = (more : List Message) × (all ≡ front ++ more)
 
-pub begins : {X : Type 0} (n many : ℕ) (xs : List X) → take n (take many xs) ++ (drop n (take many xs) ++ drop many xs) ≡ xs
-begins n many xs = rw (
-  ← append_assoc (take n (take many xs)) (drop n (take many xs)) (drop many xs),
-  take-append-drop n (take many xs),
-) (take-append-drop many xs)
+-- what comes after the first `limit` of a list; 0 is no limit
+abbrev past_limit : {X : Type 0} → ℕ → List X → List X
+past_limit limit xs = if limit == 0 then [] else drop limit xs
+
+both_parts : {X : Type 0} (limit : ℕ) (xs : List X) → at_most limit xs ++ past_limit limit xs ≡ xs
+both_parts limit xs = grind (arith, append-nil, take-append-drop)
+
+pub begins : {X : Type 0} (n limit : ℕ) (xs : List X) → take n (at_most limit xs) ++ (drop n (at_most limit xs) ++ past_limit limit xs) ≡ xs
+begins n limit xs = rw (← append_assoc, take-append-drop) (both_parts limit xs)
 
 -- the ids of the second part are distinct, and none is among those of the first
 pub parts_apart : (front rest : List Message) → Distinct (message_ids (front ++ rest))
@@ -241,28 +237,9 @@ mbox_fetched s = grind (arith, s.marks, s.number)
 
 -- no two messages of the maildrop share an id, and the server was honest
 pub record Fetch (settings : Settings) (rows : List Row) (drop' : List Message) (effect : Effect) : Type 0 where
-  pub filtered : DistinctAreFiltered
   pub firsts : WantedAreFirst
   pub distinct : Distinct (message_ids drop')
   pub honest : IsHonest (wanted settings rows effect.listing) drop' effect
-
--- what holds of each message by what holds of it with its number
-by_message : (P F : ℕ × Item → Type 0) (N : ℕ × Message → Type 0) (R : Message → Type 0) (k : ℕ) (ms : List Message)
-    → AllByRecursion P (enumerate_from k (listing_of ms)) → AllByRecursion F (enumerate_from k (listing_of ms))
-    → AllByRecursion N (enumerate_from k ms)
-    → ((q : ℕ × Message) → P (num_item q) → F (num_item q) → N q → R q.1) → AllByRecursion R ms
-by_message P F N R k [] ps fs ns so = tt
-by_message P F N R k (m ∷ ms) ps fs ns so = (so (k, m) ps.0 fs.0 ns.0, by_message P F N R (k + 1) ms ps.1 fs.1 ns.1 so)
-
--- a message that passes a test keeps its id in the filtered list
-passing_in : (p : ℕ × Item → Bool) (ms : List (ℕ × Item))
-    → AllByRecursion (λ (m : ℕ × Item). p m ≡ true → has_id (ids_wanted (filter p ms)) m.1.uid ≡ true) ms
-passing_in p [] = tt
-passing_in p (m ∷ ms) = (
-  λ e. rw e (or_left _ _ (bytes_self m.1.uid)),
-  all_map _ (passing_in p ms)
-      (λ x h e. grind (arith, h, e)),
-)
 
 module _ {settings : Settings} {rows : List Row} {drop' : List Message} {effect : Effect} (is : Fetch settings rows drop' effect) where
   abbrev os : List Message
@@ -276,20 +253,22 @@ module _ {settings : Settings} {rows : List Row} {drop' : List Message} {effect 
 
   -- what holds of all messages of the maildrop holds of those that are wanted
   pub all_wanted : (P : Message → Type 0) → AllByRecursion P drop' → AllByRecursion P ws
-  all_wanted P h = all_take P _ os (all_filter P (asked settings rows) drop' h)
+  all_wanted P h = all_at_most P _ os (all_filter P _ _ h)
 
   pub distinct_wanted : (n : ℕ) → Distinct (message_ids (take n ws))
-  distinct_wanted n = distinct_take n ws (distinct_take _ os (distinct_filter (asked settings rows) drop' is.distinct))
+  distinct_wanted n = let distinct = distinct_filter _ _ is.distinct in
+      distinct_take n ws (cond_both _ os (take settings.max_count os)
+      (λ l. Distinct (message_ids l)) (λ e. distinct) (λ e. distinct_take _ os distinct))
 
   -- if only what is new is read, no message that is wanted is recorded
   pub none_recorded : settings.read_all ≡ false → AllByRecursion (λ (m : Message). is_delivered rows m.uid ≡ false) ws
-  none_recorded only_new = all_take _ _ _ (all_map _ (all_passing (asked settings rows) drop')
-      (λ m a. grind (arith, sym (asks settings rows m) ∙ a, only_new)))
+  none_recorded only_new = all_at_most _ _ _ (all_map _ (all_passing (asked settings rows) drop')
+      (λ m a. grind (arith, sym (own_passes settings (is_delivered rows) m.uid m.size) ∙ a, only_new)))
 
   -- ---- numbers and texts
 
   pub wanted_is : wanted settings rows effect.listing ≡ map num_item qs
-  wanted_is = wanted_are settings rows is.filtered is.firsts drop' is.honest.listing is.distinct
+  wanted_is = wanted_are settings rows is.firsts drop' is.honest.listing is.distinct
 
   pub taken_is : (n : ℕ) → map snd (take n qs) ≡ take n ws
   taken_is n = sym (take-map snd n qs) ∙ ap (take n) (wants_snd settings rows drop')
@@ -308,43 +287,26 @@ module _ {settings : Settings} {rows : List Row} {drop' : List Message} {effect 
   pub length_is : length (wanted settings rows effect.listing) ≡ length ws
   length_is = rw (wanted_is, length-map, ← wants_snd, length-map) refl
 
-  -- ---- what an uncut session leaves out
+  -- ---- what an uncut session wants
 
-  -- each message is among the first n that were fetched, or is recorded, or a limit leaves it out
-  module _ (is_known : List ℕ → Bool) (known : AllByRecursion (λ (m : Message). is_delivered rows m.uid ≡ is_known m.uid) drop')
-      (n retrieved : ℕ) (l : length (wanted settings rows effect.listing) ≤ n)
-      (counted : retrieved ≡ length (wanted settings rows effect.listing)) where
-    ids_are : message_ids (take n ws) ≡ ids_wanted (wanted settings rows (listing_of drop'))
-    ids_are = sym (wanted_ids n) ∙ ap ids_wanted (take_all n (wanted settings rows effect.listing) l)
-        ∙ ap (λ listing. ids_wanted (wanted settings rows listing)) is.honest.listing
+  asked_as : (is_known : List ℕ → Bool) (ms : List Message) → AllByRecursion (λ (m : Message). is_delivered rows m.uid ≡ is_known m.uid) ms
+      → filter (may_fetch settings is_known) ms ≡ offered settings rows ms
+  asked_as is_known [] known = refl
+  asked_as is_known (m ∷ ms) known = rw (known.0, asked_as is_known ms known.1) refl
 
-    abbrev Out : Message → Type 0
-    Out m = (has_id (message_ids (take n ws)) m.uid ≡ true) ⊎ (is_delivered rows m.uid ≡ true)
-        ⊎ IsLeftOut settings is_known drop' retrieved m
-
-    pub left_out : AllByRecursion Out drop'
-    left_out = by_message (λ m. is_none (skip_of settings rows (listing_of drop') m) ≡ true
-        → has_id (ids_wanted (wanted settings rows (listing_of drop'))) m.1.uid ≡ true)
-        (λ m. is_first (listing_of drop') m ≡ true) (IsNumbered drop') Out 1 drop'
-        (passing_in (λ m. is_none (skip_of settings rows (listing_of drop') m)) (numbered (listing_of drop')))
-        (recursion_from_All _ _ (are_first (listing_of drop') (rw map-map (are_distinct (message_ids drop') is.distinct))))
-        (are_numbered drop')
-        (λ q got first place. elim (left_for settings rows (full q) (item_of q.1)) [
-          | inl fetched ↦ inl (ap (λ ids. has_id ids q.1.uid) ids_are
-              ∙ got (subst (λ (b : Bool). is_none (skip_for settings rows b (full q) (item_of q.1)) ≡ true) (sym first) fetched))
-          | inr (inl old) ↦ inr (inl old)
-          | inr (inr limit) ↦ inr (inr (record {
-            rows = rows;
-            known = known;
-            number = q.0;
-            place = place;
-            limit = subst (λ (b : Bool). is_limit (skip_for settings rows b (full q) (item_of q.1)) ≡ true) (sym first) limit;
-            all = counted ∙ ap (λ listing. length (wanted settings rows listing)) is.honest.listing;
-          }))
-        ])
-      where
-        full : ℕ × Message → Bool
-        full q = is_full settings (filter (is_candidate settings rows (listing_of drop')) (take (q.0 - 1) (numbered (listing_of drop'))))
+  -- all of it is among the first n that were fetched
+  pub fetches_wanted : (is_known : List ℕ → Bool) → AllByRecursion (λ (m : Message). is_delivered rows m.uid ≡ is_known m.uid) drop'
+      → (n : ℕ) {retrieved : ℕ} → length (wanted settings rows effect.listing) ≤ n
+      → retrieved ≡ length (wanted settings rows effect.listing) → (Is : Message → Type 0)
+      → ((m : Message) → has_id (message_ids (take n ws)) m.uid ≡ true → Is m) → ((m : Message) → is_delivered rows m.uid ≡ true → Is m)
+      → let all = at_most settings.max_count (filter (may_fetch settings is_known) drop') in (retrieved ≡ length all)
+      × AllByRecursion Is (filter (λ (m : Message). is_known m.uid) drop' ++ all)
+  fetches_wanted is_known known n l counted Is got old = rw (asked_as is_known drop' known) (
+    counted ∙ length_is,
+    all_append Is (filter (λ (m : Message). is_known m.uid) drop') ws
+        (all_both _ (all_filter _ _ drop' known) (all_passing (λ (m : Message). is_known m.uid) drop') (λ m same is. old m (same ∙ is)))
+        (all_map ws (members ws) (λ m there. got m (rw (take_all n ws (omega (arith, l, length_is))) there))),
+  )
 
 -- ---- what a session stores is the next
 
@@ -382,17 +344,17 @@ module _ {settings : Settings} {rows : List Row} {drop' : List Message} {effect 
     some' = offered settings rows drop'
 
     abbrev behind : ℕ → List Message
-    behind n = drop n (wants settings rows drop') ++ drop (many settings rows drop') some'
+    behind n = drop n (wants settings rows drop') ++ past_limit settings.max_count some'
 
     undone_offered : (ms : List Message) → AllByRecursion (λ (m : Message). is_delivered rows m.uid ≡ true
         → has_id (message_ids done) m.uid ≡ true) ms → next_in settings.max_size done ms ≡ filter undone (offered settings rows ms)
     undone_offered [] h = refl
-    undone_offered (m ∷ ms) h = grind (arith, h.0, asks settings rows m, undone_offered ms h.1)
+    undone_offered (m ∷ ms) h = grind (arith, h.0, own_passes settings (is_delivered rows) m.uid m.size, undone_offered ms h.1)
 
     pub added_begins : (n : ℕ) → BeginsWith (added n) rest
     added_begins n = (
       filter undone (behind n) ++ next.0,
-      next.1 ∙ ap (λ l. l ++ next.0) (undone_offered drop' known ∙ ap (filter undone) (sym (begins n (many settings rows drop') some'))
+      next.1 ∙ ap (λ l. l ++ next.0) (undone_offered _ known ∙ ap (filter undone) (sym (begins n settings.max_count some'))
           ∙ filter-append undone (take n (wants settings rows drop')) (behind n))
           ∙ append_assoc (added n) (filter undone (behind n)) next.0,
     )

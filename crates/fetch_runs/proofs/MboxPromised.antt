@@ -25,8 +25,8 @@ use Rattle.fetch_runs.specs.Promises.{IsOf, IsMaildrop, ShowsNext, Call, Base, i
 use Rattle.fetch_runs.specs.Promises.{HoldsEntries, IsMboxFront, MboxPromises, MboxStarts, AppendsMail}
 use Rattle.fetch_runs.proofs.Promised.{sends_such}
 use Rattle.fetch_runs.proofs.Core.{BeginsWith, next_in, added, added_begins, prefix_after, all_added, parts_apart, IsNumbered, num_item}
-use Rattle.fetch_runs.proofs.Core.{Fetch, all_wanted, distinct_wanted, wanted_is, taken_is, texts_are, wanted_ids, none_recorded, left_out}
-use Rattle.fetch_runs.proofs.Core.{qs, wants, wants_placed, has_listed, length_is, mbox_fetched}
+use Rattle.fetch_runs.proofs.Core.{Fetch, all_wanted, distinct_wanted, fetches_wanted, wanted_is, taken_is, texts_are, wanted_ids}
+use Rattle.fetch_runs.proofs.Core.{none_recorded, qs, wants, wants_placed, has_listed, length_is, mbox_fetched}
 use Rattle.fetch_runs.proofs.Lists.{all_ids_at, distinct_filter, filter_all, other_id, bytes_self, Distinct}
 use Rattle.fetch_runs.proofs.Lists.{distinct_is, are_distinct, all_map, all_take, all_append, all_back, all_mapped}
 use Rattle.fetch_runs.proofs.Lists.{members, ids_both, bytes_swap, delivered_unheld, delivered_one, delivered_all}
@@ -285,7 +285,7 @@ module _ (base : Base) where
       was = done ++ origin.0
 
       pub fetch : Fetch v.settings rows v.maildrop did
-      fetch = record { filtered = laws.filtered; firsts = laws.firsts; distinct = distinct_is v.maildrop is.distinct; honest = honest }
+      fetch = record { firsts = laws.firsts; distinct = distinct_is v.maildrop is.distinct; honest = honest }
 
       abbrev pub new : ℕ → List Message
       new n = take n (wants v.settings rows v.maildrop)
@@ -410,14 +410,11 @@ module _ (base : Base) where
           ap length (take_all s.stored (wants v.settings rows v.maildrop) (omega (arith, all, length_is fetch)))
               ∙ sym (length_is fetch) ∙ sym (all_retrieved (ended.1 uncut) uncut),
         );
-        left_out = λ uncut. all_map _
-            (left_out fetch (is_entered base was) (all_map _ (members v.maildrop) (λ m there. known m.uid))
-            s.stored v.report.retrieved (let all = (s.ended (ended.1 uncut)).0 in omega (arith, all))
-            (all_retrieved (ended.1 uncut) uncut)) (λ m out. elim out [
-              | inl got ↦ inl (in_more was (new s.stored) m.uid ∙ or_right _ _ got)
-              | inr (inl old) ↦ inl (in_more was (new s.stored) m.uid ∙ or_left _ _ (sym (known m.uid) ∙ old))
-              | inr (inr out) ↦ inr out
-            ]);
+        wanted = λ uncut. fetches_wanted fetch (is_entered base was) (all_map _ (members v.maildrop) (λ m there. known m.uid))
+            s.stored (let all = (s.ended (ended.1 uncut)).0 in omega (arith, all)) (all_retrieved (ended.1 uncut) uncut)
+            (λ m. is_entered base (was ++ new s.stored) m.uid ≡ true)
+            (λ m got. in_more was (new s.stored) m.uid ∙ or_right _ _ got)
+            (λ m old. in_more was (new s.stored) m.uid ∙ or_left _ _ (sym (known m.uid) ∙ old));
         deletes = sends_such (λ id. is_entered base (was ++ new s.stored) id ≡ true) v.maildrop did
             (inl honest.listing) begun_entered sends;
         retrieved = λ uncut. retrieves (ended.1 uncut);
@@ -518,7 +515,7 @@ module _ (base : Base) where
                 whole = λ uncut. absurd (both_ways effect.ended left.ended (session.ended.1 uncut));
                 found = [];
                 fetched = λ uncut. absurd (both_ways effect.ended left.ended (session.ended.1 uncut));
-                left_out = λ uncut. absurd (both_ways effect.ended left.ended (session.ended.1 uncut));
+                wanted = λ uncut. absurd (both_ways effect.ended left.ended (session.ended.1 uncut));
                 deletes = sends_such (λ id. is_entered base done id ≡ true) v.maildrop effect (inr left.begun)
                     (rw left.begun tt) session.sends;
                 retrieved = λ uncut. session.retrieves (session.ended.1 uncut);

@@ -23,7 +23,7 @@ use Rattle.fetch_runs.specs.Below.{Below}
 use Rattle.fetch_runs.specs.Promises.{Mail, IsOf, IsMaildrop, State, is_safe, IsSafe, state_with, DeletesOneOf}
 use Rattle.fetch_runs.specs.Promises.{ShowsNext, IsFront, Promises, Kept, Call, IsBetween}
 use Rattle.fetch_runs.proofs.Core.{added, added_begins, prefix_after, Fetch, all_wanted, distinct_wanted, texts_are, taken_is, wanted_ids}
-use Rattle.fetch_runs.proofs.Core.{none_recorded, left_out, IsLegal, wants, stored_files, message_file, has_listed, fetched, order}
+use Rattle.fetch_runs.proofs.Core.{none_recorded, fetches_wanted, IsLegal, wants, stored_files, message_file, has_listed, fetched, order}
 use Rattle.fetch_runs.proofs.Lists.{ids_both, ids_filtered, any_filter, same_tests, is_some, Distinct, distinct_is, each_text, all_map}
 use Rattle.fetch_runs.proofs.Lists.{all_filter, all_take, all_append, all_at, all_both, all_ids_at, all_passing, members, no_texts}
 use Rattle.fetch_runs.proofs.Lists.{has_texts, texts_filtered, taken_more, delivered_marked, delivered_merged, marks_stay, mapped_at}
@@ -152,7 +152,7 @@ module _ {W S F : Type 0} (laws : Below) {mail : Mail} (account_is : IsAccountTe
   after = state_with mail state o.vanished now
 
   fetch : Fetch o.settings rows o.maildrop e
-  fetch = record { filtered = laws.filtered; firsts = laws.firsts; distinct = distinct_is o.maildrop is.distinct; honest = honest }
+  fetch = record { firsts = laws.firsts; distinct = distinct_is o.maildrop is.distinct; honest = honest }
 
   -- ---- what came
 
@@ -270,12 +270,9 @@ module _ {W S F : Type 0} (laws : Below) {mail : Mail} (account_is : IsAccountTe
       → AllByRecursion (λ id. has_id e.begun id ≡ true) o.vanished → Promises mail state o sent now × Kept mail after
   stored_kept ended sends retrieves vanished = (
     record {
-      left_out = λ uncut. all_map _ (left_out fetch known known_listed s.stored o.report.retrieved (let all =
-          s.ended (ended.1 uncut) in grind (arith, all, s.kept)) (s.ended (ended.1 uncut))) (λ m out. elim out [
-            | inl got' ↦ inl (got_safe m.uid got')
-            | inr (inl old) ↦ inl (still_safe mail state now m.uid (known_safe m.uid old))
-            | inr (inr out) ↦ inr out
-          ]);
+      wanted = λ uncut. let all = s.ended (ended.1 uncut) in
+          fetches_wanted fetch known known_listed s.stored (grind (arith, all, s.kept)) all (λ m. IsSafe mail after m.uid)
+          (λ m. got_safe m.uid) (λ m old. still_safe mail state now m.uid (known_safe m.uid old));
       deletes = sends_such (IsSafe mail after) o.maildrop e (inl honest.listing) begun_safe sends;
       retrieved = λ uncut. retrieves (ended.1 uncut);
       came = came;
@@ -316,7 +313,7 @@ left_kept : {W S F : Type 0} {mail : Mail} {state : State} (o : Call W S F) (now
     × Kept mail (state_with mail state o.vanished now)
 left_kept {mail = mail} {state = state} o now e kept left ended sends vanished = (
   record {
-    left_out = λ uncut. absurd (both_ways e.ended left.ended (ended.1 uncut));
+    wanted = λ uncut. absurd (both_ways e.ended left.ended (ended.1 uncut));
     deletes = sends_such _ _ e (inr left.begun) (rw left.begun tt) sends;
     retrieved = λ uncut. absurd (both_ways e.ended left.ended (ended.1 uncut));
     came = [];

@@ -13,7 +13,7 @@ use Rattle.std.proofs.lemmas.Grind.{flat_map-append}
 use Rattle.std.proofs.Math.Logic.{⊎_elim, ⊎_map}
 use Rattle.mail_terms.specs.Listing.{Item, numbered, is_first}
 use Rattle.fetch_rules.specs.Wanted.{skip_of, wanted}
-use Rattle.fetch_rules.proofs.PlanLemmas.{first_for}
+use Rattle.fetch_rules.proofs.PlanLemmas.{parts_for}
 use Rattle.rc_file.specs.declared.settings.Settings.{Settings}
 use Rattle.fetch_record.specs.Record.{Row, is_delivered}
 use Rattle.mail_store.specs.FileName.{is_held, mail_file}
@@ -73,7 +73,7 @@ pub wanted_first : (settings : Settings) (rows : List Row) (listing : List Item)
     → AllByRecursion (IsFirstAt listing) (wanted settings rows listing)
 wanted_first settings rows listing = all_both {P = IsPlaced listing} _ (all_filter _ _ _ (are_numbered listing))
     (all_passing (λ m. is_none (skip_of settings rows listing m)) (numbered listing))
-    (λ q h e. (h.0, h.1, first_for settings rows (is_first listing q) _ q.1 e))
+    (λ q h e. (h.0, h.1, (parts_for settings rows (is_first listing q) _ q.1 e).1))
 
 behind_one : {X : Type 0} {x : X} (y : X) (xs : List X) → IsAmong x xs → IsAmong x (y ∷ xs)
 behind_one y _ (front, behind, is) = (y ∷ front, behind, ap (λ l. y ∷ l) is)

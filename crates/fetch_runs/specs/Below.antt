@@ -12,7 +12,7 @@ use Rattle.fetch_record.specs.Record.{Row, has_row, is_delivered, marked, merged
 use Rattle.fetch_record.specs.RecordGrowth.{AppendedCounts, OneMeaning, OneRecord, OpenHasRow}
 use Rattle.fetch_record.specs.RecordTorn.{TornIsIgnoredOrSeen}
 use Rattle.fetch_rules.specs.Plan.{planned, retrieved}
-use Rattle.fetch_rules.specs.Wanted.{DistinctAreFiltered, WantedAreFirst, wanted}
+use Rattle.fetch_rules.specs.Wanted.{WantedAreFirst, wanted}
 use Rattle.mail_store.specs.FileName.{IsAccountText, NamesAreBases, NamesHaveStems, StemsDiffer, account_text, is_held}
 use Rattle.mail_store.specs.FileName.{stem}
 use Rattle.mail_store.specs.Held.{flags_of}
@@ -31,7 +31,6 @@ pub record Below : Type 0 where
   pub flags : (account : List ℕ) (maildir : Maildir) (items : List Item) (uid : List ℕ)
       → is_flagged items (flags_of account maildir items) uid ≡ (has_item items uid && is_held account maildir uid)
   -- what is wanted
-  pub filtered : DistinctAreFiltered
   pub firsts : WantedAreFirst
   pub plans : (settings : Settings) (rows : List Row) (listing : List Item) (now : ℕ)
       → retrieved (planned settings rows listing now) listing ≡ wanted settings rows listing

@@ -1,7 +1,7 @@
 -- What a call of `session` promises, in what the account's files mean, and what holds before and after it. A server may
 -- show any messages, in any order, and each call may have other limits: what stays is that a unique-id names one text.
-use Rattle.std.specs.Prelude.{◌≡◌, ◌⊎◌, ◌<◌, ◌≤◌, ◌-◌, ◌&&◌, ◌||◌, ℕ, Bool, true, false, not, List, [], ◌∷◌, ◌++◌, map}
-use Rattle.std.specs.Prelude.{length, Some, slice_get, None}
+use Rattle.std.specs.Prelude.{◌≡◌, ◌⊎◌, ◌<◌, ◌-◌, ◌&&◌, ◌||◌, ℕ, Bool, true, false, not, List, [], ◌∷◌, ◌++◌, map}
+use Rattle.std.specs.Prelude.{length, Some, slice_get, None, is_none}
 use Rattle.std.specs.List.{AllByRecursion, count_by, filter}
 use Rattle.pop3_wire.specs.World.{Message}
 use Rattle.pop3_wire.specs.declared.command.Command.{Command}
@@ -10,15 +10,15 @@ use Rattle.mail_terms.specs.Distinct.{AreDistinct}
 use Rattle.mail_terms.specs.Text.{IsWhole}
 use Rattle.mail_terms.specs.UniqueId.{is_legal_id, has_id}
 use Rattle.rc_file.specs.declared.settings.Settings.{Settings}
-use Rattle.fetch_record.specs.Record.{Row, is_delivered}
-use Rattle.fetch_rules.specs.Wanted.{is_limit, is_within, skip_of, wanted}
+use Rattle.fetch_record.specs.Record.{is_delivered}
+use Rattle.fetch_rules.specs.Wanted.{at_most, is_within, own_skip}
 use Rattle.mail_store.specs.FileName.{is_held, name_of, stem_of}
 use Rattle.mail_store.specs.Maildir.{file}
 use Rattle.mail_store.specs.Mboxrd.{entry_of}
 use Rattle.mail_store.specs.Settling.{MayBeLeft}
 use Rattle.fetch_session.specs.declared.report.Outcome.TheVariants.{Ended}
 use Rattle.fetch_session.specs.declared.report.Report.{Report}
-use Rattle.fetch_runs.specs.Accounts.{AccountMail, copies, has_named, item_of, listing_of, message_ids, without_flags}
+use Rattle.fetch_runs.specs.Accounts.{AccountMail, copies, has_named, message_ids, without_flags}
 use Rattle.fetch_runs.specs.Sessions.{SendsOnly, is_retr, MboxMail, entries_of, entry_intent}
 use Rattle.std.proofs.Common.{inr}
 
@@ -94,21 +94,13 @@ DeletesOneOf maildrop Is (Dele number) = (0 < number) × (message : Message)
     × (slice_get maildrop (number - 1) ≡ Some message) × Is message.uid
 DeletesOneOf maildrop Is _ = Unit {0}
 
--- a limit of a session that knows the messages with such ids leaves this one out, which has this number; and as many
--- were retrieved as it wants
-pub record IsLeftOut (settings : Settings) (is_known : List ℕ → Bool) (maildrop : List Message) (retrieved : ℕ)
-    (m : Message) : Type 0 where
-  pub rows : List Row
-  pub known : AllByRecursion (λ (other : Message). is_delivered rows other.uid ≡ is_known other.uid) maildrop
-  pub number : ℕ
-  pub place : (0 < number) × (slice_get maildrop (number - 1) ≡ Some m)
-  pub limit : is_limit (skip_of settings rows (listing_of maildrop) (number, item_of m)) ≡ true
-  pub all : retrieved ≡ length (wanted settings rows (listing_of maildrop))
-
--- after an uncut session each message of the maildrop is of this kind, unless a limit leaves it out
-abbrev pub LeavesOut : {W S F : Type 0} → Call W S F → (List ℕ → Bool) → (List ℕ → Type 0) → Type 0
-LeavesOut call is_known Is = call.report.outcome ≡ Ended → AllByRecursion (λ (m : Message).
-    Is m.uid ⊎ IsLeftOut call.settings is_known call.maildrop call.report.retrieved m) call.maildrop
+-- an uncut session that knows the messages of such ids retrieved what it wants of the maildrop: as many as its limit
+-- says of those that it has no reason to skip. These are of this kind, and so are those that it knows
+abbrev pub FetchesWanted : {W S F : Type 0} → Call W S F → (List ℕ → Bool) → (Message → Type 0) → Type 0
+FetchesWanted call is_known Is = call.report.outcome ≡ Ended → let wanted = at_most call.settings.max_count
+    (filter (λ (m : Message). is_none (own_skip call.settings is_known m.uid m.size)) call.maildrop)
+    in (call.report.retrieved ≡ length wanted)
+    × AllByRecursion Is (filter (λ (m : Message). is_known m.uid) call.maildrop ++ wanted)
 
 -- what a maildrop has within the session's limit and isn't done is the first of these
 abbrev pub ShowsNext : Settings → List Message → List Message → List Message → Type 0
@@ -133,8 +125,8 @@ pub record IsNew {W S F : Type 0} (mail : Mail) (before : AccountMail) (call : C
 -- file is lost, only files of new messages come, and what is recorded stays so
 pub record Promises {W S F : Type 0} (mail : Mail) (state : State) (call : Call W S F) (sent : List ℕ)
     (after : AccountMail) : Type 0 where
-  pub left_out : LeavesOut call (λ id. is_delivered state.account.rows id
-      || is_held mail.account state.account.maildir id) (IsSafe mail (state_with mail state call.vanished after))
+  pub wanted : FetchesWanted call (λ id. is_delivered state.account.rows id || is_held mail.account
+      state.account.maildir id) (λ m. IsSafe mail (state_with mail state call.vanished after) m.uid)
   pub deletes : SendsOnly (DeletesOneOf call.maildrop (IsSafe mail (state_with mail state call.vanished after))) sent
   pub retrieved : call.report.outcome ≡ Ended → call.report.retrieved ≡ count_by is_retr deletes.commands
   pub came : List Message
@@ -213,7 +205,7 @@ pub record MboxPromises {W S F : Type 0} (base : Base) (before done : List Messa
   pub found : List Message
   pub fetched : call.report.outcome ≡ Ended → (texts : List Message) × (done ≡ (before ++ found) ++ texts)
       × (length texts ≡ call.report.retrieved)
-  pub left_out : LeavesOut call (is_entered base (before ++ found)) (λ id. is_entered base done id ≡ true)
+  pub wanted : FetchesWanted call (is_entered base (before ++ found)) (λ m. is_entered base done m.uid ≡ true)
   pub deletes : SendsOnly (DeletesOneOf call.maildrop (λ id. is_entered base done id ≡ true)) sent
   pub retrieved : call.report.outcome ≡ Ended → call.report.retrieved ≡ count_by is_retr deletes.commands
   pub vanished : AllByRecursion (λ id. is_entered base done id ≡ true) call.vanished

@@ -11,10 +11,9 @@ ghost use Rattle.fetch_runs.specs.Promises.{MboxStarts};
 ghost use Rattle.fetch_runs.specs.Steps.{MboxSessionsLoseNothing, SessionsLoseNothing};
 
 use fetch_rules::{
-    appended_counts, bytes_have_one_meaning, distinct_messages_are_filtered,
-    files_stand_for_one_record, held_is_delivered, listed_has_row, marked_is_delivered,
-    marked_keeps_rows, open_intents_have_rows, plans_fetch_wanted, torn_is_ignored_or_seen,
-    wanted_are_first,
+    appended_counts, bytes_have_one_meaning, files_stand_for_one_record, held_is_delivered,
+    listed_has_row, marked_is_delivered, marked_keeps_rows, open_intents_have_rows,
+    plans_fetch_wanted, torn_is_ignored_or_seen, wanted_are_first,
 };
 use fetch_session::{
     sessions_are_durable, sessions_by_store, sessions_keep_files, steady_files_keep,
@@ -41,7 +40,6 @@ fn laws_below()
     marks_keep_the_base();
     account_texts_are_digits();
     flags_tell_what_is_held();
-    distinct_messages_are_filtered();
     wanted_are_first();
     plans_fetch_wanted();
     held_is_delivered();

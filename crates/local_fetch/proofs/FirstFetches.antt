@@ -1,5 +1,5 @@
 -- From nothing on, a call keeps what it removes from the server, and an uncut one all that was there, up to its limits.
-use Rattle.std.proofs.Common.{◌≡◌, inl, inr, ℕ, Bool, true, false, List, [], ◌∷◌, ◌++◌, refl, sym, ◌∙◌, true≢false}
+use Rattle.std.proofs.Common.{◌≡◌, inl, inr, ℕ, Bool, true, false, List, [], ◌∷◌, ◌++◌, refl, subst, sym, ◌∙◌, true≢false}
 use Rattle.std.specs.List.{AllByRecursion, list_any}
 use Rattle.std.specs.Prelude.{bytes_eq}
 use Rattle.std.proofs.lemmas.Bool.{cases_Bool}
@@ -11,14 +11,14 @@ use Rattle.pop3_wire.specs.World.{Message}
 use Rattle.pop3_wire.specs.declared.wire.Wire.{Ghosts as WireGhosts}
 use Rattle.pop3_server.specs.declared.maildrop.Maildrop.{Ghosts as DropGhosts}
 use Rattle.pop3_server.specs.LoopLink.{Loop}
-use Rattle.rc_file.specs.declared.settings.Settings.{Settings}
 use Rattle.fetch_runs.specs.Accounts.{AccountMail, copies}
-use Rattle.fetch_runs.specs.Promises.{DeletesOneOf, IsLeftOut, IsSafe, Mail, MboxStarts, state_with}
-use Rattle.fetch_runs.proofs.Lists.{all_back, all_map}
+use Rattle.fetch_runs.specs.Promises.{Call, DeletesOneOf, FetchesWanted, IsSafe, Mail, MboxStarts, state_with}
+use Rattle.fetch_runs.proofs.Core.{all_at_most}
+use Rattle.fetch_runs.proofs.Lists.{all_append, all_back, all_both, all_filter}
 use Rattle.pop3_wire.specs.declared.command.Command.{Command}
 use Rattle.pop3_wire.specs.declared.command.Command.TheVariants.{Dele}
 use Rattle.fetch_runs.specs.Calls.{Called, EmptyAccountsAreKept, with_left}
-use Rattle.local_fetch.specs.Fetches.{FetchesKeepPromises, FirstFetchesKeepMail, nothing_yet, shown_by}
+use Rattle.local_fetch.specs.Fetches.{FetchesKeepPromises, FirstFetchesKeepMail, as_call, nothing_yet}
 use Rattle.local_fetch.specs.Fetches.{MboxFetchesKeepPromises, MboxFirstFetchesKeepMail}
 use Rattle.local_fetch.proofs.FetchLemmas.{from_nothing, mbox_from_nothing}
 
@@ -47,12 +47,6 @@ held mail maildir left vanished after id none none' safe = elim (cases_Bool (is_
   | inr isnt ↦ absurd (let never = rw (isnt, none', none) at safe.1 in cc)
 ]
 
--- what holds of each message by two facts, and of each id by one
-each : {P Q R : Message → Type 0} → ((m : Message) → P m → Q m → R m) → (ms : List Message) → AllByRecursion P ms → AllByRecursion Q ms
-    → AllByRecursion R ms
-each by [] ps qs = tt
-each by (m ∷ ms) (p, ps) (q, qs) = (by m p q, each by ms ps qs)
-
 all_by : {P Q : List ℕ → Type 0} → ((id : List ℕ) → P id → Q id) → (ids more : List (List ℕ)) → AllByRecursion P (ids ++ more)
     → AllByRecursion Q ids
 all_by by [] more ps = tt
@@ -65,18 +59,14 @@ its_message : (messages : List Message) (Is : List ℕ → Type 0) (commands fro
 its_message messages Is commands front behind number is all =
     (all_back (DeletesOneOf messages Is) front (Dele number ∷ behind) (rw is at all)).0
 
--- what is known of it is known to be of this kind
-left_as : {settings : Settings} {is_known is_too : List ℕ → Bool} {maildrop : List Message} {retrieved : ℕ} {m : Message}
-    → ((id : List ℕ) → is_known id ≡ is_too id) → IsLeftOut settings is_known maildrop retrieved m
-    → IsLeftOut settings is_too maildrop retrieved m
-left_as same out = record {
-  rows = out.rows;
-  known = all_map _ out.known (λ other is. is ∙ same other.uid);
-  number = out.number;
-  place = out.place;
-  limit = out.limit;
-  all = out.all;
-}
+-- what follows for what is wanted, and what is known also by another test
+wanted_by : {W S F : Type 0} (call : Call W S F) (is_known is_too : List ℕ → Bool) {P Is Too : Message → Type 0}
+    → FetchesWanted call is_known Is → ((id : List ℕ) → is_known id ≡ is_too id) → AllByRecursion P call.maildrop
+    → ((m : Message) → Is m → P m → Too m) → FetchesWanted call is_too Too
+wanted_by call is_known is_too {P = P} {Too = Too} wanted same all by =
+    subst (λ (k : List ℕ → Bool). FetchesWanted call k Too) (λ i id. same id i) (λ ended.
+    let (count, each) = wanted ended in
+    (count, all_both _ each (all_append P _ _ (all_filter P _ _ all) (all_at_most P _ _ (all_filter P _ _ all))) by))
 
 pub keep_mail : {M D F : Type 0} (link : WireGhosts (Loop M)) (disk : DiskGhosts D) (file : FileGhosts F) (drop : DropGhosts M)
     → EmptyAccountsAreKept → FetchesKeepPromises link disk file drop → FirstFetchesKeepMail link disk file drop
@@ -102,16 +92,12 @@ keep_mail link disk file drop empty law mail devices fetch no_file no_record acc
             (m, at, rw (← shows'.maildir) (safe_held m.uid safe));
         retrieved = promised.promises.retrieved;
       },
-      λ ended. each (λ m of p. elim p [
-        | inl safe ↦
-            let is_there = safe_held m.uid safe in
-            elim (kept'.holds m.uid of.legal) [
-              | inl none ↦ absurd (true≢false (sym is_there
-                  ∙ no_copies (stem_of mail.account m.uid) promised.after.maildir.files none))
-              | inr one ↦ inl (rw (← shows'.maildir, of.text) one)
-            ]
-        | inr out ↦ inr (left_as (λ id. rw left_none refl) out)
-      ]) (shown_by drop fetch.server) is.maildrop.each (promised.promises.left_out ended),
+      wanted_by (as_call drop fetch vanished) (is_held mail.account promised.left) (λ id. false) promised.promises.wanted
+          (λ id. rw left_none refl) is.maildrop.each (λ m safe of. elim (kept'.holds m.uid of.legal) [
+            | inl none ↦ absurd (true≢false (sym (safe_held m.uid safe)
+                ∙ no_copies (stem_of mail.account m.uid) promised.after.maildir.files none))
+            | inr one ↦ rw (← shows'.maildir, of.text) one
+          ]),
     )
 
 -- ---- with an mboxrd file
@@ -137,10 +123,7 @@ keep_entries link disk file drop starts law text_of devices fetch no_record only
             (m, at, entered);
         retrieved = kept.retrieved;
       },
-      λ ended. (
-        sym shows.bytes ∙ kept.whole ended,
-        (after.rows, rw (kept.closed ended) at shows.record_is),
-        kept.found,
-        kept.left_out ended,
-      ),
+      λ ended. (sym shows.bytes ∙ kept.whole ended, (after.rows, rw (kept.closed ended) at shows.record_is)),
+      kept.found,
+      kept.wanted,
     )

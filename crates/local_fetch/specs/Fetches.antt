@@ -1,6 +1,6 @@
 -- Calls of `fetch_local`, and what others do between them: what is promised of any list of these. Here the server's
 -- honesty is no premise: it follows from the contract of `fetch_local`.
-use Rattle.std.specs.Prelude.{◌≡◌, ◌⊎◌, ◌-◌, ℕ, true, false, length, List, [], ◌∷◌, ◌++◌, None, Some}
+use Rattle.std.specs.Prelude.{◌≡◌, ◌-◌, ℕ, true, false, List, [], ◌∷◌, ◌++◌, None, Some}
 use Rattle.std.specs.Prelude.{slice_get}
 use Rattle.std.specs.List.{AllByRecursion, count_by}
 use Rattle.mail_store.specs.declared.maildir.disk.MaildirDisk.{Ghosts as DiskGhosts}
@@ -27,9 +27,9 @@ use Rattle.fetch_session.specs.declared.report.Report.{Report}
 use Rattle.fetch_session.specs.Account.{digits_of}
 use Rattle.fetch_session.specs.Target.{is_sound, mail_in}
 use Rattle.fetch_runs.specs.Accounts.{AccountMail, copies, message_ids}
-use Rattle.fetch_runs.specs.Promises.{Call, Devices, IsBetween, IsLeftOut, IsMaildrop, Kept, Mail, State, state_with}
+use Rattle.fetch_runs.specs.Promises.{Call, Devices, IsBetween, IsMaildrop, Kept, Mail, State, state_with}
 use Rattle.fetch_runs.specs.Sessions.{MboxMail, entries_of, is_retr}
-use Rattle.fetch_runs.specs.Promises.{AppendsMail, Base, HoldsEntries}
+use Rattle.fetch_runs.specs.Promises.{AppendsMail, Base, FetchesWanted, HoldsEntries}
 use Rattle.fetch_runs.specs.Calls.{Called, Happening, HoldsNoMore, IsLeftByLoss, IsPromised, Left, Shows}
 use Rattle.fetch_runs.specs.Calls.{account_over, with_left}
 use Rattle.fetch_runs.specs.Losses.{IsCrashSafe, KeepsDurable, KeepsFronts}
@@ -133,8 +133,8 @@ pub record SendsFor (messages : List Message) (Is : List ℕ → Type 0) (report
   pub retrieved : report.outcome ≡ Ended → report.retrieved ≡ count_by is_retr commands
 
 -- a law: from a Maildir without files and no record on, each message that a call removed from its server, or that it
--- sent DELE for, is held; and if the call is uncut, each message that the server had is in one file, with its text,
--- unless a limit leaves it out
+-- sent DELE for, is held; and if the call is uncut, each message of the server that it wants is in one file, with its
+-- text
 abbrev pub FirstFetchesKeepMail : {M D F : Type 0} → WireGhosts (Loop M) → DiskGhosts D → FileGhosts F → DropGhosts M
     → Type 0
 FirstFetchesKeepMail {M} {D} {F} link disk file drop = (mail : Mail) (devices : Devices D F)
@@ -145,9 +145,8 @@ FirstFetchesKeepMail {M} {D} {F} link disk file drop = (mail : Mail) (devices : 
     × (sent : List ℕ) × ((link.history fetch.wire).sent ≡ (link.history (loop_to fetch.server)).sent ++ sent)
     × SendsFor (shown_by drop fetch.server) (λ id. is_held mail.account (disk.maildir fetch.after.store) id ≡ true)
     fetch.report sent
-    × (fetch.report.outcome ≡ Ended → let maildrop = shown_by drop fetch.server in AllByRecursion (λ (m : Message).
-    (copies (disk.maildir fetch.after.store).files (stem_of mail.account m.uid) ≡ m.text ∷ [])
-    ⊎ IsLeftOut fetch.settings (λ id. false) maildrop fetch.report.retrieved m) maildrop)
+    × FetchesWanted (as_call drop fetch vanished) (λ id. false)
+    (λ m. copies (disk.maildir fetch.after.store).files (stem_of mail.account m.uid) ≡ m.text ∷ [])
 
 -- ---- with an mboxrd file
 
@@ -194,7 +193,7 @@ MboxFetchesFromNothing {M} {D} {F} link disk file drop = (text_of : List ℕ →
 
 -- a law: from any mboxrd file and no record on, each message that a call removed from its server, or that it sent DELE
 -- for, has an entry; and if the call is uncut, the file is what it was and then entries, no intent is open, and each
--- message that the server had has one, unless a limit leaves it out; some of these messages may have been known
+-- message of the server that it wants has one, or was known and has one
 abbrev pub MboxFirstFetchesKeepMail : {M D F : Type 0} → WireGhosts (Loop M) → DiskGhosts D → FileGhosts F
     → DropGhosts M → Type 0
 MboxFirstFetchesKeepMail {M} {D} {F} link disk file drop = (text_of : List ℕ → List ℕ) (devices : Devices F F)
@@ -206,7 +205,6 @@ MboxFirstFetchesKeepMail {M} {D} {F} link disk file drop = (text_of : List ℕ �
     × SendsFor (shown_by drop fetch.server) (λ id. has_id (message_ids done) id ≡ true) fetch.report sent
     × (fetch.report.outcome ≡ Ended
     → (mail_in (file.stored fetch.after.store).content ≡ mail_in (file.stored devices.store).content ++ entries_of done)
-    × ((rows : List Row) × FileStandsFor (file.stored fetch.after.file).content rows None)
-    × (found : List Message) × (let maildrop = shown_by drop fetch.server in AllByRecursion (λ (m : Message).
-    (has_id (message_ids done) m.uid ≡ true)
-    ⊎ IsLeftOut fetch.settings (has_id (message_ids found)) maildrop fetch.report.retrieved m) maildrop))
+    × ((rows : List Row) × FileStandsFor (file.stored fetch.after.file).content rows None))
+    × (found : List Message) × FetchesWanted (as_call drop fetch vanished) (has_id (message_ids found))
+    (λ m. has_id (message_ids done) m.uid ≡ true)
