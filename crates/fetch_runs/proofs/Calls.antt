@@ -16,11 +16,11 @@ use Rattle.fetch_session.specs.Account.{digits_of}
 use Rattle.fetch_session.specs.Laws.{MboxSessions}
 use Rattle.fetch_session.specs.Session.{account_files, mbox_account_files}
 use Rattle.fetch_runs.specs.Accounts.{AccountMail, files, message_ids, is_selected, without, texts_of, copies, selected, without_flags}
-use Rattle.fetch_runs.specs.Promises.{Mail, State, state_with, IsBetween, Kept, Call, Devices, AppendsMail, Base}
+use Rattle.fetch_runs.specs.Promises.{Mail, State, state_with, IsBetween, Invariant, Call, Devices, AppendsMail, Base}
 use Rattle.fetch_runs.specs.Promises.{HoldsEntries, IsMaildrop, IsSafe, IsFront, ShowsNext, is_safe, IsMboxFront}
 use Rattle.fetch_runs.specs.Sessions.{SessionOverLink, MboxMail}
 use Rattle.fetch_runs.specs.Steps.{holds}
-use Rattle.fetch_runs.specs.Calls.{Called, CallsKeepPromises, EmptyAccountsAreKept, Left, with_left, IsCall, Shows}
+use Rattle.fetch_runs.specs.Calls.{Called, CallsKeepPromises, EmptyAccountsHold, Left, with_left, IsCall, Shows}
 use Rattle.fetch_runs.specs.Calls.{DurableMboxesAreSafe, MboxCallsKeepPromises, ShowsMbox}
 use Rattle.fetch_runs.proofs.LeftRecords.{LeavesDurably, leaves_durably}
 use Rattle.fetch_runs.proofs.Losses.{all_left_durable, calls_keep_order, calls_keep_safe, durable_is_safe}
@@ -32,7 +32,7 @@ use Rattle.fetch_session.specs.declared.account.Store.TheVariants.{Maildir as In
 use Rattle.fetch_runs.specs.Below.{Below}
 use Rattle.fetch_runs.proofs.MboxLeft.{Holds, session_left}
 use Rattle.fetch_runs.proofs.MboxPromised.{appends, starts, ends_whole, open_row}
-use Rattle.fetch_runs.specs.Losses.{AreMboxSure, IsFileLeft, IsMboxSafe}
+use Rattle.fetch_runs.specs.Losses.{TrustsMbox, IsFileLeft, IsMboxSafe}
 use Rattle.fetch_session.specs.Record.{record_state}
 use Rattle.mail_store.specs.Durable.{seen_on}
 use Rattle.fetch_runs.proofs.Promised.{IsSession, others_leave_kept, sessions_keep_promises, copies_came}
@@ -109,7 +109,7 @@ calls_leave laws link disk file mail account devices call shows account_is is =
     }
 
 -- readers that take files away are others that do so between two sessions
-left_between : (mail : Mail) (state : State) (left : Maildir) → Kept mail state → WereTaken state.account.maildir left
+left_between : (mail : Mail) (state : State) (left : Maildir) → Invariant mail state → WereTaken state.account.maildir left
     → IsBetween mail state.account (record state.account { maildir = left })
 left_between mail state left kept taken = record {
   holds = λ id l. ⊎_elim (λ same. rw same (kept.holds id l)) (λ (none, _). inl none) (left_or_none _ _ _ (taken.gone, taken.files)
@@ -131,7 +131,7 @@ calls_keep_promises laws {W} {D} {F} link disk file = keep
       kept,
       λ account_is is.
           let it = calls_leave laws link disk file mail state.account devices call shows account_is is in
-          let here : Kept mail (with_left mail state it.left) =
+          let here : Invariant mail (with_left mail state it.left) =
           others_leave_kept mail state (record state.account { maildir = it.left }) kept (left_between mail state it.left kept it.taken) in
           let account = subst IsAccountText account_is
           (laws.digits (string_bytes call.settings.server) call.settings.port (string_bytes call.settings.username)) in
@@ -145,9 +145,9 @@ calls_keep_promises laws {W} {D} {F} link disk file = keep
               shows = it.shows;
               taken_is = it.taken_is;
               promises = done.0;
-              safe = λ sure safe. calls_keep_safe laws file devices.file call.after.file mail
+              safe = λ trust safe. calls_keep_safe laws file devices.file call.after.file mail
                   (with_left mail state it.left) call it.sent it.after here it.session
-                  it.leaves sure (left_keeps_safe (file.disk devices.file) mail state it.left kept it.taken safe);
+                  it.leaves trust (left_keeps_safe (file.disk devices.file) mail state it.left kept it.taken safe);
               in_order = λ all legal front next. calls_keep_order mail (own mail.account account) file devices.file call.after.file
                   (with_left mail state it.left) call it.sent it.after done.0 it.leaves all legal
                   (left_keeps_front mail state it.left kept it.taken all legal front) next;
@@ -176,7 +176,7 @@ calls_keep_promises laws {W} {D} {F} link disk file = keep
           ),
     )
 
-pub empty_is_kept : EmptyAccountsAreKept
+pub empty_is_kept : EmptyAccountsHold
 empty_is_kept _ _ none none_gone no_file = record {
   holds = λ id l. inl (no_file id l);
   recorded = λ _ d. absurd (let never = rw none at d in cc);
@@ -219,10 +219,10 @@ mbox_calls_keep_safe : Below → {W D F : Type 0} (link : WireGhosts W) (disk : 
     → ((all : List Message) → Among all → (front : IsMboxFront base holds all)
     × ShowsNext call.settings call.maildrop (front.first ++ done) front.rest) → call.settings.read_all ≡ false
     → IsCall link disk file InMbox file.sound base.text devices call → ShowsMbox file call.after after
-    → Holds base Among done' after → AreMboxSure file devices call.after
+    → Holds base Among done' after → TrustsMbox file devices call.after
     → IsMboxSafe (Holds base Among) file devices → IsMboxSafe (Holds base Among) file call.after
 mbox_calls_keep_safe laws {D = D} link _ file shown sessions base Among done done' account after devices call shows holds fronts
-    only_new is shows' kept sure safe =
+    only_new is shows' kept trust safe =
     let met = sessions call.now (record { settings = call.settings; store = _; file = devices.file })
     (record { settings = call.settings; store = _; file = call.after.file }) call.wire call.wire' call.report is.made.1 is.made.2
     is.link_sound is.store_sound is.file_sound in
@@ -232,7 +232,7 @@ mbox_calls_keep_safe laws {D = D} link _ file shown sessions base Among done don
     let now = subst (λ (bytes : List ℕ). Holds base Among done' (record after { file = bytes })) shows'.bytes kept in
     session_left laws D file shown base Among call (link.history call.wire) (link.history call.wire') is.made.0 is.maildrop only_new
     is.served devices call.after (record_state account.rows account.intent) (record_state after.rows after.intent) done done'
-    (both.0, λ all among. (both.1 all among).0) now shows.record_is shows'.record_is (λ all among. (both.1 all among).1) sure safe
+    (both.0, λ all among. (both.1 all among).0) now shows.record_is shows'.record_is (λ all among. (both.1 all among).1) trust safe
     met.4.0 met.4.1
 
 -- what calls see of both files is left
@@ -273,10 +273,10 @@ mbox_calls_keep_promises laws link disk file shown sessions = keep
             sent_is,
             shows',
             one,
-            λ sure safe rows intent left bytes may keeps also.
+            λ trust safe rows intent left bytes may keeps also.
                 let (first, there) = mbox_calls_keep_safe laws link disk file shown sessions base (λ _. ⊥) done (done ++ one.more)
                 account after devices call shows holds (λ _ never. absurd never) only_new is shows'
-                (one.kept, λ _ never. absurd never) sure (λ rows intent left bytes may keeps also.
+                (one.kept, λ _ never. absurd never) trust (λ rows intent left bytes may keeps also.
                 let (first, there) = safe rows intent left bytes may keeps also in (first, (there, λ _ never. absurd never)))
                 rows intent left bytes may keeps also in
                 (first, there.0),
@@ -325,7 +325,7 @@ module _ (world : World Mail) (state : State) (sound : IsSound world) (front : I
   texts_done = one_text mail.text front.done (done_distinct max_size front.done front.rest mail_is front.prefix)
       (all_front _ front.done _ (rw front.prefix at (all_filter _ (is_selected max_size) _ sound.all.each)))
 
-  holds_done : Kept mail state → (id : List ℕ) → is_legal_id id ≡ true
+  holds_done : Invariant mail state → (id : List ℕ) → is_legal_id id ≡ true
       → (copies (files state.account) (stem_of mail.account id) ≡ texts_of front.done id)
       ⊎ ((state.taken id ≡ true) × (copies (files state.account) (stem_of mail.account id) ≡ []))
   holds_done kept id l = elim (kept.holds id l) [
@@ -338,7 +338,7 @@ module _ (world : World Mail) (state : State) (sound : IsSound world) (front : I
   ]
 
   -- exactly the first of the selected messages are held
-  holds_a_prefix : Kept mail state → HoldsAPrefix world state
+  holds_a_prefix : Invariant mail state → HoldsAPrefix world state
   holds_a_prefix kept = record {
     j = length front.done;
     below = let e = ap length front.prefix in omega (arith, e, length-append front.done front.rest);
@@ -528,7 +528,7 @@ mbox_headline laws link disk file seen sessions = all_hold
             sent_is,
             shows',
             one,
-            λ sure safe rows intent left bytes may keeps also.
+            λ trust safe rows intent left bytes may keeps also.
                 let among : (done : List Message) (seen : MboxMail) (holds : HoldsEntries world.start done seen)
                 → IsMboxFront world.start holds (selected_of (world_without withdrawn world))
                 → Holds world.start (λ all. all ≡ selected_of (world_without withdrawn world)) done seen =
@@ -538,7 +538,7 @@ mbox_headline laws link disk file seen sessions = all_hold
                 (λ all. all ≡ selected_of (world_without withdrawn world)) done (done ++ one.more) account after devices call shows is.holds
                 (λ _ same. subst (λ (l : List Message). (f : IsMboxFront world.start is.holds l)
                 × ShowsNext call.settings call.maildrop (f.first ++ done) f.rest) (sym same) (front, shown))
-                only_new called shows' (among (done ++ one.more) after one.kept (one.in_order _ front shown)) sure
+                only_new called shows' (among (done ++ one.more) after one.kept (one.in_order _ front shown)) trust
                 (λ rows intent left bytes may keeps also.
                 let (first, (there, unbegun)) = safe rows intent left bytes may keeps also in
                 (first, among first _ there.holds (withdrawn_leave_prefixes world first _ withdrawn sound there unbegun).1))

@@ -24,8 +24,9 @@ use Rattle.fetch_record.specs.RecordGrowth.{AppendedCounts, OneMeaning, OneRecor
 use Rattle.fetch_record.specs.RecordTorn.{IsPartOf, TornIsIgnoredOrSeen, ends_at_zero}
 use Rattle.fetch_record.specs.declared.seen.SeenFault.TheVariants.{BadRow}
 use Rattle.fetch_rules.specs.Plan.{IsQuiet, planned}
-use Rattle.fetch_session.specs.Lasting.{AreLeft, CarriedLasts, CarriesLast, IsRecordUntouched, Lasts, LeavesFile}
-use Rattle.fetch_session.specs.Lasting.{IsGrownAtMost, LeavesMerged, ProceedsLast, SessionLasts, UnlessQuiet, UnreadyLasts, IsSafeFile}
+use Rattle.fetch_session.specs.Durable.{AreLeft, DurableCarried, DurableCarries, IsRecordUntouched, Durably, LeavesFile}
+use Rattle.fetch_session.specs.Durable.{IsGrownAtMost, LeavesMerged, DurableProceeds, DurableSession, UnlessQuiet, DurableUnready}
+use Rattle.fetch_session.specs.Durable.{IsSafeFile}
 use Rattle.fetch_session.specs.Laws.{LeavesDurable}
 use Rattle.fetch_session.specs.CarryingOut.{Carried, Carries, tasks_ahead}
 use Rattle.fetch_session.specs.Readiness.{AreDurable, IsMerged, IsMergedAtMost, IsAnew, IsFileKept}
@@ -50,7 +51,7 @@ use Rattle.pop3_wire.specs.Link.{Link}
 use Rattle.pop3_wire.specs.Place.{Place, at}
 use Rattle.rc_file.specs.declared.settings.Settings.{Settings}
 use Rattle.fetch_runs.specs.Accounts.{has_named, AccountMail}
-use Rattle.fetch_runs.specs.Losses.{RecordIsSure}
+use Rattle.fetch_runs.specs.Losses.{TrustsRecord}
 use Rattle.fetch_runs.specs.Steps.{holds}
 use Rattle.fetch_runs.proofs.Lists.{bytes_same, all_append, both_none, same_held, same_rows}
 use Rattle.fetch_runs.specs.Below.{Below}
@@ -132,7 +133,7 @@ pub record LeavesDurably {F : Type 0} (file : FileGhosts F) (account : List ℕ)
   pub named : (came ++ last ≡ []) ⊎ AllNamed before.maildir.files
   pub shown : (id : List ℕ) → is_delivered after.rows id ≡ true → (is_delivered before.rows id ≡ true)
       ⊎ (has_named account after.maildir id ≡ true)
-  pub left : RecordIsSure file from f → (bytes : Option (List ℕ)) (rows : List Row) (intent : Option Intent)
+  pub left : TrustsRecord file from f → (bytes : Option (List ℕ)) (rows : List Row) (intent : Option Intent)
       → MayLeave (file.disk f) bytes → FileStandsFor bytes rows intent → (id : List ℕ)
       → is_delivered rows id ≡ true → (is_delivered before.rows id ≡ true)
       ⊎ ((has_named account after.maildir id ≡ true) ⊎ MayLeave (file.disk from) bytes)
@@ -297,14 +298,14 @@ module _ (laws : Below) {D F : Type 0} (files : FileGhosts F) (device device' : 
   untouched : IsRecordUntouched files from f → Answered
   untouched un could then may k _ d = inr (inr (un.no_more could may))
 
-  module _ (sure : RecordIsSure files from f) where
+  module _ (trust : TrustsRecord files from f) where
     shown_by : (had others : List Row) → LeavesFile files f (AreLeft had others)
         → ((id : List ℕ) → is_delivered had id ≡ true → is_delivered rows id ≡ true)
         → ((could : Option (List ℕ)) (id : List ℕ) → is_delivered others id ≡ true → Said could id) → Answered
     shown_by had others leaves within more could then may k id d = by _ refl
       where
         by : (content : Option (List ℕ)) → (files.stored f).content ≡ content → Said could id
-        by None none = absurd (cc (rw (rw (sure.1 none could may) at k).1.0 at d))
+        by None none = absurd (cc (rw (rw (trust.1 none could may) at k).1.0 at d))
         by (Some bytes) some = elim (left_stands laws.one laws.meaning laws.counts laws.torn had others then could
             (leaves bytes some could may) k) [
               | inl same ↦ by_rows _ id (within id (rw same at d))
@@ -356,7 +357,7 @@ module _ (laws : Below) {D F : Type 0} (files : FileGhosts F) (device device' : 
         ]
 
       unready : (content : IsMergedAtMost (AsFiles account) items now (in_maildir left) (files.stored from)
-          (in_maildir maildir) (files.stored f)) → UnreadyLasts files (InMaildir device) from content (InMaildir device') f → Answered
+          (in_maildir maildir) (files.stored f)) → DurableUnready files (InMaildir device) from content (InMaildir device') f → Answered
       unready (inl _) (leaves, _) = λ could then may k _ d. inr (inr (leaves could may))
       unready (inr m) (inl (_, leaves, _)) =
           merged_left m (MayLeave (files.disk from)) (λ _ then before k _ d. inr (inr before)) leaves
@@ -374,8 +375,8 @@ module _ (laws : Below) {D F : Type 0} (files : FileGhosts F) (device device' : 
           result end_with session.notes.skipped
 
       -- it did all its tasks
-      answer_ok : (c : CarriedTo (Ok tt)) → CarriedLasts files (InMaildir device) from c (InMaildir device') f → Answered
-      answer_ok c lasts = by _ (lasts (tt, sure.0))
+      answer_ok : (c : CarriedTo (Ok tt)) → DurableCarried files (InMaildir device) from c (InMaildir device') f → Answered
+      answer_ok c durably = by _ (durably (tt, trust.0))
         where
           within : (id : List ℕ) → is_delivered (marked_all c.mid.rows (marked_ids c.does.dones)) id ≡ true → is_delivered rows id ≡ true
           within _ d =
@@ -388,15 +389,15 @@ module _ (laws : Below) {D F : Type 0} (files : FileGhosts F) (device device' : 
           by : (durable : (All IsQuiet (planned settings c.mid.rows items now) × IsFileKept c.mid.rows (files.stored from) c.mid.file)
               ⊎ AreDurable (AsFiles account) c.prepared.was.rows items (in_maildir left))
               → UnlessQuiet files (InMaildir device) from c.mid.rows (files.stored from) c.mid.file durable
-              (Lasts files (AsFiles account) (tasks_ahead settings (AsFiles account) items now (in_maildir left)
+              (Durably files (AsFiles account) (tasks_ahead settings (AsFiles account) items now (in_maildir left)
               c.mid.rows) c.mid (Ok tt) end_with c.does (InMaildir device') f) (InMaildir device') f → Answered
           by (inl (_, inl _)) (un, _) = untouched un
           by (inl (_, inr is_anew)) (safe, _) = anew _ _ safe.0 is_anew safe.1
-          by (inr durable) lasts = shown_by _ _ lasts.0.left within (λ could id d. by_rows _ id (within id d))
+          by (inr durable) durably = shown_by _ _ durably.0.left within (λ could id d. by_rows _ id (within id d))
 
       -- it was cut
       module _ {cut : Cut} (c : CarriedTo (Err cut))
-          (lasts : Lasts files (AsFiles account) (tasks_ahead settings (AsFiles account) items now (in_maildir left)
+          (durably : Durably files (AsFiles account) (tasks_ahead settings (AsFiles account) items now (in_maildir left)
           c.mid.rows) c.mid (Err cut) end_with c.does (InMaildir device') f) where
         abbrev rows_then : List Row
         rows_then = marked_all c.mid.rows (marked_ids c.does.dones)
@@ -424,7 +425,7 @@ module _ (laws : Below) {D F : Type 0} (files : FileGhosts F) (device device' : 
             → IsNamed g → Has rows_then → Answered
         marked_one number uid is g came names named within =
             shown_by rows_then (marked rows_then uid)
-            (subst (λ (t : Task). LeavesFile files f (AreLeft rows_then (marked_all rows_then (ids_in t)))) is lasts.0.left) within
+            (subst (λ (t : Task). LeavesFile files f (AreLeft rows_then (marked_all rows_then (ids_in t)))) is durably.0.left) within
             (λ could id d. ⊎_elim (λ had. by_rows could id (within id had))
             (λ both. inr (inl (has_file account maildir id g (rw came (Contains-push c.does.mid.store.maildir.files g))
             (rw (bytes_same uid id (and_parts (has_row rows_then id) (bytes_eq uid id) both).1) at names) named)))
@@ -442,13 +443,13 @@ module _ (laws : Below) {D F : Type 0} (files : FileGhosts F) (device device' : 
         -- nothing came
         nothing : maildir.files ≡ c.does.mid.store.maildir.files → files.stored f ≡ c.does.mid.file → Answered
         nothing same same_record = ⊎_elim (λ un. unmarked un same_record)
-            (λ (g, came, is). absurd (no_more _ maildir.files g same came)) lasts.1
+            (λ (g, came, is). absurd (no_more _ maildir.files g same came)) durably.1
 
         refused : (n : NoFile account c.does.next c.does.mid end_with cut)
             → RefusesText c.does.mid.store.maildir (stem_of account n.uid) n.rest n.text cut.fault maildir → Answered
         refused n (inl missing) = nothing (ap (λ (m : Maildir). m.files) missing.2) n.file
         refused n (inr (is, inl same)) = nothing (ap (λ (m : Maildir). m.files) same) n.file
-        refused n (inr (is, inr (_, (is_named, there)))) = elim lasts.1 [
+        refused n (inr (is, inr (_, (is_named, there)))) = elim durably.1 [
           | inl un ↦ unmarked un n.file
           | inr (g, came', durable) ↦
               marked_one _ _ n.is g came' (rw (← same_one g (record (sized_file (stem_of account n.uid) n.text) { is_named = is_named })
@@ -477,40 +478,40 @@ module _ (laws : Below) {D F : Type 0} (files : FileGhosts F) (device device' : 
           | inr (inr u) ↦ unsaved u
         ]
 
-    pub records_left : SessionLasts files (InMaildir device) from session (InMaildir device') f → Answered
-    records_left lasts = by session.result session.proceeds lasts
+    pub records_left : DurableSession files (InMaildir device) from session (InMaildir device') f → Answered
+    records_left durably = by session.result session.proceeds durably
       where
         by : (result : Result (Unit {0}) Cut)
             → (proceeds : Proceeds settings (AsFiles account) now (at link [])
             (keeps_files (account_files left (files.stored from))) result session.mid
             (keeps_files (account_files maildir (files.stored f))) session.notes)
-            → ProceedsLast files (InMaildir device) from _ _ _ _ _ _ _ _ _ proceeds (InMaildir device') f → Answered
-        by (Ok done) dealt lasts = answer_ok dealt.items dealt.mid dealt.carries.0 dealt.carries.1 lasts
+            → DurableProceeds files (InMaildir device) from _ _ _ _ _ _ _ _ _ proceeds (InMaildir device') f → Answered
+        by (Ok done) dealt durably = answer_ok dealt.items dealt.mid dealt.carries.0 dealt.carries.1 durably
         by (Err cut) (inl stopped) (un, mbox) = untouched un
         by (Err cut) (inr (inl wanting)) (un, mbox) = untouched un
-        by (Err cut) (inr (inr dealt)) lasts = of dealt.carries lasts
+        by (Err cut) (inr (inr dealt)) durably = of dealt.carries durably
           where
             of : (carries : Carries settings (AsFiles account) dealt.items now dealt.mid (in_maildir left)
                 (files.stored from) [] (Err cut) session.mid (in_maildir maildir) (files.stored f)
                 session.notes.lines session.notes.skipped)
-                → CarriesLast files (InMaildir device) from settings (AsFiles account) dealt.items now dealt.mid
+                → DurableCarries files (InMaildir device) from settings (AsFiles account) dealt.items now dealt.mid
                 (in_maildir left) (files.stored from) [] (Err cut) session.mid (in_maildir maildir) (files.stored f)
                 session.notes.lines session.notes.skipped carries (InMaildir device') f → Answered
             of (rows', inl (none_said, unprepared)) all =
                 unready dealt.items (unready_same cut.fault left (files.stored from) maildir (files.stored f)
-                unprepared.unready.cause) unprepared.unready.content (all (tt, sure.0))
-            of (rows', inr c) all = by_plan c.prepared.durable (all (tt, sure.0))
+                unprepared.unready.cause) unprepared.unready.content (all (tt, trust.0))
+            of (rows', inr c) all = by_plan c.prepared.durable (all (tt, trust.0))
               where
                 by_plan : (durable : (All IsQuiet (planned settings c.mid.rows dealt.items now)
                     × IsFileKept c.mid.rows (files.stored from) c.mid.file)
                     ⊎ AreDurable (AsFiles account) c.prepared.was.rows dealt.items (in_maildir left))
                     → UnlessQuiet files (InMaildir device) from c.mid.rows (files.stored from) c.mid.file durable
-                    (Lasts files (AsFiles account) (tasks_ahead settings (AsFiles account) dealt.items now
+                    (Durably files (AsFiles account) (tasks_ahead settings (AsFiles account) dealt.items now
                     (in_maildir left) c.mid.rows) c.mid (Err cut) (end_with dealt.items dealt.mid rows') c.does
                     (InMaildir device') f) (InMaildir device') f → Answered
                 by_plan (inl (quiet, inl kept)) (un, mbox) = untouched un
                 by_plan (inl (quiet, inr is_anew)) (safe, mbox) = anew c.mid.rows c.mid.file safe.0 is_anew safe.1
-                by_plan (inr is) lasts = answer_cut dealt.items dealt.mid rows' c lasts
+                by_plan (inr is) durably = answer_cut dealt.items dealt.mid rows' c durably
 
   -- no file came, or each name was durable
   none_or_named : (durable.came ++ durable.last ≡ []) ⊎ AllNamed left.files
@@ -545,11 +546,11 @@ module _ (laws : Below) {D F : Type 0} (files : FileGhosts F) (device device' : 
       ]
 
   -- what it leaves, over what its devices show
-  pub leaves_durably : SessionLasts files (InMaildir device) from session (InMaildir device') f
+  pub leaves_durably : DurableSession files (InMaildir device) from session (InMaildir device') f
       → LeavesDurably files account from f (holds was left) (holds rows maildir)
-  leaves_durably lasts = record {
+  leaves_durably durably = record {
     is = durable;
     named = none_or_named;
     shown = shown;
-    left = λ sure could then opened may stands id d. records_left sure lasts could then may (opened, stands) id d;
+    left = λ trust could then opened may stands id d. records_left trust durably could then may (opened, stands) id d;
   }

@@ -1,4 +1,5 @@
--- A loss of power between two calls leaves a kept state, if what is recorded or gone is durable; and calls and others keep that.
+-- A loss of power between two calls leaves a state with the invariant, if what is recorded or gone is durable; and calls and
+-- others keep that.
 use Rattle.std.proofs.Common.{◌≡◌, ◌⊎◌, inl, inr, ℕ, List, [], ◌∷◌, ◌++◌, true, false, length, Option, refl, sym, ◌∙◌, arith, bytes_eq}
 use Rattle.std.proofs.Common.{⊎_elim, Bool, ap, subst, map, append_assoc, ◌≤◌, ◌<◌, not, ◌||◌, ◌&&◌}
 use Rattle.mail_store.specs.Durable.{Disk, MayLeave}
@@ -16,11 +17,11 @@ use Rattle.mail_store.specs.declared.file.flat_file.FlatFile.{Ghosts as FileGhos
 use Rattle.fetch_record.specs.Record.{Intent, is_delivered}
 use Rattle.fetch_record.specs.RecordMeaning.{FileStandsFor}
 use Rattle.fetch_runs.specs.Accounts.{AccountMail, copies, has_named, without_flags, message_ids}
-use Rattle.fetch_runs.specs.Promises.{IsBetween, Mail, State, is_safe, state_with, IsFront, Kept, Promises, ShowsNext, Call}
+use Rattle.fetch_runs.specs.Promises.{IsBetween, Mail, State, is_safe, state_with, IsFront, Invariant, Promises, ShowsNext, Call}
 use Rattle.fetch_runs.proofs.Promised.{IsSession}
 use Rattle.fetch_runs.specs.Sessions.{IsHonest, Leaves, StoresTexts, wanted_at}
 use Rattle.fetch_runs.specs.Losses.{DurableAccountsAreSafe, DurableFrontsBegin, IsCrashSafe, IsDurableFront}
-use Rattle.fetch_runs.specs.Losses.{IsDurableFor, IsFlushedFor, RecordIsSure, KeepsDurable, lasts}
+use Rattle.fetch_runs.specs.Losses.{IsDurableFor, IsFlushedFor, TrustsRecord, KeepsDurable, is_durable}
 use Rattle.fetch_runs.proofs.LeftRecords.{LeavesDurably, all_named, kept_legal}
 use Rattle.fetch_runs.proofs.Lists.{fewer_copies, held_some, part_copies, reached_copies, some_held, all_append, all_both, all_filter}
 use Rattle.fetch_runs.proofs.Lists.{all_front, all_ids_at, all_map, bytes_same, same_rows, all_at, ids_both, members, all_back, none_or_one}
@@ -131,24 +132,25 @@ flushed_stays _ (f ∷ gone) fs _ (a, b, are, is) all =
     let reached = flushed_reached _ fs (a ++ f ∷ b) are all in
     flushed_stays _ gone _ _ is (all_append _ a b (all_front _ a _ reached) (all_back _ a _ reached).1)
 
--- ---- what lasts
+-- ---- what is durable
 
-lasts_bits : (named held taken named' held' : Bool) → (named ≡ true → held ≡ true)
+durable_bits : (named held taken named' held' : Bool) → (named ≡ true → held ≡ true)
     → (named ≡ true → held' ≡ true → named' ≡ true) → (named || taken) ≡ true
     → (named' || (((held || taken) && not held') || (taken && not named'))) ≡ true
-lasts_bits _ _ _ _ _ is stays some = grind (arith, is, stays, some)
+durable_bits _ _ _ _ _ is stays some = grind (arith, is, stays, some)
 
 -- it still does, if a durable name stays while the message is held
-lasts_on : (mail : Mail) (state : State) (after : AccountMail) (id : List ℕ)
+durable_on : (mail : Mail) (state : State) (after : AccountMail) (id : List ℕ)
     → (has_named mail.account state.account.maildir id ≡ true → is_held mail.account after.maildir id ≡ true
-    → has_named mail.account after.maildir id ≡ true) → lasts mail state id ≡ true → lasts mail (state_with mail state [] after) id ≡ true
-lasts_on mail state after id stays = lasts_bits _ _ (state.taken id) _ _
+    → has_named mail.account after.maildir id ≡ true) → is_durable mail state id ≡ true
+    → is_durable mail (state_with mail state [] after) id ≡ true
+durable_on mail state after id stays = durable_bits _ _ (state.taken id) _ _
     (named_any (names_id mail.account id) state.account.maildir.files) stays
 
 -- ---- others, and readers
 
 pub others_keep_safe : Below → {F : Type 0} (file : FileGhosts F) (from f : F) (mail : Mail) (state : State) (after : AccountMail)
-    (intent : Option Intent) → Kept mail state
+    (intent : Option Intent) → Invariant mail state
     → FileStandsFor (file.stored f).content after.rows intent → IsBetween mail state.account after
     → KeepsDurable file mail.account state.account from f after
     → IsCrashSafe (file.disk from) mail state → IsCrashSafe (file.disk f) mail (state_with mail state [] after)
@@ -164,16 +166,17 @@ others_keep_safe laws file from f mail state after intent kept stands between ke
   gone = all_both state.gone kept.gone safe.gone (λ id is. on id is.0);
 }
   where
-    on : (id : List ℕ) → is_legal_id id ≡ true → lasts mail state id ≡ true → lasts mail (state_with mail state [] after) id ≡ true
-    on id legal = lasts_on mail state after id (keeps.named id legal)
+    on : (id : List ℕ) → is_legal_id id ≡ true → is_durable mail state id ≡ true
+        → is_durable mail (state_with mail state [] after) id ≡ true
+    on id legal = durable_on mail state after id (keeps.named id legal)
 
-    shown : (id : List ℕ) → is_delivered after.rows id ≡ true → lasts mail (state_with mail state [] after) id ≡ true
+    shown : (id : List ℕ) → is_delivered after.rows id ≡ true → is_durable mail (state_with mail state [] after) id ≡ true
     shown id d = let was = between.shows_no_more id d in on id (kept.recorded id was).0 (safe.recorded id was)
 
-module _ (mail : Mail) (state : State) (left : Maildir) (kept : Kept mail state) (taken : WereTaken state.account.maildir left) where
-  pub lasts_left : (id : List ℕ) → is_legal_id id ≡ true → lasts mail state id ≡ true
-      → lasts mail (state_with mail state [] (record state.account { maildir = left })) id ≡ true
-  lasts_left id legal = lasts_on mail state (record state.account { maildir = left }) id
+module _ (mail : Mail) (state : State) (left : Maildir) (kept : Invariant mail state) (taken : WereTaken state.account.maildir left) where
+  pub durable_after : (id : List ℕ) → is_legal_id id ≡ true → is_durable mail state id ≡ true
+      → is_durable mail (state_with mail state [] (record state.account { maildir = left })) id ≡ true
+  durable_after id legal = durable_on mail state (record state.account { maildir = left }) id
       (named_stays (stem_of mail.account id) taken.gone state.account.maildir.files left.files taken.files
       (none_or_one (kept.holds id legal)))
 
@@ -185,7 +188,8 @@ module _ (mail : Mail) (state : State) (left : Maildir) (kept : Kept mail state)
       some_held mail.account id state.account.maildir.files (λ none. some (grind (arith, none, part, nil_from_length)))
 
 -- readers took some files away while a call was under way; the record's device is as it was
-pub left_keeps_safe : (disk : Disk) (mail : Mail) (state : State) (left : Maildir) → Kept mail state → WereTaken state.account.maildir left
+pub left_keeps_safe : (disk : Disk) (mail : Mail) (state : State) (left : Maildir) → Invariant mail state
+    → WereTaken state.account.maildir left
     → IsCrashSafe disk mail state → IsCrashSafe disk mail (state_with mail state [] (record state.account { maildir = left }))
 left_keeps_safe _ mail state left kept taken safe = record {
   flushed = flushed_stays mail.account taken.gone state.account.maildir.files left.files taken.files safe.flushed;
@@ -197,8 +201,8 @@ left_keeps_safe _ mail state left kept taken safe = record {
     next : State
     next = state_with mail state [] (record state.account { maildir = left })
 
-    on : (id : List ℕ) → is_legal_id id ≡ true → lasts mail state id ≡ true → lasts mail next id ≡ true
-    on id legal = lasts_left mail state left kept taken id legal
+    on : (id : List ℕ) → is_legal_id id ≡ true → is_durable mail state id ≡ true → is_durable mail next id ≡ true
+    on id legal = durable_after mail state left kept taken id legal
 
 -- ---- a call
 
@@ -218,25 +222,25 @@ module _ {F : Type 0} (file : FileGhosts F) (from f : F) (mail : Mail) (state : 
     list_any-append,
   ) (or_right _ _ (or_left _ _ named))
 
-  lasts_call : (id : List ℕ) → lasts mail state id ≡ true → lasts mail (state_with mail state vanished after) id ≡ true
-  lasts_call id = lasts_on mail state after id (λ named _. stays id named)
+  durable_call : (id : List ℕ) → is_durable mail state id ≡ true → is_durable mail (state_with mail state vanished after) id ≡ true
+  durable_call id = durable_on mail state after id (λ named _. stays id named)
 
 pub calls_keep_safe : Below → {W S F G : Type 0} (file : FileGhosts F) (from f : F) (mail : Mail) (state : State) (call : Call W S G)
-    (sent : List ℕ) (now : AccountMail) → Kept mail state
-    → IsSession mail state.account call sent now → LeavesDurably file mail.account from f state.account now → RecordIsSure file from f
+    (sent : List ℕ) (now : AccountMail) → Invariant mail state
+    → IsSession mail state.account call sent now → LeavesDurably file mail.account from f state.account now → TrustsRecord file from f
     → IsCrashSafe (file.disk from) mail state → IsCrashSafe (file.disk f) mail (state_with mail state call.vanished now)
-calls_keep_safe laws file from f mail state call sent now kept is leaves sure safe = record {
+calls_keep_safe laws file from f mail state call sent now kept is leaves trust safe = record {
   flushed = flushed_after;
   recorded = shown;
   left = λ left rows opened may stands id d. (
     kept_legal left rows (opened, stands) id d,
-    elim (leaves.left sure left rows opened may stands id d) [
+    elim (leaves.left trust left rows opened may stands id d) [
       | inl was ↦ on id (safe.recorded id was)
       | inr (inl named) ↦ or_left _ _ named
       | inr (inr could) ↦ on id (safe.left left rows opened could stands id d).1
     ],
   );
-  gone = all_append (λ id. lasts mail after id ≡ true) call.vanished state.gone
+  gone = all_append (λ id. is_durable mail after id ≡ true) call.vanished state.gone
       (all_map call.vanished went.1 (λ id begun. shown id (marked id begun))) (all_map state.gone safe.gone on);
 }
   where
@@ -261,10 +265,10 @@ calls_keep_safe laws file from f mail state call sent now kept is leaves sure sa
       | inr stored ↦ all_ids_at (λ (x : List ℕ). is_delivered now.rows x ≡ true) is.effect.begun stored.0.begun begun
     ]
 
-    on : (id : List ℕ) → lasts mail state id ≡ true → lasts mail after id ≡ true
-    on = lasts_call file from f mail state call.vanished now leaves
+    on : (id : List ℕ) → is_durable mail state id ≡ true → is_durable mail after id ≡ true
+    on = durable_call file from f mail state call.vanished now leaves
 
-    shown : (id : List ℕ) → is_delivered now.rows id ≡ true → lasts mail after id ≡ true
+    shown : (id : List ℕ) → is_delivered now.rows id ≡ true → is_durable mail after id ≡ true
     shown id d = ⊎_elim (λ was. on id (safe.recorded id was)) (or_left _ _) (leaves.shown id d)
 
 -- ---- a loss of power
@@ -273,20 +277,20 @@ calls_keep_safe laws file from f mail state call sent now kept is leaves sure sa
 or_on : {a b : Bool} (c : Bool) → (a ≡ true → b ≡ true) → (a || c) ≡ true → (b || c) ≡ true
 or_on c on some = ⊎_elim (λ is. or_left _ _ (on is)) (or_right _ _) (or_cases _ _ some)
 
--- what lasts is safe afterwards
-lasts_safe : (mail : Mail) (state : State) (after : AccountMail) → LosesPower state.account.maildir after.maildir
-    → (id : List ℕ) → lasts mail state id ≡ true → is_safe mail (record state { account = after }) id ≡ true
-lasts_safe _ _ after loses _ = or_on _ (any_left _ _ _ loses.files)
+-- what is durable is safe afterwards
+is_safe_after : (mail : Mail) (state : State) (after : AccountMail) → LosesPower state.account.maildir after.maildir
+    → (id : List ℕ) → is_durable mail state id ≡ true → is_safe mail (record state { account = after }) id ≡ true
+is_safe_after _ _ after loses _ = or_on _ (any_left _ _ _ loses.files)
 
--- what is safe lasts, if the account's files are durable
-durable_lasts : (mail : Mail) (state : State) → AllByRecursion (IsDurableFor mail.account) state.account.maildir.files
-    → (id : List ℕ) → is_legal_id id ≡ true → is_safe mail state id ≡ true → lasts mail state id ≡ true
-durable_lasts _ _ durable id legal = or_on _ (durable_named _ _ id legal durable)
+-- what is safe is durable, if the account's files are durable
+durable_by_files : (mail : Mail) (state : State) → AllByRecursion (IsDurableFor mail.account) state.account.maildir.files
+    → (id : List ℕ) → is_legal_id id ≡ true → is_safe mail state id ≡ true → is_durable mail state id ≡ true
+durable_by_files _ _ durable id legal = or_on _ (durable_named _ _ id legal durable)
 
 pub losses_leave_kept : (disk : Disk) (mail : Mail) (state : State) (after : AccountMail) (left : Option (List ℕ))
-    (intent : Option Intent) → Kept mail state
+    (intent : Option Intent) → Invariant mail state
     → IsCrashSafe disk mail state → LosesPower state.account.maildir after.maildir → MayLeave disk left
-    → FileStandsFor left after.rows intent → Kept mail (record state { account = after })
+    → FileStandsFor left after.rows intent → Invariant mail (record state { account = after })
 losses_leave_kept disk mail state after left intent kept safe loses may stands = record {
   holds = λ id legal. same_or_none (kept.holds id legal)
       (left_copies (stem_of mail.account id) state.account.maildir.files after.maildir.files loses.files
@@ -299,8 +303,8 @@ losses_leave_kept disk mail state after left intent kept safe loses may stands =
         → (now ≡ was) ⊎ (length now < length was) → (now ≡ []) ⊎ (now ≡ text ∷ [])
     same_or_none {was} {now} {text} once less = grind (arith, once, less, nil_from_length now)
 
-    still : (id : List ℕ) → lasts mail state id ≡ true → is_safe mail (record state { account = after }) id ≡ true
-    still = lasts_safe mail state after loses
+    still : (id : List ℕ) → is_durable mail state id ≡ true → is_safe mail (record state { account = after }) id ≡ true
+    still = is_safe_after mail state after loses
 
 pub durable_is_safe : Below → {F : Type 0} (file : FileGhosts F) → DurableAccountsAreSafe file
 durable_is_safe laws file f mail state intent kept stands durable same = record {
@@ -312,8 +316,8 @@ durable_is_safe laws file f mail state intent kept stands durable same = record 
   gone = all_map state.gone kept.gone (λ id is. on id is.0 is.1);
 }
   where
-    on : (id : List ℕ) → is_legal_id id ≡ true → is_safe mail state id ≡ true → lasts mail state id ≡ true
-    on = durable_lasts mail state durable
+    on : (id : List ℕ) → is_legal_id id ≡ true → is_safe mail state id ≡ true → is_durable mail state id ≡ true
+    on = durable_by_files mail state durable
 
 pub all_left_durable : (account : List ℕ) (old new : Maildir) → LosesPower old new → AllByRecursion (IsDurableFor account) new.files
 all_left_durable _ _ new loses = all_map _ (left_durable _ _ loses.files) (λ g is _ _ _. is)
@@ -341,7 +345,7 @@ durable_fronts_begin mail state all legal front durable = record {
   at_most_one = omega arith;
   named = all_both front.done (all_front (λ (m : Message). is_legal_id m.uid ≡ true) front.done front.rest
       (rw front.prefix at legal)) (members front.done)
-      (λ m l there. durable_lasts mail state durable m.uid l (sym (front.is_done m.uid l) ∙ there));
+      (λ m l there. durable_by_files mail state durable m.uid l (sym (front.is_done m.uid l) ∙ there));
 }
 
 -- ---- what others and readers leave
@@ -358,7 +362,7 @@ front_stays mail state after _ front back = record {
 }
 
 -- readers put nothing else there
-abbrev pub left_front : (mail : Mail) (state : State) (left : Maildir) → Kept mail state
+abbrev pub left_front : (mail : Mail) (state : State) (left : Maildir) → Invariant mail state
     → WereTaken state.account.maildir left → (all : List Message) → IsFront mail state all
     → IsFront mail (state_with mail state [] (record state.account { maildir = left })) all
 left_front mail state left kept taken all front =
@@ -368,7 +372,8 @@ left_front mail state left kept taken all front =
 module _ (mail : Mail) (state : State) (after : AccountMail) (all : List Message) (legal : AreLegal all)
     (front : IsDurableFront mail state all)
     (back : (id : List ℕ) → is_legal_id id ≡ true → is_held mail.account after.maildir id ≡ true → is_safe mail state id ≡ true)
-    (on : (id : List ℕ) → is_legal_id id ≡ true → lasts mail state id ≡ true → lasts mail (state_with mail state [] after) id ≡ true) where
+    (on : (id : List ℕ) → is_legal_id id ≡ true → is_durable mail state id ≡ true
+    → is_durable mail (state_with mail state [] after) id ≡ true) where
   legal_done : AreLegal front.is.done
   legal_done = all_front _ _ _ (rw front.is.prefix at legal)
 
@@ -385,19 +390,19 @@ module _ (mail : Mail) (state : State) (after : AccountMail) (all : List Message
     named = all_both front.first legal_first front.named (λ m l last. on m.uid l last);
   }
 
-abbrev pub left_keeps_front : (mail : Mail) (state : State) (left : Maildir) (kept : Kept mail state)
+abbrev pub left_keeps_front : (mail : Mail) (state : State) (left : Maildir) (kept : Invariant mail state)
     (taken : WereTaken state.account.maildir left) (all : List Message) → AreLegal all
     → IsDurableFront mail state all → IsDurableFront mail (state_with mail state [] (record state.account { maildir = left })) all
 left_keeps_front mail state left kept taken all legal front =
     others_keep_front mail state (record state.account { maildir = left }) all legal front
-    (λ id l held. or_left _ _ (held_back mail state left kept taken id held)) (lasts_left mail state left kept taken)
+    (λ id l held. or_left _ _ (held_back mail state left kept taken id held)) (durable_after mail state left kept taken)
 
 pub others_keep_order : {F : Type 0} (file : FileGhosts F) (from f : F) (mail : Mail) (state : State)
     (after : AccountMail) → KeepsDurable file mail.account state.account from f after
     → ((id : List ℕ) → is_legal_id id ≡ true → is_held mail.account after.maildir id ≡ true → is_safe mail state id ≡ true)
     → (all : List Message) → AreLegal all → IsDurableFront mail state all → IsDurableFront mail (state_with mail state [] after) all
 others_keep_order file _ f mail state after keeps back all legal front =
-    others_keep_front mail state after all legal front back (λ id l. lasts_on mail state after id (keeps.named id l))
+    others_keep_front mail state after all legal front back (λ id l. durable_on mail state after id (keeps.named id l))
 
 -- ---- what a call leaves
 
@@ -447,8 +452,8 @@ module _ (mail : Mail) (own : (m : Message) → names_id mail.account m.uid (nam
         (λ (m : Message). not (has_id (message_ids front.is.done) m.uid)) promises.came)
     later = promises.in_order all legal front.is next
 
-    on : (id : List ℕ) → lasts mail state id ≡ true → lasts mail after id ≡ true
-    on = lasts_call store from f mail state call.vanished now leaves
+    on : (id : List ℕ) → is_durable mail state id ≡ true → is_durable mail after id ≡ true
+    on = durable_call store from f mail state call.vanished now leaves
 
     came_are : map its_file promises.came ≡ without_flags leaves.came ++ without_flags leaves.last
     came_are = append_cancel_left (without_flags state.account.maildir.files) (map its_file promises.came)
@@ -482,11 +487,11 @@ module _ (mail : Mail) (own : (m : Message) → names_id mail.account m.uid (nam
               ∙ sym (append_assoc front.is.done (filter new first) (filter new last));
           at_most_one = let short = shorter new last in let same = sym (length-map last its_file)
               ∙ ap length ended ∙ length-map leaves.last _ in let most = leaves.at_most_one in omega (arith, short, same, most);
-          named = all_append (λ (m : Message). lasts mail after m.uid ≡ true) front.is.done (filter new first)
+          named = all_append (λ (m : Message). is_durable mail after m.uid ≡ true) front.is.done (filter new first)
               (all_both front.is.done (all_front (λ (m : Message). is_legal_id m.uid ≡ true) front.is.done front.is.rest
               (rw front.is.prefix at legal)) (members front.is.done)
               (λ m l there. on m.uid (or_on _ (all_named mail.account state.account.maildir.files m.uid named)
-              (sym (front.is.is_done m.uid l) ∙ there)))) (all_filter (λ (m : Message). lasts mail after m.uid ≡ true) new first
+              (sym (front.is.is_done m.uid l) ∙ there)))) (all_filter (λ (m : Message). is_durable mail after m.uid ≡ true) new first
               (all_map first (has_come leaves.came first came leaves.durable)
               (λ m there. or_left _ _ (came_there store from f mail state call.vanished now leaves m.uid there))));
         }
@@ -516,12 +521,12 @@ module _ (mail : Mail) (state : State) (after : AccountMail) (all : List Message
     done = sym (append-nil done);
     at_most_one = omega arith;
     named = all_both done (all_front (λ (m : Message). is_legal_id m.uid ≡ true) done rest (rw prefix at legal))
-        (members done) (λ m l there. durable_lasts mail next_state
+        (members done) (λ m l there. durable_by_files mail next_state
         (all_left_durable mail.account state.account.maildir after.maildir loses) m.uid l (sym (is_done m.uid l) ∙ there));
   }
 
   in_first : (id : List ℕ) → has_id (message_ids front.first) id ≡ true → safe_next id ≡ true
-  in_first id there = lasts_safe mail state after loses id (all_at _ _ front.named there)
+  in_first id there = is_safe_after mail state after loses id (all_at _ _ front.named there)
 
   in_done : (id : List ℕ) → is_legal_id id ≡ true → safe_next id ≡ true
       → (has_id (message_ids front.first) id || has_id (message_ids front.last) id) ≡ true

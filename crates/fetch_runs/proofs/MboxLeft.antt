@@ -18,8 +18,9 @@ use Rattle.mail_store.specs.Settling.{MayBeLeft}
 use Rattle.mail_store.specs.declared.file.flat_file.FlatFile.{Ghosts as FileGhosts}
 use Rattle.mail_store.proofs.DiskLemmas.{may_arrive, may_now}
 use Rattle.mail_store.proofs.SettlingLemmas.{all_left}
-use Rattle.fetch_session.specs.Lasting.{AreSure, CarriesLast, IsCutLeft, IsEntryLeft, IsGrownAtMost, IsSafeFile}
-use Rattle.fetch_session.specs.Lasting.{KeptLasts, Lasts, LeavesSettled, LeavesStore, ProceedsLast, SessionLasts, UnlessQuiet, UnreadyLasts}
+use Rattle.fetch_session.specs.Durable.{AreTrusted, DurableCarries, IsCutLeft, IsEntryLeft, IsGrownAtMost, IsSafeFile}
+use Rattle.fetch_session.specs.Durable.{DurableKept, Durably, LeavesSettled, LeavesStore, DurableProceeds, DurableSession, UnlessQuiet}
+use Rattle.fetch_session.specs.Durable.{DurableUnready}
 use Rattle.fetch_session.specs.Mbox.{intent_of}
 use Rattle.fetch_session.specs.CarryingOut.{Carried, Carries, tasks_ahead}
 use Rattle.fetch_session.specs.Readiness.{AreDurable, IsFileKept, IsMerged, IsMergedAtMost, merged_in}
@@ -34,7 +35,7 @@ use Rattle.fetch_session.specs.declared.fault.Cut.{Cut}
 use Rattle.fetch_session.specs.declared.report.ReportLine.{ReportLine}
 use Rattle.fetch_session.specs.declared.report.Skips.{Skips}
 use Rattle.fetch_runs.specs.Below.{Below}
-use Rattle.fetch_runs.specs.Losses.{AreMboxSure, IsMboxSafe}
+use Rattle.fetch_runs.specs.Losses.{TrustsMbox, IsMboxSafe}
 use Rattle.fetch_runs.specs.Promises.{Base, Call, Devices, HoldsEntries, IsMaildrop, IsMboxFront, IsOpenFor, ShowsNext, Stands}
 use Rattle.fetch_runs.specs.Sessions.{MboxMail, Served, entry_intent, settled}
 use Rattle.fetch_runs.specs.Steps.{mbox_holds}
@@ -267,7 +268,7 @@ module _ (laws : Below) (D : Type 0) {F : Type 0} (files : FileGhosts F)
     (stood : Keeps (files.stored from.file).content held) (stands : Keeps (files.stored to.file).content held')
     (next : (all : List Message) (among : Among all)
     → ShowsNext v.settings v.maildrop ((before.1 all among).first ++ done) (before.1 all among).rest)
-    (sure : AreMboxSure files from to) (safe : IsMboxSafe (Holds base Among) files from) where
+    (trust : TrustsMbox files from to) (safe : IsMboxSafe (Holds base Among) files from) where
   abbrev old_files : MboxAccountFiles
   old_files = mbox_account_files (files.stored from.store) (files.stored from.file)
 
@@ -309,7 +310,7 @@ module _ (laws : Below) (D : Type 0) {F : Type 0} (files : FileGhosts F)
   record_left firm left may = by _ refl
     where
       by : (content : Option (List ℕ)) → (files.stored to.file).content ≡ content → left ≡ (files.stored to.file).content
-      by None none = sure.0.1 none left may ∙ sym none
+      by None none = trust.0.1 none left may ∙ sym none
       by (Some bytes) some = (firm.1 bytes some).1 left may ∙ sym some
 
   mbox_left : IsSafeFile files to.store → (bytes : List ℕ) → (files.stored to.store).content ≡ Some bytes
@@ -357,7 +358,7 @@ module _ (laws : Below) (D : Type 0) {F : Type 0} (files : FileGhosts F)
 
   unready_left : {items : List Item} {now : ℕ} (content : IsMergedAtMost AsEntries items now (in_mbox (files.stored from.store))
       (files.stored from.file) (in_mbox (files.stored to.store)) (files.stored to.file))
-      → UnreadyLasts {D = D} files (InMbox from.store) from.file content (InMbox to.store) to.file → Leaves
+      → DurableUnready {D = D} files (InMbox from.store) from.file content (InMbox to.store) to.file → Leaves
   unready_left (inl _) (no_more, inl still) left mbox may also = left_before left mbox (no_more left may) (still mbox also)
   unready_left (inl same) (no_more, inr (firm, (state, keeps, settles))) left mbox may also =
       let was : state ≡ held = same_held laws.one (files.stored from.file).content state held
@@ -419,7 +420,7 @@ module _ (laws : Below) (D : Type 0) {F : Type 0} (files : FileGhosts F)
       result new skipped) where
     -- nothing was to be done
     quiet_left : (kept : IsFileKept c.mid.rows (files.stored from.file) c.mid.file)
-        → KeptLasts files from.file c.mid.rows (files.stored from.file) c.mid.file kept to.file
+        → DurableKept files from.file c.mid.rows (files.stored from.file) c.mid.file kept to.file
         → LeavesStore {D = D} files (InMbox from.store) (InMbox to.store) → Leaves
     quiet_left (inl _) un still left mbox may also = left_before _ _ (un.no_more left may) (still mbox also)
     quiet_left (inr (kept, _, _)) (same, firm) still left mbox may also = λ then keeps.
@@ -445,12 +446,12 @@ module _ (laws : Below) (D : Type 0) {F : Type 0} (files : FileGhosts F)
   ended_left : {items : List Item} {mid place : Place} {rows : List Row} {lines : List ReportLine} {skipped : Skips}
       (c : Carried v.settings AsEntries items v.now mid (in_mbox (files.stored from.store)) (files.stored from.file) [] (Ok tt)
       (scene place (in_mbox (files.stored to.store)) (files.stored to.file) rows lines) skipped)
-      → Lasts {D = D} files AsEntries (tasks_ahead v.settings AsEntries items v.now (in_mbox (files.stored from.store)) c.mid.rows)
+      → Durably {D = D} files AsEntries (tasks_ahead v.settings AsEntries items v.now (in_mbox (files.stored from.store)) c.mid.rows)
       c.mid (Ok tt) (scene place (in_mbox (files.stored to.store)) (files.stored to.file) rows lines) c.does (InMbox to.store) to.file
       → Leaves
-  ended_left c lasts left mbox may also =
+  ended_left c durably left mbox may also =
       let some = rw (mid_some c) at c.does.went.stored.content in
-      left_after _ _ (record_left lasts.1 _ may) (mbox_left lasts.2 _ some _ also)
+      left_after _ _ (record_left durably.1 _ may) (mbox_left durably.2 _ some _ also)
 
   -- ---- it was cut at a task
 
@@ -570,9 +571,9 @@ module _ (laws : Below) (D : Type 0) {F : Type 0} (files : FileGhosts F)
         by (inr (inl (inr (inr stays)))) = quiet stays.file (same_looked c.does.mid.store end.store cut.fault stays.refuses)
         by (inr (inr u)) = rw (read, is) (without base Among laws c.does.mid.rows bytes u.uid (body_text u.reply.body) (unsaved_whole u))
 
-    cut_left : Lasts {D = D} files AsEntries (tasks_ahead v.settings AsEntries items v.now (in_mbox (files.stored from.store)) c.mid.rows)
+    cut_left : Durably {D = D} files AsEntries (tasks_ahead v.settings AsEntries items v.now (in_mbox (files.stored from.store)) c.mid.rows)
         c.mid (Err cut) end c.does (InMbox to.store) to.file → Leaves
-    cut_left lasts left mbox may also = by (files.stored to.file).content refl
+    cut_left durably left mbox may also = by (files.stored to.file).content refl
       where
         by_cut : IsCutLeft c.does.next c.does.mid cut end bytes left mbox → Left left mbox
         by_cut (inl (grown, is)) = unbegun c.does.stops left mbox grown is
@@ -582,39 +583,40 @@ module _ (laws : Below) (D : Type 0) {F : Type 0} (files : FileGhosts F)
             (unsaved_whole u) left mbox then e keeps
 
         by : (content : Option (List ℕ)) → (files.stored to.file).content ≡ content → Left left mbox
-        by None none = left_after left mbox (sure.0.1 none left may ∙ sym none) (sure.3 none mbox also)
-        by (Some now) some = by_cut (lasts.1 sure.2 bytes mid_is mbox also now some left may)
+        by None none = left_after left mbox (trust.0.1 none left may ∙ sym none) (trust.3 none mbox also)
+        by (Some now) some = by_cut (durably.1 trust.2 bytes mid_is mbox also now some left may)
 
   -- ---- whatever cut it
 
   pub session_left : (session : MboxSession v.settings v.now link old_files v.report link' new_files)
-      → SessionLasts {D = D} files (InMbox from.store) from.file session (InMbox to.store) to.file → IsMboxSafe (Holds base Among) files to
-  session_left session lasts rows intent left mbox may keeps also =
-      by session.result session.proceeds session.leaves session.reports lasts left mbox may also (record_state rows intent) keeps
+      → DurableSession {D = D} files (InMbox from.store) from.file session (InMbox to.store) to.file
+      → IsMboxSafe (Holds base Among) files to
+  session_left session durably rows intent left mbox may keeps also =
+      by session.result session.proceeds session.leaves session.reports durably left mbox may also (record_state rows intent) keeps
     where
-      are_sure : AreSure {D = D} files (InMbox from.store) from.file
-      are_sure = (sure.1, sure.0.0)
+      are_trusted : AreTrusted {D = D} files (InMbox from.store) from.file
+      are_trusted = (trust.1, trust.0.0)
 
       by : (result : Result (Unit {0}) Cut)
           (proceeds : Proceeds v.settings AsEntries v.now (at link []) (keeps_entries old_files) result session.mid
           (keeps_entries new_files) session.notes) → LeavesLink result session.mid link'
           → Reports (outcome_of result) session.notes.total session.notes.skipped session.notes.lines v.report
-          → ProceedsLast {D = D} files (InMbox from.store) from.file _ _ _ _ _ _ _ _ _ proceeds (InMbox to.store) to.file → Leaves
-      by (Ok done) dealt _ _ lasts =
-          let c = dealt.carries.1 in planned_left c _ (ended_left c) c.prepared.durable (lasts are_sure)
+          → DurableProceeds {D = D} files (InMbox from.store) from.file _ _ _ _ _ _ _ _ _ proceeds (InMbox to.store) to.file → Leaves
+      by (Ok done) dealt _ _ durably =
+          let c = dealt.carries.1 in planned_left c _ (ended_left c) c.prepared.durable (durably are_trusted)
       by (Err _) (inl _) _ _ (un, still) =
           λ left mbox may also. left_before left mbox (un.no_more left may) (still mbox also)
       by (Err _) (inr (inl _)) _ _ (un, still) =
           λ left mbox may also. left_before left mbox (un.no_more left may) (still mbox also)
-      by (Err cut) (inr (inr dealt)) leaves reports lasts = of dealt.carries lasts
+      by (Err cut) (inr (inr dealt)) leaves reports durably = of dealt.carries durably
         where
           of : (carries : Carries v.settings AsEntries dealt.items v.now dealt.mid (in_mbox (files.stored from.store))
               (files.stored from.file) [] (Err cut) session.mid (in_mbox (files.stored to.store)) (files.stored to.file)
               session.notes.lines session.notes.skipped)
-              → CarriesLast {D = D} files (InMbox from.store) from.file v.settings AsEntries dealt.items v.now dealt.mid
+              → DurableCarries {D = D} files (InMbox from.store) from.file v.settings AsEntries dealt.items v.now dealt.mid
               (in_mbox (files.stored from.store)) (files.stored from.file) [] (Err cut) session.mid
               (in_mbox (files.stored to.store)) (files.stored to.file) session.notes.lines session.notes.skipped carries
               (InMbox to.store) to.file → Leaves
-          of (_, inl (_, unprepared)) lasts = unready_left unprepared.unready.content (lasts are_sure)
-          of (rows, inr c) lasts = planned_left c _ (cut_left dealt.items dealt.mid session.mid session.notes rows cut dealt.enters
-              dealt.total c leaves reports) c.prepared.durable (lasts are_sure)
+          of (_, inl (_, unprepared)) durably = unready_left unprepared.unready.content (durably are_trusted)
+          of (rows, inr c) durably = planned_left c _ (cut_left dealt.items dealt.mid session.mid session.notes rows cut dealt.enters
+              dealt.total c leaves reports) c.prepared.durable (durably are_trusted)

@@ -105,7 +105,7 @@ next_less limit done n (m ∷ ms) = grind (arith, ids_both, next_less limit done
 of_right : {A B : Type 0} (P : B → Type 0) {both : A ⊎ B} {a b : B} → both ≡ inr a → P a → both ≡ inr b → P b
 of_right P {a = a} {b = b} is holds other = let same : a ≡ b = cc in subst P same holds
 
--- ---- a kept state
+-- ---- a state with the invariant
 
 module _ (base : Base) where
   pub in_more : (done more : List Message) (id : List ℕ)

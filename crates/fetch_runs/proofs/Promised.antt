@@ -1,4 +1,5 @@
--- One session of an account with a Maildir, from a kept state, keeps its promises and leaves a kept state, and so do others.
+-- One session of an account with a Maildir, from a state with the invariant, keeps its promises and leaves a state with the
+-- invariant, and so do others.
 use Rattle.std.proofs.Common.{◌≡◌, ◌⊎◌, inl, inr, ◌-◌, ℕ, List, [], ◌∷◌, ◌++◌, Bool, true, false, length, map, refl}
 use Rattle.std.proofs.Common.{sym, subst, ◌∙◌, ap, ap₂, arith, not, cond, ◌&&◌, ◌||◌, take, drop}
 use Rattle.std.specs.Prelude.{bytes_eq, ◌↔◌}
@@ -21,7 +22,7 @@ use Rattle.fetch_runs.specs.Sessions.{Effect, Leaves, StoresTexts, IsHonest, wan
 use Rattle.fetch_runs.specs.Sessions.{SendsOnly, IsBegun, Served, SessionOverLink, is_retr}
 use Rattle.fetch_runs.specs.Below.{Below}
 use Rattle.fetch_runs.specs.Promises.{Mail, IsOf, IsMaildrop, State, is_safe, IsSafe, state_with, DeletesOneOf}
-use Rattle.fetch_runs.specs.Promises.{ShowsNext, IsFront, Promises, Kept, Call, IsBetween}
+use Rattle.fetch_runs.specs.Promises.{ShowsNext, IsFront, Promises, Invariant, Call, IsBetween}
 use Rattle.fetch_runs.proofs.Core.{added, added_begins, prefix_after, Fetch, all_wanted, distinct_wanted, texts_are, taken_is, wanted_ids}
 use Rattle.fetch_runs.proofs.Core.{none_recorded, fetches_wanted, IsLegal, wants, stored_files, message_file, has_listed, fetched, order}
 use Rattle.fetch_runs.proofs.Lists.{ids_both, ids_filtered, any_filter, same_tests, is_some, Distinct, distinct_is, each_text, all_map}
@@ -135,7 +136,7 @@ pub record IsSession {W S F : Type 0} (mail : Mail) (before : AccountMail) (call
   pub session : SessionOverLink call.settings mail.account before sent got call.report effect after
 
 module _ {W S F : Type 0} (laws : Below) {mail : Mail} (account_is : IsAccountText mail.account) {state : State}
-    (o : Call W S F) (now : AccountMail) (kept : Kept mail state) (e : Effect)
+    (o : Call W S F) (now : AccountMail) (kept : Invariant mail state) (e : Effect)
     (is : IsMaildrop mail.text o.maildrop) {commands : List Command} {part : List ℕ}
     (s : StoresTexts o.settings mail.account state.account e now o.report commands part)
     (honest : IsHonest (wanted_at o.settings mail.account state.account e) o.maildrop e) where
@@ -267,7 +268,7 @@ module _ {W S F : Type 0} (laws : Below) {mail : Mail} (account_is : IsAccountTe
 
   stored_kept : (e.ended ≡ true) ↔ (o.report.outcome ≡ Ended) → {sent : List ℕ} (sends : SendsOnly (IsBegun e.listing e.begun) sent)
       → (e.ended ≡ true → o.report.retrieved ≡ count_by is_retr sends.commands)
-      → AllByRecursion (λ id. has_id e.begun id ≡ true) o.vanished → Promises mail state o sent now × Kept mail after
+      → AllByRecursion (λ id. has_id e.begun id ≡ true) o.vanished → Promises mail state o sent now × Invariant mail after
   stored_kept ended sends retrieves vanished = (
     record {
       wanted = λ uncut. let all = s.ended (ended.1 uncut) in
@@ -307,10 +308,10 @@ module _ {W S F : Type 0} (laws : Below) {mail : Mail} (account_is : IsAccountTe
 
 -- a session that changed nothing
 left_kept : {W S F : Type 0} {mail : Mail} {state : State} (o : Call W S F) (now : AccountMail) (e : Effect)
-    → Kept mail state → Leaves state.account e now → (e.ended ≡ true) ↔ (o.report.outcome ≡ Ended)
+    → Invariant mail state → Leaves state.account e now → (e.ended ≡ true) ↔ (o.report.outcome ≡ Ended)
     → {sent : List ℕ} → SendsOnly (IsBegun e.listing e.begun) sent
     → AllByRecursion (λ id. has_id e.begun id ≡ true) o.vanished → Promises mail state o sent now
-    × Kept mail (state_with mail state o.vanished now)
+    × Invariant mail (state_with mail state o.vanished now)
 left_kept {mail = mail} {state = state} o now e kept left ended sends vanished = (
   record {
     wanted = λ uncut. absurd (both_ways e.ended left.ended (ended.1 uncut));
@@ -341,19 +342,20 @@ left_kept {mail = mail} {state = state} o now e kept left ended sends vanished =
 
 -- ---- sessions and others
 
-pub others_leave_kept : (mail : Mail) (state : State) (after : AccountMail) → Kept mail state
-    → IsBetween mail state.account after → Kept mail (state_with mail state [] after)
+pub others_leave_kept : (mail : Mail) (state : State) (after : AccountMail) → Invariant mail state
+    → IsBetween mail state.account after → Invariant mail (state_with mail state [] after)
 others_leave_kept mail state after kept is = record {
   holds = is.holds;
   recorded = λ id d. still_safe mail state after id (kept.recorded id (is.shows_no_more id d));
   gone = all_map _ kept.gone (still_safe mail state after);
 }
 
--- a session keeps its promises, and leads from a kept state to a kept state
+-- a session keeps its promises, and leads from a state with the invariant to a state with the
+-- invariant
 pub sessions_keep_promises : Below
     → {W S F : Type 0} (mail : Mail) (state : State) (call : Call W S F) (sent : List ℕ) (after : AccountMail)
-    → IsAccountText mail.account → Kept mail state → IsSession mail state.account call sent after → Promises mail state call sent after
-    × Kept mail (state_with mail state call.vanished after)
+    → IsAccountText mail.account → Invariant mail state → IsSession mail state.account call sent after → Promises mail state call sent after
+    × Invariant mail (state_with mail state call.vanished after)
 sessions_keep_promises laws mail state call _ after account_is kept is =
     let step = served_session laws call.settings mail.account state.account is.effect is.session is.served in
     ⊎_elim (λ left. left_kept call after is.effect kept left is.session.ended is.session.sends step.1)

@@ -41,7 +41,7 @@ use Rattle.pop3_wire.specs.Place.{at}
 use Rattle.mail_store.specs.Maildir.{File}
 use Rattle.fetch_session.specs.declared.report.Outcome.TheVariants.{Ended}
 use Rattle.fetch_runs.proofs.Turns.{text_found}
-use Rattle.pop3_wire.specs.Body.{kept}
+use Rattle.pop3_wire.specs.Body.{lf_line}
 use Rattle.mail_terms.specs.Text.{IsWhole}
 use Rattle.fetch_session.specs.declared.report.Report.{Report}
 use Rattle.fetch_session.proofs.TextLemmas.{text_whole}

@@ -41,7 +41,7 @@ use Rattle.fetch_rules.specs.declared.plans.Step.{Step}
 use Rattle.pop3_client.specs.declared.fault.ClientFault.{ClientFault}
 use Rattle.pop3_client.specs.Conversation.{Talked, Talks, Broke, IsFrontOfNext}
 use Rattle.fetch_session.specs.Fault.{fault_of}
-use Rattle.fetch_session.specs.Tail.{tail, turns_of_tail as tail_turns, LeftBy, Left, WentOn}
+use Rattle.fetch_session.specs.Tail.{tail, turns_of_tail as tail_turns, TalksTailBy, TalksTail, WentOn}
 use Rattle.std.proofs.lemmas.List.Folds.{flat_map-map}
 use Rattle.fetch_session.specs.declared.fault.Fault.TheVariants.{StoreRefused}
 use Rattle.std.specs.Prelude.{◌-◌, slice_get, option_to_list}
@@ -550,7 +550,8 @@ ahead_cut later took split told spare = record {
 
 module _ (laws : Below) (items : List Item) where
   -- the tail after a cut with no reply under way
-  pub tailed : (cut : Cut) (there last : Place) → cut.rest ≡ None → Left cut there last → WentOn (tail_turns (tail cut.fault)) there last
+  pub tailed : (cut : Cut) (there last : Place) → cut.rest ≡ None → TalksTail cut there last
+      → WentOn (tail_turns (tail cut.fault)) there last
   tailed cut there last none left = let said = rw none at left in fronted laws _ _ _ said.0 said.1
 
   -- the turns of these tasks were completed, and perhaps that of one more was begun
@@ -601,7 +602,7 @@ module _ (laws : Below) (items : List Item) where
       whole = λ _. refl;
     }
 
-    module _ (new : Scene) (cut : Cut) (last : Place) (left : Left cut new.place last) (tasks later : List Task)
+    module _ (new : Scene) (cut : Cut) (last : Place) (left : TalksTail cut new.place last) (tasks later : List Task)
         (split : tasks ≡ tasks_of dones ++ next ∷ later) (lines : List ReportLine)
         (went : mid.lines ≡ lines ++ report_lines dones) where
       abbrev ends : List Turn
@@ -620,7 +621,7 @@ module _ (laws : Below) (items : List Item) where
 
       -- the store refused the text, or the rest of it
       module _ (account : List ℕ) (refused : NoFile account next mid new cut) where
-        rest_left : LeftBy cut.fault (Some refused.rest) new.place last
+        rest_left : TalksTailBy cut.fault (Some refused.rest) new.place last
         rest_left = rw refused.under_way at left
 
         took_under : Took (course items dones [] (next ∷ [])) first ends last.link

@@ -16,16 +16,16 @@ use Rattle.mail_store.specs.Maildir.{Maildir, WereTaken}
 use Rattle.mail_store.specs.declared.file.flat_file.FlatFile.{Ghosts as FileGhosts}
 use Rattle.mail_store.specs.declared.maildir.disk.MaildirDisk.{Ghosts as DiskGhosts}
 use Rattle.fetch_session.specs.Account.{Holding, IsSameAccount, digits_of}
-use Rattle.fetch_session.specs.Lasting.{RunsSession}
+use Rattle.fetch_session.specs.Durable.{RunsSession}
 use Rattle.fetch_session.specs.declared.account.Store.{Store}
 use Rattle.fetch_session.specs.declared.account.Store.TheVariants.{Maildir as InMaildir, Mboxrd as InMbox}
 use Rattle.fetch_session.specs.declared.report.Report.{Report}
 use Rattle.fetch_runs.specs.Accounts.{AccountMail, copies, files}
 use Rattle.fetch_runs.specs.Sessions.{Served, MboxMail}
-use Rattle.fetch_runs.specs.Promises.{Call, Devices, IsBetween, IsMaildrop, Kept, Mail, Promises, ShowsNext, State}
+use Rattle.fetch_runs.specs.Promises.{Call, Devices, IsBetween, IsMaildrop, Invariant, Mail, Promises, ShowsNext, State}
 use Rattle.fetch_runs.specs.Promises.{is_safe, state_with, AppendsMail, Base, HoldsEntries}
-use Rattle.fetch_runs.specs.Losses.{AreMboxSure, IsCrashSafe, IsDurableFront, IsFileLeft, IsMboxSafe, KeepsDurable}
-use Rattle.fetch_runs.specs.Losses.{KeepsFronts, RecordIsSure}
+use Rattle.fetch_runs.specs.Losses.{TrustsMbox, IsCrashSafe, IsDurableFront, IsFileLeft, IsMboxSafe, KeepsDurable}
+use Rattle.fetch_runs.specs.Losses.{KeepsFronts, TrustsRecord}
 use Rattle.fetch_session.specs.Target.{mail_in}
 
 -- ---- one call
@@ -79,7 +79,7 @@ pub record IsPromised {W D F : Type 0} (link : WireGhosts W) (disk : DiskGhosts 
   pub shows : Shows disk file call.after after
   pub taken_is : after.maildir.taken ≡ left.taken
   pub promises : Promises mail (with_left mail state left) call sent after
-  pub safe : RecordIsSure file devices.file call.after.file → IsCrashSafe (file.disk devices.file) mail state
+  pub safe : TrustsRecord file devices.file call.after.file → IsCrashSafe (file.disk devices.file) mail state
       → IsCrashSafe (file.disk call.after.file) mail (state_with mail (with_left mail state left) call.vanished after)
   pub in_order : (all : List Message) → AllByRecursion (λ (m : Message). is_legal_id m.uid ≡ true) all
       → (front : IsDurableFront mail state all) → ShowsNext call.settings call.maildrop front.is.done front.is.rest
@@ -104,18 +104,20 @@ pub data Happening (Call Devices Account : Type 0) : Type 0 where
   Called : Call → Happening Call Devices Account
   Left : Devices → Account → Happening Call Devices Account
 
--- the devices show a kept state; if the next of these happens, a call keeps its promises, and they do so after it, and
--- after others or a loss of power. What such a loss takes, if it can do no harm, isn't taken away, but fetched again
+-- the devices show a state with the invariant; if the next of these happens, a call keeps its promises, and they do so
+-- after it, and after others or a loss of power. What such a loss takes, if it can do no harm, isn't taken away, but
+-- fetched again
 abbrev pub ArePromised : {W D F : Type 0} → WireGhosts W → DiskGhosts D → FileGhosts F → Mail → State → Devices D F
     → List (Happening (Call W D F) (Devices D F) AccountMail) → Type 0
-ArePromised link disk file mail state devices [] = Shows disk file devices state.account × Kept mail state
+ArePromised link disk file mail state devices [] = Shows disk file devices state.account × Invariant mail state
 ArePromised link disk file mail state devices (Called call ∷ later) = Shows disk file devices state.account
-    × Kept mail state × (digits_of call.settings ≡ mail.account → IsCall link disk file InMaildir disk.sound mail.text
+    × Invariant mail state × (digits_of call.settings ≡ mail.account
+    → IsCall link disk file InMaildir disk.sound mail.text
     devices call → (is : IsPromised link disk file mail state devices call)
     × ArePromised link disk file mail (state_with mail (with_left mail state is.left) call.vanished is.after)
     call.after later)
 ArePromised link disk file mail state devices (Left left account ∷ later) = Shows disk file devices state.account
-    × Kept mail state × (Shows disk file left account → IsBetween mail state.account account
+    × Invariant mail state × (Shows disk file left account → IsBetween mail state.account account
     → let next = state_with mail state [] account in
     (KeepsDurable file mail.account state.account devices.file left.file account
     → (IsCrashSafe (file.disk devices.file) mail state → IsCrashSafe (file.disk left.file) mail next)
@@ -124,17 +126,19 @@ ArePromised link disk file mail state devices (Left left account ∷ later) = Sh
     → let next : State = record state { account = account } in IsCrashSafe (file.disk left.file) mail next
     × KeepsFronts mail state next × ArePromised link disk file mail next left later)
 
--- the law: so it is of any list of calls, of what others leave, and of losses of power, from a kept state on
+-- the law: so it is of any list of calls, of what others leave, and of losses of power, from a state with
+-- the invariant on
 abbrev pub CallsKeepPromises : {W D F : Type 0} → WireGhosts W → DiskGhosts D → FileGhosts F → Type 0
 CallsKeepPromises {W} {D} {F} link disk file = (mail : Mail) (state : State) (devices : Devices D F)
     (list : List (Happening (Call W D F) (Devices D F) AccountMail)) → Shows disk file devices state.account
-    → Kept mail state → ArePromised link disk file mail state devices list
+    → Invariant mail state → ArePromised link disk file mail state devices list
 
--- a law: a record without rows and a Maildir without files of the account are a kept state
-abbrev pub EmptyAccountsAreKept : Type 0
-EmptyAccountsAreKept = (mail : Mail) (state : State) → state.account.rows ≡ [] → state.gone ≡ []
+-- a law: a record without rows and a Maildir without files of the account are a state with the
+-- invariant
+abbrev pub EmptyAccountsHold : Type 0
+EmptyAccountsHold = (mail : Mail) (state : State) → state.account.rows ≡ [] → state.gone ≡ []
     → ((id : List ℕ) → is_legal_id id ≡ true → copies (files state.account) (stem_of mail.account id) ≡ [])
-    → Kept mail state
+    → Invariant mail state
 
 -- ---- with an mboxrd file
 
@@ -156,7 +160,7 @@ AreMboxPromised link disk file base done account devices (Called call ∷ later)
     → IsCall link disk file InMbox file.sound base.text devices call → (sent : List ℕ) × (after : MboxMail)
     × ((link.history call.wire').sent ≡ (link.history call.wire).sent ++ sent) × ShowsMbox file call.after after
     × (appends : AppendsMail base holds call sent after)
-    × (AreMboxSure file devices call.after → IsMboxSafe (HoldsEntries base) file devices
+    × (TrustsMbox file devices call.after → IsMboxSafe (HoldsEntries base) file devices
     → IsMboxSafe (HoldsEntries base) file call.after)
     × AreMboxPromised link disk file base (done ++ appends.more) after call.after later)
 AreMboxPromised link disk file base done account devices (Left left now ∷ later) = ShowsMbox file devices account

@@ -16,12 +16,12 @@ use Rattle.fetch_session.specs.Account.{digits_of}
 use Rattle.fetch_session.specs.declared.account.Store.TheVariants.{Maildir as InMaildir, Mboxrd as InMbox}
 use Rattle.fetch_runs.specs.Accounts.{AccountMail, copies, files, message_ids, selected, texts_of, without}
 use Rattle.fetch_runs.specs.Sessions.{MboxMail}
-use Rattle.fetch_runs.specs.Promises.{Call, Devices, IsBetween, IsFront, IsMaildrop, IsSafe, Kept, Mail, State}
+use Rattle.fetch_runs.specs.Promises.{Call, Devices, IsBetween, IsFront, IsMaildrop, IsSafe, Invariant, Mail, State}
 use Rattle.fetch_runs.specs.Promises.{is_safe, state_with, AppendsMail, Base, HoldsEntries, IsMboxFront}
 use Rattle.fetch_runs.specs.Promises.{base_from, is_entered}
 use Rattle.fetch_runs.specs.Calls.{Called, Happening, HoldsNoMore, IsCall, IsLeftByLoss, IsPromised, Left}
 use Rattle.fetch_runs.specs.Calls.{Shows, with_left, ShowsMbox}
-use Rattle.fetch_runs.specs.Losses.{AreMboxSure, IsCrashSafe, IsDurableFront, IsFileLeft, IsMboxSafe}
+use Rattle.fetch_runs.specs.Losses.{TrustsMbox, IsCrashSafe, IsDurableFront, IsFileLeft, IsMboxSafe}
 
 -- a session's limit on sizes is this one, and its maildrop is a beginning of all mail, without messages of such ids
 pub record IsInOrder (limit : ℕ) (all : List Message) (IsDone : List ℕ → Type 0) (settings : Settings)
@@ -114,12 +114,12 @@ HoldPrefixes link disk file world state devices (Left left account ∷ later) = 
     → IsDurableFront world.start state (selected_of world) → IsLeftByLoss disk file devices left account
     → HoldPrefixes link disk file world (record state { account = account }) left later)
 
--- the law: so it is from each kept state in which exactly the first of the selected messages are held or were taken
--- away, as one in which nothing is
+-- the law: so it is from each state with the invariant in which exactly the first of the selected messages are held
+-- or were taken away, as one in which nothing is
 abbrev pub Headline : {W D F : Type 0} → WireGhosts W → DiskGhosts D → FileGhosts F → Type 0
 Headline {W} {D} {F} link disk file = (world : World Mail) (state : State) (devices : Devices D F)
     (list : List (Happening (Call W D F) (Devices D F) AccountMail)) → IsSound world
-    → Shows disk file devices state.account → Kept world.start state
+    → Shows disk file devices state.account → Invariant world.start state
     → IsFront world.start state (selected_of world) → HoldPrefixes link disk file world state devices list
 
 -- ---- with an mboxrd file
@@ -167,7 +167,7 @@ HoldMboxPrefixes link disk file world done account devices (Called call ∷ late
     → call.settings.read_all ≡ false → IsCall link disk file InMbox file.sound world.start.text devices call
     → (sent : List ℕ) × (after : MboxMail) × ((link.history call.wire').sent ≡ (link.history call.wire).sent ++ sent)
     × ShowsMbox file call.after after × (appends : AppendsMail world.start is.holds call sent after)
-    × (AreMboxSure file devices call.after → IsMboxSafe (λ first seen. HoldsAMboxPrefix world first seen
+    × (TrustsMbox file devices call.after → IsMboxSafe (λ first seen. HoldsAMboxPrefix world first seen
     × AllByRecursion (IsUnbegun seen) withdrawn) file devices → IsMboxSafe (HoldsAMboxPrefix next) file call.after)
     × HoldMboxPrefixes link disk file next (done ++ appends.more) after call.after later)
 HoldMboxPrefixes link disk file world done account devices (Left left now ∷ later) = ShowsMbox file devices account

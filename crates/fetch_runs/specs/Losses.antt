@@ -1,7 +1,7 @@
 -- What of an account with a Maildir is durable, so that a loss of power between two calls, whatever it takes, leaves a
 -- state from which the next call goes on; and what calls and others keep of that.
 use Rattle.std.specs.Prelude.{◌≡◌, ◌⊎◌, ◌||◌, ◌≤◌, ℕ, Bool, true, List, ◌++◌, Option, None, length}
-use Rattle.mail_store.specs.Durable.{Disk, IsSure, MayLeave}
+use Rattle.mail_store.specs.Durable.{Disk, Trusted, MayLeave}
 use Rattle.std.specs.List.{AllByRecursion}
 use Rattle.mail_terms.specs.UniqueId.{is_legal_id}
 use Rattle.pop3_wire.specs.World.{Message}
@@ -11,13 +11,13 @@ use Rattle.mail_store.specs.declared.file.flat_file.FlatFile.{Ghosts as FileGhos
 use Rattle.fetch_record.specs.Record.{Intent, Row, is_delivered}
 use Rattle.fetch_record.specs.RecordMeaning.{FileStandsFor}
 use Rattle.fetch_runs.specs.Accounts.{AccountMail, has_named}
-use Rattle.fetch_runs.specs.Promises.{Devices, Mail, State, IsFront, Kept}
+use Rattle.fetch_runs.specs.Promises.{Devices, Mail, State, IsFront, Invariant}
 use Rattle.fetch_runs.specs.Sessions.{MboxMail}
 use Rattle.fetch_session.specs.Target.{mail_in}
 
 -- a file of the message is there whose name is durable, or the message was taken away
-abbrev pub lasts : Mail → State → List ℕ → Bool
-lasts mail state id = has_named mail.account state.account.maildir id || state.taken id
+abbrev pub is_durable : Mail → State → List ℕ → Bool
+is_durable mail state id = has_named mail.account state.account.maildir id || state.taken id
 
 -- the bytes of a file are durable, if it is one of the account
 abbrev pub IsFlushedFor : List ℕ → File → Type 0
@@ -32,21 +32,21 @@ IsDurableFor account f = (id : List ℕ) → is_legal_id id ≡ true → names_i
 -- whose name is durable, or was taken away; and the bytes of the account's files are durable
 pub record IsCrashSafe (disk : Disk) (mail : Mail) (state : State) : Type 0 where
   pub flushed : AllByRecursion (IsFlushedFor mail.account) state.account.maildir.files
-  pub recorded : (id : List ℕ) → is_delivered state.account.rows id ≡ true → lasts mail state id ≡ true
+  pub recorded : (id : List ℕ) → is_delivered state.account.rows id ≡ true → is_durable mail state id ≡ true
   pub left : (bytes : Option (List ℕ)) (rows : List Row) (intent : Option Intent) → MayLeave disk bytes
       → FileStandsFor bytes rows intent
-      → (id : List ℕ) → is_delivered rows id ≡ true → (is_legal_id id ≡ true) × (lasts mail state id ≡ true)
-  pub gone : AllByRecursion (λ id. lasts mail state id ≡ true) state.gone
+      → (id : List ℕ) → is_delivered rows id ≡ true → (is_legal_id id ≡ true) × (is_durable mail state id ≡ true)
+  pub gone : AllByRecursion (λ id. is_durable mail state id ≡ true) state.gone
 
 -- no flush of the record's file was refused before a call, and if no such file is left, a loss of power leaves none
-abbrev pub RecordIsSure : {F : Type 0} → FileGhosts F → F → F → Type 0
-RecordIsSure file from f = IsSure (file.disk from).now
+abbrev pub TrustsRecord : {F : Type 0} → FileGhosts F → F → F → Type 0
+TrustsRecord file from f = Trusted (file.disk from).now
     × ((file.stored f).content ≡ None → (left : Option (List ℕ)) → MayLeave (file.disk f) left → left ≡ None)
 
 -- nor of an mboxrd file, before it or in it; without a record's file a loss of power leaves of this what calls see
-abbrev pub AreMboxSure : {F : Type 0} → FileGhosts F → Devices F F → Devices F F → Type 0
-AreMboxSure file from left = RecordIsSure file from.file left.file × IsSure (file.disk from.store).now
-    × IsSure (file.disk left.store).now × ((file.stored left.file).content ≡ None
+abbrev pub TrustsMbox : {F : Type 0} → FileGhosts F → Devices F F → Devices F F → Type 0
+TrustsMbox file from left = TrustsRecord file from.file left.file × Trusted (file.disk from.store).now
+    × Trusted (file.disk left.store).now × ((file.stored left.file).content ≡ None
     → (bytes : Option (List ℕ)) → MayLeave (file.disk left.store) bytes → bytes ≡ (file.stored left.store).content)
 
 -- whatever a loss of power leaves of both files, if the record can be read, this holds of some messages and the account
@@ -70,10 +70,10 @@ pub record KeepsDurable {F : Type 0} (file : FileGhosts F) (account : List ℕ) 
   pub record_is : (left : Option (List ℕ)) → MayLeave (file.disk f) left
       → (left ≡ (file.stored f).content) ⊎ MayLeave (file.disk from) left
 
--- a law: a kept state is safe if the files of the account are durable and nothing else may be left of the record's file
--- than what it holds
+-- a law: a state with the invariant is safe if the files of the account are durable and nothing else may be left of the
+-- record's file than what it holds
 abbrev pub DurableAccountsAreSafe : {F : Type 0} → FileGhosts F → Type 0
-DurableAccountsAreSafe {F} file = (f : F) (mail : Mail) (state : State) (intent : Option Intent) → Kept mail state
+DurableAccountsAreSafe {F} file = (f : F) (mail : Mail) (state : State) (intent : Option Intent) → Invariant mail state
     → FileStandsFor (file.stored f).content state.account.rows intent
     → AllByRecursion (IsDurableFor mail.account) state.account.maildir.files
     → ((left : Option (List ℕ)) → MayLeave (file.disk f) left → left ≡ (file.stored f).content)
@@ -87,7 +87,7 @@ pub record IsDurableFront (mail : Mail) (state : State) (all : List Message) : T
   pub last : List Message
   pub done : is.done ≡ first ++ last
   pub at_most_one : length last ≤ 1
-  pub named : AllByRecursion (λ (m : Message). lasts mail state m.uid ≡ true) first
+  pub named : AllByRecursion (λ (m : Message). is_durable mail state m.uid ≡ true) first
 
 -- `IsDurableFront` holds afterwards of each list of messages of which it held before
 abbrev pub KeepsFronts : Mail → State → State → Type 0

@@ -140,7 +140,7 @@ pub record Promises {W S F : Type 0} (mail : Mail) (state : State) (call : Call 
       × (later.done ≡ front.done ++ filter (λ (m : Message). not (has_id (message_ids front.done) m.uid)) came)
 
 -- each message is held once; what is recorded, or is gone from the server, is held or was taken away
-pub record Kept (mail : Mail) (state : State) : Type 0 where
+pub record Invariant (mail : Mail) (state : State) : Type 0 where
   pub holds : HoldsEachOnce mail state.account
   pub recorded : (id : List ℕ) → is_delivered state.account.rows id ≡ true → IsSafe mail state id
   pub gone : AllByRecursion (IsSafe mail state) state.gone

@@ -1,7 +1,7 @@
 //! Laws over what sessions sent and left, and over lists of calls, for the programs and crates above: a function here
 //! does nothing, and its contract is the law.
 ghost use Rattle.fetch_runs.specs.Below.{Below};
-ghost use Rattle.fetch_runs.specs.Calls.{CallsKeepPromises, EmptyAccountsAreKept};
+ghost use Rattle.fetch_runs.specs.Calls.{CallsKeepPromises, EmptyAccountsHold};
 ghost use Rattle.fetch_runs.specs.Conversations.{MboxSessionsFollowPlans, SessionsAreConversations};
 ghost use Rattle.fetch_runs.specs.Headline.{EmptyFrontsBegin, EntriesMeanTexts, Headline, MboxHeadline};
 ghost use Rattle.fetch_runs.specs.Headline.{MboxFrontsBegin, NoneTaken, TakenStaysAway};
@@ -172,8 +172,9 @@ pub fn empty_fronts_begin()
     ensures { EmptyFrontsBegin }
 {}
 
-/// A kept state is safe from a loss of power if the files of the account are durable, and nothing else may be
-/// left of the record's file than what it holds: so is what a new device finds after a loss of power.
+/// A state with the invariant is safe from a loss of power if the files of the account are durable, and
+/// nothing else may be left of the record's file than what it holds: so is what a new device finds after a
+/// loss of power.
 #[tactic(auto, using(crate::proofs::Losses::durable_is_safe))]
 pub fn durable_accounts_are_safe<F: FlatFile>()
     ensures { DurableAccountsAreSafe F.FlatFile }
@@ -189,8 +190,8 @@ pub fn durable_fronts_begin()
 
 /// The statement may begin with an account without rows in its record and without a file of its own.
 #[tactic(auto, using(crate::proofs::Calls::empty_is_kept))]
-pub fn empty_accounts_are_kept()
-    ensures { EmptyAccountsAreKept }
+pub fn empty_accounts_hold()
+    ensures { EmptyAccountsHold }
 {}
 
 /// The statement, for an mboxrd file: where a unique-id always names one text, after any list of calls of

@@ -29,8 +29,8 @@ use Rattle.fetch_session.specs.declared.work.Ledger.{Ledger}
 use Rattle.fetch_session.specs.declared.work.Work.{Work}
 use Rattle.fetch_session.specs.Fault.{cut_of, fault_of}
 use Rattle.fetch_session.specs.Refusal.{Took, TookTillCut, TookWithTail, step_limit, tail_limit}
-use Rattle.fetch_session.specs.Lasting.{AreLeft, CutLasts, DoesAndLasts, IsSafeFile, IsSafeStore, IsSafeWork}
-use Rattle.fetch_session.specs.Lasting.{IsGrownAtMost, KeepsWork, LeavesFile, may_leave_in}
+use Rattle.fetch_session.specs.Durable.{AreLeft, DurableCut, DoesDurably, IsSafeFile, IsSafeStore, IsSafeWork}
+use Rattle.fetch_session.specs.Durable.{IsGrownAtMost, KeepsWork, LeavesFile, may_leave_in}
 use Rattle.mail_store.specs.Power.{LeavesNoMore}
 use Rattle.fetch_session.specs.Parts.{DoesTasks, RunsTasks, IsReadyFor, KeepsLedger, KeepsLink, KeepsStore}
 use Rattle.fetch_session.specs.Parts.{IsReadyForNext, IsWritten, WhereWorkSound, scene_of}
@@ -44,7 +44,7 @@ use Rattle.fetch_session.specs.Task.{Task, stores, ids_in, ids_ahead, turns_in, 
 use Rattle.fetch_session.specs.Task.{deleting, tasks_in, tasks_planned, says}
 use Rattle.fetch_session.proofs.ReadyLemmas.{fetched_all, OneMore, ahead, fresh_grows}
 use Rattle.fetch_session.proofs.TalkLemmas.{most_tail, takes_on, took_broke, took_less, took_nothing, with_tail_on, cut_by, till_cut}
-use Rattle.fetch_session.proofs.SessionLemmas.{good_before, good_more, in_kind, keeps_same, no_more_keeps, none_lasts, nothing_cut}
+use Rattle.fetch_session.proofs.SessionLemmas.{good_before, good_more, in_kind, keeps_same, no_more_keeps, none_durable, nothing_cut}
 use Rattle.fetch_session.proofs.SessionLemmas.{grown_left, rows_last, same_left, scene_at, texts_ok}
 use Rattle.mail_terms.proofs.ListLemmas.{all_append, all_front, both_none}
 use Rattle.fetch_session.proofs.SceneLemmas.{did_then, all_sound, all_none, all_weaker, fell_first, on_any}
@@ -257,7 +257,7 @@ module _ {W D F H Z : Type 0} {link : WireGhosts W} {disk : DiskGhosts D} {file 
     record {
       talk = link_still;
       store = record { lines = (omega arith, omega arith); kind = refl; none_begun = λ d. (d, ready.none_begun d) };
-      lasts = λ d f. (f, λ safe. safe);
+      durable = λ d f. (f, λ safe. safe);
       idle = λ none. (refl, λ d left may. may);
       next = λ later ready. ready;
     },
@@ -268,8 +268,8 @@ module _ {W D F H Z : Type 0} {link : WireGhosts W} {disk : DiskGhosts D} {file 
       same _,
       record {
         does = all_none (target_of w.store account) _;
-        lasts = λ safe. let steady = ready.written.steady f in (
-          none_lasts disk file (target_of w.store account)
+        durable = λ safe. let steady = ready.written.steady f in (
+          none_durable disk file (target_of w.store account)
               (place_of link c) w w [] safe (keeps_same file w) steady (same_left file w.ledger.file safe.0 steady),
           safe.0,
           safe.1,
@@ -286,9 +286,9 @@ module _ {W D F H Z : Type 0} {link : WireGhosts W} {disk : DiskGhosts D} {file 
     record {
       talk = link_on (most_of (turns_ahead (xs ++ ys))) (omega (arith, most_ahead xs ys)) first.talk then.talk;
       store = store_on (omega (arith, length-append xs ys)) first.store then.store;
-      lasts = λ d f.
-          let later = then.lasts d f in
-          let before = first.lasts (then.store.none_begun d).0 later.0 in
+      durable = λ d f.
+          let later = then.durable d f in
+          let before = first.durable (then.store.none_begun d).0 later.0 in
           (before.0, λ safe. later.1 (before.1 safe));
       idle = λ none. let both = both_none (ids_ahead xs) (ids_ahead ys) (sym (flat_map-append ids_in xs ys) ∙ none)
           in (
@@ -305,7 +305,7 @@ module _ {W D F H Z : Type 0} {link : WireGhosts W} {disk : DiskGhosts D} {file 
           before.1,
           before.2,
           on _ _ _ before.3 later.3,
-          good_more joining r before.4.does (in_kind w'.store w.store account first.store.kind later.4 (first.lasts later.1 later.2).1),
+          good_more joining r before.4.does (in_kind w'.store w.store account first.store.kind later.4 (first.durable later.1 later.2).1),
         ),
   )
 
@@ -316,7 +316,7 @@ module _ {W D F H Z : Type 0} {link : WireGhosts W} {disk : DiskGhosts D} {file 
     record {
       talk = link_on (most_of (turns_ahead (xs ++ ys))) (omega (arith, most_ahead xs ys)) link_still kept.talk;
       store = store_less (omega (arith, length-append xs ys)) kept.store;
-      lasts = kept.lasts;
+      durable = kept.durable;
       idle = λ none. kept.idle (both_none (ids_ahead xs) (ids_ahead ys) (sym (flat_map-append ids_in xs ys) ∙ none)).0;
       next = tt;
     },
@@ -325,7 +325,7 @@ module _ {W D F H Z : Type 0} {link : WireGhosts W} {disk : DiskGhosts D} {file 
 
 -- ---- one task
 
--- what a task did, and what of it outlives a loss of power
+-- what a task did, and what of it is durable
 pub good_task : {D F H Z : Type 0} (disk : DiskGhosts D) {file : FileGhosts F} (target : Target) (task : Task)
     (a b : Place) (old new : Work D F H Z) (r : Result (Unit {0}) Cut)
     → TakesTask target task (scene_at disk file a old) r (scene_at disk file b new)
@@ -333,27 +333,27 @@ pub good_task : {D F H Z : Type 0} (disk : DiskGhosts D) {file : FileGhosts F} (
     → OnOk r (Steady (file.stored new.ledger.file).content (none_open new.ledger.seen.rows))
     → (IsSafeWork file old → OnOk r (IsSafeWork file new))
     → (IsSafeWork file old → LeavesFile file new.ledger.file (AreLeft old.ledger.seen.rows (marked_all old.ledger.seen.rows (ids_in task))))
-    → (IsSafeWork file old → IfErr r (λ cut. CutLasts file target task (scene_at disk file a old) cut (scene_at disk file b new)
+    → (IsSafeWork file old → IfErr r (λ cut. DurableCut file target task (scene_at disk file a old) cut (scene_at disk file b new)
     new.store new.ledger.file))
-    → DoesAndLasts file (IsSafeWork file old) target (task ∷ []) (scene_at disk file a old) r (scene_at disk file b new)
+    → DoesDurably file (IsSafeWork file old) target (task ∷ []) (scene_at disk file a old) r (scene_at disk file b new)
     new.store new.ledger.file
 unfolding fell_first
-good_task disk {file} target task a b old new (Ok done) took keeps steady written lasts left next = record {
+good_task disk {file} target task a b old new (Ok done) took keeps steady written durable left next = record {
   does = record { dones = record { task = task; replies = took.0 } ∷ []; all = refl; went = took.1 };
-  lasts = λ safe. (
+  durable = λ safe. (
     record {
-      texts = texts_ok disk file target (record { task = task; replies = took.0 } ∷ []) old.store new.store took.1.stored (lasts safe).1;
-      rows = rw took.1.rows at (rows_last file new.ledger.file new.ledger.seen.rows (lasts safe).0 written);
+      texts = texts_ok disk file target (record { task = task; replies = took.0 } ∷ []) old.store new.store took.1.stored (durable safe).1;
+      rows = rw took.1.rows at (rows_last file new.ledger.file new.ledger.seen.rows (durable safe).0 written);
       left = subst (λ rows. LeavesFile file new.ledger.file (AreLeft rows rows)) took.1.rows
-          (same_left file new.ledger.file (lasts safe).0 written);
+          (same_left file new.ledger.file (durable safe).0 written);
     },
-    (lasts safe).0,
-    (lasts safe).1,
+    (durable safe).0,
+    (durable safe).1,
   );
 }
-good_task disk {file} target task a b old new (Err cut) took keeps steady written lasts left next = record {
+good_task disk {file} target task a b old new (Err cut) took keeps steady written durable left next = record {
   does = fell_first target task [] _ _ cut took;
-  lasts = λ safe. (none_lasts disk file target a old new (ids_in task) safe keeps steady (left safe), next safe);
+  durable = λ safe. (none_durable disk file target a old new (ids_in task) safe keeps steady (left safe), next safe);
 }
 
 module _ {D F H Z : Type 0} {disk : DiskGhosts D} {file : FileGhosts F} where
@@ -367,14 +367,14 @@ module _ {D F H Z : Type 0} {disk : DiskGhosts D} {file : FileGhosts F} where
       × OnOk r (AllNamed (stores_of disk file w'.store).maildir.files))
       → WhereWorkSound link disk file c w c' w' (λ old new. TakesTask (target_of w.store account) (stores number uid) old r new)
       → (is_sound disk file w'.store → file.sound w'.ledger.file → KeepsWork file w w' × (IsSafeWork file w → OnOk r (IsSafeWork file w')
-      × (link.sound c'.wire.now → IfErr r (λ cut. CutLasts file (target_of w.store account) (stores number uid)
+      × (link.sound c'.wire.now → IfErr r (λ cut. DurableCut file (target_of w.store account) (stores number uid)
       (scene_of link disk file c w) cut (scene_of link disk file c' w') w'.store w'.ledger.file))))
       → RunsTasks link disk file account (stores number uid ∷ []) c w r c' w'
-  runs_taking {link = link} {account} law number uid {c} {c'} {w} {w'} r written talk ledger kind grows takes lasts = (
+  runs_taking {link = link} {account} law number uid {c} {c'} {w} {w'} r written talk ledger kind grows takes durable = (
     record {
       talk = talk;
       store = record { lines = ledger.lines; kind = kind; none_begun = λ d. ((grows d).0, (grows d).1.none_begun) };
-      lasts = λ d f. (ledger.sound f, λ safe. ((lasts d f).1 safe).0);
+      durable = λ d f. (ledger.sound f, λ safe. ((durable d f).1 safe).0);
       idle = λ none. absurd cc;
       next = on_both r (λ written (rows, named) later before. record {
         digits = before.digits;
@@ -393,9 +393,9 @@ module _ {D F H Z : Type 0} {disk : DiskGhosts D} {file : FileGhosts F} where
           (on_under (AllNamed (stores_of disk file w'.store).maildir.files) r (λ d. (grows d).2)));
     },
     λ s d f. did_then (takes s d f) (λ took. good_task disk (target_of w.store account) (stores number uid)
-        (place_of link c) (place_of link c') w w' r took (lasts d f).0
+        (place_of link c) (place_of link c') w w' r took (durable d f).0
         (written.steady (ledger.sound f)) (on_ok_weaker r (λ is. is.steady f) ledger.written)
-        (λ safe. ((lasts d f).1 safe).0) (λ safe. ledger.left f safe.0) (λ safe. ((lasts d f).1 safe).1 s)),
+        (λ safe. ((durable d f).1 safe).0) (λ safe. ledger.left f safe.0) (λ safe. ((durable d f).1 safe).1 s)),
   )
 
   -- a task that stores nothing
@@ -472,7 +472,7 @@ module _ {D F H Z : Type 0} {disk : DiskGhosts D} {file : FileGhosts F} {work : 
     record {
       talk = talk;
       store = store_less (omega arith) quitting_store;
-      lasts = λ d f. (f, λ sure. on_ok_weaker r (λ s. (sure.0, s)) (safe d sure.1));
+      durable = λ d f. (f, λ trust. on_ok_weaker r (λ s. (trust.0, s)) (safe d trust.1));
       idle = λ _. (refl, is.keeps);
       next = on_any r (λ _ before. record {
         digits = before.digits;
@@ -494,9 +494,9 @@ module _ {D F H Z : Type 0} {disk : DiskGhosts D} {file : FileGhosts F} {work : 
           good_task disk _ _ _ _ work left r all.2
               (no_more_keeps _ (is.keeps d), λ last. last)
               steady (on_any r steady)
-              (λ sure. on_ok_weaker r (λ s. (sure.0, s)) (safe d sure.1))
-              (λ sure. same_left file work.ledger.file sure.0 steady)
-              (λ sure. if_err r (λ cut. nothing_cut disk file _ _ _ _ _
-              _ _ _ _ _ sure.1 (is.keeps d) sure.0 steady)),
+              (λ trust. on_ok_weaker r (λ s. (trust.0, s)) (safe d trust.1))
+              (λ trust. same_left file work.ledger.file trust.0 steady)
+              (λ trust. if_err r (λ cut. nothing_cut disk file _ _ _ _ _
+              _ _ _ _ _ trust.1 (is.keeps d) trust.0 steady)),
         ),
   )

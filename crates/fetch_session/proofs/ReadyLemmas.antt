@@ -1,4 +1,4 @@
--- What is planned and which ids stay fresh, what a session has ready, or why it isn't ready, and what of it outlives a loss of power.
+-- What is planned and which ids stay fresh, what a session has ready, or why it isn't ready, and what of it is durable.
 use Rattle.std.proofs.Common.{◌≡◌, ◌≢◌, ◌&&◌, Some, inl, inr, ◌<◌, ◌+◌, ℕ, suc, Bool, true, false, List, [], ◌∷◌, ◌++◌}
 use Rattle.std.proofs.Common.{drop, get_or, length, refl, sym, ap, ◌∙◌, arith, append_assoc, ◌⊎◌, ◌||◌, bytes_eq}
 use Rattle.std.proofs.Common.{drop-cons, map, take, Option, Ok, subst, HoldsAt, Result, Err, All, IfOk, ⊎_elim, None}
@@ -30,12 +30,12 @@ use Rattle.fetch_session.proofs.SceneLemmas.{all_weaker, read_keeps, steady_keep
 use Rattle.std.proofs.lemmas.List.{map-append, take_more, length-map}
 use Rattle.fetch_record.specs.Record.{Loaded, Row, is_delivered, Intent, RecordState, has_row, marked, none_open, merged, IsRecord}
 use Rattle.fetch_session.specs.declared.readiness.Found.{Found}
-use Rattle.fetch_session.specs.Lasting.{IsSafeFile, IsSafeStore, KeptLasts, LeavesMerged, LeavesSettled, LeavesStore}
-use Rattle.fetch_session.specs.Lasting.{ReadiesAndLasts, ReadyLasts, UnlessQuiet, UnreadyLasts, may_leave_in}
+use Rattle.fetch_session.specs.Durable.{IsSafeFile, IsSafeStore, DurableKept, LeavesMerged, LeavesSettled, LeavesStore}
+use Rattle.fetch_session.specs.Durable.{ReadiesDurably, DurableReady, UnlessQuiet, DurableUnready, may_leave_in}
 use Rattle.fetch_session.specs.Readiness.{AreDurable, FindsIn, are_undelivered, flags_found, IsMergedAtMost}
 use Rattle.fetch_session.specs.Readiness.{CausesUnready, FindsRefused, MboxUnready, SettlesStore, UnreadyCause}
 use Rattle.fetch_session.specs.Readiness.{merged_in, AreAsHeld, ChecksStore, HasPlan, IsAnew, IsIdle, IsFileKept}
-use Rattle.fetch_session.specs.Readiness.{Readies, Rests}
+use Rattle.fetch_session.specs.Readiness.{Readies, ChecksIdle}
 use Rattle.fetch_session.specs.Record.{FileReadAs, IsSecured, ReadsRecord, Keeps, Merges, Steady, record_state_in}
 use Rattle.fetch_rules.specs.Plan.{IsQuiet, fetches, planned, step_of}
 use Rattle.mail_store.specs.FlatFile.{Stored, holding}
@@ -190,7 +190,7 @@ flags_more f items i _ _ _ flag before inside at is pushed =
     pushed ∙ ap (λ xs. xs ++ flag ∷ []) before ∙ ap (λ b. map test (take i items) ++ b ∷ []) (is ∙ ap f (at no_item))
     ∙ sym (map-append test (take i items) (item ∷ [])) ∙ ap (map test) (sym (take_more _ i _ inside))
 
--- ---- what outlives a loss of power once a record was made ready, or wasn't
+-- ---- what is durable once a record was made ready, or wasn't
 
 pub untaken : {Q : Maildir → Type 0} (maildir : Maildir) → Q maildir → (left : Maildir) × WereTaken maildir left × Q left
 untaken maildir is = (maildir, none_taken maildir, is)
@@ -208,11 +208,11 @@ module _ {D F : Type 0} (disk : DiskGhosts D) (files : FileGhosts F) where
       (files.stored f) → (files.stored f).content ≡ (files.stored from).content
       → LeavesNoMore (MayLeave (files.disk from)) (MayLeave (files.disk f))
       → A × B × AfterTakingIn (stores_of disk files was)
-      (λ left. ReadiesAndLasts disk files safe was from settings target items now left (Err fault) after was f)
+      (λ left. ReadiesDurably disk files safe was from settings target items now left (Err fault) after was f)
   unasked _ _ f _ a b why same no_more = (
     a,
     b,
-    untaken _ (record { readies = record { cause = why; content = inl same }; lasts = λ _. (no_more, inl (λ _ may. may)) }),
+    untaken _ (record { readies = record { cause = why; content = inl same }; durable = λ _. (no_more, inl (λ _ may. may)) }),
   )
 
   -- the same if the record's file was read and flushed before
@@ -221,9 +221,9 @@ module _ {D F : Type 0} (disk : DiskGhosts D) (files : FileGhosts F) where
     ready_from : (settings : Settings) (target : Target) (items : List Item) (now : ℕ) (old new : Stores)
         (file file' : Stored) (after : List Row) (store : Store D F) (r : Result Ready Fault)
         → (is : Readies settings target items now old file r after new file')
-        → ReadyLasts files was mid settings target items now old file r after new file' is store f
-        → ReadyLasts files was from settings target items now old file r after new file' is store f
-    ready_from settings target items now old new file file' after store (Ok ready) is lasts = by after file file' _ is.durable lasts
+        → DurableReady files was mid settings target items now old file r after new file' is store f
+        → DurableReady files was from settings target items now old file r after new file' is store f
+    ready_from settings target items now old new file file' after store (Ok ready) is durable = by after file file' _ is.durable durable
       where
         by : {Quiet Durable : Type 0} (rows : List Row) (old new : Stored) (Safe : Type 0) (either : (Quiet
             × IsFileKept rows old new) ⊎ Durable) → UnlessQuiet files was mid rows old new either Safe store f
@@ -232,31 +232,31 @@ module _ {D F : Type 0} (disk : DiskGhosts D) (files : FileGhosts F) where
             (record { no_more = λ left may. no_more left (un.no_more left may); same = un.same ∙ same }, still)
         by rows old new Safe (inl (quiet, inr anew)) safe = safe
         by rows old new Safe (inr durable) safe = safe
-    ready_from settings target items now old new file file' after store (Err fault) is lasts = by is.content lasts
+    ready_from settings target items now old new file file' after store (Err fault) is durable = by is.content durable
       where
-        by : (content : IsMergedAtMost target items now old file new file') → UnreadyLasts files was mid content store f
-            → UnreadyLasts files was from content store f
+        by : (content : IsMergedAtMost target items now old file new file') → DurableUnready files was mid content store f
+            → DurableUnready files was from content store f
         by (inl is) (none, mbox) = (λ left may. no_more left (none left may), mbox)
         by (inr merged) (inl (closed, leaves, still)) =
             inl (closed, λ left may. ⊎_elim (λ before. inl (no_more left before)) inr (leaves left may), still)
         by (inr merged) (inr both) = inr both
 
-    pub readies_from : {safe sure : Type 0} {store : Store D F} {settings : Settings} {target : Target}
+    pub readies_from : {safe trust : Type 0} {store : Store D F} {settings : Settings} {target : Target}
         {items : List Item} {now : ℕ} {old : Stores} {r : Result Ready Fault}
-        {after : List Row} → (sure → safe)
-        → ReadiesAndLasts disk files safe was mid settings target items now old r after store f
-        → ReadiesAndLasts disk files sure was from settings target items now old r after store f
-    readies_from {sure} {store} {settings} {target} {items} {now} {old} {r} {after} firm is =
+        {after : List Row} → (trust → safe)
+        → ReadiesDurably disk files safe was mid settings target items now old r after store f
+        → ReadiesDurably disk files trust was from settings target items now old r after store f
+    readies_from {trust} {store} {settings} {target} {items} {now} {old} {r} {after} firm is =
         let both = subst (λ (file : Stored). (readies : Readies settings target items now old file r after
         (stores_of disk files store) (files.stored f))
-        × (sure → ReadyLasts files was from settings target items now old file r after (stores_of disk files store)
+        × (trust → DurableReady files was from settings target items now old file r after (stores_of disk files store)
         (files.stored f) readies store f))
         same (
           is.readies,
           λ s. ready_from _ _ _ _ _ _ _
-              _ _ _ r _ (is.lasts (firm s)),
+              _ _ _ r _ (is.durable (firm s)),
         ) in
-        record { readies = both.0; lasts = both.1 }
+        record { readies = both.0; durable = both.1 }
 
 -- ---- what was found
 
@@ -503,13 +503,13 @@ module _ {D F : Type 0} (disk : DiskGhosts D) (files : FileGhosts F) (was place 
       → (safe → IsSafeFile files from
       × LeavesMerged (MayLeave (files.disk from)) state here (MayLeave (files.disk f)) × IsSafeStore files place
       × LeavesSettled loaded.intent (mbox_of files was).content (may_leave_in files was) (may_leave_in files place))
-      → ReadiesAndLasts disk files safe was from settings (target_of was account) items now store (Err (stop_of r)) after place f
+      → ReadiesDurably disk files safe was from settings (target_of was account) items now store (Err (stop_of r)) after place f
   unready r merges leaves = record {
     readies = record {
       cause = reason r merges;
       content = inr (record { was = state; stood = kept; settles = is.2; durable = inr is.3; stands = stands r merges });
     };
-    lasts = λ sure. let (firm, left, whole, settled) = leaves sure in
+    durable = λ trust. let (firm, left, whole, settled) = leaves trust in
         merging _ refl firm (rw as_now at left) whole settled;
   }
 
@@ -519,7 +519,7 @@ module _ {D F : Type 0} (disk : DiskGhosts D) (files : FileGhosts F) (was place 
       → after ≡ here
       → plan.held.items ≡ found.held.items → plan.steps.items ≡ planned settings after items now
       → (safe → IsSafeFile files f × IsSafeStore files place)
-      → ReadiesAndLasts disk files safe was from settings (target_of was account) items now store (Ok plan) after place f
+      → ReadiesDurably disk files safe was from settings (target_of was account) items now store (Ok plan) after place f
   ready plan {after} delivers marks asked merges rows_are flags_are steps_are firm = record {
     readies = record {
       was = state;
@@ -535,7 +535,7 @@ module _ {D F : Type 0} (disk : DiskGhosts D) (files : FileGhosts F) (was place 
       file_count = merges.0;
       settles = is.2;
     };
-    lasts = firm;
+    durable = firm;
   }
 
 -- ---- every listed id has a row
@@ -582,7 +582,7 @@ is_anew loaded old new stood closed stale is =
 -- there is no place
 pub no_place : (kind : Kind) (items : List Item) (old new : Stores) (refusal : StoreFault) (fault : Fault)
     → ChecksStore {T = Unit {0}} kind old (Err refusal) new → IsStoreFault refusal fault
-    → Rests kind old items (Err fault) new
+    → ChecksIdle kind old items (Err fault) new
 no_place Files items old new refused.Missing fault is told = rw told is.0
 no_place Files items old new refused.Refused fault is told = rw told is.0
 no_place Files items old new _ fault is told = absurd is.0
@@ -620,13 +620,13 @@ module _ {D F : Type 0} (disk : DiskGhosts D) (files : FileGhosts F) (account : 
         cc (rows_same store was_read items idle.closed, law loaded.rows items flags now idle.is_record idle.known)
 
     pub rested : {safe : Type 0} (ready : Ready)
-        → Rests (kind_of store) looked_at items (Ok ready) (stores_of disk files store')
+        → ChecksIdle (kind_of store) looked_at items (Ok ready) (stores_of disk files store')
         → (kept : IsFileKept loaded.rows (files.stored from) (files.stored f))
         → Steady (files.stored f).content (none_open loaded.rows)
         → (files.stored f).failures ≡ (files.stored from).failures
-        → KeptLasts files from loaded.rows (files.stored from) (files.stored f) kept f → LeavesStore files store store'
+        → DurableKept files from loaded.rows (files.stored from) (files.stored f) kept f → LeavesStore files store store'
         → ready.steps.items ≡ steps → length ready.held.items ≡ length items
-        → ReadiesAndLasts disk files safe store from settings (target_of store account) items now looked_at (Ok ready) loaded.rows
+        → ReadiesDurably disk files safe store from settings (target_of store account) items now looked_at (Ok ready) loaded.rows
         store' f
     rested ready rests kept saved count lasting still are counted = record {
       readies = record {
@@ -641,24 +641,24 @@ module _ {D F : Type 0} (disk : DiskGhosts D) (files : FileGhosts F) (account : 
         file_count = count;
         settles = settles_same _ _ _ _ idle.closed rests;
       };
-      lasts = λ _. (lasting, still);
+      durable = λ _. (lasting, still);
     }
 
     -- the store refused to be looked at
     pub unrested : {safe : Type 0} (fault : Fault)
-        → Rests (kind_of store) looked_at items (Err fault) (stores_of disk files store') → LeavesStore files store store'
+        → ChecksIdle (kind_of store) looked_at items (Err fault) (stores_of disk files store') → LeavesStore files store store'
         → f ≡ from
-        → ReadiesAndLasts disk files safe store from settings (target_of store account) items now looked_at (Err fault) loaded.rows
+        → ReadiesDurably disk files safe store from settings (target_of store account) items now looked_at (Err fault) loaded.rows
         store' f
     unrested fault finds still same = record {
       readies = record {
         cause = by store finds;
         content = inl (ap (λ (d : F). (files.stored d).content) same);
       };
-      lasts = λ sure. (λ left may. subst (λ (d : F). MayLeave (files.disk d) left) same may, inl still);
+      durable = λ trust. (λ left may. subst (λ (d : F). MayLeave (files.disk d) left) same may, inl still);
     }
       where
-        by : (store : Store D F) → Rests (kind_of store) (stores_of disk files store) items (Err fault) (stores_of disk files store')
+        by : (store : Store D F) → ChecksIdle (kind_of store) (stores_of disk files store) items (Err fault) (stores_of disk files store')
             → CausesUnready (target_of store account) items fault (stores_of disk files store) (files.stored from)
             (stores_of disk files store') (files.stored f)
         by (InMaildir device) finds =
@@ -671,11 +671,11 @@ module _ {D F : Type 0} (disk : DiskGhosts D) (files : FileGhosts F) (account : 
 
     -- the record's file couldn't be written anew
     pub unrenewed : {safe : Type 0} (ready : Ready) (fault : Fault)
-        → Rests (kind_of store) looked_at items (Ok ready) (stores_of disk files store')
+        → ChecksIdle (kind_of store) looked_at items (Ok ready) (stores_of disk files store')
         → Merges (files.stored from) was_read was_read (Err fault) (files.stored f)
         → LeavesMerged (MayLeave (files.disk from)) was_read loaded.rows (MayLeave (files.disk f))
         → LeavesStore files store store'
-        → ReadiesAndLasts disk files safe store from settings (target_of store account) items now looked_at (Err fault) loaded.rows
+        → ReadiesDurably disk files safe store from settings (target_of store account) items now looked_at (Err fault) loaded.rows
         store' f
     unrenewed ready fault rests merges leaves still = record {
       readies = record {
@@ -690,7 +690,7 @@ module _ {D F : Type 0} (disk : DiskGhosts D) (files : FileGhosts F) (account : 
           stands = inl (stands fault merges);
         });
       };
-      lasts = λ _. inl (idle.closed, rw merged_same leaves, still);
+      durable = λ _. inl (idle.closed, rw merged_same leaves, still);
     }
       where
         kept : Keeps (files.stored from).content was_read
@@ -703,7 +703,7 @@ module _ {D F : Type 0} (disk : DiskGhosts D) (files : FileGhosts F) (account : 
         stands _ never = absurd never
 
         why : (fault : Fault) → Merges (files.stored from) was_read was_read (Err fault) (files.stored f) → (store : Store D F)
-            → Rests (kind_of store) (stores_of disk files store) items (Ok ready) (stores_of disk files store')
+            → ChecksIdle (kind_of store) (stores_of disk files store) items (Ok ready) (stores_of disk files store')
             → CausesUnready (target_of store account) items fault (stores_of disk files store) (files.stored from)
             (stores_of disk files store') (files.stored f)
         why SeenRefused merges (InMaildir _) ((_, _, same), _) = (omega (arith, merges.0), same)

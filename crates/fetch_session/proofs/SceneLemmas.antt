@@ -11,7 +11,7 @@ use Rattle.fetch_record.specs.RecordMeaning.{Rows, Means, has_bytes, with_taken,
 use Rattle.fetch_record.specs.RecordGrowth.{Updates, Grows, AppendedCounts, CutIsIgnored, taken_all}
 use Rattle.fetch_record.specs.Intents.{has_intent, is_older, closed_rows}
 use Rattle.mail_terms.proofs.ListLemmas.{all_append}
-use Rattle.mail_store.specs.FlatFile.{Stored, Appends, Cuts, Denies, file_refused}
+use Rattle.mail_store.specs.FlatFile.{Stored, Appends, Cuts, FailsAs, file_refused}
 use Rattle.mail_store.specs.declared.fault.StoreFault.{StoreFault}
 use Rattle.mail_store.specs.declared.fault.StoreFault.TheVariants.{Missing, Refused}
 use Rattle.fetch_session.specs.declared.fault.Fault.{Fault}
@@ -125,7 +125,7 @@ taken_back old new size was (Err fault) till cuts =
     ]
 
 -- the size of a file, and what was appended to it
-pub not_there : (old new : Stored) (why : StoreFault) → bytes_in old.content ≢ [] → Denies old why new → new ≡ file_refused old
+pub not_there : (old new : Stored) (why : StoreFault) → bytes_in old.content ≢ [] → FailsAs old why new → new ≡ file_refused old
 not_there old new Missing some (none, same) = absurd (some (ap bytes_in none))
 not_there old new Refused some is = is
 not_there old new _ some never = absurd never

@@ -48,7 +48,7 @@ use Rattle.fetch_session.specs.Fault.{fault_of}
 use Rattle.fetch_session.specs.CarryingOut.{tasks_ahead}
 use Rattle.fetch_session.specs.Readiness.{SettlesStore}
 use Rattle.fetch_session.specs.Record.{Misread}
-use Rattle.fetch_session.specs.Served.{refused_in, HasText, IsServed, IsStored, IsUsable, ServedSessionsStoreAll, StoresAll}
+use Rattle.fetch_session.specs.Served.{refused_in, HasText, Succeeds, IsStored, IsUsable, GoodSessionsStoreAll, StoresAll}
 use Rattle.fetch_session.specs.Scene.{Scene, Stops}
 use Rattle.fetch_session.specs.Session.{Dealt, Keeping, LeavesLink, Noted, Proceeds, SessionIn, outcome_of}
 use Rattle.fetch_session.specs.Store.{Brings}
@@ -378,7 +378,7 @@ planned_on _ _ _ _ _ mid new _ more (inr (items, place, enters, first, by)) =
 
 module _ (one : OneMeaning) (settings : Settings) (target : Target) (now : ℕ) (link : Link) (before : Keeping)
     (report : Report) (mid : Place) (link' : Link) (after : Keeping)
-    (served : IsServed settings target now link before report link' after) where
+    (served : Succeeds settings target now link before report link' after) where
   no_misread : (at_line : ℕ) (file' : Stored) → Misread before.file at_line file' → ⊥
   no_misread _ _ (_, means, _, _) = false≢true (cc (one _ _ _ served.read.1.means means))
 
@@ -606,13 +606,13 @@ module _ (fetch_wanted : (settings : Settings) (rows : List Row) (listing : List
 pub store_all : CutsHaveCauses → ConversationsArePaced → OneMeaning
     → ((settings : Settings) (rows : List Row) (listing : List Item) (now : ℕ)
     → retrieved (planned settings rows listing now) listing ≡ wanted settings rows listing)
-    → ServedSessionsStoreAll
+    → GoodSessionsStoreAll
 store_all causes paced one fetch_wanted settings target now link before report link' after done = (
   λ served. by_outcome served report.outcome refl,
   λ ended. by_result ended done.result done.proceeds done.leaves done.reports.outcome_is,
 )
   where
-    by_outcome : IsServed settings target now link before report link' after → (outcome : Outcome)
+    by_outcome : Succeeds settings target now link before report link' after → (outcome : Outcome)
         → report.outcome ≡ outcome → report.outcome ≡ Ended
     by_outcome served Ended is = is
     by_outcome served (WasCut fault) is =

@@ -1,4 +1,4 @@
--- How the parts of a session make the whole, also of one that changes nothing, and what of it outlives a loss of power.
+-- How the parts of a session make the whole, also of one that changes nothing, and what of it is durable.
 use Rattle.std.proofs.Common.{◌≡◌, ◌≢◌, ◌⊎◌, ℕ, List, [], ◌∷◌, ◌++◌, Option, None, Some, Result, Ok, Err, refl, sym, ap}
 use Rattle.std.proofs.Common.{subst, ◌∙◌, inl, inr, append_assoc, length, ⊎_elim, Bool, false, append-nil, All, take}
 use Rattle.std.proofs.Common.{option_map}
@@ -11,15 +11,15 @@ use Rattle.fetch_record.specs.Record.{Row, RecordState, Intent, none_open, marke
 use Rattle.fetch_record.specs.RecordGrowth.{Grows, Updates}
 use Rattle.mail_store.specs.FlatFile.{Stored, holding}
 use Rattle.mail_store.specs.declared.fault.StoreFault.{StoreFault}
-use Rattle.mail_store.specs.DiskCalls.{AppendsDisk, CutsDisk, CutsForGood}
-use Rattle.mail_store.specs.Durable.{IsDurable as IsFileDurable, IsSure, MayLeave, content_in, seen_on}
-use Rattle.mail_store.proofs.DiskLemmas.{appends_for_good, cuts_for_good, durable_sure}
+use Rattle.mail_store.specs.DiskCalls.{AppendsDisk, CutsDisk, DurableCutTo}
+use Rattle.mail_store.specs.Durable.{IsDurable as IsFileDurable, Trusted, MayLeave, content_in, seen_on}
+use Rattle.mail_store.proofs.DiskLemmas.{durable_append, durable_cut, durable_trust}
 use Rattle.mail_store.proofs.DurableLemmas.{durable_is_left}
 use Rattle.mail_store.specs.declared.maildir.disk.MaildirDisk.{Ghosts as DiskGhosts}
 use Rattle.mail_store.specs.declared.file.flat_file.FlatFile.{Ghosts as FileGhosts}
 use Rattle.mail_store.specs.Maildir.{Maildir, File, IsWithout, WereTaken}
 use Rattle.mail_store.specs.Mboxrd.{entry_of}
-use Rattle.mail_store.specs.Power.{IsLonger, KeepsWhole, LeavesCut, LeavesEither, LeavesLonger, LeavesNoMore, LeavesPart, Outlives}
+use Rattle.mail_store.specs.Power.{IsLonger, KeepsWhole, LeavesCut, LeavesEither, LeavesLonger, LeavesNoMore, LeavesPart, LeavesAll}
 use Rattle.pop3_client.specs.Conversation.{TurnsJoin, Talks}
 use Rattle.fetch_session.specs.declared.account.Store.{Store}
 use Rattle.fetch_session.specs.declared.account.Store.TheVariants.{Maildir as InMaildir, Mboxrd as InMbox}
@@ -28,11 +28,11 @@ use Rattle.fetch_session.specs.declared.work.Work.{Work}
 use Rattle.fetch_session.specs.Record.{StandsTill, Steady, bytes_in, record_state, FileReadAs, ReadsRecord, record_state_in}
 use Rattle.fetch_session.specs.Scene.{Scene, scene, Went, AllWent}
 use Rattle.fetch_session.specs.Store.{Brings}
-use Rattle.fetch_session.specs.Lasting.{AreLeft, AreSure, CarriedLasts, CarriesLast, CutLasts, DoesAndLasts, DonesLast}
-use Rattle.fetch_session.specs.Lasting.{IsGrownAtMost, IsRecordLeft, IsSafeFile, IsSafeStore, IsSafeWork, IsRecordUntouched, KeepsWork}
-use Rattle.fetch_session.specs.Lasting.{IsCutLeft, KeptLasts, Lasts, LeavesBoth, LeavesFile, LeavesLeft, LeavesMerged, LeavesStore}
-use Rattle.fetch_session.specs.Lasting.{ProceedsLast, RowsLast, RowsStillLast, SessionLasts, ShowsRows, TextsLast, UnlessQuiet}
-use Rattle.fetch_session.specs.Lasting.{may_leave_in}
+use Rattle.fetch_session.specs.Durable.{AreLeft, AreTrusted, DurableCarried, DurableCarries, DurableCut, DoesDurably, DurableDones}
+use Rattle.fetch_session.specs.Durable.{IsGrownAtMost, IsRecordLeft, IsSafeFile, IsSafeStore, IsSafeWork, IsRecordUntouched, KeepsWork}
+use Rattle.fetch_session.specs.Durable.{IsCutLeft, DurableKept, Durably, LeavesBoth, LeavesFile, LeavesLeft, LeavesMerged, LeavesStore}
+use Rattle.fetch_session.specs.Durable.{DurableProceeds, DurableRows, StillDurable, DurableSession, ShowsRows, DurableTexts, UnlessQuiet}
+use Rattle.fetch_session.specs.Durable.{may_leave_in}
 use Rattle.fetch_session.specs.Target.{Target, AsFiles, AsEntries, Stores, kind_of, stores_of, target_of, AfterTakingIn}
 use Rattle.fetch_session.specs.Target.{IsSoundMaildir, IsSoundMbox, in_maildir, in_mbox, is_sound, no_maildir}
 use Rattle.fetch_session.specs.Target.{with_maildir, maildir_of, mbox_of, held_flags, closed_file, none_held}
@@ -71,7 +71,7 @@ use Rattle.fetch_session.specs.MessagePreview.{message_previews}
 
 -- ---- what a loss of power may leave of a file
 
--- what outlived it before still does
+-- what was durable still is
 pub no_more_keeps : {a b : Option (List ℕ) → Type 0} (content : Option (List ℕ)) → LeavesNoMore a b → KeepsWhole content a b
 no_more_keeps _ no_more _ _ front left may = front left (no_more _ may)
 
@@ -79,7 +79,7 @@ no_more_keeps _ no_more _ _ front left may = front left (no_more _ may)
 pub durable_safe : {F : Type 0} (files : FileGhosts F) (f : F) → seen_on (files.disk f) ≡ (files.stored f).content
     → IsFileDurable (files.disk f) → IsSafeFile files f
 durable_safe files f shown is = (
-  durable_sure _ is,
+  durable_trust _ is,
   λ _ has. (
     is,
     λ left may. durable_is_left (files.disk f) left is may ∙ shown
@@ -90,9 +90,9 @@ durable_safe files f shown is = (
 -- there is no file
 pub missing_safe : {F : Type 0} (file : FileGhosts F) (f f' : F) → file.disk f' ≡ file.disk f
     → ((file.stored f).content ≡ None) × (file.stored f' ≡ file.stored f)
-    → IsSure (file.disk f).now → IsSafeFile file f'
-missing_safe _ f _ same (none, as_was) sure =
-    (rw same sure, λ bytes is. absurd (none-some bytes (cc)))
+    → Trusted (file.disk f).now → IsSafeFile file f'
+missing_safe _ f _ same (none, as_was) trust =
+    (rw same trust, λ bytes is. absurd (none-some bytes (cc)))
 
 -- bytes are appended to a safe file: what is left of them stands behind what it had; after Ok it is safe again
 pub leaves_part : {F T : Type 0} (file : FileGhosts F) (f f' : F) (bytes : List ℕ) (r : Result T StoreFault)
@@ -100,14 +100,14 @@ pub leaves_part : {F T : Type 0} (file : FileGhosts F) (f f' : F) (bytes : List 
     → AppendsDisk (file.disk f) bytes r (file.disk f') → IsSafeFile file f
     → LeavesPart (file.stored f).content bytes (MayLeave (file.disk f'))
 leaves_part file f f' bytes r shown appends safe was has =
-    (appends_for_good _ _ _ r appends).leaves (safe.1 was has).0 was (cc)
+    (durable_append _ _ _ r appends).leaves (safe.1 was has).0 was (cc)
 
 pub grown_safe : {F T : Type 0} (file : FileGhosts F) (f f' : F) (bytes : List ℕ) (done : T)
     → seen_on (file.disk f) ≡ (file.stored f).content
     → seen_on (file.disk f') ≡ (file.stored f').content → AppendsDisk (file.disk f) bytes (Ok done) (file.disk f')
     → IsSafeFile file f → IsSafeFile file f'
 grown_safe file f f' bytes done shown shown' (b, c, at, is, e) safe = durable_safe file f' shown'
-    ((appends_for_good (file.disk f) (file.disk f') bytes (Ok done) (b, c, at, is, e)).durable
+    ((durable_append (file.disk f) (file.disk f') bytes (Ok done) (b, c, at, is, e)).durable
     (safe.1 b.content (sym shown ∙ ap (option_map content_in) at)).0)
 
 pub no_more_left : {F : Type 0} (file : FileGhosts F) (f f' : F) → (file.stored f').content ≡ (file.stored f).content
@@ -215,7 +215,7 @@ module _ {F : Type 0} (file : FileGhosts F) (f : F) where
 
 -- the texts of these tasks, and then those of others
 texts_on : {D F : Type 0} (file : FileGhosts F) (target : Target) (xs ys : List Done) (a b : Stores) (new : Store D F)
-    → Brings target xs a b → TextsLast file target ys b new → TextsLast file target (xs ++ ys) a new
+    → Brings target xs a b → DurableTexts file target ys b new → DurableTexts file target (xs ++ ys) a new
 texts_on _ (AsFiles _) _ _ a b _ _ then = tt
 texts_on _ AsEntries xs _ a b _ brings then = λ was is.
     simp (flat_map-append, ← append_assoc) (then (was ++ flat_map entry_of (done_texts xs)) (rw (brings.content, is)))
@@ -223,63 +223,63 @@ texts_on _ AsEntries xs _ a b _ brings then = λ was is.
 -- ---- tasks
 
 dones_on : {D F : Type 0} (file : FileGhosts F) (target : Target) (xs ys : List Done) (next : List (List ℕ)) (a b : Scene) (new : Store D F)
-    (f : F) → Went target xs a b → DonesLast file target ys next b new f → DonesLast file target (xs ++ ys) next a new f
+    (f : F) → Went target xs a b → DurableDones file target ys next b new f → DurableDones file target (xs ++ ys) next a new f
 dones_on file target xs ys next a b new f went then =
     let same : marked_all b.rows (marked_ids ys) ≡ marked_all a.rows (marked_ids (xs ++ ys)) =
     simp (went.rows, flat_map-append, marked_on) in
     record {
       texts = texts_on file target xs ys a.store b.store new went.stored then.texts;
-      rows = subst (λ (rows : List Row). RowsLast file f rows) same then.rows;
+      rows = subst (λ (rows : List Row). DurableRows file f rows) same then.rows;
       left = subst (λ (rows : List Row). LeavesFile file f (AreLeft rows (marked_all rows next))) same then.left;
     }
 
 -- the same if another premise gives this one, and for another store of this kind
 pub in_kind : {D F : Type 0} {file : FileGhosts F} {here safe : Type 0} {tasks : List Task} {old new : Scene}
     {r : Result (Unit {0}) Cut} {store : Store D F} {f : F} (a b : Store D F) (account : List ℕ) → kind_of a ≡ kind_of b
-    → DoesAndLasts file here (target_of a account) tasks old r new store f → (safe → here)
-    → DoesAndLasts file safe (target_of b account) tasks old r new store f
+    → DoesDurably file here (target_of a account) tasks old r new store f → (safe → here)
+    → DoesDurably file safe (target_of b account) tasks old r new store f
 in_kind {r} a b _ same does on =
-    let moved = rw same at does in record { does = moved.does; lasts = λ s. moved.lasts (on s) }
+    let moved = rw same at does in record { does = moved.does; durable = λ s. moved.durable (on s) }
 
 module _ {D F : Type 0} {file : FileGhosts F} {safe : Type 0} {target : Target} where
   -- some tasks were done, and then others, or not all of them
   pub good_more : TurnsJoin → {xs ys : List Task} {a b c : Scene} (r : Result (Unit {0}) Cut) {new : Store D F} {f : F}
       → (went : AllWent target xs a b)
-      → DoesAndLasts file safe target ys b r c new f → DoesAndLasts file safe target (xs ++ ys) a r c new f
+      → DoesDurably file safe target ys b r c new f → DoesDurably file safe target (xs ++ ys) a r c new f
   unfolding all_on fell_on
   good_more joining {xs} {ys} {a} {b} {c} (Ok done) {new} {f} went then = record {
     does = all_on joining target xs ys a b c went then.does;
-    lasts = λ s. let l = then.lasts s in
+    durable = λ s. let l = then.durable s in
         (dones_on file target went.dones then.does.dones [] a b new f went.went l.0, l.1, l.2);
   }
   good_more joining {xs} {ys} {a} {b} {c} (Err cut) {new} {f} went then = record {
     does = fell_on joining target xs ys a b c cut went then.does;
-    lasts = λ s. (
+    durable = λ s. (
       dones_on file target went.dones then.does.dones (ids_in then.does.next) a b new f went.went
-          (then.lasts s).0,
-      (then.lasts s).1,
+          (then.durable s).0,
+      (then.durable s).1,
     );
   }
 
   -- some of these tasks were done, and none of those after them
   pub good_before : {xs : List Task} (ys : List Task) {a new : Scene} {cut : Cut} {store : Store D F} {f : F}
-      → DoesAndLasts file safe target xs a (Err cut) new store f
-      → DoesAndLasts file safe target (xs ++ ys) a (Err cut) new store f
+      → DoesDurably file safe target xs a (Err cut) new store f
+      → DoesDurably file safe target (xs ++ ys) a (Err cut) new store f
   unfolding fell_before
   good_before {xs} ys {a} {new} {cut} does = record {
     does = fell_before _ xs ys a _ _ does.does;
-    lasts = does.lasts;
+    durable = does.durable;
   }
 
 -- ---- what is safe
 
--- the record's file is safe and stands for the rows, so they outlive a loss of power
+-- the record's file is safe and stands for the rows, so they are durable
 pub rows_last : {F : Type 0} (file : FileGhosts F) (f : F) (rows : List Row) → IsSafeFile file f
     → Steady (file.stored f).content (none_open rows)
-    → RowsLast file f rows
+    → DurableRows file f rows
 rows_last file f rows safe steady = by _ refl steady
   where
-    by : (content : Option (List ℕ)) → (file.stored f).content ≡ content → Steady content (none_open rows) → RowsLast file f rows
+    by : (content : Option (List ℕ)) → (file.stored f).content ≡ content → Steady content (none_open rows) → DurableRows file f rows
     by None _ stands _ _ = ([], [], inl refl, stands)
     by (Some bytes) is stands left may =
         (bytes, [], inr (cc ((safe.1 bytes is).1 left may, append-nil bytes)), stands)
@@ -296,7 +296,7 @@ shown_longer _ _ _ (bytes, behind, inr is, stands) (inr (some, more, was_is, lon
 )
 
 pub longer_rows : {F : Type 0} (file : FileGhosts F) (f f' : F)
-    → LeavesLonger (MayLeave (file.disk f)) (MayLeave (file.disk f')) → (rows : List Row) → RowsStillLast file rows f f'
+    → LeavesLonger (MayLeave (file.disk f)) (MayLeave (file.disk f')) → (rows : List Row) → StillDurable file rows f f'
 longer_rows file f f' longer rows last left may =
     let was = longer left may in shown_longer rows was.0 left (last was.0 was.1) was.2
 
@@ -304,13 +304,13 @@ longer_rows file f f' longer rows last left may =
 module _ {F T : Type 0} (file : FileGhosts F) (f f' : F) (rows : List Row) (size : ℕ)
     (till : StandsTill (file.stored f) size rows) (r : Result T StoreFault)
     (shown : seen_on (file.disk f) ≡ (file.stored f).content) (cuts : CutsDisk (file.disk f) size r (file.disk f')) where
-  law : CutsForGood (file.disk f) size r (file.disk f')
-  law = cuts_for_good _ _ _ r cuts
+  law : DurableCutTo (file.disk f) size r (file.disk f')
+  law = durable_cut _ _ _ r cuts
 
   stands : Steady (Some (take size till.0.0)) (none_open rows)
   stands = till_front (file.stored f) size rows till.0.0 till till.0.1
 
-  pub front_rows : RowsStillLast file rows f f'
+  pub front_rows : StillDurable file rows f f'
   front_rows last left may = elim (law.front till.0.0 (shown ∙ till.0.1) left may) [
     | inl before ↦ last left before
     | inr (behind, is) ↦ (take size till.0.0, behind, inr is, stands)
@@ -353,8 +353,8 @@ same_mbox _ _ (InMbox _) = refl
 
 -- nothing came yet
 no_texts : {D F : Type 0} (disk : DiskGhosts D) (file : FileGhosts F) (old new : Store D F)
-    → ((was : List ℕ) → (mbox_of file old).content ≡ Some was → Outlives (may_leave_in file new) was)
-    → (target : Target) → TextsLast file target [] (stores_of disk file old) new
+    → ((was : List ℕ) → (mbox_of file old).content ≡ Some was → LeavesAll (may_leave_in file new) was)
+    → (target : Target) → DurableTexts file target [] (stores_of disk file old) new
 no_texts _ _ _ _ _ (AsFiles _) = tt
 no_texts disk file old new whole AsEntries = λ was is.
     rw (append-nil was) (whole was (same_mbox disk file old ∙ is))
@@ -366,13 +366,13 @@ only_in _ (InMaildir _) _ bytes is _ _ = absurd (none-some bytes is)
 only_in _ (InMbox _) safe bytes is left may = (safe.1 bytes is).1 left may
 
 pub whole_in : {D F : Type 0} (file : FileGhosts F) (store : Store D F) → IsSafeStore file store
-    → (bytes : List ℕ) → (mbox_of file store).content ≡ Some bytes → Outlives (may_leave_in file store) bytes
+    → (bytes : List ℕ) → (mbox_of file store).content ≡ Some bytes → LeavesAll (may_leave_in file store) bytes
 whole_in file store safe bytes is = λ left may. ([], rw append-nil (only_in file store safe bytes is left may))
 
 -- what came into the store is safe
 pub texts_ok : {D F : Type 0} (disk : DiskGhosts D) (file : FileGhosts F) (target : Target) (dones : List Done) (old new : Store D F)
     → Brings target dones (stores_of disk file old) (stores_of disk file new) → IsSafeStore file new
-    → TextsLast file target dones (stores_of disk file old) new
+    → DurableTexts file target dones (stores_of disk file old) new
 texts_ok disk file (AsFiles account) dones old new brings safe = tt
 texts_ok disk file AsEntries dones old new brings safe = λ was is.
     whole_in file new safe (was ++ flat_map entry_of (done_texts dones)) (same_mbox disk file new ∙ rw (brings.content, is))
@@ -397,30 +397,30 @@ pub none_left_of : {F : Type 0} (file : FileGhosts F) (mbox f : F) (next : Task)
     → IsSafeFile file f → Steady (file.stored f).content (none_open rows) → IsSafeFile file mbox
     → LeavesBoth file (file.stored mbox).content mbox f
     (IsCutLeft next (scene place (in_mbox (file.stored mbox)) (file.stored f) rows lines) cut new)
-none_left_of file mbox f next place rows lines cut new safe steady whole sure bytes has left may now is seen there =
+none_left_of file mbox f next place rows lines cut new safe steady whole trust bytes has left may now is seen there =
     inl (same_grown file f (none_open rows) (none_open rows) safe steady now is seen there, (whole.1 bytes has).1 left may)
 
 pub nothing_cut : {D F : Type 0} (disk : DiskGhosts D) (file : FileGhosts F) (target : Target) (task : Task) (a : Place)
     (rows : List Row) (lines : List ReportLine) (cut : Cut) (new : Scene) (was store : Store D F) (f : F)
     → IsSafeStore file was → LeavesNoMore (may_leave_in file was) (may_leave_in file store) → IsSafeFile file f
     → Steady (file.stored f).content (none_open rows)
-    → CutLasts file target task (scene a (stores_of disk file was) (file.stored f) rows lines) cut new store f
+    → DurableCut file target task (scene a (stores_of disk file was) (file.stored f) rows lines) cut new store f
 nothing_cut disk file (AsFiles account) task a rows lines cut new was store f whole no_more safe steady =
     inl (same_left file f safe steady)
 nothing_cut disk file AsEntries task a rows lines cut new was (InMaildir device) f whole no_more safe steady = tt
 nothing_cut disk file AsEntries task a rows lines cut new was (InMbox device) f whole no_more safe steady =
-    λ sure bytes is left may now has seen there. inl (
+    λ trust bytes is left may now has seen there. inl (
       same_grown file f (none_open rows) (none_open rows) safe steady now has seen there,
       only_in file was whole bytes (same_mbox disk file was ∙ is) left (no_more left may),
     )
 
 -- what was safe and written down before still is
-pub none_lasts : {D F H Z : Type 0} (disk : DiskGhosts D) (file : FileGhosts F) (target : Target) (place : Place)
+pub none_durable : {D F H Z : Type 0} (disk : DiskGhosts D) (file : FileGhosts F) (target : Target) (place : Place)
     (old new : Work D F H Z) (next : List (List ℕ))
     → IsSafeWork file old → KeepsWork file old new → Steady (file.stored old.ledger.file).content (none_open old.ledger.seen.rows)
     → LeavesFile file new.ledger.file (AreLeft old.ledger.seen.rows (marked_all old.ledger.seen.rows next))
-    → DonesLast file target [] next (scene_at disk file place old) new.store new.ledger.file
-none_lasts disk file target place old new next safe keeps steady left = record {
+    → DurableDones file target [] next (scene_at disk file place old) new.store new.ledger.file
+none_durable disk file target place old new next safe keeps steady left = record {
   texts = no_texts disk file old.store new.store (λ was is. keeps.0 was is (whole_in file old.store safe.1 was is)) target;
   rows = keeps.1 (rows_last file old.ledger.file old.ledger.seen.rows safe.0 steady);
   left = left;
@@ -435,26 +435,26 @@ pub dealt : {D F : Type 0} (files : FileGhosts F) (was : Store D F) (from : F) (
     → start ≡ [] → Enters_with settings old (Ok items) mid → notes.total ≡ length items
     → (is : Carries settings target items now mid before.store before.file start result new after.store after.file
     notes.lines notes.skipped)
-    × CarriesLast files was from _ _ _ _ _ _ _ _ _ _ _ _ _ _ is store f
-    → (is : Proceeds settings target now old before result new after notes) × ProceedsLast files was from _ _ _ _ _ _ _ _ _ is store f
+    × DurableCarries files was from _ _ _ _ _ _ _ _ _ _ _ _ _ _ is store f
+    → (is : Proceeds settings target now old before result new after notes) × DurableProceeds files was from _ _ _ _ _ _ _ _ _ is store f
 dealt files was from settings target now old before result new after notes items mid _ store f none enters total carries =
     let from_nothing = rw none at carries in
     by _ (record { items = items; mid = mid; enters = enters; total = total; carries = from_nothing.0 }) from_nothing.1
   where
     by : (r : Result (Unit {0}) Cut) (is : Dealt settings target now old before r new after notes)
-        → CarriesLast files was from _ _ _ _ _ _ _ _ _ _ _ _ _ _ is.carries store f
-        → (is : Proceeds settings target now old before r new after notes) × ProceedsLast files was from _ _ _ _ _ _ _ _ _ is store f
-    by (Ok _) is lasts = (is, lasts)
-    by (Err _) is lasts = (inr (inr is), lasts)
+        → DurableCarries files was from _ _ _ _ _ _ _ _ _ _ _ _ _ _ is.carries store f
+        → (is : Proceeds settings target now old before r new after notes) × DurableProceeds files was from _ _ _ _ _ _ _ _ _ is store f
+    by (Ok _) is durable = (is, durable)
+    by (Err _) is durable = (inr (inr is), durable)
 
 -- a session that was brought to its end, or cut and then left
 pub left_session : {D F : Type 0} {files : FileGhosts F} {from : F} {settings : Settings} {target : Target} {now : ℕ}
     {link link' : Link} {before after : Keeping} {report : Report} {store : Store D F} {f : F}
     (was : Store D F) (id : Target) (reader : List ℕ) (result : Result (Unit {0}) Cut) (mid : Place) (notes : Noted)
     → id ≡ target → reader ≡ [] → (is : Proceeds settings id now (at link reader) before result mid after notes)
-    × ProceedsLast files was from _ _ _ _ _ _ _ _ _ is store f
+    × DurableProceeds files was from _ _ _ _ _ _ _ _ _ is store f
     → LeavesLink result mid link' → Reports (outcome_of result) notes.total notes.skipped notes.lines report
-    → (session : SessionIn settings target now link before report link' after) × SessionLasts files was from session store f
+    → (session : SessionIn settings target now link before report link' after) × DurableSession files was from session store f
 left_session _
     _ _ result mid notes same none proceeds leaves reports =
     let here = rw (same, none) at proceeds in
@@ -497,7 +497,7 @@ entries_session disk file (InMbox device) (InMbox device') digits Did A B C kind
 entries_session disk file (InMaildir device) (InMbox device') digits Did A B C kind met sound = absurd cc
 entries_session disk file store (InMaildir device') digits Did A B C kind met never = absurd never
 
--- ---- what follows once a record is ready, and what of it outlives a loss of power
+-- ---- what follows once a record is ready, and what of it is durable
 
 all_alike : {A P : Type 0} → P → (xs : List A) → AllByRecursion (λ (x : A). P) xs
 all_alike p [] = tt
@@ -525,12 +525,12 @@ pub carried : {D F : Type 0} (disk : DiskGhosts D) (files : FileGhosts F) {safe 
     → mid_lines ≡ lines → (is : IsReady settings target items now store file ready after (stores_of disk files before)
     file') → steps ≡ ready.steps.items → held ≡ ready.held.items
     → skipped ≡ skips_of ready.steps.items
-    → (AreSure files was from → UnlessQuiet files was from after file file' is.durable safe before mid_file)
+    → (AreTrusted files was from → UnlessQuiet files was from after file file' is.durable safe before mid_file)
     → (ids_ahead (tasks_planned steps items held ++ says quit ∷ []) ≡ [] → (f ≡ mid_file) × LeavesStore files before end)
-    → DoesAndLasts files safe target (tasks_planned steps items held ++ says quit ∷ [])
+    → DoesDurably files safe target (tasks_planned steps items held ++ says quit ∷ [])
     (scene place (stores_of disk files before) file' after mid_lines) r new end f
     → (is : Carries settings target items now place store file lines r new.place new.store new.file new.lines skipped)
-    × CarriesLast files was from _ _ _ _ _ _ _ _ _ _ _ _ _ _ is end f
+    × DurableCarries files was from _ _ _ _ _ _ _ _ _ _ _ _ _ _ is end f
 carried {D} {F} disk files {safe} {settings} {target} {items} {now} {place} {store} {file} {lines} {ready} {after} was
     before {end} from mid_file {f} {file'} mid_lines steps held {skipped} {r} {new} lines_are is steps_are held_are
     skipped_is firm same_file does =
@@ -554,8 +554,8 @@ carried {D} {F} disk files {safe} {settings} {target} {items} {now} {place} {sto
         does = good.does;
         skips = skipped_is ∙ ap skips_of is.steps;
       },
-      λ sure. by (Lasts files target (tasks_ahead settings target items now store after) mid r new good.does end f)
-          good.lasts is.durable (firm sure),
+      λ trust. by (Durably files target (tasks_ahead settings target items now store after) mid r new good.does end f)
+          good.durable is.durable (firm trust),
     )
   where
     quiet_or : (All IsQuiet ready.steps.items × IsFileKept after file file') ⊎ AreDurable target is.was.rows items store
@@ -565,11 +565,11 @@ carried {D} {F} disk files {safe} {settings} {target} {items} {now} {place} {sto
 
     of_result : (r : Result (Unit {0}) Cut)
         → (c : Carried settings target items now place store file lines r new skipped)
-        × CarriedLasts files was from c end f
+        × DurableCarried files was from c end f
         → (is : Carries settings target items now place store file lines r new.place new.store new.file new.lines
-        skipped) × CarriesLast files was from _ _ _ _ _ _ _ _ _ _ _ _ _ _ is end f
-    of_result (Ok done) (c, lasts) = ((new.rows, c), lasts)
-    of_result (Err cut) (c, lasts) = ((new.rows, inr c), lasts)
+        skipped) × DurableCarries files was from _ _ _ _ _ _ _ _ _ _ _ _ _ _ is end f
+    of_result (Ok done) (c, durable) = ((new.rows, c), durable)
+    of_result (Err cut) (c, durable) = ((new.rows, inr c), durable)
 
     by : (P : Type 0) → (safe → P) → (durable : (All IsQuiet ready.steps.items × IsFileKept after file file')
         ⊎ AreDurable target is.was.rows items store) → UnlessQuiet files was from after file file' durable safe before mid_file
@@ -578,7 +578,7 @@ carried {D} {F} disk files {safe} {settings} {target} {items} {now} {place} {sto
         let same = same_file (flat_map-append ids_in (tasks_planned steps items held) (says quit ∷ []) ∙ append-nil _ ∙ quiet_ids steps
         items held (subst (λ (ss : List Step). AllByRecursion IsQuiet ss) (sym steps_are)
         (recursion_from_All IsQuiet ready.steps.items quiet))) in (
-          subst (λ (g : F). KeptLasts files from after file file' kept g) (sym same.0) still,
+          subst (λ (g : F). DurableKept files from after file file' kept g) (sym same.0) still,
           λ left may. mbox left (same.1 left may),
         )
     by P good (inr durable) s = good s

@@ -20,7 +20,7 @@ use Rattle.pop3_wire.specs.Line.{ended}
 use Rattle.pop3_wire.specs.Bodies.{Rest}
 use Rattle.pop3_client.specs.Texts.{Fetching, TakesRest}
 use Rattle.fetch_session.specs.declared.fault.Fault.{Fault}
-use Rattle.fetch_session.specs.Tail.{turns_of_tail, tail, Drops, LeftBy, turns_of_tail as tail_turns}
+use Rattle.fetch_session.specs.Tail.{turns_of_tail, tail, Drops, TalksTailBy, turns_of_tail as tail_turns}
 use Rattle.mail_terms.specs.FailureCount.{Tallies}
 use Rattle.pop3_client.specs.declared.fault.ClientFault.TheVariants.{ReadFailed, WriteFailed, Refused as WasRefused}
 use Rattle.fetch_session.specs.declared.fault.Cut.{Cut}
@@ -184,7 +184,7 @@ module _ (joining : TurnsJoin) (paced : ConversationsArePaced) where
 
   pub left_dropped : (fault : Fault) (rest : Option Rest) (old mid new : Place) (r : Result (Unit {0}) ClientFault)
       → Drops rest old (Ok tt) mid → Talks (turns_of_tail (tail fault)) mid r new → (tail fault ≡ Nothing → new ≡ mid)
-      → LeftBy fault rest old new
+      → TalksTailBy fault rest old new
   left_dropped fault None old mid new r same talks still = (r, rw same at talks, λ silent. still silent ∙ same)
   left_dropped fault (Some rest) old mid new r drops talks still = (
     λ done. (r, rw (drops.0 done).1 at talks),
@@ -206,7 +206,7 @@ module _ (joining : TurnsJoin) (paced : ConversationsArePaced) where
   )
 
   pub left_broken : (fault : Fault) (rest : Option Rest) (old new : Place) (why : ClientFault)
-      → Drops rest old (Err why) new → LeftBy fault rest old new
+      → Drops rest old (Err why) new → TalksTailBy fault rest old new
   left_broken fault None old new why none = absurd none
   left_broken fault (Some rest) old new why drops = (
     λ done. absurd (cc (drops.0 done).0),
@@ -387,7 +387,7 @@ module _ (paced : ConversationsArePaced) where
 
   -- what is left of a reply under way is dropped, and the tail said
   pub took_leaving : (limit : ℕ) (fault : Fault) (rest : Option Rest) (old mid last : Place)
-      → TookBefore limit old rest mid → LeftBy fault rest mid last
+      → TookBefore limit old rest mid → TalksTailBy fault rest mid last
       → Took (limit + most_of (tail_turns (tail fault))) old last
   took_leaving _ fault None _ mid last took left = took_on took (took_talks _ _ _ _ left.1)
   took_leaving _ fault (Some _) _ _ last so_far left =

@@ -26,7 +26,7 @@ use Rattle.fetch_session.specs.Scene.{EntryNotSaved, NoEntry, scene, Stops, Take
 use Rattle.fetch_session.proofs.SceneLemmas.{brings_same}
 use Rattle.fetch_session.specs.Target.{Target, AsFiles, Stores, in_maildir, AsEntries, closed_file, in_mbox, is_stored, none_held}
 use Rattle.std.proofs.lemmas.Option.{none-some}
-use Rattle.pop3_wire.specs.Body.{kept, text_of, unstuffed}
+use Rattle.pop3_wire.specs.Body.{lf_line, text_of, unstuffed}
 use Rattle.mail_terms.specs.Listing.{Item}
 use Rattle.mail_terms.specs.Text.{IsWhole}
 use Rattle.mail_store.specs.Mboxrd.{entry_of}
@@ -322,8 +322,8 @@ appended_one _ _ _ _ some is = record { content = rw (is, some, append-nil); fai
 pub text_whole : (lines : List (List ℕ)) → IsWhole (text_of lines)
 text_whole [] = inl refl
 text_whole (line ∷ lines) = elim (text_whole lines) [
-  | inl none ↦ inr (unstuffed line, rw none (append-nil (kept line)))
-  | inr (front, is) ↦ inr (kept line ++ front, rw is (sym (append_assoc (kept line) front (10 ∷ []))))
+  | inl none ↦ inr (unstuffed line, rw none (append-nil (lf_line line)))
+  | inr (front, is) ↦ inr (lf_line line ++ front, rw is (sym (append_assoc (lf_line line) front (10 ∷ []))))
 ]
 
 pub body_whole : (body : Option (List (List ℕ))) → IsWhole (body_text body)

@@ -21,7 +21,7 @@ use Rattle.fetch_session.specs.Record.{Keeps, KeepsRows, Saves, Steady}
 use Rattle.fetch_session.specs.Scene.{Scene, Fell, WhereAllSound}
 use Rattle.fetch_session.specs.Target.{AsFiles, IsSoundMaildir, IsSoundMbox, maildir_of, mbox_of}
 use Rattle.fetch_session.specs.Account.{Holding, IsSameAccount, digits_of}
-use Rattle.fetch_session.specs.Lasting.{RunsSession, SessionLasts}
+use Rattle.fetch_session.specs.Durable.{RunsSession, DurableSession}
 use Rattle.fetch_session.specs.Session.{AccountFiles, MboxSession, Session, account_files, mbox_account_files}
 use Rattle.fetch_session.specs.declared.report.Report.{Report}
 use Rattle.mail_store.specs.declared.file.flat_file.FlatFile.{Ghosts as FileGhosts}
@@ -89,7 +89,7 @@ MboxSessions {W} {D} {F} link disk files = (now : ℕ) (old new : Holding D F) (
     ((session : MboxSession old.settings now (link.history wire)
     (mbox_account_files (mbox_of files old.store) (files.stored old.file)) report
     (link.history wire') (mbox_account_files (mbox_of files new.store) (files.stored new.file)))
-    × SessionLasts files old.store old.file session new.store new.file)
+    × DurableSession files old.store old.file session new.store new.file)
 
 -- each file that was there before a session is there after it, and others may have come; it takes none away
 abbrev pub SessionsKeepFiles : Type 0

@@ -4,7 +4,7 @@ pub mod Task
 pub mod Store
 pub mod Record
 pub mod Scene
-pub mod Lasting
+pub mod Durable
 pub mod Laws
 pub mod CarryingOut
 pub mod Tail

@@ -19,7 +19,7 @@ use Rattle.fetch_session.specs.declared.step.Task.{Task as Planned}
 use Rattle.fetch_session.specs.declared.step.Task.TheVariants.{Store, Reread, Skip, Delete}
 use Rattle.fetch_session.specs.declared.work.Ledger.{Ledger}
 use Rattle.fetch_session.specs.declared.work.Work.{Work}
-use Rattle.fetch_session.specs.Lasting.{AreLeft, DoesAndLasts, IsSafeFile, IsSafeWork, LeavesFile, LeavesStore}
+use Rattle.fetch_session.specs.Durable.{AreLeft, DoesDurably, IsSafeFile, IsSafeWork, LeavesFile, LeavesStore}
 use Rattle.fetch_session.specs.Record.{Steady, record_state_in}
 use Rattle.fetch_session.specs.Refusal.{RefusesTillCut, TookTillCut}
 use Rattle.fetch_session.specs.Report.{AddsLines, HasRoom}
@@ -105,7 +105,7 @@ pub record KeepsRecord {F H Z : Type 0} (file : FileGhosts F) (uid : List ℕ) (
   pub opened : OnOk result (IsNoneOrOf uid new.seen.intent)
   pub steady : file.sound new.file
       → file.sound old.file × OnOk result (Steady (file.stored new.file).content (record_state_in new.seen))
-  pub lasts : file.sound new.file → IsSafeFile file old.file → OnOk result (IsSafeFile file new.file)
+  pub durable : file.sound new.file → IsSafeFile file old.file → OnOk result (IsSafeFile file new.file)
       × ((others : List Row) → LeavesFile file new.file (AreLeft old.seen.rows others))
 
 -- at most this many lines were noted, the store is of the same kind, and no file is begun in it
@@ -133,7 +133,7 @@ pub record KeepsSession {W D F H Z : Type 0} (link : WireGhosts W) (disk : DiskG
     (work' : Work D F H Z) : Type 0 where
   pub talk : KeepsLink link (TookTillCut (most_of (turns_ahead tasks))) client result client'
   pub store : KeepsStore disk file (length tasks) work work'
-  pub lasts : is_sound disk file work'.store → file.sound work'.ledger.file → file.sound work.ledger.file
+  pub durable : is_sound disk file work'.store → file.sound work'.ledger.file → file.sound work.ledger.file
       × (IsSafeWork file work → OnOk result (IsSafeWork file work'))
   pub idle : ids_ahead tasks ≡ [] → (work'.ledger.file ≡ work.ledger.file)
       × (is_sound disk file work'.store → LeavesStore file work.store work'.store)
@@ -142,13 +142,13 @@ pub record KeepsSession {W D F H Z : Type 0} (link : WireGhosts W) (disk : DiskG
 
 -- ---- what is done
 
--- these tasks were done, or as far as went well, and if all was safe before, what was done outlives a loss of power
+-- these tasks were done, or as far as went well, and if all was safe before, what was done is durable
 abbrev pub DoesTasks : {W D F H Z : Type 0} → WireGhosts W → DiskGhosts D → FileGhosts F → List ℕ → List Task → Client W
     → Work D F H Z
     → Result (Unit {0}) Cut → Client W → Work D F H Z → Type 0
 DoesTasks link disk file account tasks client work result client' work' = WhereWorkSound link disk file client work
     client' work'
-    (λ old new. DoesAndLasts file (IsSafeWork file work) (target_of work.store account) tasks old result new
+    (λ old new. DoesDurably file (IsSafeWork file work) (target_of work.store account) tasks old result new
     work'.store work'.ledger.file)
 
 -- the same, and what is kept of it

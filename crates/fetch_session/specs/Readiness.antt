@@ -116,10 +116,10 @@ ChecksStore Files old result new = ChecksBoth old.maildir result new.maildir × 
 ChecksStore Entries old result new = ChecksMbox old.mbox result new.mbox × (new.maildir ≡ old.maildir)
 
 -- nothing was done to a store, in which there is a place for what may come; or why there is none
-abbrev pub Rests : Kind → Stores → List Item → Result Ready Fault → Stores → Type 0
-Rests kind old items (Ok ready) new = ChecksStore {T = Unit {0}} kind old (Ok tt) new
-Rests Files old items (Err fault) new = FindsRefused old.maildir fault new.maildir
-Rests Entries old items (Err fault) new = AsksMbox None old.mbox items (Err fault) new.mbox
+abbrev pub ChecksIdle : Kind → Stores → List Item → Result Ready Fault → Stores → Type 0
+ChecksIdle kind old items (Ok ready) new = ChecksStore {T = Unit {0}} kind old (Ok tt) new
+ChecksIdle Files old items (Err fault) new = FindsRefused old.maildir fault new.maildir
+ChecksIdle Entries old items (Err fault) new = AsksMbox None old.mbox items (Err fault) new.mbox
     × (new.maildir ≡ old.maildir)
 
 -- the flags are those of the store, as far as the steps use them

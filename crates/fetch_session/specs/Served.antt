@@ -50,7 +50,7 @@ refused_in AsEntries store = store.mbox.failures
 
 -- the turns that were sent of the opening and the plan are answered, and the listings agree; the store can be used, the
 -- record can be read, no call of them or of the link is refused, and memory doesn't run out
-pub record IsServed (settings : Settings) (target : Target) (now : ℕ) (link : Link) (before : Keeping) (report : Report)
+pub record Succeeds (settings : Settings) (target : Target) (now : ℕ) (link : Link) (before : Keeping) (report : Report)
     (link' : Link) (after : Keeping) : Type 0 where
   pub answered : (turns unsent : List Turn) (more : List ℕ)
       → ArePlanned settings target now link before link' (turns ++ unsent)
@@ -97,9 +97,9 @@ pub record StoresAll (settings : Settings) (target : Target) (now : ℕ) (link :
       (wanted settings (merged_in target before.store was items now) items)
 
 -- a law: if nothing fails, a session ends; and one that ended has stored each message that it wants
-abbrev pub ServedSessionsStoreAll : Type 0
-ServedSessionsStoreAll = (settings : Settings) (target : Target) (now : ℕ) (link : Link) (before : Keeping)
+abbrev pub GoodSessionsStoreAll : Type 0
+GoodSessionsStoreAll = (settings : Settings) (target : Target) (now : ℕ) (link : Link) (before : Keeping)
     (report : Report) (link' : Link) (after : Keeping)
     → SessionIn settings target now link before report link' after
-    → (IsServed settings target now link before report link' after → report.outcome ≡ Ended)
+    → (Succeeds settings target now link before report link' after → report.outcome ≡ Ended)
     × (report.outcome ≡ Ended → StoresAll settings target now link before link' after)

@@ -18,7 +18,7 @@ use Rattle.fetch_session.specs.declared.report.Skips.{Skips}
 use Rattle.fetch_session.specs.Fault.{cut_of, fault_of}
 use Rattle.fetch_session.specs.Opening.{Enters}
 use Rattle.fetch_session.specs.CarryingOut.{Carries}
-use Rattle.fetch_session.specs.Tail.{Left}
+use Rattle.fetch_session.specs.Tail.{TalksTail}
 use Rattle.fetch_session.specs.Report.{Reports, none_skipped}
 use Rattle.fetch_session.specs.Target.{Target, AsFiles, AsEntries, Stores, in_maildir, in_mbox}
 
@@ -99,7 +99,7 @@ outcome_of (Err cut) = WasCut cut.fault
 -- after a cut the reply under way is dropped and the tail said
 abbrev pub LeavesLink : Result (Unit {0}) Cut → Place → Link → Type 0
 LeavesLink (Ok done) mid link = link ≡ mid.link
-LeavesLink (Err cut) mid link = (new : Place) × Left cut mid new × (link ≡ new.link)
+LeavesLink (Err cut) mid link = (new : Place) × TalksTail cut mid new × (link ≡ new.link)
 
 -- a whole session, from a link with nothing waiting to be used
 pub record SessionIn (settings : Settings) (target : Target) (now : ℕ) (link : Link) (before : Keeping)

@@ -48,14 +48,15 @@ pub record WentOn (turns : List Turn) (old new : Place) : Type 0 where
 -- with no reply under way, or a whole one, the tail was talked, or it stopped; with nothing to say, nothing came. With
 -- a reply, its turn and then the tail were talked, or stopped, from where that turn began, and what was sent and what
 -- came went on from before
-abbrev pub LeftBy : Fault → Option Rest → Place → Place → Type 0
-LeftBy fault None old new = (result : Result (Unit {0}) ClientFault) × Talks (turns_of_tail (tail fault)) old result new
+abbrev pub TalksTailBy : Fault → Option Rest → Place → Place → Type 0
+TalksTailBy fault None old new = (result : Result (Unit {0}) ClientFault)
+    × Talks (turns_of_tail (tail fault)) old result new
     × (tail fault ≡ Nothing → new ≡ old)
-LeftBy fault (Some rest) old new = (rest.spot ≡ Done → (result : Result (Unit {0}) ClientFault)
+TalksTailBy fault (Some rest) old new = (rest.spot ≡ Done → (result : Result (Unit {0}) ClientFault)
     × Talks (turns_of_tail (tail fault)) old result new)
     × ((number : ℕ) (start : Place) (text : List ℕ) → Fetching (retr number) start old rest text
     → (result : Result (Unit {0}) ClientFault) × Talks (retr number ∷ turns_of_tail (tail fault)) start result new
     × WentOn (turns_of_tail (tail fault)) old new)
 
-abbrev pub Left : Cut → Place → Place → Type 0
-Left cut old new = LeftBy cut.fault cut.rest old new
+abbrev pub TalksTail : Cut → Place → Place → Type 0
+TalksTail cut old new = TalksTailBy cut.fault cut.rest old new

@@ -12,9 +12,9 @@ ghost use Rattle.pop3_wire.specs.Bodies.{items_of};
 ghost use Rattle.pop3_wire.specs.Place.{Place};
 ghost use Rattle.pop3_wire.specs.declared.unstuffer.Spot.TheVariants.{Done};
 ghost use Rattle.fetch_session.specs.Mbox.{AppendsText, TakesText, IsStoreFault};
-ghost use Rattle.mail_store.specs.Durable.{IsSure, MayLeave};
+ghost use Rattle.mail_store.specs.Durable.{Trusted, MayLeave};
 ghost use Rattle.mail_store.specs.Power.{KeepsWhole};
-ghost use Rattle.fetch_session.specs.Lasting.{IsCutLeft, IsEntryLeft, IsSafeFile, LeavesBoth, RowsStillLast};
+ghost use Rattle.fetch_session.specs.Durable.{IsCutLeft, IsEntryLeft, IsSafeFile, LeavesBoth, StillDurable};
 ghost use Rattle.fetch_session.specs.Parts.{KeepsLedger, KeepsLink, KeepsRecord, IsWritten};
 ghost use Rattle.fetch_session.specs.Record.{Steady};
 ghost use Rattle.fetch_session.specs.Refusal.{RefusesTillCut, TookTillCut};
@@ -81,8 +81,8 @@ fn append_text<F: FlatFile, H: BuildHasher>(
         (F.stored mbox.new) (F.stored ledger.new.file) ledger.new.seen }
     ensures keeps { F.sound mbox.new → F.sound ledger.new.file
         → KeepsWhole (F.stored mbox.old).content (MayLeave (F.disk mbox.old)) (MayLeave (F.disk mbox.new))
-        × RowsStillLast F.FlatFile ledger.old.seen.rows ledger.old.file ledger.new.file }
-    ensures lasts { F.sound mbox.new → F.sound ledger.new.file → IsSure (F.disk mbox.old).now
+        × StillDurable F.FlatFile ledger.old.seen.rows ledger.old.file ledger.new.file }
+    ensures durable { F.sound mbox.new → F.sound ledger.new.file → Trusted (F.disk mbox.old).now
         → IsSafeFile F.FlatFile ledger.old.file
         → OnOk result (IsSafeFile F.FlatFile mbox.new × IsSafeFile F.FlatFile ledger.new.file)
         × (IsSafeFile F.FlatFile mbox.old → OnErr result (LeavesBoth F.FlatFile (F.stored mbox.old).content mbox.new
@@ -127,8 +127,8 @@ pub(crate) fn take_into_mbox<W: Wire, F: FlatFile, H: BuildHasher>(
         ledger.new.lines.items)) }
     ensures keeps { F.sound mbox.new → F.sound ledger.new.file
         → KeepsWhole (F.stored mbox.old).content (MayLeave (F.disk mbox.old)) (MayLeave (F.disk mbox.new))
-        × RowsStillLast F.FlatFile ledger.old.seen.rows ledger.old.file ledger.new.file }
-    ensures lasts { F.sound mbox.new → F.sound ledger.new.file → IsSure (F.disk mbox.old).now
+        × StillDurable F.FlatFile ledger.old.seen.rows ledger.old.file ledger.new.file }
+    ensures durable { F.sound mbox.new → F.sound ledger.new.file → Trusted (F.disk mbox.old).now
         → IsSafeFile F.FlatFile ledger.old.file
         → OnOk result (IsSafeFile F.FlatFile mbox.new × IsSafeFile F.FlatFile ledger.new.file)
         × (IsSafeFile F.FlatFile mbox.old → W.sound client.new.wire.now → IfErr result (λ cut. LeavesBoth F.FlatFile

@@ -7,7 +7,7 @@ ghost use Rattle.mail_store.specs.FileName.{IsAccountText};
 ghost use Rattle.fetch_session.specs.Target.{AfterTakingIn, NoneBegun, target_of};
 ghost use Rattle.fetch_session.specs.Refusal.{TookWithTail, step_limit, tail_limit};
 ghost use Rattle.fetch_session.specs.Hearing.{AreMerged, HearsOne, IsPlanned};
-ghost use Rattle.fetch_session.specs.Lasting.{CarriesLast};
+ghost use Rattle.fetch_session.specs.Durable.{DurableCarries};
 ghost use Rattle.fetch_session.specs.Parts.{KeepsLink, KeepsStore, WhereWorkSound};
 ghost use Rattle.fetch_session.specs.CarryingOut.{Carries};
 ghost use Rattle.fetch_session.specs.Report.{HasRoom, none_skipped};
@@ -51,7 +51,7 @@ pub fn carry_out<W: Wire, D: MaildirDisk, F: FlatFile, H: BuildHasher, L: Listen
         (target_of work.old.store terms.entry.account.now) listing.now terms.entry.now old.place left old.file
         old.lines result
         new.place new.store new.file new.lines skipped.new)
-        × CarriesLast F.FlatFile work.old.store work.old.ledger.file _ _ _ _ _ _ _ _ _ _ _ _ _ _ is
+        × DurableCarries F.FlatFile work.old.store work.old.ledger.file _ _ _ _ _ _ _ _ _ _ _ _ _ _ is
         work.new.store work.new.ledger.file)) }
     ensures heard { HearsOne L.hears (IsPlanned terms.entry.settings.now terms.entry.now (length listing.now)
         skipped.new (λ items rows. (items ≡ listing.now) × AreMerged D.MaildirDisk F.FlatFile terms.entry.account.now

@@ -3,7 +3,7 @@ ghost use Rattle.std.specs.Prelude.{◌≡◌, ◌∷◌, ℕ, List, [], IfOk, O
 ghost use Rattle.pop3_client.specs.Turns.{quit};
 ghost use Rattle.fetch_session.specs.Mbox.{IsToldOfMbox, LooksAgain, went};
 ghost use Rattle.fetch_session.specs.Refusal.{TookWithTail, tail_limit};
-ghost use Rattle.fetch_session.specs.Lasting.{IsSafeStore, may_leave_in};
+ghost use Rattle.fetch_session.specs.Durable.{IsSafeStore, may_leave_in};
 ghost use Rattle.mail_store.specs.Power.{LeavesNoMore};
 ghost use Rattle.fetch_session.specs.Parts.{RunsTasks, KeepsLink, KeepsStore, IsReadyForNext};
 ghost use Rattle.fetch_session.specs.Target.{is_sound, kind_of, stores_of};

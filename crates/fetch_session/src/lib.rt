@@ -27,7 +27,7 @@ mod work;
 pub use account::{Account, Store};
 pub use fault::{Cut, Fault, Why};
 pub use laws::{
-    cuts_have_causes, served_sessions_store_all, sessions_are_durable, sessions_by_store,
+    cuts_have_causes, good_sessions_store_all, sessions_are_durable, sessions_by_store,
     sessions_keep_files, steady_files_keep, stopping_cuts_short, unsaved_files_keep,
 };
 pub use listener::{Listener, Silent};

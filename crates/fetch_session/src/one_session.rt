@@ -9,7 +9,7 @@ ghost use Rattle.fetch_session.specs.Account.{IsSameAccount};
 ghost use Rattle.fetch_session.specs.Refusal.{IsWithinLimits, RefusesByOutcome, GotAtMost, session_limit, TookWithTail};
 ghost use Rattle.fetch_session.specs.Refusal.{opening_limit, step_limit, tail_limit};
 ghost use Rattle.fetch_session.specs.Hearing.{AreMerged, HearsOne, IsPlanOf, IsPlanned};
-ghost use Rattle.fetch_session.specs.Lasting.{ProceedsLast, RunsSession};
+ghost use Rattle.fetch_session.specs.Durable.{DurableProceeds, RunsSession};
 ghost use Rattle.fetch_session.specs.Parts.{KeepsLink, KeepsStore, WhereWorkSound};
 ghost use Rattle.fetch_session.specs.Report.{most_lines, none_skipped};
 ghost use Rattle.fetch_session.specs.Session.{Enters_with, Proceeds, keeping, noted};
@@ -59,7 +59,7 @@ fn proceed<W: Wire, D: MaildirDisk, F: FlatFile, H: BuildHasher, L: Listener>(
         (λ old new. AfterTakingIn old.store (λ left. (is : Proceeds terms.entry.settings.now
         (target_of work.old.store terms.entry.account.now) terms.entry.now old.place (keeping left old.file) result
         new.place (keeping new.store new.file) (noted counts.new.total counts.new.skipped new.lines))
-        × ProceedsLast F.FlatFile work.old.store work.old.ledger.file _ _ _ _ _ _ _ _ _ is
+        × DurableProceeds F.FlatFile work.old.store work.old.ledger.file _ _ _ _ _ _ _ _ _ is
         work.new.store work.new.ledger.file)) }
     ensures heard { HearsOne L.hears (IsPlanned terms.entry.settings.now terms.entry.now counts.new.total
         counts.new.skipped (λ items rows. (W.sound client.new.wire.now → (mid : Place)

@@ -7,15 +7,16 @@ ghost use Rattle.fetch_record.specs.Record.{IsRecord, Loaded, has_row, is_delive
 ghost use Rattle.fetch_record.specs.RecordFile.{file_of};
 ghost use Rattle.fetch_rules.specs.Plan.{IsQuiet, planned};
 ghost use Rattle.fetch_session.specs.Mbox.{AsksMbox, SettlesIntent};
-ghost use Rattle.mail_store.specs.Durable.{IsSure, MayLeave};
+ghost use Rattle.mail_store.specs.Durable.{Trusted, MayLeave};
 ghost use Rattle.mail_store.specs.Maildir.{AfterTaking, AllNamed};
 ghost use Rattle.mail_store.specs.Power.{LeavesNoMore};
-ghost use Rattle.fetch_session.specs.Lasting.{AreSure, IsSafeFile, IsSafeStore, LeavesMerged, LeavesSettled};
-ghost use Rattle.fetch_session.specs.Lasting.{LeavesStore, ReadiesAndLasts, is_sure, may_leave_in};
+ghost use Rattle.fetch_session.specs.Durable.{AreTrusted, IsSafeFile, IsSafeStore, LeavesMerged, LeavesSettled};
+ghost use Rattle.fetch_session.specs.Durable.{LeavesStore, ReadiesDurably, is_trusted, may_leave_in};
 ghost use Rattle.fetch_session.specs.Parts.{KeepsBegun};
 ghost use Rattle.fetch_session.specs.Target.{AfterTakingIn, held_flags, is_sound, kind_of, mbox_of, stores_of};
 ghost use Rattle.fetch_session.specs.Target.{target_of};
-ghost use Rattle.fetch_session.specs.Readiness.{AreAsHeld, ChecksStore, FindsHeld, FindsIn, HasPlan, IsIdle, Rests};
+ghost use Rattle.fetch_session.specs.Readiness.{AreAsHeld, ChecksStore, FindsHeld, FindsIn, HasPlan, IsIdle};
+ghost use Rattle.fetch_session.specs.Readiness.{ChecksIdle};
 ghost use Rattle.fetch_session.specs.Readiness.{are_undelivered, flags_found};
 ghost use Rattle.fetch_session.specs.Record.{Gets, ReadsRecord, FileReadAs, Merges, IsLineFault, IsSecured, Steady};
 ghost use Rattle.fetch_session.specs.Record.{bytes_in};
@@ -32,7 +33,7 @@ use fetch_rules::{
     merges_ask_only_for_new_ids, only_asked_for_are_fetched, plan, plan_of_known,
 };
 use mail_store::{
-    Asked, FlatFile, Folder, MaildirDisk, StoreFault, check_mbox, flush_held, listed_size,
+    FlatFile, Folder, MaildirDisk, Query, StoreFault, check_mbox, flush_held, listed_size,
     peek_mbox, settle_file,
 };
 use std::alloc::{AllocError, Global};
@@ -104,7 +105,7 @@ pub(crate) fn read<F: FlatFile, H: BuildHasher>(
 fn secure<F: FlatFile>(file: &mut F) -> Result<(), Fault>
     ensures same { F.sound file.new → F.sound file.old × IsSecured (F.stored file.old) result (F.stored file.new) }
     ensures keeps { F.sound file.new → LeavesNoMore (MayLeave (F.disk file.old)) (MayLeave (F.disk file.new)) }
-    ensures lasts { F.sound file.new → IsSure (F.disk file.old).now → OnOk result (IsSafeFile F.FlatFile file.new) }
+    ensures durable { F.sound file.new → Trusted (F.disk file.old).now → OnOk result (IsSafeFile F.FlatFile file.new) }
 {
     match file.edges() {
         Ok(_) => Ok(()),
@@ -143,7 +144,7 @@ fn find_held<D: MaildirDisk, H: BuildHasher>(
         terms.entry.account.now seen.now.rows left listing.now result (D.maildir disk.new)) }
 {
     let flags = undelivered(alloc, seen, listing)?;
-    let asked = Asked {
+    let asked = Query {
         all: terms.settings.read_all,
         flags: &flags,
     };
@@ -160,8 +161,8 @@ fn settle<F: FlatFile, H: BuildHasher>(
 ) -> Result<bool, Fault>
     ensures settles { F.sound mbox.new → F.sound mbox.old
         × SettlesIntent seen.now.intent listing.now (F.stored mbox.old) result (F.stored mbox.new) }
-    ensures lasts { F.sound mbox.new → IsSure (F.disk mbox.old).now → OnOk result (IsSure (F.disk mbox.new).now) }
-    ensures leaves { F.sound mbox.new → IsSure (F.disk mbox.old).now
+    ensures durable { F.sound mbox.new → Trusted (F.disk mbox.old).now → OnOk result (Trusted (F.disk mbox.new).now) }
+    ensures leaves { F.sound mbox.new → Trusted (F.disk mbox.old).now
         → LeavesSettled seen.now.intent (F.stored mbox.old).content (MayLeave (F.disk mbox.old))
         (MayLeave (F.disk mbox.new)) }
 {
@@ -183,8 +184,8 @@ fn ask_mbox<F: FlatFile, H: BuildHasher>(
     ensures length { IfOk result (λ found. length found.held.items ≡ length listing.now) }
     ensures asks { F.sound mbox.new → F.sound mbox.old
         × AsksMbox seen.now.intent (F.stored mbox.old) listing.now result (F.stored mbox.new) }
-    ensures lasts { F.sound mbox.new → IsSure (F.disk mbox.old).now → OnOk result (IsSafeFile F.FlatFile mbox.new) }
-    ensures leaves { F.sound mbox.new → IsSure (F.disk mbox.old).now
+    ensures durable { F.sound mbox.new → Trusted (F.disk mbox.old).now → OnOk result (IsSafeFile F.FlatFile mbox.new) }
+    ensures leaves { F.sound mbox.new → Trusted (F.disk mbox.old).now
         → LeavesSettled seen.now.intent (F.stored mbox.old).content (MayLeave (F.disk mbox.old))
         (MayLeave (F.disk mbox.new)) }
 {
@@ -217,9 +218,9 @@ fn ask_store<D: MaildirDisk, F: FlatFile, H: BuildHasher>(
         × AfterTakingIn (stores_of D.MaildirDisk F.FlatFile store.old)
         (λ left. FindsIn terms.entry.settings.now.read_all (target_of store.old terms.entry.account.now)
         (record_state_in seen.now) left listing.now result (stores_of D.MaildirDisk F.FlatFile store.new)) }
-    ensures lasts { is_sound D.MaildirDisk F.FlatFile store.new → is_sure F.FlatFile store.old
+    ensures durable { is_sound D.MaildirDisk F.FlatFile store.new → is_trusted F.FlatFile store.old
         → OnOk result (IsSafeStore F.FlatFile store.new) }
-    ensures leaves { is_sound D.MaildirDisk F.FlatFile store.new → is_sure F.FlatFile store.old
+    ensures leaves { is_sound D.MaildirDisk F.FlatFile store.new → is_trusted F.FlatFile store.old
         → LeavesSettled seen.now.intent (mbox_of F.FlatFile store.old).content (may_leave_in F.FlatFile store.old)
         (may_leave_in F.FlatFile store.new) }
 {
@@ -257,7 +258,7 @@ fn take_in<F: FlatFile, H: BuildHasher>(
         (merged (closed_rows found.now.stored seen.old.rows seen.old.intent) listing.now found.now.held.items now))
         result
         (F.stored file.new) }
-    ensures lasts { F.sound file.new → IsSafeFile F.FlatFile file.old
+    ensures durable { F.sound file.new → IsSafeFile F.FlatFile file.old
         → LeavesMerged (MayLeave (F.disk file.old)) (record_state_in seen.old)
         (merged (closed_rows found.now.stored seen.old.rows seen.old.intent) listing.now found.now.held.items now)
         (MayLeave (F.disk file.new))
@@ -324,7 +325,7 @@ fn rest<D: MaildirDisk, F: FlatFile>(
     ensures length { IfOk result (λ ready. length ready.held.items ≡ length listing.now) }
     ensures steps { IfOk result (λ ready. ready.steps.items ≡ steps.items) }
     ensures finds { is_sound D.MaildirDisk F.FlatFile store.new → is_sound D.MaildirDisk F.FlatFile store.old
-        × Rests (kind_of store.old) (stores_of D.MaildirDisk F.FlatFile store.old) listing.now result
+        × ChecksIdle (kind_of store.old) (stores_of D.MaildirDisk F.FlatFile store.old) listing.now result
         (stores_of D.MaildirDisk F.FlatFile store.new) }
     ensures keeps { is_sound D.MaildirDisk F.FlatFile store.new → LeavesStore F.FlatFile store.old store.new }
 {
@@ -352,7 +353,7 @@ fn stay_idle<D: MaildirDisk, F: FlatFile, H: BuildHasher>(
         × OnOk result (Steady (F.stored work.new.ledger.file).content (none_open work.old.ledger.seen.rows)) }
     ensures readies { is_sound D.MaildirDisk F.FlatFile work.new.store → F.sound work.new.ledger.file
         → is_sound D.MaildirDisk F.FlatFile work.old.store × F.sound work.old.ledger.file
-        × ReadiesAndLasts D.MaildirDisk F.FlatFile (Unit {0}) work.old.store work.old.ledger.file
+        × ReadiesDurably D.MaildirDisk F.FlatFile (Unit {0}) work.old.store work.old.ledger.file
         terms.entry.settings.now
         (target_of work.old.store terms.entry.account.now) listing.now terms.entry.now
         (stores_of D.MaildirDisk F.FlatFile work.old.store) result work.old.ledger.seen.rows work.new.store
@@ -394,8 +395,8 @@ fn prepare_by_store<D: MaildirDisk, F: FlatFile, H: BuildHasher>(
     ensures readies { is_sound D.MaildirDisk F.FlatFile work.new.store → F.sound work.new.ledger.file
         → is_sound D.MaildirDisk F.FlatFile work.old.store × F.sound work.old.ledger.file
         × AfterTakingIn (stores_of D.MaildirDisk F.FlatFile work.old.store)
-        (λ left. ReadiesAndLasts D.MaildirDisk F.FlatFile
-        (is_sure F.FlatFile work.old.store × IsSafeFile F.FlatFile work.old.ledger.file) work.old.store
+        (λ left. ReadiesDurably D.MaildirDisk F.FlatFile
+        (is_trusted F.FlatFile work.old.store × IsSafeFile F.FlatFile work.old.ledger.file) work.old.store
         work.old.ledger.file
         terms.entry.settings.now (target_of work.old.store terms.entry.account.now) listing.now terms.entry.now
         left result
@@ -442,8 +443,8 @@ pub fn prepare<D: MaildirDisk, F: FlatFile, H: BuildHasher>(
     ensures readies { is_sound D.MaildirDisk F.FlatFile work.new.store → F.sound work.new.ledger.file
         → is_sound D.MaildirDisk F.FlatFile work.old.store × F.sound work.old.ledger.file
         × AfterTakingIn (stores_of D.MaildirDisk F.FlatFile work.old.store)
-        (λ left. ReadiesAndLasts D.MaildirDisk F.FlatFile
-        (AreSure F.FlatFile work.old.store work.old.ledger.file) work.old.store work.old.ledger.file
+        (λ left. ReadiesDurably D.MaildirDisk F.FlatFile
+        (AreTrusted F.FlatFile work.old.store work.old.ledger.file) work.old.store work.old.ledger.file
         terms.entry.settings.now (target_of work.old.store terms.entry.account.now) listing.now terms.entry.now
         left result
         work.new.ledger.seen.rows work.new.store work.new.ledger.file) }

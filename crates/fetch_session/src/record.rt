@@ -9,9 +9,9 @@ ghost use Rattle.fetch_record.specs.RecordGrowth.{Grows};
 ghost use Rattle.fetch_session.specs.Record.{WritesRecord, Saves, StandsTill, Steady, TakesBack, TellsSize, bytes_in};
 ghost use Rattle.fetch_session.specs.Record.{intent_at, record_state_in, with_open};
 ghost use Rattle.fetch_session.specs.Mbox.{went};
-ghost use Rattle.fetch_session.specs.Lasting.{IsGrownAtMost, IsRecordLeft, IsSafeFile, LeavesFile, LeavesLeft};
-ghost use Rattle.fetch_session.specs.Lasting.{RowsStillLast};
-ghost use Rattle.mail_store.specs.Durable.{IsSure, MayLeave};
+ghost use Rattle.fetch_session.specs.Durable.{IsGrownAtMost, IsRecordLeft, IsSafeFile, LeavesFile, LeavesLeft};
+ghost use Rattle.fetch_session.specs.Durable.{StillDurable};
+ghost use Rattle.mail_store.specs.Durable.{Trusted, MayLeave};
 ghost use Rattle.mail_store.specs.FlatFile.{HasBytes};
 ghost use Rattle.mail_store.specs.Power.{LeavesCut, LeavesEither, LeavesNoMore};
 
@@ -28,7 +28,7 @@ pub(crate) fn save<F: FlatFile, H: BuildHasher>(file: &mut F, seen: &Seen<H>) ->
         × WritesRecord (F.stored file.old) (record_state_in seen.now) result (F.stored file.new) }
     ensures leaves { F.sound file.new
         → LeavesEither (MayLeave (F.disk file.old)) (file_of seen.now.rows None) (MayLeave (F.disk file.new)) }
-    ensures lasts { F.sound file.new → OnOk result (IsSafeFile F.FlatFile file.new) }
+    ensures durable { F.sound file.new → OnOk result (IsSafeFile F.FlatFile file.new) }
 {
     bytes_stand();
     let bytes = seen.bytes()?;
@@ -46,8 +46,8 @@ pub(crate) fn grow<F: FlatFile>(file: &mut F, group: &[u8]) -> Result<(), Fault>
         → Saves (F.stored file.old) was now result (F.stored file.new)) }
     ensures appends { F.sound file.new → OnOk result
         (bytes_in (F.stored file.new).content ≡ bytes_in (F.stored file.old).content ++ group.now) }
-    ensures keeps { F.sound file.new → ((rows : List Row) → RowsStillLast F.FlatFile rows file.old file.new) }
-    ensures lasts { F.sound file.new → IsSafeFile F.FlatFile file.old → OnOk result (IsSafeFile F.FlatFile file.new) }
+    ensures keeps { F.sound file.new → ((rows : List Row) → StillDurable F.FlatFile rows file.old file.new) }
+    ensures durable { F.sound file.new → IsSafeFile F.FlatFile file.old → OnOk result (IsSafeFile F.FlatFile file.new) }
     ensures leaves { F.sound file.new → IsSafeFile F.FlatFile file.old
         → ((was : RecordState) → Steady (F.stored file.old).content was
         → LeavesFile F.FlatFile file.new (IsRecordLeft was group.now)
@@ -69,7 +69,7 @@ fn measure<F: FlatFile>(file: &mut F) -> Result<u64, Fault>
     requires begun { F.sound file.old → bytes_in (F.stored file.old).content ≢ [] }
     ensures size { F.sound file.new → F.sound file.old × TellsSize (F.stored file.old) result (F.stored file.new) }
     ensures keeps { F.sound file.new → LeavesNoMore (MayLeave (F.disk file.old)) (MayLeave (F.disk file.new)) }
-    ensures lasts { F.sound file.new → IsSure (F.disk file.old).now → OnOk result (IsSafeFile F.FlatFile file.new) }
+    ensures durable { F.sound file.new → Trusted (F.disk file.old).now → OnOk result (IsSafeFile F.FlatFile file.new) }
 {
     match file.edges() {
         Ok(edges) => Ok(edges.size),
@@ -101,10 +101,10 @@ pub(crate) fn intend<F: FlatFile, H: BuildHasher>(
         × Saves (F.stored file.old) (none_open seen.old.rows)
         (with_open seen.old.rows (intent_at uid.now start len)) (went result)
         (F.stored file.new) }
-    ensures keeps { F.sound file.new → ((rows : List Row) → RowsStillLast F.FlatFile rows file.old file.new)
+    ensures keeps { F.sound file.new → ((rows : List Row) → StillDurable F.FlatFile rows file.old file.new)
         × (IsSafeFile F.FlatFile file.old → LeavesFile F.FlatFile file.new (IsGrownAtMost (none_open seen.old.rows)
         (with_open seen.old.rows (intent_at uid.now start len)))) }
-    ensures lasts { F.sound file.new → IsSafeFile F.FlatFile file.old → OnOk result (IsSafeFile F.FlatFile file.new) }
+    ensures durable { F.sound file.new → IsSafeFile F.FlatFile file.old → OnOk result (IsSafeFile F.FlatFile file.new) }
 {
     let line = seen.intend(uid, start, len)?;
     let size = measure(file)?;
@@ -120,7 +120,7 @@ pub(crate) fn take_back<F: FlatFile>(file: &mut F, size: u64)
         × ((was : RecordState) → StandsTill (F.stored file.old) size was.rows
         → TakesBack (F.stored file.old) was (F.stored file.new)) }
     ensures keeps { F.sound file.new → ((rows : List Row) → StandsTill (F.stored file.old) size rows
-        → RowsStillLast F.FlatFile rows file.old file.new) }
+        → StillDurable F.FlatFile rows file.old file.new) }
     ensures leaves { F.sound file.new → IsSafeFile F.FlatFile file.old
         → LeavesCut (F.stored file.old).content size (MayLeave (F.disk file.old)) (MayLeave (F.disk file.new)) }
 {
@@ -143,11 +143,11 @@ pub(crate) fn remember<F: FlatFile, H: BuildHasher>(
     ensures saves { F.sound file.new → F.sound file.old
         × Saves (F.stored file.old) (record_state_in seen.old) (none_open (marked seen.old.rows uid.now)) result
         (F.stored file.new) }
-    ensures keeps { F.sound file.new → ((rows : List Row) → RowsStillLast F.FlatFile rows file.old file.new)
+    ensures keeps { F.sound file.new → ((rows : List Row) → StillDurable F.FlatFile rows file.old file.new)
         × (IsSafeFile F.FlatFile file.old
         → LeavesFile F.FlatFile file.new (IsGrownAtMost (record_state_in seen.old)
         (none_open (marked seen.old.rows uid.now)))) }
-    ensures lasts { F.sound file.new → IsSafeFile F.FlatFile file.old → OnOk result (IsSafeFile F.FlatFile file.new) }
+    ensures durable { F.sound file.new → IsSafeFile F.FlatFile file.old → OnOk result (IsSafeFile F.FlatFile file.new) }
 {
     let group = seen.mark_rows(uid)?;
     grow(file, &group)

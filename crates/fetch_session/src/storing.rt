@@ -11,7 +11,7 @@ ghost use Rattle.fetch_record.specs.Record.{Row};
 ghost use Rattle.mail_store.specs.FlatFile.{Stored};
 ghost use Rattle.mail_store.specs.FileName.{HasRoomForSize, IsAccountText, is_held, sized, stem_of};
 ghost use Rattle.mail_store.specs.Maildir.{AllNamed, IsThere};
-ghost use Rattle.fetch_session.specs.Lasting.{AreLeft, IsSafeFile, LeavesFile, OneDurable, RowsStillLast};
+ghost use Rattle.fetch_session.specs.Durable.{AreLeft, IsSafeFile, LeavesFile, OneDurable, StillDurable};
 ghost use Rattle.fetch_session.specs.Parts.{KeepsLedger, KeepsLink, IsWritten};
 ghost use Rattle.fetch_session.specs.Refusal.{RefusesTillCut, TookTillCut};
 ghost use Rattle.fetch_session.specs.Report.{AddsLines, HasRoom};
@@ -223,8 +223,8 @@ pub(crate) fn take_into_maildir<W: Wire, D: MaildirDisk, F: FlatFile, H: BuildHa
         (F.stored ledger.new.file) ledger.new.seen.rows
         ledger.new.lines.items)) }
     ensures keeps { F.sound ledger.new.file
-        → ((rows : List Row) → RowsStillLast F.FlatFile rows ledger.old.file ledger.new.file) }
-    ensures lasts { D.sound disk.new → F.sound ledger.new.file → IsSafeFile F.FlatFile ledger.old.file
+        → ((rows : List Row) → StillDurable F.FlatFile rows ledger.old.file ledger.new.file) }
+    ensures durable { D.sound disk.new → F.sound ledger.new.file → IsSafeFile F.FlatFile ledger.old.file
         → OnOk result (IsSafeFile F.FlatFile ledger.new.file)
         × OnErr result (LeavesFile F.FlatFile ledger.new.file (AreLeft ledger.old.seen.rows ledger.old.seen.rows)
         ⊎ OneDurable (D.maildir disk.old) (D.maildir disk.new)) }

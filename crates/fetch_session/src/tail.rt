@@ -4,7 +4,7 @@ ghost use Rattle.pop3_client.specs.Client.{HasSameLink, CountsRefusals, place_of
 ghost use Rattle.pop3_wire.specs.Link.{WhereSound};
 ghost use Rattle.pop3_client.specs.Conversation.{Talks};
 ghost use Rattle.fetch_session.specs.Refusal.{RefusesNone, RefusesAtMostOne};
-ghost use Rattle.fetch_session.specs.Tail.{turns_of_tail, tail, Drops, Left};
+ghost use Rattle.fetch_session.specs.Tail.{turns_of_tail, tail, Drops, TalksTail};
 
 use crate::fault::{Cut, Fault};
 use pop3_client::{Asked, Client, ClientFault, conversations_are_paced, turns_join};
@@ -70,7 +70,7 @@ pub fn leave<W: Wire>(client: &mut Client<'_, W>, cut: Cut)
     ensures silent { cut.rest ≡ None → tail cut.fault ≡ Tail.Nothing
         → RefusesNone (link_of W.Wire client.old) (link_of W.Wire client.new) }
     ensures leaves { WhereSound W.sound W.leads_to client.old.wire.now client.new.wire.now
-        (Left cut (place_of W.Wire client.old) (place_of W.Wire client.new)) }
+        (TalksTail cut (place_of W.Wire client.old) (place_of W.Wire client.new)) }
 {
     conversations_are_paced();
     turns_join();

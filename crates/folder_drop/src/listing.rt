@@ -21,12 +21,12 @@ use std::marker::Model;
 /// The files of the listed messages, in their order, and the look at the folders after which they were
 /// found.
 #[derive(Drop)]
-pub struct Listing {
+pub struct DropListing {
     look: FoldersLook,
     files: Vec<ListedFile>,
 }
 
-impl Model for Listing {
+impl Model for DropListing {
     ghost use Rattle.folder_drop.specs.Listing.{AreMessages, FileListing};
 
     ghost Value = { FileListing };
@@ -36,13 +36,13 @@ impl Model for Listing {
     ghost invariant = { λ l. AreMessages l.files.items };
 }
 
-impl Listing {
+impl DropListing {
     /// No listing; it is never valid.
-    pub fn none(alloc: Global) -> Listing
+    pub fn none(alloc: Global) -> DropListing
         ensures files { result.files ≡ [] }
         ensures never { (later : FoldersLook) → IsUnchanged result.look later → ⊥ }
     {
-        Listing {
+        DropListing {
             look: FoldersLook::none(),
             files: Vec::new(alloc),
         }
@@ -149,11 +149,11 @@ impl ListedFiles {
     }
 
     /// The listing of these files, found after this look.
-    pub fn into_listing(self, look: FoldersLook) -> Listing
+    pub fn into_listing(self, look: FoldersLook) -> DropListing
         requires { AreListed self.long_ids self.files.items }
         ensures { result ≡ record { look = look; files = self.files.items } }
     {
-        Listing {
+        DropListing {
             look,
             files: self.files,
         }

@@ -10,7 +10,7 @@ ghost use Rattle.folder_drop.specs.RealMaildir.{RealMaildir, mail_of, listed_nam
 mod listing;
 mod texts;
 
-use crate::listing::Listing;
+use crate::listing::DropListing;
 use crate::maildir_folders::MaildirFolders;
 use crate::removal::TwoMessages;
 use crate::seen_files::SeenFiles;
@@ -30,9 +30,9 @@ use system_calls::{Noted, System};
 pub struct MaildirDrop<'a, R: Files + AllocGlobal + Clone + Drop> {
     pub(crate) system: &'a System<'a, R>,
     pub(crate) folders: MaildirFolders<'a, R>,
-    pub(crate) listing: Listing,
+    pub(crate) listing: DropListing,
     /// An earlier server's listing, until this one has its own.
-    pub(crate) earlier: Listing,
+    pub(crate) earlier: DropListing,
     /// The path of the file or folder that couldn't be read, if that made a listing fail.
     unread: Option<String>,
     /// Where files were last seen, for those that aren't where they were listed.
@@ -72,8 +72,8 @@ impl<'a, R: Files + Clock + RandomSource + AllocGlobal + Clone + Drop> MaildirDr
         MaildirDrop {
             system,
             folders: MaildirFolders::at(system, path),
-            listing: Listing::none(system.alloc()),
-            earlier: Listing::none(system.alloc()),
+            listing: DropListing::none(system.alloc()),
+            earlier: DropListing::none(system.alloc()),
             unread: None,
             last_seen: SeenFiles::none(),
             open: None,

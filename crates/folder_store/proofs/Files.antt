@@ -11,21 +11,21 @@ use Rattle.mail_store.specs.DiskCalls.{BecomesInPart, IsAppended, IsPartAppended
 use Rattle.mail_store.specs.Durable.{Blob, Disk, IsLeftOf, IsLeftOfOne, MayLeave, all_durable, content_in, secured}
 use Rattle.mail_store.proofs.DiskLemmas.{becomes_settled, disk_of, may_arrive}
 use Rattle.mail_store.proofs.DurableLemmas.{flushed_all, seen_all}
-use Rattle.folder_store.specs.FileFolder.{Directory, Entry, MadeFile, Older, entry, find, placed, put_in, with_blob}
+use Rattle.folder_store.specs.FileFolder.{Directory, DirEntry, MadeFile, Older, entry, find, placed, put_in, with_blob}
 use Rattle.folder_store.specs.FileFolder.{content_at, names_flushed, Alters, FlushesFile, FlushesNames, PutsFile}
 use Rattle.folder_store.specs.PowerLoss.{left_under, WasOnce, MayBe, disk_at, older_at, PowerLeaves}
 
 -- a name leads to the first file that has it
-pub find_here : (name : List ℕ) (e : Entry) (es : List Entry) → bytes_eq name e.name ≡ true → find name (e ∷ es) ≡ Some e.blob
+pub find_here : (name : List ℕ) (e : DirEntry) (es : List DirEntry) → bytes_eq name e.name ≡ true → find name (e ∷ es) ≡ Some e.blob
 find_here name e es = cond-true (bytes_eq name e.name) (Some e.blob) (find name es)
 
-pub find_later : (name : List ℕ) (e : Entry) (es : List Entry) → bytes_eq name e.name ≡ false → find name (e ∷ es) ≡ find name es
+pub find_later : (name : List ℕ) (e : DirEntry) (es : List DirEntry) → bytes_eq name e.name ≡ false → find name (e ∷ es) ≡ find name es
 find_later name e es = cond-false (bytes_eq name e.name) (Some e.blob) (find name es)
 
 -- the name leads to what was put there
-pub find_placed : (name : List ℕ) (b : Blob) (es : List Entry) → find name (placed name b es) ≡ Some b
+pub find_placed : (name : List ℕ) (b : Blob) (es : List DirEntry) → find name (placed name b es) ≡ Some b
 find_placed name b [] = ap (λ (v : Bool). cond v (Some b) None) ((bytes_eq-Decides name name).1 refl)
-find_placed name b (e ∷ es) = cond_both (bytes_eq name e.name) _ _ (λ (xs : List Entry). find name xs ≡ Some b)
+find_placed name b (e ∷ es) = cond_both (bytes_eq name e.name) _ _ (λ (xs : List DirEntry). find name xs ≡ Some b)
     (λ _. find_here name (entry name b) es ((bytes_eq-Decides name name).1 refl))
     (λ apart. find_later name e (placed name b es) apart ∙ find_placed name b es)
 
@@ -205,19 +205,19 @@ pub may_once : (d : Directory) (name : List ℕ) (left : Option (List ℕ)) → 
 unfolding MayLeave
 may_once d name left was = inr (once_here name d.older left was)
 
--- the folder once everything is on the disk, and under one name is what is to be left there
-abbrev others : List ℕ → List Entry → List Entry
+-- the folder once everything is durable, and under one name is what is to be left there
+abbrev others : List ℕ → List DirEntry → List DirEntry
 others name [] = []
 others name (e ∷ es) = if bytes_eq name e.name then others name es else entry e.name (secured e.blob.content) ∷ others name es
 
-abbrev entries_left : List ℕ → Option (List ℕ) → List Entry → List Entry
+abbrev entries_left : List ℕ → Option (List ℕ) → List DirEntry → List DirEntry
 entries_left name left es = left_under name left ++ others name es
 
 -- what is left under each name
-abbrev left_at : List ℕ → Option (List ℕ) → List Entry → List ℕ → Option (List ℕ)
+abbrev left_at : List ℕ → Option (List ℕ) → List DirEntry → List ℕ → Option (List ℕ)
 left_at name left es other = if bytes_eq other name then left else option_map content_in (find other es)
 
-find_others : (name other : List ℕ) (es : List Entry) → find other (others name es) ≡ option_map secured (left_at name None es other)
+find_others : (name other : List ℕ) (es : List DirEntry) → find other (others name es) ≡ option_map secured (left_at name None es other)
 find_others name other [] = grind arith
 find_others name other (e ∷ es) =
     let rest = find_others name other es in
@@ -226,7 +226,7 @@ find_others name other (e ∷ es) =
     let three = bytes_eq-Decides other name in
     grind (arith, rest, one, two, three)
 
-find_left : (name other : List ℕ) (left : Option (List ℕ)) (es : List Entry)
+find_left : (name other : List ℕ) (left : Option (List ℕ)) (es : List DirEntry)
     → find other (entries_left name left es) ≡ option_map secured (left_at name left es other)
 find_left name other None es = find_others name other es
 find_left name other (Some bytes) es = let rest = find_others name other es in grind (arith, rest)
@@ -239,7 +239,7 @@ power_leaves old name left = (
       each = λ n. rw (find_left name n left old.entries, seen_all (left_at name left old.entries n))
           (cond_both (bytes_eq n name) left (content_at old n) (λ (o : Option (List ℕ)). MayBe old n o)
           (λ same. rw ((bytes_eq-Decides n name).0 same) may) (λ _. may_now old n (content_at old n) (may_arrive (find n old.entries))));
-      on_disk = λ n. record {
+      durable = λ n. record {
         named = refl;
         flushed = rw (find_left name n left old.entries) (flushed_all (left_at name left old.entries n));
       };

@@ -22,7 +22,7 @@ use Rattle.folder_store.specs.FileFolder.{MadeFile}
 use Rattle.folder_store.specs.declared.mail_folders.Sought.{Sought}
 use Rattle.folder_store.specs.declared.mail_folders.Sought.TheVariants.{All, Stems}
 use Rattle.folder_store.specs.MailCalls.{AreSought, BringsFiles, ChecksIn, FlushesFiles, FlushesNamesIn, IsUnknown}
-use Rattle.folder_store.specs.MailCalls.{Lacks, Leads, Learns, ListsIn, LooksAtBoth, MakesDraft, PutsDraft, PutsForGood}
+use Rattle.folder_store.specs.MailCalls.{Lacks, Leads, Learns, ListsIn, LooksAtBoth, MakesDraft, PutsDraft, PutsDurably}
 use Rattle.folder_store.specs.MailCalls.{PutsIntoNew, SameFiles, StandsIn}
 use Rattle.folder_store.specs.MailCalls.{TellsBoth, TellsOne, TellsRest, Then, ToldBoth, entry_flushed_by}
 use Rattle.folder_store.specs.MailCalls.{after_listing, named_by, names_flushed_in, names_sought, put_as, without_taken}
@@ -231,7 +231,7 @@ looked sought b0 b1 b2 b3 b4 b5 new cur done done' rests (m1, v1, s1) (m2, v2, s
 
 -- ---- the names of one folder
 
--- a flush of the names of the folder makes a file of this base last
+-- a flush of the names of the folder makes a file of this base durable
 abbrev Touch : Folder → List ℕ → MailFile → Type 0
 Touch folder name s = (base s.name ≡ name) × (touches folder s ≡ true)
 
@@ -450,7 +450,7 @@ module _ (b0 b1 b2 : Directories) (content name : List ℕ) (file : MadeFile)
       })
 
   pub put_all : (b3 : Directories) (r : Result (Unit {0}) StoreFault) → Then (FlushesNamesIn New r) b2 b3
-      → PutsForGood b0 content name r b3
+      → PutsDurably b0 content name r b3
   unfolding put_unnamed
   put_all b3 (Ok done) (m, v, e) = put_named m b3 v e
   put_all b3 (Err fault) (m, v, inl lacks) = inr (λ unknown.
@@ -469,7 +469,7 @@ module _ (b0 b1 b2 : Directories) (content name : List ℕ) (file : MadeFile)
 
 pub not_put : (b0 b1 b2 : Directories) (content name : List ℕ) (file : MadeFile) (fault x : StoreFault)
     → file ≡ record { content = content; is_flushed = true } → SameFiles b0 b1
-    → Then (PutsDraft {T = Unit {0}} file name (Err fault)) b1 b2 → PutsForGood {T = Unit {0}} b0 content name (Err x) b2
+    → Then (PutsDraft {T = Unit {0}} file name (Err fault)) b1 b2 → PutsDurably {T = Unit {0}} b0 content name (Err x) b2
 not_put b0 b1 b2 content name file fault x filled r (m, v, inl same) = inl (rests_on_at b0 b1 b2 r (same_rests_at b1 m b2 v same))
 not_put b0 b1 b2 content name file fault x filled r (m, v, inr p) = inr (put_unnamed b0 b1 b2 content name file filled r (m, v, p))
 
@@ -509,7 +509,7 @@ pub maildir_same : (a b : Directories) (begun : Option Draft) (n : ℕ) → Same
 maildir_same a b begun n h = rw (h.there, h.taken, h.files) refl
 
 pub not_settled : (a b : Directories) (d f : Draft) (name : List ℕ) (n k : ℕ) (fault : StoreFault) → k ≡ n + 1 → IsUnknown name a
-    → Some d ≡ Some f → PutsForGood {T = Unit {0}} a d.content name (Err fault) b
+    → Some d ≡ Some f → PutsDurably {T = Unit {0}} a d.content name (Err fault) b
     → (maildir_in b None k ≡ maildir_refused (dropped (maildir_in a (Some d) n)))
     ⊎ AfterFlushing (maildir_in a (Some d) n) (λ risen. MayHave risen (mail name f.content) (maildir_in b None k))
 not_settled a b d f name n k fault up unknown h (inl none) = inl (rw (none.there, none.taken, none.files, up) refl)

@@ -130,7 +130,7 @@ rests_on_at a b c first then = record {
 
 -- ---- durable names
 
--- a flush of `new` and then one of `cur`, with moves between them, make all names last
+-- a flush of `new` and then one of `cur`, with moves between them, make all names durable
 near : (s t : MailFile) → MovesFile (named_by New s) t → (named_by Cur t).is_named ≡ true
 near s t m = grind (arith, m.keeps.named, m.cur)
 

@@ -1,5 +1,5 @@
--- A folder of a file system: what its calls see, what of it is on the disk, and what each call does,
--- for either outcome.
+-- A folder of a file system: what its calls see, what of it is durable, and what each call does, for
+-- either outcome.
 use Rattle.std.specs.Prelude.{◌≡◌, ℕ, List, [], ◌∷◌, ◌++◌, length, take, map, Bool, false}
 use Rattle.std.specs.Prelude.{Option, Some, None, option_map, Result, Ok, Err, ◌⊎◌, Vec}
 use Rattle.std.specs.Prelude.{bytes_eq, if◌then◌else◌}
@@ -11,11 +11,11 @@ use Rattle.mail_store.specs.Durable.{Blob, content_in, secured}
 use Rattle.mail_store.specs.FlatFile.{edges_of, piece_at}
 
 -- a name and the file that it leads to
-pub record Entry : Type 0 where
+pub record DirEntry : Type 0 where
   pub name : List ℕ
   pub blob : Blob
 
--- what a name led to, before a change that may not be on the disk yet
+-- what a name led to, before a change that may not be durable yet
 pub record Older : Type 0 where
   pub name : List ℕ
   pub was : Option Blob
@@ -23,28 +23,28 @@ pub record Older : Type 0 where
 -- a folder: the files by their names in the order in which they came, and what names led to before they were
 -- changed, since the names were last flushed
 pub record Directory : Type 0 where
-  pub entries : List Entry
+  pub entries : List DirEntry
   pub older : List Older
 
--- a file that was made and has no name yet: its bytes, and whether they are on the disk
+-- a file that was made and has no name yet: its bytes, and whether they are durable
 pub record MadeFile : Type 0 where
   pub content : List ℕ
   pub is_flushed : Bool
 
-abbrev pub entry : List ℕ → Blob → Entry
+abbrev pub entry : List ℕ → Blob → DirEntry
 entry name blob = record { name = name; blob = blob }
 
 -- the names of some files
-abbrev pub names_in : List Entry → List (List ℕ)
-names_in entries = map (λ (e : Entry). e.name) entries
+abbrev pub names_in : List DirEntry → List (List ℕ)
+names_in entries = map (λ (e : DirEntry). e.name) entries
 
 -- the file that a name leads to
-abbrev pub find : List ℕ → List Entry → Option Blob
+abbrev pub find : List ℕ → List DirEntry → Option Blob
 find name [] = None
 find name (e ∷ entries) = if bytes_eq name e.name then Some e.blob else find name entries
 
 -- the name leads to this file: in the place of another, else after all
-abbrev pub placed : List ℕ → Blob → List Entry → List Entry
+abbrev pub placed : List ℕ → Blob → List DirEntry → List DirEntry
 placed name blob [] = entry name blob ∷ []
 placed name blob (e ∷ entries) = if bytes_eq name e.name then entry name blob ∷ entries
     else e ∷ placed name blob entries
@@ -73,7 +73,7 @@ put_in d file name = record {
   older = record { name = name; was = find name d.entries } ∷ d.older;
 }
 
--- the names are on the disk
+-- the names are durable
 abbrev pub names_flushed : Directory → Directory
 names_flushed d = record d { older = [] }
 
@@ -132,13 +132,13 @@ AppendsTo old name bytes r new = AltersInPart (λ b c. c ≡ appended b bytes)
 abbrev pub CutsTo : {T : Type 0} → Directory → List ℕ → ℕ → Result T StoreFault → Directory → Type 0
 CutsTo old name len r new = AltersInPart (λ b c. c ≡ cut b len) (λ b c. c ≡ cut b len) old name r new
 
--- `flush`: the bytes of the file of this name are on the disk; after a refused call they may be, or nothing
--- was done, or nothing more of the file is known to reach the disk
+-- `flush`: the bytes of the file of this name are durable; after a refused call they may be, or nothing was
+-- done, or nothing more of the file is known to reach the disk
 abbrev pub FlushesFile : {T : Type 0} → Directory → List ℕ → Result T StoreFault → Directory → Type 0
 FlushesFile old name r new = AltersInPart (λ b c. c ≡ flushed b)
     (λ b c. (c ≡ flushed b) ⊎ (c ≡ doubted b)) old name r new
 
--- `flush_names`: the names are on the disk; a refused call did it, or nothing
+-- `flush_names`: the names are durable; a refused call did it, or nothing
 abbrev pub FlushesNames : {T : Type 0} → Directory → Result T StoreFault → Directory → Type 0
 FlushesNames old (Ok done) new = new ≡ names_flushed old
 FlushesNames old (Err fault) new = (new ≡ old) ⊎ (new ≡ names_flushed old)

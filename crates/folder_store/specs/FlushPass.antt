@@ -13,5 +13,5 @@ abbrev pub has_missed : List Found → List ℕ → Bool
 has_missed found q = list_any (λ (f : Found). not f.is_flushed && bytes_eq q (stem (string_bytes f.name))) found
 
 -- a message is settled if some name of it was found, and each file of such a name was flushed
-abbrev pub is_settled : List Found → List ℕ → Bool
-is_settled found q = has_flushed found q && not (has_missed found q)
+abbrev pub was_flushed : List Found → List ℕ → Bool
+was_flushed found q = has_flushed found q && not (has_missed found q)

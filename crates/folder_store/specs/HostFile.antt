@@ -14,5 +14,5 @@ abbrev pub unknown_file : Stored
 unknown_file = stored_in unknown_directory [] 0
 
 -- while the folder's calls did what they promise, a file that was flushed has all durable that calls see
-pub record IsSettled (is_flushed : Bool) (sound : Type 0) (disk : Disk) : Type 0 where
+pub record FlushHolds (is_flushed : Bool) (sound : Type 0) (disk : Disk) : Type 0 where
   pub flushed : is_flushed ≡ true → sound → all_flushed disk ≡ disk

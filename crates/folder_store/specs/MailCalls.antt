@@ -209,6 +209,6 @@ StandsIn old content name new = IsUnknown name old → (is_named : Bool)
 
 -- a file that was made was flushed, put under the name, and then the names of `new` were flushed; a refused call did
 -- a part of this
-abbrev pub PutsForGood : {T : Type 0} → Directories → List ℕ → List ℕ → Result T StoreFault → Directories → Type 0
-PutsForGood old content name (Ok done) new = IsUnknown name old → BringsFiles old (mail name content ∷ []) new
-PutsForGood old content name (Err fault) new = SameFiles old new ⊎ StandsIn old content name new
+abbrev pub PutsDurably : {T : Type 0} → Directories → List ℕ → List ℕ → Result T StoreFault → Directories → Type 0
+PutsDurably old content name (Ok done) new = IsUnknown name old → BringsFiles old (mail name content ∷ []) new
+PutsDurably old content name (Err fault) new = SameFiles old new ⊎ StandsIn old content name new

@@ -1,10 +1,10 @@
 -- What a loss of power may leave of a folder.
 use Rattle.std.specs.Prelude.{◌≡◌, ◌↔◌, ℕ, List, [], ◌∷◌, bytes_eq, if◌then◌else◌, Option, Some, None, ◌⊎◌}
 use Rattle.mail_store.specs.Durable.{Blob, Disk, IsDurable, IsLeftOf, MayLeave, secured}
-use Rattle.folder_store.specs.FileFolder.{Directory, Entry, Older, entry, find, content_at}
+use Rattle.folder_store.specs.FileFolder.{Directory, DirEntry, Older, entry, find, content_at}
 
--- the file of a name that is left with these bytes, all of them on the disk, or none
-abbrev pub left_under : List ℕ → Option (List ℕ) → List Entry
+-- the file of a name that is left with these bytes, all of them durable, or none
+abbrev pub left_under : List ℕ → Option (List ℕ) → List DirEntry
 left_under name None = []
 left_under name (Some bytes) = entry name (secured bytes) ∷ []
 
@@ -26,15 +26,15 @@ disk_at d name = record { now = find name d.entries; older = older_at name d.old
 abbrev pub MayBe : Directory → List ℕ → Option (List ℕ) → Type 0
 MayBe d name left = MayLeave (disk_at d name) left
 
--- what calls see under the name is on the disk
-abbrev pub IsOnDisk : Directory → List ℕ → Type 0
-IsOnDisk d name = IsDurable (disk_at d name)
+-- what calls see under the name is durable
+abbrev pub IsDurableIn : Directory → List ℕ → Type 0
+IsDurableIn d name = IsDurable (disk_at d name)
 
 -- the folder after a loss of power: under each name is something that may be left there, whatever is under the
--- others, and all of it is on the disk
+-- others, and all of it is durable
 pub record Loses (old new : Directory) : Type 0 where
   pub each : (name : List ℕ) → MayBe old name (content_at new name)
-  pub on_disk : (name : List ℕ) → IsOnDisk new name
+  pub durable : (name : List ℕ) → IsDurableIn new name
 
 -- a loss of power leaves one of these under the name, and each of them may be what it leaves
 abbrev pub PowerLeaves : Type 0

@@ -2,7 +2,7 @@
 
 ghost use Rattle.std.specs.Prelude.{◌≡◌, ◌++◌, true, IfErr, IfOk, OnOk};
 ghost use Rattle.mail_store.specs.Fault.{IsDeviceFault};
-ghost use Rattle.folder_store.specs.MailCalls.{LooksAtBoth, PutsForGood, SameFiles, TellsBoth, TellsOne};
+ghost use Rattle.folder_store.specs.MailCalls.{LooksAtBoth, PutsDurably, SameFiles, TellsBoth, TellsOne};
 
 use crate::file_folder::NewFile;
 use crate::mail_folders::{MailFolders, Sought};
@@ -88,13 +88,13 @@ fn flush_unnamed<F: MailFolders>(
 
 /// Flushes a file that was made, puts it into `new` under a name, and flushes the names of `new`. Refused
 /// if a file of `new` has the name.
-pub fn put_for_good<F: MailFolders>(
+pub fn put_durably<F: MailFolders>(
     folders: &mut F,
     file: F::File,
     name: &str,
 ) -> Result<(), StoreFault>
     ensures { F.sound folders.new → F.sound folders.old × F.File.sound file
-        × PutsForGood (F.directories folders.old) (F.File.made file).content name.now result
+        × PutsDurably (F.directories folders.old) (F.File.made file).content name.now result
         (F.directories folders.new) }
 {
     let mut file = file;

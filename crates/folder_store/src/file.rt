@@ -4,15 +4,15 @@ ghost use Rattle.std.specs.Prelude.{◌≡◌, ◌<◌};
 ghost use Rattle.std.proofs.Common.{refl};
 ghost use Rattle.mail_terms.specs.FailureCount.{greatest_count};
 ghost use Rattle.mail_store.specs.DiskCalls.{FlushesBoth};
-ghost use Rattle.folder_store.specs.HostFile.{IsSettled, stored_in, unknown_file};
+ghost use Rattle.folder_store.specs.HostFile.{FlushHolds, stored_in, unknown_file};
 ghost use Rattle.folder_store.specs.NewDevices.{LeftFilesStand, NewFilesKeepBytes};
 ghost use Rattle.folder_store.specs.PowerLoss.{disk_at};
 
+use crate::cut_off::{CutOff, append_noting, cut_keeping};
 use crate::durable_file::{Appending, flush_both, replace_flushed};
 use crate::file_folder::{FileFolder, FolderState};
 use crate::host::HostFolder;
 use crate::process_mark::ProcessMark;
-use crate::rests::{Rests, append_noting, cut_keeping};
 use crate::system::name_in;
 use crate::tally::tally;
 use mail_store::{Edges, FlatFile, StoreFault, admit, refuse};
@@ -35,17 +35,17 @@ pub struct HostFile<'a, F: FolderState> {
     /// Whether the file's bytes and its name were flushed.
     is_flushed: bool,
     /// Where what is cut off is kept, if it is.
-    rests: Option<Rests<'a, F>>,
+    cut_off: Option<CutOff<'a, F>>,
     failures: FailureCount,
     // Then another flush would change nothing.
-    ghost settled: { IsSettled is_flushed (F.sound folder) (disk_at (F.directory folder) name.now) },
+    ghost settled: { FlushHolds is_flushed (F.sound folder) (disk_at (F.directory folder) name.now) },
 }
 
 impl<'a, F: FolderState> HostFile<'a, F> {
     /// Whether this run kept what it cut off, and appended nothing since that begins with it.
     pub fn keeps_others(&self) -> bool {
-        match &self.rests {
-            Some(rests) => rests.has_others(),
+        match &self.cut_off {
+            Some(cut_off) => cut_off.has_others(),
             None => false,
         }
     }
@@ -62,7 +62,7 @@ impl<'a, F: FileFolder + Drop> HostFile<'a, F> {
             name,
             appending,
             is_flushed: false,
-            rests: None,
+            cut_off: None,
             failures: FailureCount::new(),
         }
     }
@@ -76,7 +76,7 @@ impl<'a, F: FileFolder + Drop> HostFile<'a, F> {
             name: _,
             appending: _,
             is_flushed: _,
-            rests: _,
+            cut_off: _,
             failures: _,
         } = self;
         folder
@@ -102,9 +102,9 @@ impl<'a, F: FileFolder + Drop> HostFile<'a, F> {
 impl<'a, R: Files + AllocGlobal> HostFile<'a, HostFolder<'a, R>> {
     /// Whether something is kept of what was cut off from the file, by this run or an earlier one.
     pub fn has_rests(&self) -> bool {
-        match &self.rests {
-            Some(rests) => {
-                let (folder, name) = rests.place();
+        match &self.cut_off {
+            Some(cut_off) => {
+                let (folder, name) = cut_off.place();
                 folder.has_octets(name)
             }
             None => false,
@@ -153,23 +153,23 @@ impl<'a, R: Files + AllocGlobal> HostFile<'a, HostFolder<'a, R>> {
     pub fn keeping(
         system: &'a System<'a, R>,
         path: &'a str,
-        rests: &'a str,
+        cut_off: &'a str,
         mark: ProcessMark,
     ) -> HostFile<'a, HostFolder<'a, R>>
         ensures { ⟦<HostFile<'a, HostFolder<'a, R>> as FlatFile>⟧.stored result ≡ unknown_file }
     {
-        let kept = HostFolder::around(system, rests, mark, false);
+        let kept = HostFolder::around(system, cut_off, mark, false);
         let mut file = HostFile::at(system, path, mark);
-        file.rests = Some(Rests::over(kept, name_in(rests)));
+        file.cut_off = Some(CutOff::over(kept, name_in(cut_off)));
         file
     }
 
     /// Removes the file that keeps what was cut off, if bytes that were appended since begin
     /// with all of it.
     pub fn drop_ours(&self) {
-        if let Some(rests) = &self.rests {
-            if rests.are_ours() {
-                let (folder, name) = rests.place();
+        if let Some(cut_off) = &self.cut_off {
+            if cut_off.are_ours() {
+                let (folder, name) = cut_off.place();
                 folder.remove(name);
             }
         }
@@ -251,7 +251,7 @@ impl<'a, F: FileFolder + Drop> FlatFile for HostFile<'a, F> {
             self.name,
             bytes,
             self.appending,
-            &mut self.rests,
+            &mut self.cut_off,
         ) {
             Ok(()) => Ok(()),
             Err(_) => {
@@ -264,7 +264,7 @@ impl<'a, F: FileFolder + Drop> FlatFile for HostFile<'a, F> {
     #[tactic(auto, using(crate::proofs::Files::cut_settled))]
     fn cut_to(&mut self, len: u64) -> Result<(), StoreFault> {
         admit(&self.failures)?;
-        match cut_keeping(&mut self.folder, self.name, len, &mut self.rests) {
+        match cut_keeping(&mut self.folder, self.name, len, &mut self.cut_off) {
             Ok(()) => Ok(()),
             Err(_) => {
                 self.is_flushed = false;

@@ -29,7 +29,7 @@ pub trait NewFile {
 pub trait FolderState {
     ghost use Rattle.folder_store.specs.FileFolder.{Directory};
 
-    // What calls see of the folder, and what is on the disk.
+    // What calls see of the folder, and what is durable.
     ghost directory: { Self → Directory };
 
     // The premise: so far the file system did what the folder's calls promise. If it holds after a call, it

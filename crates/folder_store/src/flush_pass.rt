@@ -4,7 +4,7 @@ ghost use Rattle.std.specs.Prelude.{◌≡◌, ℕ, List, ◌||◌, bytes_eq, no
 ghost use Rattle.std.specs.List.{filter};
 ghost use Rattle.mail_store.specs.FileName.{stem};
 ghost use Rattle.mail_store.specs.Held.{has_text};
-ghost use Rattle.folder_store.specs.FlushPass.{has_flushed, has_missed, is_settled};
+ghost use Rattle.folder_store.specs.FlushPass.{has_flushed, has_missed, was_flushed};
 
 use mail_store::stem;
 use std::alloc::{AllocError, Global};
@@ -60,7 +60,7 @@ pub fn unsettled<'a>(
     stems: &[&'a str],
     found: &[Found],
 ) -> Result<Vec<&'a str>, AllocError>
-    ensures { IfOk result (λ left. left.items ≡ filter (λ stem. not (is_settled found.now stem.now)) stems.now) }
+    ensures { IfOk result (λ left. left.items ≡ filter (λ stem. not (was_flushed found.now stem.now)) stems.now) }
 {
     let mut flushed = BTreeSet::new(alloc);
     let mut missed = BTreeSet::new(alloc);

@@ -60,7 +60,7 @@ pub struct Handles<F: Drop> {
     left: Option<FileState>,
     /// The folder itself, from its first flush on.
     names: Option<Names<F>>,
-    /// Whether the system flushes no folders, so that the names may not be on the disk.
+    /// Whether the system flushes no folders, so that the names may not be durable.
     is_unflushed: bool,
 }
 

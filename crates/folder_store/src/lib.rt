@@ -1,6 +1,7 @@
 //! A Maildir and files in folders of a file system.
 #![tactic(auto)]
 
+mod cut_off;
 mod durable_file;
 mod durable_names;
 mod exact_listing;
@@ -16,7 +17,6 @@ mod laws;
 mod mail_folders;
 mod maildir;
 mod process_mark;
-mod rests;
 mod system;
 mod tally;
 

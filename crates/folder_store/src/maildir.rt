@@ -5,7 +5,7 @@ ghost use Rattle.mail_terms.specs.FailureCount.{greatest_count};
 ghost use Rattle.folder_store.specs.MailFolders.{draft_begun, maildir_in, unknown_maildir};
 ghost use Rattle.folder_store.specs.NewDevices.{LeftMaildirsStay, LossesMayLeave, NewMaildirsKeepMail};
 
-use crate::durable_names::{put_for_good, told_names, told_names_of};
+use crate::durable_names::{put_durably, told_names, told_names_of};
 use crate::file_folder::NewFile;
 use crate::host_folders::HostFolders;
 use crate::mail_folders::{MailFolders, Sought};
@@ -185,7 +185,7 @@ impl<F: MailFolders + Drop> MaildirDisk for FolderMaildir<F> {
             self.folders.discard(file);
             return Err(refuse(&mut self.failures));
         }
-        match put_for_good(&mut self.folders, file, name) {
+        match put_durably(&mut self.folders, file, name) {
             Ok(()) => Ok(()),
             Err(_) => Err(refuse(&mut self.failures)),
         }

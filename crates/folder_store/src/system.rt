@@ -25,8 +25,8 @@ pub fn make_file<'a, R: Files + AllocGlobal>(
     )
 }
 
-/// Flushes the names of a folder to the disk, so that they outlive a loss of power. False if the system
-/// flushes no folders, which is no fault.
+/// Flushes the names of a folder to the disk. False if the system flushes no folders, which is no
+/// fault.
 pub fn flush_folder<F: OpenFile>(folder: &F, refusals: &Refusals) -> io::Result<bool> {
     match folder.sync_all() {
         Ok(()) => Ok(true),

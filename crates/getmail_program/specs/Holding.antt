@@ -14,7 +14,7 @@ use Rattle.fetch_session.specs.declared.report.Outcome.TheVariants.{Ended, Cut}
 use Rattle.rc_file.specs.declared.settings.Settings.{Settings}
 use Rattle.fetch_session.specs.Account.{Holding, digits_of}
 use Rattle.fetch_session.specs.declared.account.Store.{Store}
-use Rattle.fetch_session.specs.Lasting.{RunsSession}
+use Rattle.fetch_session.specs.Durable.{RunsSession}
 use Rattle.fetch_session.specs.Pretend.{Pretends, preview_told, told_nothing}
 use Rattle.fetch_session.specs.Refusal.{IsWithinLimits}
 use Rattle.fetch_session.specs.Session.{keeping}

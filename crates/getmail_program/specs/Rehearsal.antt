@@ -9,7 +9,7 @@ use Rattle.rc_file.specs.Settings.{Content, content_of, maildir}
 use Rattle.rc_file.specs.declared.flags.Flags.{Flags}
 use Rattle.rc_file.specs.declared.settings.Settings.{Settings}
 use Rattle.fetch_session.specs.Account.{Holding}
-use Rattle.fetch_session.specs.Lasting.{RunsSession}
+use Rattle.fetch_session.specs.Durable.{RunsSession}
 use Rattle.fetch_session.specs.declared.account.Store.{Store}
 use Rattle.fetch_session.specs.declared.report.Outcome.{Outcome}
 use Rattle.fetch_session.specs.declared.report.Outcome.TheVariants.{Ended}

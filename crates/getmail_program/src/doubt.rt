@@ -3,7 +3,7 @@ ghost use Rattle.std.specs.Prelude.{◌≡◌, IfSome};
 ghost use Rattle.std.specs.List.{list_any};
 ghost use Rattle.getmail_program.specs.Holding.{Doubts, RefusesFile, SaysAhead, would_store};
 
-use crate::told::Manner;
+use crate::told::RunTerms;
 use fetch_rules::Dest;
 use fetch_session::{Fault, Outcome, Preview, Why};
 use getmail_setup::joined;
@@ -70,7 +70,7 @@ fn doubt_of<R: Files + AllocGlobal>(
 pub fn said_ahead<R: Files + AllocGlobal>(
     system: &System<'_, R>,
     dest: &Dest,
-    manner: &Manner<'_>,
+    terms: &RunTerms<'_>,
     preview: Preview,
 ) -> Preview
     ensures { SaysAhead dest.now preview result }
@@ -78,7 +78,7 @@ pub fn said_ahead<R: Files + AllocGlobal>(
     if let Outcome::Cut(_) = preview.outcome {
         return preview;
     }
-    match doubt_of(system, dest, manner.destination, &preview) {
+    match doubt_of(system, dest, terms.destination, &preview) {
         Some(fault) => Preview {
             outcome: Outcome::Cut(fault),
             total: preview.total,

@@ -8,7 +8,7 @@ use crate::fault_line::put_fault;
 use crate::findings::findings_on;
 use crate::left_out::tell_left_out;
 use crate::reason::reasons_said;
-use crate::told::{Manner, Told};
+use crate::told::{RunTerms, Told};
 use fetch_rules::Settings;
 use fetch_session::{LeftOut, Outcome, fault_number};
 use getmail_setup::{Errors, OUT_OF_MEMORY, Output, OutputRefusal, Subject};
@@ -42,13 +42,13 @@ fn put_outcome<E: Write>(alloc: Global, outcome: &Outcome, err: &mut Output<E>)
 fn tell_cut<E: Write>(
     alloc: Global,
     settings: &Settings,
-    manner: &Manner<'_>,
+    terms: &RunTerms<'_>,
     outcome: &Outcome,
     errors: &mut Errors<'_, E>,
 )
     ensures { TellsCut E.contents settings.now outcome.now errors.old errors.new }
 {
-    let found = findings_on(alloc, outcome, manner, errors);
+    let found = findings_on(alloc, outcome, terms, errors);
     let reasons = reasons_said(alloc, settings, errors.says_why, outcome, &found);
     put_outcome(alloc, outcome, &mut errors.err);
     match reasons {
@@ -121,7 +121,7 @@ fn note_end<E>(status: u8, errors: &Errors<'_, E>) {
 pub fn tell_all<E: Write>(
     alloc: Global,
     settings: &Settings,
-    manner: &Manner<'_>,
+    terms: &RunTerms<'_>,
     told: &Told,
     refusal: Option<OutputRefusal>,
     errors: &mut Errors<'_, E>,
@@ -130,7 +130,7 @@ pub fn tell_all<E: Write>(
     ensures told { TellsErrors E.contents settings.now told.now refusal errors.old result errors.new }
 {
     let outcome = told.outcome();
-    tell_cut(alloc, settings, manner, &outcome, errors);
+    tell_cut(alloc, settings, terms, &outcome, errors);
     errors.err.put(unwritten_line(&outcome, refusal).as_bytes());
     errors.close(Subject::Fault);
     tell_left_out(alloc, settings, told, errors);

@@ -8,8 +8,8 @@ ghost use Rattle.getmail_program.specs.declared.told.Told.{Told};
 
 use crate::devices::{Devices, seconds_now};
 use crate::reason::line_of;
-use crate::run::{Left, Parts, fetch_with};
-use crate::told::Manner;
+use crate::run::{Parts, RunEnd, fetch_with};
+use crate::told::RunTerms;
 use fetch_rules::Settings;
 use getmail_setup::{Errors, Output, Paths, ShownWire, Subject};
 use pop3_wire::Wire;
@@ -53,7 +53,7 @@ fn tell_store_refusal<E: Write>(alloc: Global, settings: &Settings, errors: &mut
 fn tell_store<'a, M: Devices<'a>, E: Write>(
     alloc: Global,
     devices: &M,
-    left: &Left<M::Maildir, M::File>,
+    left: &RunEnd<M::Maildir, M::File>,
     rests: &str,
     errors: &mut Errors<'_, E>,
 ) {
@@ -72,7 +72,7 @@ fn tell_store<'a, M: Devices<'a>, E: Write>(
 fn tell_unflushed<'a, M: Devices<'a>, E: Write>(
     alloc: Global,
     devices: &M,
-    left: &Left<M::Maildir, M::File>,
+    left: &RunEnd<M::Maildir, M::File>,
     errors: &mut Errors<'_, E>,
 ) {
     let found = devices.unflushed(&left.store, &left.seen_file);
@@ -127,14 +127,14 @@ where
         settings,
         hasher,
     };
-    let manner = Manner {
+    let terms = RunTerms {
         now: seconds_now(rt),
         destination: paths.destination.as_str(),
         record: paths.record.as_str(),
         pretends,
         explains: errors.explains,
     };
-    let left = fetch_with(rt, parts, &mut wire, manner, out, &mut errors);
+    let left = fetch_with(rt, parts, &mut wire, terms, out, &mut errors);
     tell_store(
         rt.alloc(),
         devices,

@@ -1,5 +1,5 @@
 //! What was noted of a session that a fault cut.
-use crate::told::Manner;
+use crate::told::RunTerms;
 use fetch_session::{Fault, Outcome, Why};
 use getmail_setup::{Errors, SILENT};
 use std::alloc::{AllocError, Global};
@@ -78,15 +78,15 @@ fn nothing(alloc: Global) -> Findings {
 pub fn findings_on<E>(
     alloc: Global,
     outcome: &Outcome,
-    manner: &Manner<'_>,
+    terms: &RunTerms<'_>,
     errors: &Errors<'_, E>,
 ) -> Findings {
     match (outcome, errors.says_why) {
         (Outcome::Cut(fault), true) => Findings {
             said: errors.reasons.talk.take(),
             refused: refused_for(alloc, errors, fault),
-            destination: copied(alloc, manner.destination),
-            record: copied(alloc, manner.record),
+            destination: copied(alloc, terms.destination),
+            record: copied(alloc, terms.record),
         },
         _ => nothing(alloc),
     }

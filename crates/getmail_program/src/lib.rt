@@ -26,4 +26,4 @@ pub use fetch::{Machine, RunSetup};
 pub use rehearsal::rehearse;
 pub use run::fetch_over;
 pub use start::obey_command_line;
-pub use told::{Manner, Told};
+pub use told::{RunTerms, Told};

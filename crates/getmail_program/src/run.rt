@@ -8,7 +8,7 @@ ghost use Rattle.getmail_program.specs.Telling.{TellsAll};
 ghost use Rattle.getmail_program.specs.declared.told.Told.{Told};
 
 use crate::ending::{Fetched, tell_all};
-use crate::told::{Manner, hold};
+use crate::told::{RunTerms, hold};
 use fetch_rules::Settings;
 use fetch_session::{Account, Store};
 use getmail_setup::{Errors, Output, ShownWire};
@@ -34,7 +34,7 @@ pub fn fetch_over<
     rt: &R,
     account: &mut Account<D, F, H>,
     wire: &mut ShownWire<W, S>,
-    manner: Manner<'_>,
+    terms: RunTerms<'_>,
     out: &mut Output<O>,
     errors: &mut Errors<'_, E>,
 ) -> Fetched
@@ -42,18 +42,18 @@ pub fn fetch_over<
     ensures kind { kind_of account.new.store ≡ kind_of account.old.store }
     ensures within { result.status ≤ 1 }
     ensures fetched { (told : Told)
-        × HoldsSession W.Wire D.MaildirDisk F.FlatFile manner.entry.pretends manner.entry.now account.old
+        × HoldsSession W.Wire D.MaildirDisk F.FlatFile terms.entry.pretends terms.entry.now account.old
         wire.old.wire told
         account.new wire.new.wire
-        × TellsAll O.contents E.contents manner.entry.explains account.old.settings
-        (IsPlanOf W.Wire D.MaildirDisk F.FlatFile manner.entry.now account.old wire.old.wire account.new wire.new.wire)
+        × TellsAll O.contents E.contents terms.entry.explains account.old.settings
+        (IsPlanOf W.Wire D.MaildirDisk F.FlatFile terms.entry.now account.old wire.old.wire account.new wire.new.wire)
         told out.old errors.old result out.new errors.new }
 {
     let reasons = errors.reasons;
     let system = System::new(rt, &reasons.store);
-    let told = hold(&system, account, wire, manner, out);
+    let told = hold(&system, account, wire, terms, out);
     let settings = account.settings();
-    tell_all(rt.alloc(), settings, &manner, &told, out.refusal(), errors)
+    tell_all(rt.alloc(), settings, &terms, &told, out.refusal(), errors)
 }
 
 /// What an account is made of.
@@ -66,14 +66,14 @@ pub struct Parts<D, F, H> {
 
 /// What a run leaves, and how it came out.
 #[derive(Drop)]
-pub struct Left<D, F> {
+pub struct RunEnd<D, F> {
     pub settings: Settings,
     pub store: Store<D, F>,
     pub seen_file: F,
     pub fetched: Fetched,
 }
 
-impl<D: Drop, F: Drop> Left<D, F> {
+impl<D: Drop, F: Drop> RunEnd<D, F> {
     /// The exit status. The devices are dropped here, where nothing is known of their types: that is proved at once.
     pub fn into_status(self) -> u8
         ensures { result ≡ self.fetched.status }
@@ -96,21 +96,21 @@ pub fn fetch_with<
     rt: &R,
     parts: Parts<D, F, H>,
     wire: &mut ShownWire<W, S>,
-    manner: Manner<'_>,
+    terms: RunTerms<'_>,
     out: &mut Output<O>,
     errors: &mut Errors<'_, E>,
-) -> Left<D, F>
+) -> RunEnd<D, F>
     requires valid { IsValid parts.settings }
     requires none_begun { NoneBegun D.MaildirDisk F.FlatFile parts.store }
     ensures settings { result.settings ≡ parts.settings }
     ensures kind { kind_of result.store ≡ kind_of parts.store }
     ensures within { result.fetched.status ≤ 1 }
     ensures fetched { (told : Told)
-        × HoldsSession W.Wire D.MaildirDisk F.FlatFile manner.entry.pretends manner.entry.now
+        × HoldsSession W.Wire D.MaildirDisk F.FlatFile terms.entry.pretends terms.entry.now
         (holding_of parts.settings parts.store parts.seen_file) wire.old.wire told
         (holding_of result.settings result.store result.seen_file) wire.new.wire
-        × TellsAll O.contents E.contents manner.entry.explains parts.settings
-        (IsPlanOf W.Wire D.MaildirDisk F.FlatFile manner.entry.now
+        × TellsAll O.contents E.contents terms.entry.explains parts.settings
+        (IsPlanOf W.Wire D.MaildirDisk F.FlatFile terms.entry.now
         (holding_of parts.settings parts.store parts.seen_file) wire.old.wire
         (holding_of result.settings result.store result.seen_file) wire.new.wire)
         told out.old errors.old result.fetched out.new errors.new }
@@ -122,9 +122,9 @@ pub fn fetch_with<
         hasher,
     } = parts;
     let mut account = Account::new(rt.alloc(), settings, store, seen_file, hasher);
-    let fetched = fetch_over(rt, &mut account, wire, manner, out, errors);
+    let fetched = fetch_over(rt, &mut account, wire, terms, out, errors);
     let (settings, store, seen_file) = account.into_parts();
-    Left {
+    RunEnd {
         settings,
         store,
         seen_file,

@@ -4,7 +4,7 @@ ghost use Rattle.fetch_session.specs.Hearing.{IsPlanOf};
 ghost use Rattle.fetch_session.specs.Reasons.{told_report};
 ghost use Rattle.fetch_session.specs.Target.{kind_of};
 ghost use Rattle.fetch_session.specs.Telling.{preview_text};
-ghost use Rattle.fetch_session.specs.Lasting.{RunsSession};
+ghost use Rattle.fetch_session.specs.Durable.{RunsSession};
 ghost use Rattle.fetch_session.specs.Refusal.{IsWithinLimits};
 ghost use Rattle.getmail_program.specs.Holding.{HoldsSession};
 ghost use Rattle.getmail_setup.specs.Output.{Puts};
@@ -28,7 +28,7 @@ use system_calls::System;
 
 /// When a session is, where its texts go, and what is said of it.
 #[derive(Clone, Copy)]
-pub struct Manner<'a> {
+pub struct RunTerms<'a> {
     /// In seconds since 1970.
     pub now: u64,
     /// The destination's path.
@@ -128,24 +128,24 @@ fn hold_telling<W: Wire, S: Write, D: MaildirDisk, F: FlatFile, H: BuildHasher, 
     alloc: Global,
     account: &mut Account<D, F, H>,
     wire: &mut ShownWire<W, S>,
-    manner: Manner<'_>,
+    terms: RunTerms<'_>,
     out: &mut Output<O>,
 ) -> (Report, Notes)
     ensures settings { account.new.settings ≡ account.old.settings }
     ensures kind { kind_of account.new.store ≡ kind_of account.old.store }
     ensures limits { IsWithinLimits W.Wire wire.old.wire result.0 wire.new.wire }
-    ensures runs { RunsSession W.Wire D.MaildirDisk F.FlatFile manner.entry.now account.old wire.old.wire result.0
+    ensures runs { RunsSession W.Wire D.MaildirDisk F.FlatFile terms.entry.now account.old wire.old.wire result.0
         account.new wire.new.wire }
     ensures told { TellsEarly O.contents account.old.settings out.old result.1.written.items out.new }
     ensures plan { (result.1.plan.items ≡ [])
-        ⊎ IsPlanOf W.Wire D.MaildirDisk F.FlatFile manner.entry.now account.old wire.old.wire account.new wire.new.wire
+        ⊎ IsPlanOf W.Wire D.MaildirDisk F.FlatFile terms.entry.now account.old wire.old.wire account.new wire.new.wire
         result.0 result.1.plan.items }
 {
     let mut notes = Notes::new(alloc);
     let verbose = account.settings().verbose;
-    let mut teller = Teller::new(alloc, out, &mut notes, verbose, manner.explains);
+    let mut teller = Teller::new(alloc, out, &mut notes, verbose, terms.explains);
     teller.put(heading(alloc, account.settings()));
-    let report = hold_over(account, wire, manner.now, &mut teller);
+    let report = hold_over(account, wire, terms.now, &mut teller);
     (report, notes)
 }
 
@@ -161,20 +161,20 @@ fn hold_run<W: Wire, S: Write, D: MaildirDisk, F: FlatFile, H: BuildHasher, O: W
     alloc: Global,
     account: &mut Account<D, F, H>,
     wire: &mut ShownWire<W, S>,
-    manner: Manner<'_>,
+    terms: RunTerms<'_>,
     out: &mut Output<O>,
 ) -> Told
     ensures settings { account.new.settings ≡ account.old.settings }
     ensures kind { kind_of account.new.store ≡ kind_of account.old.store }
-    ensures held { HoldsSession W.Wire D.MaildirDisk F.FlatFile false manner.entry.now account.old wire.old.wire result
+    ensures held { HoldsSession W.Wire D.MaildirDisk F.FlatFile false terms.entry.now account.old wire.old.wire result
         account.new wire.new.wire }
-    ensures reported { Reported O.contents manner.entry.explains account.old.settings
-        (IsPlanOf W.Wire D.MaildirDisk F.FlatFile manner.entry.now account.old wire.old.wire account.new wire.new.wire)
+    ensures reported { Reported O.contents terms.entry.explains account.old.settings
+        (IsPlanOf W.Wire D.MaildirDisk F.FlatFile terms.entry.now account.old wire.old.wire account.new wire.new.wire)
         result out.old out.new }
 {
-    let (report, notes) = hold_telling(alloc, account, wire, manner, out);
+    let (report, notes) = hold_telling(alloc, account, wire, terms, out);
     wire.wipe();
-    let plan = asked_for(manner.explains, &notes.plan);
+    let plan = asked_for(terms.explains, &notes.plan);
     put_report(
         alloc,
         &report,
@@ -199,21 +199,21 @@ fn hold_preview<
     system: &System<'_, R>,
     account: &mut Account<D, F, H>,
     wire: &mut ShownWire<W, S>,
-    manner: Manner<'_>,
+    terms: RunTerms<'_>,
     out: &mut Output<O>,
 ) -> Told
     ensures settings { account.new.settings ≡ account.old.settings }
     ensures kind { kind_of account.new.store ≡ kind_of account.old.store }
-    ensures held { HoldsSession W.Wire D.MaildirDisk F.FlatFile true manner.entry.now account.old wire.old.wire result
+    ensures held { HoldsSession W.Wire D.MaildirDisk F.FlatFile true terms.entry.now account.old wire.old.wire result
         account.new wire.new.wire }
-    ensures reported { Reported O.contents manner.entry.explains account.old.settings
-        (IsPlanOf W.Wire D.MaildirDisk F.FlatFile manner.entry.now account.old wire.old.wire account.new wire.new.wire)
+    ensures reported { Reported O.contents terms.entry.explains account.old.settings
+        (IsPlanOf W.Wire D.MaildirDisk F.FlatFile terms.entry.now account.old wire.old.wire account.new wire.new.wire)
         result out.old out.new }
 {
-    let preview = pretend(account, wire, manner.now);
+    let preview = pretend(account, wire, terms.now);
     wire.wipe();
     let settings = account.settings();
-    let said = said_ahead(system, &settings.dest, &manner, preview);
+    let said = said_ahead(system, &settings.dest, &terms, preview);
     put_preview(system.alloc(), &said, settings, out);
     Told::Ahead(said)
 }
@@ -232,20 +232,20 @@ pub fn hold<
     system: &System<'_, R>,
     account: &mut Account<D, F, H>,
     wire: &mut ShownWire<W, S>,
-    manner: Manner<'_>,
+    terms: RunTerms<'_>,
     out: &mut Output<O>,
 ) -> Told
     ensures settings { account.new.settings ≡ account.old.settings }
     ensures kind { kind_of account.new.store ≡ kind_of account.old.store }
-    ensures held { HoldsSession W.Wire D.MaildirDisk F.FlatFile manner.entry.pretends manner.entry.now account.old
+    ensures held { HoldsSession W.Wire D.MaildirDisk F.FlatFile terms.entry.pretends terms.entry.now account.old
         wire.old.wire result
         account.new wire.new.wire }
-    ensures reported { Reported O.contents manner.entry.explains account.old.settings
-        (IsPlanOf W.Wire D.MaildirDisk F.FlatFile manner.entry.now account.old wire.old.wire account.new wire.new.wire)
+    ensures reported { Reported O.contents terms.entry.explains account.old.settings
+        (IsPlanOf W.Wire D.MaildirDisk F.FlatFile terms.entry.now account.old wire.old.wire account.new wire.new.wire)
         result out.old out.new }
 {
-    if manner.pretends {
-        return hold_preview(system, account, wire, manner, out);
+    if terms.pretends {
+        return hold_preview(system, account, wire, terms, out);
     }
-    hold_run(system.alloc(), account, wire, manner, out)
+    hold_run(system.alloc(), account, wire, terms, out)
 }

@@ -13,7 +13,7 @@ use Rattle.fetch_session.specs.Target.{is_sound, mail_in}
 use Rattle.fetch_runs.specs.Promises.{Devices, IsOf, state_with}
 use Rattle.fetch_runs.specs.Sessions.{MboxMail}
 use Rattle.fetch_runs.specs.Promises.{MboxStarts}
-use Rattle.fetch_runs.specs.Calls.{Called, CallsKeepPromises, EmptyAccountsAreKept, IsCall, Left, with_left}
+use Rattle.fetch_runs.specs.Calls.{Called, CallsKeepPromises, EmptyAccountsHold, IsCall, Left, with_left}
 use Rattle.fetch_runs.specs.Calls.{MboxCallsKeepPromises}
 use Rattle.local_fetch.specs.Local.{loop_to}
 use Rattle.local_fetch.specs.Fetches.{Fetch, FetchesFromNothing, FetchesKeepPromises, IsFetch, MboxFetchesFromNothing}
@@ -89,7 +89,7 @@ module _ {M D F : Type 0} (link : WireGhosts (Loop M)) (disk : DiskGhosts D) (fi
 -- ---- from nothing on
 
 pub from_nothing : {M D F : Type 0} (link : WireGhosts (Loop M)) (disk : DiskGhosts D) (file : FileGhosts F) (drop : DropGhosts M)
-    → EmptyAccountsAreKept → FetchesKeepPromises link disk file drop → FetchesFromNothing link disk file drop
+    → EmptyAccountsHold → FetchesKeepPromises link disk file drop → FetchesFromNothing link disk file drop
 from_nothing link disk file drop empty law mail devices list no_file no_record =
     let state = nothing_yet (disk.maildir devices.store) in
     law mail state devices list (record { intent = None; record_is = rw no_record (refl, refl); maildir = refl })

@@ -17,7 +17,7 @@ use Rattle.fetch_runs.proofs.Core.{all_at_most}
 use Rattle.fetch_runs.proofs.Lists.{all_append, all_back, all_both, all_filter}
 use Rattle.pop3_wire.specs.declared.command.Command.{Command}
 use Rattle.pop3_wire.specs.declared.command.Command.TheVariants.{Dele}
-use Rattle.fetch_runs.specs.Calls.{Called, EmptyAccountsAreKept, with_left}
+use Rattle.fetch_runs.specs.Calls.{Called, EmptyAccountsHold, with_left}
 use Rattle.local_fetch.specs.Fetches.{FetchesKeepPromises, FirstFetchesKeepMail, as_call, nothing_yet}
 use Rattle.local_fetch.specs.Fetches.{MboxFetchesKeepPromises, MboxFirstFetchesKeepMail}
 use Rattle.local_fetch.proofs.FetchLemmas.{from_nothing, mbox_from_nothing}
@@ -69,7 +69,7 @@ wanted_by call is_known is_too {P = P} {Too = Too} wanted same all by =
     (count, all_both _ each (all_append P _ _ (all_filter P _ _ all) (all_at_most P _ _ (all_filter P _ _ all))) by))
 
 pub keep_mail : {M D F : Type 0} (link : WireGhosts (Loop M)) (disk : DiskGhosts D) (file : FileGhosts F) (drop : DropGhosts M)
-    → EmptyAccountsAreKept → FetchesKeepPromises link disk file drop → FirstFetchesKeepMail link disk file drop
+    → EmptyAccountsHold → FetchesKeepPromises link disk file drop → FirstFetchesKeepMail link disk file drop
 keep_mail link disk file drop empty law mail devices fetch no_file no_record account_is is =
     let (shows, kept, then) = from_nothing link disk file drop empty law mail devices (Called fetch ∷ []) no_file no_record in
     let (vanished, removed, promised, (shows', kept')) = then account_is is in

@@ -37,7 +37,7 @@ use Rattle.fetch_session.proofs.ServedLemmas.{reads_all}
 use Rattle.fetch_session.specs.Cuts.{ArePlanned, Extends}
 use Rattle.fetch_session.specs.Opening.{SessionOpened, opening}
 use Rattle.fetch_session.specs.CarryingOut.{tasks_ahead}
-use Rattle.fetch_session.specs.Served.{AreAnswered, ServedSessionsStoreAll, refused_in}
+use Rattle.fetch_session.specs.Served.{AreAnswered, GoodSessionsStoreAll, refused_in}
 use Rattle.fetch_session.specs.Readiness.{merged_in}
 use Rattle.fetch_session.specs.Session.{Keeping, SessionIn, keeping}
 use Rattle.fetch_session.specs.Target.{AsEntries, AsFiles, Stores, Target, held_flags, stores_of, with_maildir}
@@ -235,7 +235,7 @@ none_refused AsEntries store left taken = refl
 
 pub good_fetches : {M D F : Type 0} (link : WireGhosts (Loop M)) (disk : DiskGhosts D) (file : FileGhosts F) (drop : DropGhosts M)
     → ((w : Loop M) → link.history w ≡ w.link) → ((u v : Loop M) → link.leads_to u v → Serves drop.sound drop.mail u v)
-    → ServedSessionsStoreAll → GoodFetchesStoreAll link disk file drop
+    → GoodSessionsStoreAll → GoodFetchesStoreAll link disk file drop
 good_fetches link disk file drop history leads law now old server report new wire fetched store_sound file_sound drop_sound good =
     let (wire_was, store_was, file_was, led, (left, taken, ran)) = fetched.made.2 fetched.link_sound store_sound file_sound in
     let stores = with_maildir (stores_of disk file old.store) left in

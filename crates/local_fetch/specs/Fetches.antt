@@ -27,7 +27,7 @@ use Rattle.fetch_session.specs.declared.report.Report.{Report}
 use Rattle.fetch_session.specs.Account.{digits_of}
 use Rattle.fetch_session.specs.Target.{is_sound, mail_in}
 use Rattle.fetch_runs.specs.Accounts.{AccountMail, copies, message_ids}
-use Rattle.fetch_runs.specs.Promises.{Call, Devices, IsBetween, IsMaildrop, Kept, Mail, State, state_with}
+use Rattle.fetch_runs.specs.Promises.{Call, Devices, IsBetween, IsMaildrop, Invariant, Mail, State, state_with}
 use Rattle.fetch_runs.specs.Sessions.{MboxMail, entries_of, is_retr}
 use Rattle.fetch_runs.specs.Promises.{AppendsMail, Base, FetchesWanted, HoldsEntries}
 use Rattle.fetch_runs.specs.Calls.{Called, Happening, HoldsNoMore, IsLeftByLoss, IsPromised, Left, Shows}
@@ -81,20 +81,21 @@ ServerRemoves drop fetch vanished = AreWithout (shown_by drop fetch.server) vani
 
 -- ---- with a Maildir
 
--- the devices show a kept state; if the next of these happens, a call keeps its promises, and they do so after it, and
--- after others or a loss of power. What such a loss takes, if it can do no harm, doesn't count as taken away
+-- the devices show a state with the invariant; if the next of these happens, a call keeps its promises, and they do so
+-- after it, and after others or a loss of power. What such a loss takes, if it can do no harm, doesn't count as taken
+-- away
 abbrev pub KeepPromises : {M D F : Type 0} → WireGhosts (Loop M) → DiskGhosts D → FileGhosts F → DropGhosts M → Mail
     → State → Devices D F → List (Happening (Fetch M D F) (Devices D F) AccountMail) → Type 0
-KeepPromises link disk file drop mail state devices [] = Shows disk file devices state.account × Kept mail state
+KeepPromises link disk file drop mail state devices [] = Shows disk file devices state.account × Invariant mail state
 KeepPromises link disk file drop mail state devices (Called fetch ∷ later) = Shows disk file devices state.account
-    × Kept mail state × (digits_of fetch.settings ≡ mail.account
+    × Invariant mail state × (digits_of fetch.settings ≡ mail.account
     → IsFetch link disk file drop InMaildir mail.text devices fetch
     → (vanished : List (List ℕ)) × ServerRemoves drop fetch vanished
     × (is : IsPromised link disk file mail state devices (as_call drop fetch vanished))
     × KeepPromises link disk file drop mail (state_with mail (with_left mail state is.left) vanished is.after)
     fetch.after later)
 KeepPromises link disk file drop mail state devices (Left left account ∷ later) = Shows disk file devices state.account
-    × Kept mail state × (Shows disk file left account → IsBetween mail state.account account
+    × Invariant mail state × (Shows disk file left account → IsBetween mail state.account account
     → let next = state_with mail state [] account in
     (KeepsDurable file mail.account state.account devices.file left.file account
     → (IsCrashSafe (file.disk devices.file) mail state → IsCrashSafe (file.disk left.file) mail next)
@@ -104,12 +105,12 @@ KeepPromises link disk file drop mail state devices (Left left account ∷ later
     → let next : State = record state { account = account } in IsCrashSafe (file.disk left.file) mail next
     × KeepsFronts mail state next × KeepPromises link disk file drop mail next left later)
 
--- a law: so it is of any list, from a kept state on
+-- a law: so it is of any list, from a state with the invariant on
 abbrev pub FetchesKeepPromises : {M D F : Type 0} → WireGhosts (Loop M) → DiskGhosts D → FileGhosts F → DropGhosts M
     → Type 0
 FetchesKeepPromises {M} {D} {F} link disk file drop = (mail : Mail) (state : State) (devices : Devices D F)
     (list : List (Happening (Fetch M D F) (Devices D F) AccountMail)) → Shows disk file devices state.account
-    → Kept mail state → KeepPromises link disk file drop mail state devices list
+    → Invariant mail state → KeepPromises link disk file drop mail state devices list
 
 -- nothing was fetched yet: there is no row, and nothing is gone or was taken away
 abbrev pub nothing_yet : Maildir → State

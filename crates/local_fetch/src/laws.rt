@@ -7,10 +7,10 @@ ghost use Rattle.local_fetch.specs.Good.{GoodFetchesStoreAll};
 
 use crate::loop_wire::LoopWire;
 use fetch_runs::{
-    calls_keep_promises, empty_accounts_are_kept, headline, mbox_calls_keep_promises,
-    mbox_headline, mbox_starts,
+    calls_keep_promises, empty_accounts_hold, headline, mbox_calls_keep_promises, mbox_headline,
+    mbox_starts,
 };
-use fetch_session::served_sessions_store_all;
+use fetch_session::good_sessions_store_all;
 use folder_store::{FolderMaildir, HostFile};
 use mail_store::{FlatFile, MaildirDisk, MemoryFile, MemoryMaildir};
 use pop3_server::{Maildrop, MemoryDrop};
@@ -52,7 +52,7 @@ pub fn first_fetches_keep_mail<M: Maildrop, D: MaildirDisk, F: FlatFile>()
     ensures { FirstFetchesKeepMail ⟦<LoopWire<M> as Wire>⟧ D.MaildirDisk F.FlatFile M.Maildrop }
 {
     fetches_keep_promises::<M, D, F>();
-    empty_accounts_are_kept();
+    empty_accounts_hold();
 }
 
 /// A law: all that `mbox_calls_keep_promises` promises holds of any list of calls of
@@ -81,7 +81,7 @@ pub fn promises_hold_in_memory()
         ⟦<MemoryFile as FlatFile>⟧ ⟦<MemoryDrop as Maildrop>⟧ }
 {
     fetches_keep_promises::<MemoryDrop, MemoryMaildir, MemoryFile>();
-    empty_accounts_are_kept();
+    empty_accounts_hold();
 }
 
 /// The same over folders in memory, where a mail reader moves files and takes them away before each call.
@@ -90,7 +90,7 @@ pub fn promises_hold_in_folders<'a>()
         ⟦<HostFile<'a, MemoryFolder> as FlatFile>⟧ ⟦<MemoryDrop as Maildrop>⟧ }
 {
     fetches_keep_promises::<MemoryDrop, FolderMaildir<MemoryFolders>, HostFile<'a, MemoryFolder>>();
-    empty_accounts_are_kept();
+    empty_accounts_hold();
 }
 
 /// The same for an mboxrd file in memory, whatever it holds at first, if each call reads only what is new.
@@ -119,7 +119,7 @@ pub fn mbox_promises_hold_in_folders<'a>()
 pub fn good_fetches_store_all<M: Maildrop, D: MaildirDisk, F: FlatFile>()
     ensures { GoodFetchesStoreAll ⟦<LoopWire<M> as Wire>⟧ D.MaildirDisk F.FlatFile M.Maildrop }
 {
-    served_sessions_store_all();
+    good_sessions_store_all();
 }
 
 /// The same in memory.

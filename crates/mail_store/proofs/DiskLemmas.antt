@@ -13,12 +13,12 @@ use Rattle.std.specs.List.{list_all}
 use Rattle.mail_terms.specs.FailureCount.{is_refused}
 use Rattle.mail_store.specs.declared.fault.StoreFault.{StoreFault}
 use Rattle.mail_store.specs.declared.fault.StoreFault.TheVariants.{Missing, Refused, NotMbox, NoMemory}
-use Rattle.mail_store.specs.DiskCalls.{appended, cut, flushed, doubted, MayBeFlushed, all_flushed, MayFlush, DeniesDisk}
+use Rattle.mail_store.specs.DiskCalls.{appended, cut, flushed, doubted, MayBeFlushed, all_flushed, MayFlush, FailsDisk}
 use Rattle.mail_store.specs.DiskCalls.{FlushesDisk, Becomes, BecomesInPart, IsSoFar, IsPartAppended, IsFrontAppended}
-use Rattle.mail_store.specs.DiskCalls.{AppendsDisk, CutsDisk, ReplacesDisk, FlushesForGood, AppendsForGood, CutsForGood}
-use Rattle.mail_store.specs.DiskCalls.{ReplacesForGood, FlushesLast, AppendsLast, CutsLast, ReplacesLast}
+use Rattle.mail_store.specs.DiskCalls.{AppendsDisk, CutsDisk, ReplacesDisk, DurableFlush, DurableAppend, DurableCutTo}
+use Rattle.mail_store.specs.DiskCalls.{DurableReplace, DurableFlushes, DurableAppends, DurableCuts, DurableReplaces}
 use Rattle.mail_store.specs.Durable.{Blob, Disk, IsByteLeft, IsDurable, IsFlushed, IsLeft, IsLeftOf, IsLeftOfOne}
-use Rattle.mail_store.specs.Durable.{IsSure, IsTorn, MayLeave, all_durable, content_in, secured, seen_on}
+use Rattle.mail_store.specs.Durable.{Trusted, IsTorn, MayLeave, all_durable, content_in, secured, seen_on}
 use Rattle.mail_store.specs.FlatFile.{Stored, Appends, Cuts, Replaces}
 use Rattle.mail_store.specs.Power.{IsLonger, LeavesNoMore, LeavesPart}
 use Rattle.mail_store.specs.Settling.{block_size, MayBeLeft}
@@ -28,15 +28,15 @@ use Rattle.mail_store.proofs.SettlingLemmas.{part_left}
 -- ---- flushes
 
 -- a file of which no flush was refused is durable once it is flushed, and another as it was
-flushed_sure : (b : Blob) → b.is_doubted ≡ false → flushed b ≡ secured b.content
-flushed_sure b sure = rw sure refl
+flushed_trust : (b : Blob) → b.is_doubted ≡ false → flushed b ≡ secured b.content
+flushed_trust b trust = rw trust refl
 
 flushed_doubted : (b : Blob) → b.is_doubted ≡ true → flushed b ≡ b
 flushed_doubted b doubt = rw doubt refl
 
 flushed_twice : (b : Blob) → flushed (flushed b) ≡ flushed b
-flushed_twice b = ⊎_elim (λ doubt. ap flushed (flushed_doubted b doubt)) (λ sure. ap flushed (flushed_sure b sure)
-    ∙ sym (flushed_sure b sure)) (cases_Bool b.is_doubted)
+flushed_twice b = ⊎_elim (λ doubt. ap flushed (flushed_doubted b doubt)) (λ trust. ap flushed (flushed_trust b trust)
+    ∙ sym (flushed_trust b trust)) (cases_Bool b.is_doubted)
 
 abbrev pub disk_of : Option Blob → List (Option Blob) → Disk
 disk_of now older = record { now = now; older = older }
@@ -69,7 +69,7 @@ no_more : (b c : Blob) → MayBeFlushed b c → LeavesNoMore (IsLeftOf (Some b))
 no_more b c (inl e) left h = rw e at h
 no_more b c _ None h = absurd h
 no_more b c (inr (inl e)) (Some left) h = ⊎_elim (λ doubt. rw (e ∙ flushed_doubted b doubt) at h)
-    (λ sure. inr (inl (left_of _ _ (rw (e ∙ flushed_sure b sure) at h)))) (cases_Bool b.is_doubted)
+    (λ trust. inr (inl (left_of _ _ (rw (e ∙ flushed_trust b trust) at h)))) (cases_Bool b.is_doubted)
 no_more b c (inr (inr e)) (Some left) h = rw e at h
 
 -- what is left of a file that was appended to begins with what could have been left before
@@ -208,10 +208,10 @@ pub same_leaves : {old new : Disk} → new ≡ old → LeavesNoMore (MayLeave ol
 same_leaves e left may = rw e at may
 
 -- no flush was refused of a file that is durable
-pub durable_sure : (disk : Disk) → IsDurable disk → IsSure disk.now
-durable_sure disk is = by _ is.flushed
+pub durable_trust : (disk : Disk) → IsDurable disk → Trusted disk.now
+durable_trust disk is = by _ is.flushed
   where
-    by : (o : Option Blob) → IsFlushed o → IsSure o
+    by : (o : Option Blob) → IsFlushed o → Trusted o
     by None _ = tt
     by (Some b) is = cc
 
@@ -231,9 +231,9 @@ flush_no_more _ _ f _ is once e left may =
 pub all_no_more : (old new : Disk) → new ≡ all_flushed old → LeavesNoMore (MayLeave old) (MayLeave new)
 all_no_more _ _ e = flush_no_more _ _ _ [] (λ b. inr (inl refl)) (λ _ was. absurd was) e
 
-flushed_now : (o : Option Blob) → IsSure o → IsFlushed (option_map flushed o)
+flushed_now : (o : Option Blob) → Trusted o → IsFlushed (option_map flushed o)
 flushed_now None _ = tt
-flushed_now (Some b) sure = flushed_sure b sure
+flushed_now (Some b) trust = flushed_trust b trust
 
 may_no_more : (old new : Disk) → MayFlush old new → LeavesNoMore (MayLeave old) (MayLeave new)
 may_no_more _ _ (inl e) = same_leaves e
@@ -241,40 +241,40 @@ may_no_more _ _ (inr (inl e)) = flush_no_more _ _ _ _ (λ b. inr (inl refl)) (λ
 may_no_more _ _ (inr (inr (inl e))) = flush_no_more _ _ _ _ (λ b. inr (inr refl)) (λ _ was. was) e
 may_no_more _ _ (inr (inr (inr e))) = all_no_more _ _ e
 
-pub denied_no_more : (old new : Disk) (fault : StoreFault) → DeniesDisk old fault new → LeavesNoMore (MayLeave old) (MayLeave new)
-denied_no_more _ _ Missing e = same_leaves e
-denied_no_more _ _ NotMbox e = all_no_more _ _ e
-denied_no_more _ _ Refused t = may_no_more _ _ t
-denied_no_more _ _ NoMemory t = may_no_more _ _ t
+pub failed_no_more : (old new : Disk) (fault : StoreFault) → FailsDisk old fault new → LeavesNoMore (MayLeave old) (MayLeave new)
+failed_no_more _ _ Missing e = same_leaves e
+failed_no_more _ _ NotMbox e = all_no_more _ _ e
+failed_no_more _ _ Refused t = may_no_more _ _ t
+failed_no_more _ _ NoMemory t = may_no_more _ _ t
 
 -- what calls see is durable then, if no flush was refused before
-pub all_sure : (old new : Disk) → new ≡ all_flushed old → IsSure old.now → IsDurable new
-all_sure old _ e sure = rw e (record { named = refl; flushed = flushed_now old.now sure })
+pub all_trust : (old new : Disk) → new ≡ all_flushed old → Trusted old.now → IsDurable new
+all_trust old _ e trust = rw e (record { named = refl; flushed = flushed_now old.now trust })
 
-pub flushes_for_good : {T : Type 0} (old new : Disk) (result : Result T StoreFault) → FlushesDisk old result new
-    → FlushesForGood old result new
-flushes_for_good old _ (Ok _) e = record { no_more = all_no_more _ _ e; durable = all_sure old _ e }
-flushes_for_good _ _ (Err _) t = record { no_more = denied_no_more _ _ _ t; durable = λ _. tt }
+pub durable_flush : {T : Type 0} (old new : Disk) (result : Result T StoreFault) → FlushesDisk old result new
+    → DurableFlush old result new
+durable_flush old _ (Ok _) e = record { no_more = all_no_more _ _ e; durable = all_trust old _ e }
+durable_flush _ _ (Err _) t = record { no_more = failed_no_more _ _ _ t; durable = λ _. tt }
 
-may_durable : (old new : Disk) → MayFlush old new → IsDurable old → IsSure new.now → IsDurable new
+may_durable : (old new : Disk) → MayFlush old new → IsDurable old → Trusted new.now → IsDurable new
 may_durable _ _ (inl e) is _ = rw e is
-may_durable old _ (inr (inl e)) is _ = rw e (record { named = is.named; flushed = flushed_now old.now (durable_sure old is) })
-may_durable old _ (inr (inr (inl e))) is sure =
-    rw e (record { named = is.named; flushed = by old.now is.flushed (subst (λ (disk : Disk). IsSure disk.now) e sure) })
+may_durable old _ (inr (inl e)) is _ = rw e (record { named = is.named; flushed = flushed_now old.now (durable_trust old is) })
+may_durable old _ (inr (inr (inl e))) is trust =
+    rw e (record { named = is.named; flushed = by old.now is.flushed (subst (λ (disk : Disk). Trusted disk.now) e trust) })
   where
-    by : (o : Option Blob) → IsFlushed o → IsSure (option_map doubted o) → IsFlushed (option_map doubted o)
+    by : (o : Option Blob) → IsFlushed o → Trusted (option_map doubted o) → IsFlushed (option_map doubted o)
     by None flushed _ = tt
-    by (Some b) flushed sure = absurd (true≢false sure)
-may_durable old _ (inr (inr (inr e))) is _ = all_sure old _ e (durable_sure _ is)
+    by (Some b) flushed trust = absurd (true≢false trust)
+may_durable old _ (inr (inr (inr e))) is _ = all_trust old _ e (durable_trust _ is)
 
 -- a durable file stays so, unless a flush of it was refused
 pub flush_durable : {T : Type 0} (old new : Disk) (result : Result T StoreFault) → FlushesDisk old result new → IsDurable old
-    → IsSure new.now → IsDurable new
-flush_durable old _ (Ok _) e is _ = all_sure old _ e (durable_sure _ is)
+    → Trusted new.now → IsDurable new
+flush_durable old _ (Ok _) e is _ = all_trust old _ e (durable_trust _ is)
 flush_durable _ _ (Err Missing) e is _ = rw e is
-flush_durable old _ (Err NotMbox) e is _ = all_sure old _ e (durable_sure _ is)
-flush_durable _ _ (Err Refused) t is sure = may_durable _ _ t is sure
-flush_durable _ _ (Err NoMemory) t is sure = may_durable _ _ t is sure
+flush_durable old _ (Err NotMbox) e is _ = all_trust old _ e (durable_trust _ is)
+flush_durable _ _ (Err Refused) t is trust = may_durable _ _ t is trust
+flush_durable _ _ (Err NoMemory) t is trust = may_durable _ _ t is trust
 
 -- ---- a write
 
@@ -404,9 +404,9 @@ pieces_behind was _ first front rest c left parts is h =
       rw parts (part_later _ _ _ _ (part_left _ _ rest t.0 (rw (length-append was first) at t.2))),
     )
 
-pub appends_for_good : {T : Type 0} (old new : Disk) (bytes : List ℕ) (r : Result T StoreFault)
-    → AppendsDisk old bytes r new → AppendsForGood old bytes r new
-appends_for_good old new bytes r t =
+pub durable_append : {T : Type 0} (old new : Disk) (bytes : List ℕ) (r : Result T StoreFault)
+    → AppendsDisk old bytes r new → DurableAppend old bytes r new
+durable_append old new bytes r t =
     let part = in_part (λ b c is. one_piece _ _ [] b c (sym (append-nil bytes)) (inr (inl is))) _ _ r t in
     record {
       longer = leaves_become _ _ _ (λ _. inl refl) (λ b c is. part_longer b c _ _ is.4) part;
@@ -456,8 +456,8 @@ front_left old new was len left has (b, c, at, is, e) may = elim (may_of (record
   | inr once ↦ inl (may_once _ _ once)
 ]
 
-pub cuts_for_good : {T : Type 0} (old new : Disk) (len : ℕ) (r : Result T StoreFault) → CutsDisk old len r new → CutsForGood old len r new
-cuts_for_good old new len r t =
+pub durable_cut : {T : Type 0} (old new : Disk) (len : ℕ) (r : Result T StoreFault) → CutsDisk old len r new → DurableCutTo old len r new
+durable_cut old new len r t =
     let part = in_part (λ b c is. inr (inl is)) _ _ r t in
     record {
       front = λ was has left may. ⊎_elim (λ e. inl (same_leaves e left may)) (λ t. front_left _ _ was len left has t may) part;
@@ -506,7 +506,7 @@ part_of was _ first front _ c parts is = by is.is
       let size = ap (λ (x : Blob). x.uncut) e ∙ ap (λ (x : Blob). x.uncut) so_far in omega (arith, size, length-append was first),
     )
     by (inr (inl e)) =
-        let same : c ≡ secured (is.so_far.content ++ front) = e ∙ flushed_sure _ (cc so_far) in
+        let same : c ≡ secured (is.so_far.content ++ front) = e ∙ flushed_trust _ (cc so_far) in
         let all = ap (λ (x : Blob). x.content ++ front) so_far ∙ append_assoc was first front in
         let size = ap (λ (x : Blob). x.uncut) same ∙ ap length all in
         (first ++ front, seen, cc same, omega (arith, size, length-append was (first ++ front)))
@@ -519,17 +519,17 @@ part_of was _ first front _ c parts is = by is.is
 
 -- the names were durable: then the file is after Ok, unless a flush of it was refused
 cut_durable : {T : Type 0} (mid new : Disk) (len : ℕ) (r : Result T StoreFault) → CutsDisk mid len r new → mid.older ≡ []
-    → OnOk r (IsSure new.now → IsDurable new)
+    → OnOk r (Trusted new.now → IsDurable new)
 cut_durable _ _ _ (Err _) t _ = tt
-cut_durable _ _ len (Ok _) (b, c, at, is, e) named = λ sure.
-    let same = is ∙ flushed_sure _ (cc (subst (λ (disk : Disk). IsSure disk.now) e sure)) in
+cut_durable _ _ len (Ok _) (b, c, at, is, e) named = λ trust.
+    let same = is ∙ flushed_trust _ (cc (subst (λ (disk : Disk). Trusted disk.now) e trust)) in
     rw e (record { named = named; flushed = subst (λ (x : Blob). x ≡ secured x.content) (sym same) refl })
 
 -- of a durable file its bytes are left, and what may be left of those that were appended
 pub cut_back : {T : Type 0} (old mid new : Disk) (was bytes : List ℕ) (r : Result T StoreFault)
     → IsDurable old → seen_on old ≡ Some was → AppendsDisk {T = Unit {0}} old bytes (Err Refused) mid
     → CutsDisk mid (length was) r new
-    → LeavesPart (Some was) bytes (MayLeave new) × OnOk r (IsSure new.now → IsDurable new)
+    → LeavesPart (Some was) bytes (MayLeave new) × OnOk r (Trusted new.now → IsDurable new)
 cut_back old mid new was bytes r on has appends cuts = (
   λ some same left may. subst (λ (xs : List ℕ). LeavesBehind xs bytes left) (same_Some was some same)
       (⊎_elim (λ e. before left (same_leaves e left may)) (λ t. back left t may) (in_part (λ b c is. inr (inl is)) mid new r cuts)),
@@ -538,7 +538,7 @@ cut_back old mid new was bytes r on has appends cuts = (
 )
   where
     before : (left : Option (List ℕ)) → MayLeave mid left → LeavesBehind was bytes left
-    before = (appends_for_good {T = Unit {0}} old mid bytes (Err Refused) appends).leaves on was has
+    before = (durable_append {T = Unit {0}} old mid bytes (Err Refused) appends).leaves on was has
 
     nothing : (left : Option (List ℕ)) → left ≡ Some was → LeavesBehind was bytes left
     nothing left e = ([], e ∙ ap Some (sym (append-nil was)), tt)
@@ -568,7 +568,7 @@ cut_back old mid new was bytes r on has appends cuts = (
         kept : mid ≡ old → MayLeave mid left ⊎ (left ≡ Some was)
         kept same = ⊎_map (λ m. m) (λ (some, there, all). all ∙ ap (λ (xs : List ℕ). Some (take (length was) xs))
             (same_Some some was (sym there ∙ ap seen_on same ∙ has)) ∙ ap Some (take-length was))
-            ((cuts_for_good {T = Unit {0}} mid new (length was) (Err Refused) (inr (b, d, there, is, e))).leaves
+            ((durable_cut {T = Unit {0}} mid new (length was) (Err Refused) (inr (b, d, there, is, e))).leaves
             (subst (λ (x : Disk). IsDurable x) (sym same) on) left may)
 
 -- ---- `replace`
@@ -579,16 +579,16 @@ of_new : {P : Type 0} (new : Disk) (bytes : List ℕ) (older : List (Option Blob
 of_new _ bytes _ e _ was may =
     ⊎_elim (λ now. inr (left_flushed (Some (secured bytes)) _ refl now)) (λ once. inl (was once)) (may_of _ _ _ e may)
 
-pub replaces_for_good : {T : Type 0} (old new : Disk) (bytes : List ℕ) (r : Result T StoreFault)
-    → ReplacesDisk old bytes r new → ReplacesForGood old bytes r new
-replaces_for_good _ new bytes (Ok _) e = record {
+pub durable_replace : {T : Type 0} (old new : Disk) (bytes : List ℕ) (r : Result T StoreFault)
+    → ReplacesDisk old bytes r new → DurableReplace old bytes r new
+durable_replace _ new bytes (Ok _) e = record {
   leaves = λ left. of_new _ _ [] e left (λ was. absurd was);
   durable = rw e (record { named = refl; flushed = refl });
 }
-replaces_for_good _ _ _ (Err _) (inl e) = record { leaves = λ left may. inl (same_leaves e left may); durable = tt }
-replaces_for_good _ _ _ (Err _) (inr (inl e)) =
+durable_replace _ _ _ (Err _) (inl e) = record { leaves = λ left may. inl (same_leaves e left may); durable = tt }
+durable_replace _ _ _ (Err _) (inr (inl e)) =
     record { leaves = λ _. of_new _ _ _ e _ (⊎_elim (may_now _ _) (may_once _ _)); durable = tt }
-replaces_for_good _ _ _ (Err _) (inr (inr e)) = record { leaves = λ left. of_new _ _ [] e left (λ was. absurd was); durable = tt }
+durable_replace _ _ _ (Err _) (inr (inr e)) = record { leaves = λ left. of_new _ _ [] e left (λ was. absurd was); durable = tt }
 
 -- ---- what calls see
 
@@ -643,14 +643,14 @@ replaced_settled bytes _ e = cc (all_stay (Some bytes))
 
 -- ---- the laws
 
-pub flushes_last : FlushesLast
-flushes_last _ _ _ t = flushes_for_good _ _ _ t
+pub durable_flushes : DurableFlushes
+durable_flushes _ _ _ t = durable_flush _ _ _ t
 
-pub appends_last : AppendsLast
-appends_last _ _ _ _ t = appends_for_good _ _ _ _ t
+pub durable_appends : DurableAppends
+durable_appends _ _ _ _ t = durable_append _ _ _ _ t
 
-pub cuts_last : CutsLast
-cuts_last _ _ _ _ t = cuts_for_good _ _ _ _ t
+pub durable_cuts : DurableCuts
+durable_cuts _ _ _ _ t = durable_cut _ _ _ _ t
 
-pub replaces_last : ReplacesLast
-replaces_last _ _ _ _ t = replaces_for_good _ _ _ _ t
+pub durable_replaces : DurableReplaces
+durable_replaces _ _ _ _ t = durable_replace _ _ _ _ t

@@ -18,7 +18,7 @@ use Rattle.std.proofs.lemmas.Slice.Eq.{ends_is}
 use Rattle.memchr.specs.Find.{FindsNeedle, OccursAt}
 use Rattle.memchr.proofs.lemmas.MatchLemmas.{OccursAt-from_part, OccursAt-split}
 use Rattle.mail_terms.specs.Text.{HasNoLf, IsWhole}
-use Rattle.mail_store.specs.Power.{IsLonger, LeavesFront, LeavesLonger, Outlives, KeepsBytes}
+use Rattle.mail_store.specs.Power.{IsLonger, LeavesFront, LeavesLonger, LeavesAll, KeepsBytes}
 use Rattle.mail_store.specs.Settling.{MayBeLeft, is_one_entry, block_size, is_lost, is_torn, begin_with, ends_empty}
 use Rattle.mail_store.specs.Settling.{is_ours, is_entry, has_size, stands_whole, settled_file, LeftoversAreSettled}
 use Rattle.mail_store.specs.Settling.{WholeEntriesCount}
@@ -41,11 +41,11 @@ begins_longer bytes _ _ begins (inr (some, behind, is, longer)) = (
 pub longer_keeps : (m m' : Option (List ℕ) → Type 0) → LeavesLonger m m' → KeepsBytes m m'
 longer_keeps m _ longer = λ _ held _ may. let was = longer _ may in begins_longer _ _ _ (held was.0 was.1) was.2
 
--- bytes that outlived stay if more are appended and the file is cut back to them
-pub cut_keeps : (m m' m'' : Option (List ℕ) → Type 0) (was front : List ℕ) (content : Option (List ℕ)) → Outlives m was
-    → LeavesLonger m m' → content ≡ Some (was ++ front) → LeavesFront content (length was) m' m'' → Outlives m'' was
-cut_keeps m m' _ was front _ outlives longer is fronts = λ left may. elim (fronts (was ++ front) is left may) [
-  | inl before ↦ longer_keeps m m' longer was outlives left before
+-- durable bytes stay durable if more are appended and the file is cut back to them
+pub cut_keeps : (m m' m'' : Option (List ℕ) → Type 0) (was front : List ℕ) (content : Option (List ℕ)) → LeavesAll m was
+    → LeavesLonger m m' → content ≡ Some (was ++ front) → LeavesFront content (length was) m' m'' → LeavesAll m'' was
+cut_keeps m m' _ was front _ durable longer is fronts = λ left may. elim (fronts (was ++ front) is left may) [
+  | inl before ↦ longer_keeps m m' longer was durable left before
   | inr (behind, cut) ↦ (behind, cc (take-append_seam was front))
 ]
 

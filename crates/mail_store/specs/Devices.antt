@@ -16,18 +16,18 @@ abbrev pub FileDoes : {F : Type 0} → FileGhosts F → (Stored → Stored → T
 FileDoes file Does old new = file.sound new → file.sound old × Does (file.stored old) (file.stored new)
 
 -- and this to what of it is durable
-abbrev pub FileLasts : {F : Type 0} → FileGhosts F → (Disk → Disk → Type 0) → F → F → Type 0
-FileLasts file Does old new = file.sound new → Does (file.disk old) (file.disk new)
+abbrev pub DurableDoes : {F : Type 0} → FileGhosts F → (Disk → Disk → Type 0) → F → F → Type 0
+DurableDoes file Does old new = file.sound new → Does (file.disk old) (file.disk new)
 
 -- a call that reads, and flushes what it reads
 abbrev pub FileReads : {F T : Type 0} → FileGhosts F → F → Result T StoreFault → F → Type 0
 FileReads file old result new = IfErr result IsDeviceFault
-    × FileLasts file (λ was now. FlushesDisk was result now) old new
+    × DurableDoes file (λ was now. FlushesDisk was result now) old new
     × Tallies (refuses is_refusal result) (file.stored old).failures (file.stored new).failures
 
 -- a call that only reads
 abbrev pub FilePeeks : {F T : Type 0} → FileGhosts F → F → Result T StoreFault → F → Type 0
-FilePeeks file old result new = IfErr result IsDeviceFault × FileLasts file (λ was now. now ≡ was) old new
+FilePeeks file old result new = IfErr result IsDeviceFault × DurableDoes file (λ was now. now ≡ was) old new
     × Tallies (refuses is_refusal result) (file.stored old).failures (file.stored new).failures
 
 -- the only fault of a call is Refused, and it is counted

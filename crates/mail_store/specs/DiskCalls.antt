@@ -3,7 +3,7 @@ use Rattle.std.specs.Prelude.{◌≡◌, ◌⊎◌, ℕ, min, List, [], ◌∷�
 use Rattle.std.specs.Prelude.{Result, Ok, Err, OnOk, if◌then◌else◌}
 use Rattle.mail_store.specs.declared.fault.StoreFault.{StoreFault}
 use Rattle.mail_store.specs.declared.fault.StoreFault.TheVariants.{Missing, NotMbox}
-use Rattle.mail_store.specs.Durable.{Blob, Disk, IsDurable, IsSure, MayLeave, all_durable, secured, seen_on}
+use Rattle.mail_store.specs.Durable.{Blob, Disk, IsDurable, Trusted, MayLeave, all_durable, secured, seen_on}
 use Rattle.mail_store.specs.Power.{LeavesCut, LeavesEither, LeavesFront, LeavesLonger, LeavesNoMore}
 use Rattle.mail_store.specs.Power.{LeavesPart}
 
@@ -52,15 +52,15 @@ FlushesBoth old (Ok done) new = new ≡ all_flushed old
 FlushesBoth old (Err fault) new = MayFlush old new
 
 -- there is no file; it was flushed, but isn't what was wanted; or the call was refused
-abbrev pub DeniesDisk : Disk → StoreFault → Disk → Type 0
-DeniesDisk old Missing new = new ≡ old
-DeniesDisk old NotMbox new = new ≡ all_flushed old
-DeniesDisk old fault new = MayFlush old new
+abbrev pub FailsDisk : Disk → StoreFault → Disk → Type 0
+FailsDisk old Missing new = new ≡ old
+FailsDisk old NotMbox new = new ≡ all_flushed old
+FailsDisk old fault new = MayFlush old new
 
 -- `load`, `edges` and `read_at`: the file and its name were flushed
 abbrev pub FlushesDisk : {T : Type 0} → Disk → Result T StoreFault → Disk → Type 0
 FlushesDisk old (Ok done) new = new ≡ all_flushed old
-FlushesDisk old (Err fault) new = DeniesDisk old fault new
+FlushesDisk old (Err fault) new = FailsDisk old fault new
 
 -- ---- a call that writes
 
@@ -111,13 +111,13 @@ ReplacesDisk old bytes (Err fault) new = (new ≡ old)
 -- ---- what a crash leaves after these, as laws
 
 -- a flush leaves no more than before; and if none of the file was refused, all that calls see is durable after Ok
-pub record FlushesForGood {T : Type 0} (old : Disk) (result : Result T StoreFault) (new : Disk) : Type 0 where
+pub record DurableFlush {T : Type 0} (old : Disk) (result : Result T StoreFault) (new : Disk) : Type 0 where
   pub no_more : LeavesNoMore (MayLeave old) (MayLeave new)
-  pub durable : IsSure old.now → OnOk result (IsDurable new)
+  pub durable : Trusted old.now → OnOk result (IsDurable new)
 
 -- `append`: whatever it answers, a crash leaves what it could have left before, or more bytes behind; of a durable file
 -- the old bytes and a part of the new ones, and after Ok all
-pub record AppendsForGood {T : Type 0} (old : Disk) (bytes : List ℕ) (result : Result T StoreFault) (new : Disk)
+pub record DurableAppend {T : Type 0} (old : Disk) (bytes : List ℕ) (result : Result T StoreFault) (new : Disk)
     : Type 0 where
   pub longer : LeavesLonger (MayLeave old) (MayLeave new)
   pub leaves : IsDurable old → LeavesPart (seen_on old) bytes (MayLeave new)
@@ -125,29 +125,29 @@ pub record AppendsForGood {T : Type 0} (old : Disk) (bytes : List ℕ) (result :
 
 -- `cut_to`: what could have been left before, or the first bytes, perhaps with more behind, but none behind those of a
 -- durable file; after Ok only these
-pub record CutsForGood {T : Type 0} (old : Disk) (len : ℕ) (result : Result T StoreFault) (new : Disk) : Type 0 where
+pub record DurableCutTo {T : Type 0} (old : Disk) (len : ℕ) (result : Result T StoreFault) (new : Disk) : Type 0 where
   pub front : LeavesFront (seen_on old) len (MayLeave old) (MayLeave new)
   pub leaves : IsDurable old → LeavesCut (seen_on old) len (MayLeave old) (MayLeave new)
   pub durable : OnOk result (IsDurable old → IsDurable new)
 
 -- `replace`: what could have been left before, a file or none, or the new bytes; after Ok only these
-pub record ReplacesForGood {T : Type 0} (old : Disk) (bytes : List ℕ) (result : Result T StoreFault) (new : Disk)
+pub record DurableReplace {T : Type 0} (old : Disk) (bytes : List ℕ) (result : Result T StoreFault) (new : Disk)
     : Type 0 where
   pub leaves : LeavesEither (MayLeave old) bytes (MayLeave new)
   pub durable : OnOk result (IsDurable new)
 
-abbrev pub FlushesLast : Type 0
-FlushesLast = (old new : Disk) (result : Result (Unit {0}) StoreFault) → FlushesDisk old result new
-    → FlushesForGood old result new
+abbrev pub DurableFlushes : Type 0
+DurableFlushes = (old new : Disk) (result : Result (Unit {0}) StoreFault) → FlushesDisk old result new
+    → DurableFlush old result new
 
-abbrev pub AppendsLast : Type 0
-AppendsLast = (old new : Disk) (bytes : List ℕ) (result : Result (Unit {0}) StoreFault)
-    → AppendsDisk old bytes result new → AppendsForGood old bytes result new
+abbrev pub DurableAppends : Type 0
+DurableAppends = (old new : Disk) (bytes : List ℕ) (result : Result (Unit {0}) StoreFault)
+    → AppendsDisk old bytes result new → DurableAppend old bytes result new
 
-abbrev pub CutsLast : Type 0
-CutsLast = (old new : Disk) (len : ℕ) (result : Result (Unit {0}) StoreFault) → CutsDisk old len result new
-    → CutsForGood old len result new
+abbrev pub DurableCuts : Type 0
+DurableCuts = (old new : Disk) (len : ℕ) (result : Result (Unit {0}) StoreFault) → CutsDisk old len result new
+    → DurableCutTo old len result new
 
-abbrev pub ReplacesLast : Type 0
-ReplacesLast = (old new : Disk) (bytes : List ℕ) (result : Result (Unit {0}) StoreFault)
-    → ReplacesDisk old bytes result new → ReplacesForGood old bytes result new
+abbrev pub DurableReplaces : Type 0
+DurableReplaces = (old new : Disk) (bytes : List ℕ) (result : Result (Unit {0}) StoreFault)
+    → ReplacesDisk old bytes result new → DurableReplace old bytes result new

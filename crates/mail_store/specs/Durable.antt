@@ -76,9 +76,9 @@ IsFlushed None = Unit {0}
 IsFlushed (Some b) = b ≡ secured b.content
 
 -- no flush of the file was refused
-abbrev pub IsSure : Option Blob → Type 0
-IsSure None = Unit {0}
-IsSure (Some b) = b.is_doubted ≡ false
+abbrev pub Trusted : Option Blob → Type 0
+Trusted None = Unit {0}
+Trusted (Some b) = b.is_doubted ≡ false
 
 -- what calls see is durable, and so is the name
 pub record IsDurable (disk : Disk) : Type 0 where

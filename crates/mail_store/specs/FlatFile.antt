@@ -30,20 +30,20 @@ edges_of bytes = record {
 }
 
 -- a call that only reads failed: there is no file, or the call was refused
-abbrev pub Denies : Stored → StoreFault → Stored → Type 0
-Denies old Missing new = (old.content ≡ None) × (new ≡ old)
-Denies old Refused new = new ≡ file_refused old
-Denies old fault new = ⊥
+abbrev pub FailsAs : Stored → StoreFault → Stored → Type 0
+FailsAs old Missing new = (old.content ≡ None) × (new ≡ old)
+FailsAs old Refused new = new ≡ file_refused old
+FailsAs old fault new = ⊥
 
 -- `load` and `peek`: the file's bytes
 abbrev pub Loads : {B : Type 0} → Stored → Result (Vec ℕ B) StoreFault → Stored → Type 0
 Loads old (Ok bytes) new = (old.content ≡ Some bytes.items) × (new ≡ old)
-Loads old (Err fault) new = Denies old fault new
+Loads old (Err fault) new = FailsAs old fault new
 
 -- `edges` and `peek_edges`: the size and the ends of the file's bytes
 abbrev pub Measures : Stored → Result Edges StoreFault → Stored → Type 0
 Measures old (Ok edges) new = ((was : List ℕ) × (old.content ≡ Some was) × (edges ≡ edges_of was)) × (new ≡ old)
-Measures old (Err fault) new = Denies old fault new
+Measures old (Err fault) new = FailsAs old fault new
 
 -- the bytes from a place on, at most `len`: none if the place is at or past the end
 abbrev pub piece_at : ℕ → ℕ → List ℕ → List ℕ
@@ -55,7 +55,7 @@ ReadsAt old start (Ok count) buf new =
     ((was : List ℕ) × (old.content ≡ Some was) × (count ≡ length (piece_at start (length buf) was))
     × (take count buf ≡ piece_at start (length buf) was))
     × (new ≡ old)
-ReadsAt old start (Err fault) buf new = Denies old fault new
+ReadsAt old start (Err fault) buf new = FailsAs old fault new
 
 -- `append`: the bytes follow the old ones; after a refused call a front of them does
 abbrev pub Appends : {T : Type 0} → Stored → List ℕ → Result T StoreFault → Stored → Type 0

@@ -3,12 +3,12 @@ use Rattle.std.specs.Prelude.{◌≡◌, ℕ, List, ◌++◌, map, take, Some, N
 use Rattle.mail_terms.specs.FailureCount.{Tallies, counted_up}
 use Rattle.mail_store.specs.declared.fault.EntryFault.{EntryFault}
 use Rattle.mail_store.specs.declared.fault.EntryFault.TheVariants.{Nothing, Front}
-use Rattle.mail_store.specs.Durable.{Disk, IsDurable, IsSure}
+use Rattle.mail_store.specs.Durable.{Disk, IsDurable, Trusted}
 use Rattle.mail_store.specs.Fault.{is_refusal}
 use Rattle.mail_store.specs.declared.fault.StoreFault.{StoreFault}
 use Rattle.mail_store.specs.declared.fault.StoreFault.TheVariants.{Missing, Refused, NotMbox, NoMemory}
 use Rattle.mail_store.specs.declared.file.flat_file.Edges.{Edges}
-use Rattle.mail_store.specs.FlatFile.{Stored, Denies, holding, file_refused, edges_of}
+use Rattle.mail_store.specs.FlatFile.{Stored, FailsAs, holding, file_refused, edges_of}
 use Rattle.mail_store.specs.Mboxrd.{MayGoOn, MboxFile, HasNoTexts, entry_of}
 
 -- the file has these bytes, and an entry may follow them
@@ -22,7 +22,7 @@ IsNoMbox stored = (was : List ℕ) × (stored.content ≡ Some was) × (MayGoOn 
 -- a file that was only looked at: there is none; the call was refused; or no entry may follow its bytes
 abbrev pub RefusesLook : Stored → StoreFault → Stored → Type 0
 RefusesLook old NotMbox new = IsNoMbox old × (new ≡ old)
-RefusesLook old fault new = Denies old fault new
+RefusesLook old fault new = FailsAs old fault new
 
 -- `peek_ends`: the size and the ends of a file that an entry may follow
 abbrev pub Looks : Stored → Result Edges StoreFault → Stored → Type 0
@@ -39,7 +39,7 @@ abbrev pub ChecksFront : {T : Type 0} → ℕ → Stored → Result T StoreFault
 ChecksFront size old (Ok done) new = ((was : List ℕ) × (old.content ≡ Some was) × MayGoOn (take size was)) × (new ≡ old)
 ChecksFront size old (Err NotMbox) new =
     ((was : List ℕ) × (old.content ≡ Some was) × (MayGoOn (take size was) → ⊥)) × (new ≡ old)
-ChecksFront size old (Err fault) new = Denies old fault new
+ChecksFront size old (Err fault) new = FailsAs old fault new
 
 -- `append_entry`: the entry follows the file's bytes; or the file is as it was: there is none, a call was refused, no
 -- entry may follow it, or memory ran out; or the append and the cut back were refused, and a front of the entry may be
@@ -57,7 +57,7 @@ AppendsEntry old text (Err Front) new = (was front rest : List ℕ) × EntryMayF
 
 -- if nothing of the entry is there, a durable file still is so, unless a flush of it was refused
 abbrev pub IsStillDurable : Disk → EntryFault → Type 0
-IsStillDurable disk (Nothing fault) = IsSure disk.now → IsDurable disk
+IsStillDurable disk (Nothing fault) = Trusted disk.now → IsDurable disk
 IsStillDurable disk Front = Unit {0}
 
 -- the count rises if a call was refused, and once more if the cut that follows was refused too

@@ -18,7 +18,7 @@ abbrev pub LeavesLonger : (Option (List ℕ) → Type 0) → (Option (List ℕ) 
 LeavesLonger may_leave may_leave' =
     (left : Option (List ℕ)) → may_leave' left → (was : Option (List ℕ)) × may_leave was × IsLonger was left
 
--- `append`: if all of the file was on the disk, a loss of power leaves it, and what it may leave of the new bytes
+-- `append`: if all of the file was durable, a loss of power leaves it, and what it may leave of the new bytes
 abbrev pub LeavesPart : Option (List ℕ) → List ℕ → (Option (List ℕ) → Type 0) → Type 0
 LeavesPart content bytes may_leave = (was : List ℕ) → content ≡ Some was → (left : Option (List ℕ)) → may_leave left
     → (behind : List ℕ) × (left ≡ Some (was ++ behind)) × MayBeLeft (length was) bytes behind
@@ -38,20 +38,20 @@ abbrev pub LeavesCut : Option (List ℕ) → ℕ → (Option (List ℕ) → Type
 LeavesCut content len may_leave may_leave' = (left : Option (List ℕ)) → may_leave' left
     → may_leave left ⊎ ((was : List ℕ) × (content ≡ Some was) × (left ≡ Some (take len was)))
 
--- the file, if there is one, is on the disk, and a loss of power leaves exactly its bytes
-abbrev pub LastsWhole : Option (List ℕ) → Type 0 → (Option (List ℕ) → Type 0) → Type 0
-LastsWhole content is_on_disk may_leave = (bytes : List ℕ) → content ≡ Some bytes
-    → is_on_disk × ((left : Option (List ℕ)) → may_leave left → left ≡ Some bytes)
+-- the file, if there is one, is durable, and a loss of power leaves exactly its bytes
+abbrev pub IsLeftWhole : Option (List ℕ) → Type 0 → (Option (List ℕ) → Type 0) → Type 0
+IsLeftWhole content is_durable may_leave = (bytes : List ℕ) → content ≡ Some bytes
+    → is_durable × ((left : Option (List ℕ)) → may_leave left → left ≡ Some bytes)
 
 -- whatever a loss of power leaves begins with these bytes
-abbrev pub Outlives : (Option (List ℕ) → Type 0) → List ℕ → Type 0
-Outlives may_leave bytes = (left : Option (List ℕ)) → may_leave left → (rest : List ℕ) × (left ≡ Some (bytes ++ rest))
+abbrev pub LeavesAll : (Option (List ℕ) → Type 0) → List ℕ → Type 0
+LeavesAll may_leave bytes = (left : Option (List ℕ)) → may_leave left → (rest : List ℕ) × (left ≡ Some (bytes ++ rest))
 
 -- what a loss of power would have left before, it would still leave
 abbrev pub KeepsBytes : (Option (List ℕ) → Type 0) → (Option (List ℕ) → Type 0) → Type 0
-KeepsBytes may_leave may_leave' = (bytes : List ℕ) → Outlives may_leave bytes → Outlives may_leave' bytes
+KeepsBytes may_leave may_leave' = (bytes : List ℕ) → LeavesAll may_leave bytes → LeavesAll may_leave' bytes
 
--- all bytes that the file had still outlive a loss of power, if they did before
+-- all bytes that the file had are still durable, if they were
 abbrev pub KeepsWhole : Option (List ℕ) → (Option (List ℕ) → Type 0) → (Option (List ℕ) → Type 0) → Type 0
 KeepsWhole content may_leave may_leave' =
-    (bytes : List ℕ) → content ≡ Some bytes → Outlives may_leave bytes → Outlives may_leave' bytes
+    (bytes : List ℕ) → content ≡ Some bytes → LeavesAll may_leave bytes → LeavesAll may_leave' bytes

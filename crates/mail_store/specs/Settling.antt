@@ -11,7 +11,7 @@ use Rattle.mail_store.specs.declared.fault.StoreFault.{StoreFault}
 use Rattle.mail_store.specs.declared.fault.StoreFault.TheVariants.{Missing, Refused, NotMbox, NoMemory}
 use Rattle.mail_store.specs.declared.mboxrd.settling.Behind.{Behind}
 use Rattle.mail_store.specs.declared.mboxrd.settling.Behind.TheVariants.{Others, Whole, Torn}
-use Rattle.mail_store.specs.FlatFile.{Stored, Denies, holding, file_refused}
+use Rattle.mail_store.specs.FlatFile.{Stored, FailsAs, holding, file_refused}
 use Rattle.mail_store.specs.Mboxrd.{MayGoOn, lines_of, begins_entry, separator, entry_of, text_in, wire_size}
 
 -- ---- what a loss of power leaves
@@ -136,7 +136,7 @@ abbrev pub LooksBehind : Stored → ℕ → ℕ → Option ℕ → Result Behind
 LooksBehind old start len listed (Ok behind) new =
     ((was : List ℕ) × (old.content ≡ Some was) × IsBehind behind start len listed was) × (new ≡ old)
 LooksBehind old start len listed (Err NoMemory) new = new ≡ old
-LooksBehind old start len listed (Err fault) new = Denies old fault new
+LooksBehind old start len listed (Err fault) new = FailsAs old fault new
 
 -- `settle_file`: the file is settled, and the answer is whether the entry is there whole; there is no file; a call was
 -- refused, and the file is as it was, or settled; or memory ran out, and the file is as it was
@@ -160,4 +160,4 @@ PeeksSettled old start len listed (Ok whole) new =
 PeeksSettled old start len listed (Err NotMbox) new =
     ((was : List ℕ) × (old.content ≡ Some was) × (MayGoOn (settled_file start len listed was) → ⊥)) × (new ≡ old)
 PeeksSettled old start len listed (Err NoMemory) new = new ≡ old
-PeeksSettled old start len listed (Err fault) new = Denies old fault new
+PeeksSettled old start len listed (Err fault) new = FailsAs old fault new

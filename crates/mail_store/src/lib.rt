@@ -10,12 +10,12 @@ mod refusal;
 
 pub use account::{AccountId, account_id, account_texts_are_digits};
 pub use fault::{EntryFault, StoreFault};
-pub use file::flat_file::{Edges, FlatFile, calls_outlive_crashes, durable_files_are_left};
+pub use file::flat_file::{Edges, FlatFile, calls_are_durable, durable_files_are_left};
 pub use file::memory::MemoryFile;
 pub use file::reading::{edges_of, read_piece};
 pub use maildir::delivery::deliver;
 pub use maildir::disk::{Folder, MaildirDisk};
-pub use maildir::held::{Asked, flags_tell_what_is_held, flush_held, held, held_asked};
+pub use maildir::held::{Query, flags_tell_what_is_held, flush_held, held, held_asked};
 pub use maildir::loss::{
     calls_keep_files_flushed, calls_leave_no_more, losses_leave_what_is_durable,
 };

@@ -56,21 +56,21 @@ abbrev pub removed : DropMail → ℕ → DropMail
 removed old i = record old { slots = slice_set old.slots i None; removals = counted_up old.removals }
 
 -- a call that only reads gave nothing, and no message changed
-abbrev pub DeniesReading : DropMail → DropFault → DropMail → Type 0
-DeniesReading old Refused new = new ≡ refusing old
-DeniesReading old NoMemory new = new ≡ old
+abbrev pub FailsReading : DropMail → DropFault → DropMail → Type 0
+FailsReading old Refused new = new ≡ refusing old
+FailsReading old NoMemory new = new ≡ old
 
 -- the messages that are there were listed, and these are their places from now on
 abbrev pub ListsMessages : {Z : Type 0} → DropMail → Result (Vec ListedMessage Z) DropFault → DropMail → Type 0
 ListsMessages old (Ok entries) new =
     (new ≡ record old { slots = map Some (there old.slots) }) × (entries.items ≡ map listed_message (there old.slots))
-ListsMessages old (Err fault) new = DeniesReading old fault new
+ListsMessages old (Err fault) new = FailsReading old fault new
 
 -- the text of the message at a place was given
 abbrev pub Gives : {Z : Type 0} → DropMail → ℕ → Result (Vec ℕ Z) DropFault → DropMail → Type 0
 Gives old i (Ok text) new =
     (new ≡ old) × ((message : Message) × (slice_get old.slots i ≡ Some (Some message)) × (text.items ≡ message.text))
-Gives old i (Err fault) new = DeniesReading old fault new
+Gives old i (Err fault) new = FailsReading old fault new
 
 -- a piece begins with this number of octets of the text of the message at a place, from `start` on; with none
 -- only if none are left
@@ -78,7 +78,7 @@ abbrev pub GivesPart : DropMail → ℕ → ℕ → Result ℕ DropFault → Lis
 GivesPart old i start (Ok n) piece new =
     (new ≡ old) × ((message : Message) × (slice_get old.slots i ≡ Some (Some message))
     × (take n piece ≡ take n (drop start message.text)) × (n ≡ 0 → length message.text ≤ start))
-GivesPart old i start (Err fault) piece new = DeniesReading old fault new
+GivesPart old i start (Err fault) piece new = FailsReading old fault new
 
 -- the message at a place was removed; after a refusal it may be there or not
 abbrev pub Removes : DropMail → ℕ → Result (Unit {0}) DropFault → DropMail → Type 0

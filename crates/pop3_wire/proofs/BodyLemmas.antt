@@ -10,7 +10,7 @@ use Rattle.memchr.proofs.lemmas.MatchLemmas.{OccursAt-split, OccursAt-from_part}
 use Rattle.pop3_wire.specs.Line.{crlf, IsLine, OneLine, ended}
 use Rattle.std.proofs.lemmas.List.{take_at, flat_map_more, append-nil, same_from_push, take_rest}
 use Rattle.std.specs.List.{flat_map, AllByRecursion, onto_first, AllZip}
-use Rattle.pop3_wire.specs.Body.{dot, IsContent, kept, body_of, text_of, Body, HasNoBody, unstuffed}
+use Rattle.pop3_wire.specs.Body.{dot, IsContent, lf_line, body_of, text_of, Body, HasNoBody, unstuffed}
 use Rattle.pop3_wire.specs.Stuffed.{OneBody, stuffed, stuffed_lines, StuffedIsBody, StuffedIsRead}
 use Rattle.pop3_wire.specs.declared.unstuffer.Spot.{Spot}
 use Rattle.pop3_wire.specs.declared.unstuffer.Spot.TheVariants.{Middle, Cr, Done}
@@ -197,12 +197,12 @@ one_body a b s t x y left right e =
 
 -- one more line was read
 pub reads_more : (bytes rest line after text : List ℕ) → Reads bytes rest text → IsLine line
-    → rest ≡ line ++ (crlf ++ after) → (line ≢ dot) → Reads bytes after (text ++ kept line)
+    → rest ≡ line ++ (crlf ++ after) → (line ≢ dot) → Reads bytes after (text ++ lf_line line)
 reads_more bytes rest line after text reads is cut other = record {
   lines = reads.lines ++ line ∷ [];
   content = all_push reads.lines reads.content;
   whole = reads.whole ∙ rw (cut, sym (flat_map_more ended [] reads.lines line)) (simp append_assoc);
-  read = rw reads.read (flat_map_more kept [] reads.lines line);
+  read = rw reads.read (flat_map_more lf_line [] reads.lines line);
 }
   where
     all_push : (lines : List (List ℕ)) → AllByRecursion IsContent lines → AllByRecursion IsContent (lines ++ line ∷ [])
@@ -417,7 +417,7 @@ part_begins (b ∷ part) rest (line ∷ lines) other is apart e =
     let (behind, is_line) = line_begins (b ∷ part) rest line (body_of lines) is apart (e
     ∙ ended_first line (flat_map ended lines) (ended dot)) in
     let undotted : unstuffed ((b ∷ part) ++ behind) ≡ unstuffed (b ∷ part) ++ behind = grind arith in
-    (behind ++ (10 ∷ text_of lines), ap (λ (l : List ℕ). kept l ++ text_of lines) is_line ∙ rw undotted (simp append_assoc))
+    (behind ++ (10 ∷ text_of lines), ap (λ (l : List ℕ). lf_line l ++ text_of lines) is_line ∙ rw undotted (simp append_assoc))
 
 -- the text of the lines, and what is shown of the part, begin the whole text
 text_begins : {bytes text part shown : List ℕ} (rest whole : List ℕ) → Partly bytes text part shown → Body (bytes ++ rest) whole
@@ -428,7 +428,7 @@ text_begins {part} {shown} rest whole h is begins =
     (sym (append_assoc (flat_map ended h.lines) part rest) ∙ rw (← h.whole) is.whole) in
     let (more, shows) = begins later rest_is in (
       more,
-      is.read ∙ ap text_of lines ∙ flat_map-append kept h.lines later ∙ ap (λ (l : List ℕ). text_of h.lines ++ l) shows
+      is.read ∙ ap text_of lines ∙ flat_map-append lf_line h.lines later ∙ ap (λ (l : List ℕ). text_of h.lines ++ l) shows
           ∙ sym (append_assoc (text_of h.lines) shown more) ∙ ap (λ (l : List ℕ). l ++ more) (sym h.read),
     )
 

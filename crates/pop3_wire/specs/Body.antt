@@ -17,8 +17,8 @@ unstuffed [] = []
 unstuffed (byte ∷ rest) = if byte == 46 then rest else byte ∷ rest
 
 -- the line of the text for a line of the body; a text's lines end at LF
-abbrev pub kept : List ℕ → List ℕ
-kept line = unstuffed line ++ 10 ∷ []
+abbrev pub lf_line : List ℕ → List ℕ
+lf_line line = unstuffed line ++ 10 ∷ []
 
 -- the body of these lines, end mark included
 abbrev pub body_of : List (List ℕ) → List ℕ
@@ -26,7 +26,7 @@ body_of lines = flat_map ended lines ++ ended dot
 
 -- the text of these lines
 abbrev pub text_of : List (List ℕ) → List ℕ
-text_of lines = flat_map kept lines
+text_of lines = flat_map lf_line lines
 
 -- these bytes are a body, and this is its text
 pub record Body (body text : List ℕ) : Type 0 where

@@ -14,7 +14,7 @@ use Rattle.mail_terms.specs.Distinct.{AreDistinct}
 use Rattle.test_devices.specs.declared.memory_folder.MemoryBlob.{MemoryBlob}
 use Rattle.mail_store.specs.declared.fault.StoreFault.{StoreFault}
 use Rattle.mail_store.specs.Durable.{Blob, IsLeft, IsLeftOf, secured}
-use Rattle.folder_store.specs.FileFolder.{Directory, Entry, names_in, find, placed, AltersInPart, with_blob, Older, entry}
+use Rattle.folder_store.specs.FileFolder.{Directory, DirEntry, names_in, find, placed, AltersInPart, with_blob, Older, entry}
 use Rattle.test_devices.specs.MemoryFolder.{blob_of, folder_entry, folder_entries, older_of, IsZeroed, MayBeOf, Survive}
 use Rattle.std.proofs.lemmas.List.Elements.{Contains-get_or}
 use Rattle.std.proofs.lemmas.List.Kept.{AllPairs-cons}
@@ -26,13 +26,13 @@ differ : (one two : List ℕ) → (one ≡ two → ⊥) → bytes_eq one two ≡
 differ one two apart = false_from_ne_true (bytes_eq one two) (λ same. apart ((bytes_eq-Decides one two).0 same))
 
 -- a name that leads to no file isn't the first
-not_here : (name : List ℕ) (e : Entry) (es : List Entry) → find name (e ∷ es) ≡ None → (bytes_eq name e.name ≡ false)
+not_here : (name : List ℕ) (e : DirEntry) (es : List DirEntry) → find name (e ∷ es) ≡ None → (bytes_eq name e.name ≡ false)
     × (find name es ≡ None)
 not_here name e es none = ⊎_elim (λ same. absurd (none-some e.blob (sym none ∙ find_here name e es same)))
     (λ apart. (apart, sym (find_later name e es apart) ∙ none)) (cases_Bool (bytes_eq name e.name))
 
 -- a name that isn't there leads to no file
-none_of : (name : List ℕ) (es : List Entry) → (Contains (names_in es) name → ⊥) → find name es ≡ None
+none_of : (name : List ℕ) (es : List DirEntry) → (Contains (names_in es) name → ⊥) → find name es ≡ None
 none_of name [] free = refl
 none_of name (e ∷ es) free = cond_both (bytes_eq name e.name) (Some e.blob) (find name es) (λ (o : Option Blob). o ≡ None)
     (λ same. absurd (free (0, omega arith, sym ((bytes_eq-Decides name e.name).0 same))))
@@ -45,15 +45,15 @@ not_ahead name first names free apart zero inside is = true≢false (sym ((bytes
 not_ahead name first names free apart (suc k) inside is = free (k, omega (arith, inside), is)
 
 -- a name that leads to no file is put after the others
-placed_new : (name : List ℕ) (b : Blob) (es : List Entry) → find name es ≡ None → placed name b es ≡ es ++ entry name b ∷ []
+placed_new : (name : List ℕ) (b : Blob) (es : List DirEntry) → find name es ≡ None → placed name b es ≡ es ++ entry name b ∷ []
 placed_new name b [] none = refl
-placed_new name b (e ∷ es) none = let n = not_here name e es none in rw n.0 (ap (λ (xs : List Entry). e ∷ xs) (placed_new name b es n.1))
+placed_new name b (e ∷ es) none = let n = not_here name e es none in rw n.0 (ap (λ (xs : List DirEntry). e ∷ xs) (placed_new name b es n.1))
 
 abbrev pub Pair : Type 0
 Pair = String Global × MemoryBlob
 
 -- the names once a file has one: the same, or one more that wasn't there
-names_placed : (name : List ℕ) (b : Blob) (es : List Entry)
+names_placed : (name : List ℕ) (b : Blob) (es : List DirEntry)
     → (names_in (placed name b es) ≡ names_in es) ⊎ ((names_in (placed name b es) ≡ names_in es ++ name ∷ [])
     × (Contains (names_in es) name → ⊥))
 names_placed name b [] = inr (refl, λ c. absurd (omega (arith, c.1)))
@@ -65,7 +65,7 @@ names_placed name b (e ∷ es) = elim (cases_Bool (bytes_eq name e.name)) [
   ])
 ]
 
-placed_distinct : (name : List ℕ) (b : Blob) (es : List Entry) → AreDistinct (names_in es) → AreDistinct (names_in (placed name b es))
+placed_distinct : (name : List ℕ) (b : Blob) (es : List DirEntry) → AreDistinct (names_in es) → AreDistinct (names_in (placed name b es))
 placed_distinct name b es h = ⊎_elim (λ same. rw same h)
     (λ more. rw more.0 (all_pairs_push (λ a b. a ≢ b) (names_in es) name h
     (λ k d inside same. more.1 (k, inside, get_or_default (names_in es) k name d inside ∙ same)))) (names_placed name b es)
@@ -95,7 +95,7 @@ set_placed [] name i below at first q named = absurd (omega (arith, below))
 set_placed (p ∷ files) name zero below at first q named = rw ((bytes_eq-Decides name (string_bytes p.0)).1 (sym (at p)), named) refl
 set_placed (p ∷ files) name (suc i) below at first q named =
     rw (apart_of name (string_bytes p.0) (first 0 p (omega arith)))
-    (ap (λ (es : List Entry). folder_entry p ∷ es) (set_placed files name i (omega (arith, below)) at
+    (ap (λ (es : List DirEntry). folder_entry p ∷ es) (set_placed files name i (omega (arith, below)) at
     (λ k d before. first (suc k) d (omega (arith, before))) q named))
 
 pub push_placed : (files : List Pair) (q : Pair) → find (string_bytes q.0) (folder_entries files) ≡ None
@@ -188,24 +188,24 @@ was_once (o ∷ older) name (suc i) inside at d left h = inr (was_once older nam
 -- ---- the files, one by one
 
 -- the next file, as it is left
-pub survives_next : (older : List Older) (es left : List Entry) (e : Entry) (text : Option (List ℕ))
+pub survives_next : (older : List Older) (es left : List DirEntry) (e : DirEntry) (text : Option (List ℕ))
     → Survive older es left → MayBeOf older e text
     → Survive older (es ++ e ∷ []) (left ++ left_under e.name text)
 survives_next older [] left e None is may = inl (may, append-nil left ∙ is)
 survives_next older [] left e (Some bytes) is may =
-    inr (bytes, [], ap (λ (xs : List Entry). xs ++ entry e.name (secured bytes) ∷ []) is, may, refl)
+    inr (bytes, [], ap (λ (xs : List DirEntry). xs ++ entry e.name (secured bytes) ∷ []) is, may, refl)
 survives_next older (x ∷ es) left e text (inl (gone, rest)) may = inl (gone, survives_next older es left e text rest may)
 survives_next older (x ∷ es) left e text (inr (bytes, rest, is, kept, more)) may =
     inr (
       bytes,
       rest ++ left_under e.name text,
-      ap (λ (xs : List Entry). xs ++ left_under e.name text) is,
+      ap (λ (xs : List DirEntry). xs ++ left_under e.name text) is,
       kept,
       survives_next older es rest e text more may,
     )
 
 -- a name that led to no file leads to none
-survives_none : (older : List Older) (es left : List Entry) (name : List ℕ) → Survive older es left
+survives_none : (older : List Older) (es left : List DirEntry) (name : List ℕ) → Survive older es left
     → find name es ≡ None → find name left ≡ None
 survives_none older [] left name is none = ap (find name) is
 survives_none older (e ∷ es) left name (inl (gone, rest)) none = survives_none older es left name rest (not_here name e es none).1
@@ -214,7 +214,7 @@ survives_none older (e ∷ es) left name (inr (bytes, rest, is, may, more)) none
     rw is (find_later name (entry e.name (secured bytes)) rest n.0 ∙ survives_none older es rest name more n.1)
 
 -- what is left under a name
-abbrev Stays : List Older → List Entry → List Entry → List ℕ → Type 0
+abbrev Stays : List Older → List DirEntry → List DirEntry → List ℕ → Type 0
 Stays older es left name =
     (text : Option (List ℕ)) × (find name left ≡ option_map secured text) × (IsLeftOf (find name es) text ⊎ WasOnce older name text)
 
@@ -228,7 +228,7 @@ distinct_cons : (x : List ℕ) (xs : List (List ℕ)) → (Contains xs x → ⊥
 distinct_cons x xs absent distinct =
     AllPairs-cons (λ a b. a ≢ b) x xs (λ k d fits e. absent (subst (λ y. Contains xs y) (sym e) (Contains-get_or xs k d fits))) distinct
 
-survives_find : (older : List Older) (es left : List Entry) (name : List ℕ) → AreDistinct (names_in es)
+survives_find : (older : List Older) (es left : List DirEntry) (name : List ℕ) → AreDistinct (names_in es)
     → Survive older es left → Stays older es left name
 survives_find older [] left name distinct is = (None, ap (find name) is, inl tt)
 survives_find older (e ∷ es) left name distinct (inl (gone, rest)) = elim (cases_Bool (bytes_eq name e.name)) [
@@ -251,11 +251,11 @@ survives_find older (e ∷ es) left name distinct (inr (bytes, rest, is, may, mo
 
 -- the names that are left are distinct
 -- a name that is there leads to a file
-found : (name : List ℕ) (es : List Entry) → find name es ≡ None → Contains (names_in es) name → ⊥
+found : (name : List ℕ) (es : List DirEntry) → find name es ≡ None → Contains (names_in es) name → ⊥
 found name [] none c = absurd (omega (arith, c.1))
 found name (e ∷ es) none c = let n = not_here name e es none in not_ahead name e.name (names_in es) (found name es n.1) n.0 c.0 c.1 c.2
 
-pub survives_names : (older : List Older) (es left : List Entry) → Survive older es left → AreDistinct (names_in es)
+pub survives_names : (older : List Older) (es left : List DirEntry) → Survive older es left → AreDistinct (names_in es)
     → AreDistinct (names_in left)
 survives_names older [] left is distinct = rw is distinct
 survives_names older (e ∷ es) left (inl (gone, rest)) distinct =
@@ -280,5 +280,5 @@ memory_loses files left was now distinct h e =
           let s = found name in
           let d = memory_in files was in
           rw (s.1, seen_all s.0) (⊎_elim (may_now d name s.0) (may_once d name s.0) s.2);
-      on_disk = λ name. let s = found name in record { named = refl; flushed = rw s.1 (flushed_all s.0) };
+      durable = λ name. let s = found name in record { named = refl; flushed = rw s.1 (flushed_all s.0) };
     })

@@ -4,7 +4,7 @@ use Rattle.std.specs.Prelude.{Option, ◌++◌, ◌≤◌, take, length, slice_i
 use Rattle.test_devices.specs.declared.memory_folder.MemoryBlob.{MemoryBlob}
 use Rattle.test_devices.specs.declared.new_file.MemoryNewFile.{MemoryNewFile}
 use Rattle.mail_store.specs.Durable.{Blob, IsLeftOf, secured}
-use Rattle.folder_store.specs.FileFolder.{Entry, MadeFile, Older, entry}
+use Rattle.folder_store.specs.FileFolder.{DirEntry, MadeFile, Older, entry}
 use Rattle.folder_store.specs.PowerLoss.{WasOnce}
 
 -- a file that was made
@@ -16,10 +16,10 @@ abbrev pub blob_of : MemoryBlob → Blob
 blob_of k = record { content = k.content.items; flushed = k.flushed.items; uncut = k.uncut; is_doubted = false }
 
 -- a name and its file
-abbrev pub folder_entry : {A : Type 0} → String A × MemoryBlob → Entry
+abbrev pub folder_entry : {A : Type 0} → String A × MemoryBlob → DirEntry
 folder_entry pair = record { name = string_bytes pair.0; blob = blob_of pair.1 }
 
-abbrev pub folder_entries : {A : Type 0} → List (String A × MemoryBlob) → List Entry
+abbrev pub folder_entries : {A : Type 0} → List (String A × MemoryBlob) → List DirEntry
 folder_entries files = map folder_entry files
 
 -- a name and what it led to
@@ -33,15 +33,15 @@ IsZeroed content len bytes =
     × (length bytes ≤ length content)
 
 -- what a loss of power may leave under the name of a file
-abbrev pub MayBeOf : List Older → Entry → Option (List ℕ) → Type 0
+abbrev pub MayBeOf : List Older → DirEntry → Option (List ℕ) → Type 0
 MayBeOf older e left = IsLeftOf (Some e.blob) left ⊎ WasOnce older e.name left
 
--- some files after a loss of power, one by one: each has bytes that may be left under its name, all of them on the
--- disk, or isn't there any more, if that may be left
-abbrev pub Survive : List Older → List Entry → List Entry → Type 0
+-- some files after a loss of power, one by one: each has bytes that may be left under its name, all of them
+-- durable, or isn't there any more, if that may be left
+abbrev pub Survive : List Older → List DirEntry → List DirEntry → Type 0
 Survive older [] left = left ≡ []
 Survive older (e ∷ es) left =
     (MayBeOf older e None × Survive older es left)
-    ⊎ ((bytes : List ℕ) × (rest : List Entry) × (left ≡ entry e.name (secured bytes) ∷ rest)
+    ⊎ ((bytes : List ℕ) × (rest : List DirEntry) × (left ≡ entry e.name (secured bytes) ∷ rest)
     × MayBeOf older e (Some bytes)
     × Survive older es rest)

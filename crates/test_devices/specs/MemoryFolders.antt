@@ -22,7 +22,7 @@ abbrev pub list_of : {A : Type 0} → Option A → List A
 list_of None = []
 list_of (Some x) = x ∷ []
 
--- a file in one of the folders with these bytes, all of it on the disk
+-- a file in one of the folders with these bytes, all of it durable
 abbrev pub left_with : Bool → List ℕ → MailFile → MailFile
 left_with is_new content s = record s {
   is_new = is_new;

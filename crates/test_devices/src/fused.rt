@@ -246,7 +246,7 @@ impl<D: FlatFile> FlatFile for Fused<D> {
     ghost use Rattle.mail_terms.specs.FailureCount.{Tallies, refuses, greatest_count};
     ghost use Rattle.mail_store.specs.DiskCalls.{AppendsDisk, CutsDisk, ReplacesDisk};
     ghost use Rattle.mail_store.specs.FlatFile.{Loads, Measures, ReadsAt, Appends, Cuts, Replaces, HasBytes};
-    ghost use Rattle.mail_store.specs.Devices.{FileDoes, FileLasts, FilePeeks, FileReads, FileRefuses};
+    ghost use Rattle.mail_store.specs.Devices.{FileDoes, DurableDoes, FilePeeks, FileReads, FileRefuses};
     ghost use Rattle.test_devices.specs.StoreFuse.{device_of, passes_left, effect_is_due, refusals, fused_file};
     ghost use Rattle.test_devices.specs.StoreFuse.{FusedIsSound, BurnsForStore, Fuses, AppendsBehind, ReplacesBehind};
 
@@ -312,7 +312,7 @@ impl<D: FlatFile> FlatFile for Fused<D> {
         requires { FusedIsSound D.sound self.old → IsSome (D.stored (device_of self.old)).content }
         ensures appends { FileDoes ⟦<Fused<D> as FlatFile>⟧
             (λ old new. Appends old bytes.now result new) self.old self.new }
-        ensures durable { FileLasts ⟦<Fused<D> as FlatFile>⟧
+        ensures durable { DurableDoes ⟦<Fused<D> as FlatFile>⟧
             (λ old new. AppendsDisk old bytes.now result new) self.old self.new }
         ensures refuses { FileRefuses ⟦<Fused<D> as FlatFile>⟧ self.old result self.new }
         ensures fuse { (refusals self.old < greatest_count
@@ -333,7 +333,7 @@ impl<D: FlatFile> FlatFile for Fused<D> {
     fn cut_to(&mut self, len: u64) -> Result<(), StoreFault>
         requires { FusedIsSound D.sound self.old → HasBytes (D.stored (device_of self.old)) len }
         ensures cuts { FileDoes ⟦<Fused<D> as FlatFile>⟧ (λ old new. Cuts old len result new) self.old self.new }
-        ensures durable { FileLasts ⟦<Fused<D> as FlatFile>⟧
+        ensures durable { DurableDoes ⟦<Fused<D> as FlatFile>⟧
             (λ old new. CutsDisk old len result new) self.old self.new }
         ensures refuses { FileRefuses ⟦<Fused<D> as FlatFile>⟧ self.old result self.new }
         ensures fuse { Fuses (λ d. (D.stored d).failures) self.old result self.new }
@@ -346,7 +346,7 @@ impl<D: FlatFile> FlatFile for Fused<D> {
     fn replace(&mut self, bytes: &[u8]) -> Result<(), StoreFault>
         ensures replaces { FileDoes ⟦<Fused<D> as FlatFile>⟧
             (λ old new. Replaces old bytes.now result new) self.old self.new }
-        ensures durable { FileLasts ⟦<Fused<D> as FlatFile>⟧
+        ensures durable { DurableDoes ⟦<Fused<D> as FlatFile>⟧
             (λ old new. ReplacesDisk old bytes.now result new) self.old self.new }
         ensures refuses { FileRefuses ⟦<Fused<D> as FlatFile>⟧ self.old result self.new }
         ensures fuse { (refusals self.old < greatest_count

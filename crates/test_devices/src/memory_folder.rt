@@ -134,7 +134,7 @@ fn bytes_left(
     Ok(Some(file.1.left(left)?))
 }
 
-/// Appends a file with the bytes that are left of it, all on the disk, if it is still there.
+/// Appends a file with the bytes that are left of it, all durable, if it is still there.
 fn add_left(
     left: &mut Vec<(String, MemoryBlob)>,
     file: &(String, MemoryBlob),

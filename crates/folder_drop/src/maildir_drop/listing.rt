@@ -5,7 +5,7 @@ ghost use Rattle.folder_drop.specs.RealMaildir.{uid_of, HaveIds};
 
 use crate::folders_look::FoldersLook;
 use crate::listed_file::{CountedSizes, ListedFile, PIECE};
-use crate::listing::{ListedFiles, Listing};
+use crate::listing::{DropListing, ListedFiles};
 use crate::maildir_drop::MaildirDrop;
 use crate::maildir_names::{PlacedFile, Stamp, long_id};
 use crate::seen_files::SeenFiles;
@@ -47,7 +47,7 @@ impl<'a, R: Files + Clock + RandomSource + AllocGlobal + Clone + Drop> MaildirDr
 
     /// The files of the Maildir as it is now: only the first of several with the same id, none above the
     /// limits, and none that is gone.
-    fn list(&self, last_seen: &mut SeenFiles, look: FoldersLook) -> io::Result<Listing>
+    fn list(&self, last_seen: &mut SeenFiles, look: FoldersLook) -> io::Result<DropListing>
         ensures { IfOk result (λ listing. listing.look ≡ look) }
     {
         let alloc = self.system.alloc();
@@ -93,7 +93,7 @@ impl<'a, R: Files + Clock + RandomSource + AllocGlobal + Clone + Drop> MaildirDr
         }
         let alloc = self.system.alloc();
         let entries = self.earlier.entries(alloc)?;
-        self.listing = mem::replace(&mut self.earlier, Listing::none(alloc));
+        self.listing = mem::replace(&mut self.earlier, DropListing::none(alloc));
         Ok(entries)
     }
 }

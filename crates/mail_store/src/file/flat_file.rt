@@ -1,6 +1,6 @@
 //! Devices that keep one file.
 
-ghost use Rattle.mail_store.specs.DiskCalls.{AppendsLast, CutsLast, FlushesLast, ReplacesLast};
+ghost use Rattle.mail_store.specs.DiskCalls.{DurableAppends, DurableCuts, DurableFlushes, DurableReplaces};
 ghost use Rattle.mail_store.specs.Durable.{CrashesHappen, DurableIsLeft};
 
 use crate::fault::StoreFault;
@@ -125,10 +125,10 @@ pub fn durable_files_are_left()
 {}
 
 /// What a crash may leave of a file after each call of its device, whatever it answered.
-#[tactic(auto, using(crate::proofs::DiskLemmas::flushes_last, crate::proofs::DiskLemmas::appends_last, crate::proofs::DiskLemmas::cuts_last, crate::proofs::DiskLemmas::replaces_last))]
-pub fn calls_outlive_crashes()
-    ensures flushes { FlushesLast }
-    ensures appends { AppendsLast }
-    ensures cuts { CutsLast }
-    ensures replaces { ReplacesLast }
+#[tactic(auto, using(crate::proofs::DiskLemmas::durable_flushes, crate::proofs::DiskLemmas::durable_appends, crate::proofs::DiskLemmas::durable_cuts, crate::proofs::DiskLemmas::durable_replaces))]
+pub fn calls_are_durable()
+    ensures flushes { DurableFlushes }
+    ensures appends { DurableAppends }
+    ensures cuts { DurableCuts }
+    ensures replaces { DurableReplaces }
 {}

@@ -65,7 +65,7 @@ impl FlatFile for MemoryFile {
     ghost use Rattle.std.specs.Prelude.{◌≡◌, ◌≢◌, ◌≤◌, ◌<◌, length, IfOk, IsOk, None, Some};
     ghost use Rattle.std.proofs.Common.{refl};
     ghost use Rattle.mail_terms.specs.FailureCount.{greatest_count};
-    ghost use Rattle.mail_store.specs.Devices.{FileDoes, FileLasts, FilePeeks, FileReads, FileRefuses};
+    ghost use Rattle.mail_store.specs.Devices.{FileDoes, DurableDoes, FilePeeks, FileReads, FileRefuses};
     ghost use Rattle.mail_store.specs.DiskCalls.{CutsDisk};
     ghost use Rattle.mail_store.specs.Durable.{all_durable, seen_on};
     ghost use Rattle.mail_store.specs.FlatFile.{Measures, ReadsAt, Cuts, HasBytes};
@@ -144,7 +144,7 @@ impl FlatFile for MemoryFile {
     fn cut_to(&mut self, len: u64) -> Result<(), StoreFault>
         requires { self.old.failures < greatest_count → HasBytes self.old len }
         ensures cuts { FileDoes ⟦<MemoryFile as FlatFile>⟧ (λ old new. Cuts old len result new) self.old self.new }
-        ensures durable { FileLasts ⟦<MemoryFile as FlatFile>⟧
+        ensures durable { DurableDoes ⟦<MemoryFile as FlatFile>⟧
             (λ old new. CutsDisk old len result new) self.old self.new }
         ensures refuses { FileRefuses ⟦<MemoryFile as FlatFile>⟧ self.old result self.new }
         ensures answers { self.old.failures < greatest_count → IsOk result }

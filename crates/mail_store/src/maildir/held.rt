@@ -21,7 +21,7 @@ use std::collections::BTreeSet;
 
 /// Of which items it is asked whether they are held.
 #[derive(Clone, Copy)]
-pub struct Asked<'a> {
+pub struct Query<'a> {
     /// Whether of all.
     pub all: bool,
     /// Else of those for which a flag is set here, one for each item in the listing's order. The files of
@@ -231,7 +231,7 @@ pub fn held_asked<D: MaildirDisk>(
     disk: &mut D,
     account: &AccountId,
     listing: &Listing,
-    asked: Asked<'_>,
+    asked: Query<'_>,
 ) -> Result<Vec<bool>, StoreFault>
     requires { length asked.flags.now ≡ length listing.now }
     ensures finds { D.sound disk.new → D.sound disk.old
@@ -256,7 +256,7 @@ fn flush_within<D: MaildirDisk>(
     disk: &mut D,
     account: &AccountId,
     listing: &Listing,
-    asked: Asked<'_>,
+    asked: Query<'_>,
     times: u32,
 ) -> Result<Vec<bool>, StoreFault>
     requires { length asked.flags.now ≡ length listing.now }
@@ -286,7 +286,7 @@ pub fn flush_held<D: MaildirDisk>(
     disk: &mut D,
     account: &AccountId,
     listing: &Listing,
-    asked: Asked<'_>,
+    asked: Query<'_>,
 ) -> Result<Vec<bool>, StoreFault>
     requires { length asked.flags.now ≡ length listing.now }
     ensures finds { D.sound disk.new → D.sound disk.old

@@ -4,7 +4,7 @@ ghost use Rattle.std.specs.Prelude.{◌≡◌, ◌≢◌, ◌↔◌, ◌≤◌, 
 ghost use Rattle.std.specs.Prelude.{IsTrue, OnOk};
 ghost use Rattle.mail_terms.specs.FailureCount.{Tallies, refuses};
 ghost use Rattle.mail_store.specs.DiskCalls.{FlushesDisk};
-ghost use Rattle.mail_store.specs.Durable.{IsDurable, IsSure, MayLeave};
+ghost use Rattle.mail_store.specs.Durable.{IsDurable, Trusted, MayLeave};
 ghost use Rattle.mail_store.specs.Fault.{is_refusal};
 ghost use Rattle.mail_store.specs.FlatFile.{HasBytes, edges_of};
 ghost use Rattle.mail_terms.specs.Text.{IsWhole};
@@ -180,7 +180,7 @@ pub fn append_entry<F: FlatFile>(file: &mut F, text: Vec<u8>) -> Result<(), Entr
         × AppendsEntry (F.stored file.old) text.items result (F.stored file.new) }
     ensures keeps { F.sound file.new
         → KeepsWhole (F.stored file.old).content (MayLeave (F.disk file.old)) (MayLeave (F.disk file.new)) }
-    ensures lasts { F.sound file.new → IsSure (F.disk file.old).now → OnOk result (IsDurable (F.disk file.new)) }
+    ensures durable { F.sound file.new → Trusted (F.disk file.old).now → OnOk result (IsDurable (F.disk file.new)) }
     ensures leaves { F.sound file.new → IsDurable (F.disk file.old)
         → LeavesPart (F.stored file.old).content (entry_of text.items) (MayLeave (F.disk file.new))
         × IfErr result (IsStillDurable (F.disk file.new)) }

@@ -3,7 +3,7 @@
 ghost use Rattle.std.specs.Prelude.{◌≡◌, ◌≢◌, ◌==◌, ◌&&◌, ◌+◌, ◌%◌, ◌≤◌, ◌<◌, ◌^◌, ◌∷◌, ℕ, List, true, length};
 ghost use Rattle.std.specs.Prelude.{IfErr, OnOk, drop};
 ghost use Rattle.mail_terms.specs.FailureCount.{Tallies, refuses};
-ghost use Rattle.mail_store.specs.Durable.{IsDurable, IsSure, MayLeave};
+ghost use Rattle.mail_store.specs.Durable.{IsDurable, Trusted, MayLeave};
 ghost use Rattle.mail_store.specs.Fault.{is_refusal};
 ghost use Rattle.mail_store.specs.Mboxrd.{text_in};
 ghost use Rattle.mail_store.specs.Power.{LeavesCut, LeavesFront, LeavesNoMore};
@@ -148,7 +148,7 @@ fn judge(start: u64, behind: u64, len: u64, listed: Option<u64>, rest: &[u8]) ->
 }
 
 /// Looks at what stands at `start` in a file.
-#[tactic(auto, using(crate::proofs::DiskLemmas::all_no_more, crate::proofs::DiskLemmas::all_sure, crate::proofs::DiskLemmas::denied_no_more, crate::proofs::DiskLemmas::durable_sure))]
+#[tactic(auto, using(crate::proofs::DiskLemmas::all_no_more, crate::proofs::DiskLemmas::all_trust, crate::proofs::DiskLemmas::failed_no_more, crate::proofs::DiskLemmas::durable_trust))]
 fn look_behind<F: FlatFile>(
     alloc: Global,
     file: &mut F,
@@ -160,7 +160,7 @@ fn look_behind<F: FlatFile>(
         × LooksBehind (F.stored file.old) start len listed result (F.stored file.new) }
     ensures fault { IfErr result (λ e. e ≢ StoreFault.NotMbox) }
     ensures keeps { F.sound file.new → LeavesNoMore (MayLeave (F.disk file.old)) (MayLeave (F.disk file.new)) }
-    ensures lasts { F.sound file.new → IsSure (F.disk file.old).now → OnOk result (IsDurable (F.disk file.new)) }
+    ensures durable { F.sound file.new → Trusted (F.disk file.old).now → OnOk result (IsDurable (F.disk file.new)) }
     ensures count { Tallies (refuses is_refusal result) (F.stored file.old).failures (F.stored file.new).failures }
 {
     let edges = file.edges()?;
@@ -200,8 +200,8 @@ pub fn settle_file<F: FlatFile>(
     ensures fault { IfErr result (λ e. e ≢ StoreFault.NotMbox) }
     ensures keeps { F.sound file.new
         → LeavesFront (F.stored file.old).content start (MayLeave (F.disk file.old)) (MayLeave (F.disk file.new)) }
-    ensures lasts { F.sound file.new → IsSure (F.disk file.old).now → OnOk result (IsDurable (F.disk file.new)) }
-    ensures leaves { F.sound file.new → IsSure (F.disk file.old).now
+    ensures durable { F.sound file.new → Trusted (F.disk file.old).now → OnOk result (IsDurable (F.disk file.new)) }
+    ensures leaves { F.sound file.new → Trusted (F.disk file.old).now
         → LeavesCut (F.stored file.old).content start (MayLeave (F.disk file.old)) (MayLeave (F.disk file.new)) }
     ensures count { Tallies (refuses is_refusal result) (F.stored file.old).failures (F.stored file.new).failures }
 {

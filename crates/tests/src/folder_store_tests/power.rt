@@ -79,17 +79,17 @@ fn has_one<F: FileFolder + Drop>(mut folder: F) -> Result<bool, Fail> {
 }
 
 /// Whether a loss of power leaves all of that file.
-fn outlives_power(alloc: Global, appending: Appending, left: Left) -> Result<bool, Fail> {
+fn is_durable(alloc: Global, appending: Appending, left: Left) -> Result<bool, Fail> {
     let mut folder = folder_of_one(MemoryFolder::new(alloc), appending)?;
     folder.lose_power(&[left])?;
     has_one(folder)
 }
 
 #[test]
-fn a_file_outlives_a_loss_of_power(rt: HostRuntime) -> Result<(), Fail> {
+fn what_is_flushed_is_durable(rt: HostRuntime) -> Result<(), Fail> {
     for appending in [Appending::AtOnce, Appending::ByBlocks] {
         for left in WAYS {
-            assert!(rt; outlives_power(rt.alloc(), appending, left)?);
+            assert!(rt; is_durable(rt.alloc(), appending, left)?);
         }
     }
     Ok(())

@@ -4,14 +4,14 @@ use Rattle.std.proofs.lemmas.Option.{same_Some}
 use Rattle.fetch_record.specs.Record.{Intent, RecordState, Row, none_open}
 use Rattle.mail_store.specs.declared.file.flat_file.Edges.{Edges}
 use Rattle.std.proofs.lemmas.Result.{err_from_is_err_and}
-use Rattle.mail_store.specs.Durable.{IsSure, MayLeave}
+use Rattle.mail_store.specs.Durable.{Trusted, MayLeave}
 use Rattle.mail_store.specs.FlatFile.{Stored}
 use Rattle.mail_store.specs.Mboxrd.{entry_of}
 use Rattle.mail_store.specs.MboxCalls.{IsStillDurable}
 use Rattle.mail_store.specs.Power.{KeepsWhole, LeavesPart}
 use Rattle.mail_store.proofs.DurableLemmas.{durable_is_left}
-use Rattle.fetch_session.specs.Lasting.{IsGrownAtMost, IsSafeFile, LeavesFile}
-use Rattle.mail_store.proofs.DiskLemmas.{all_sure, durable_sure, flushes_for_good}
+use Rattle.fetch_session.specs.Durable.{IsGrownAtMost, IsSafeFile, LeavesFile}
+use Rattle.mail_store.proofs.DiskLemmas.{all_trust, durable_trust, durable_flush}
 use Rattle.fetch_session.proofs.TalkLemmas.{err_is}
 use Rattle.fetch_session.specs.Mbox.{IsIntended, intent_of}
 use Rattle.fetch_session.specs.Record.{intent_at, with_open}
@@ -128,7 +128,7 @@ returns-in_err-edges-clause-ledger g c =
       rows = refl;
       opened = tt;
       steady = λ f. (f, tt);
-      lasts = λ f safe. (tt, λ others. same_left g.F.FlatFile c.args.ledger.now.file safe (c.requires.steady f));
+      durable = λ f safe. (tt, λ others. same_left g.F.FlatFile c.args.ledger.now.file safe (c.requires.steady f));
     })
 
 pub returns-in_err-size-clause-ledger : goal.returns-in_err-size-clause-ledger
@@ -139,7 +139,7 @@ returns-in_err-size-clause-ledger g c = rw (err_is c.from_residual-in_err-size.e
       opened = tt;
       steady =
           λ f. ((c.intend.ensures.steady f).0, tt);
-      lasts = λ f safe. (
+      durable = λ f safe. (
         tt,
         λ others. grown_left g.F.FlatFile c.intend.new.file c.args.ledger.now.seen.rows others
             c.args.ledger.now.seen.rows None
@@ -155,7 +155,7 @@ returns-in-Err-Front-clause-ledger g c = record {
   opened = tt;
   steady =
       λ f. ((c.in_ok-size.ensures.steady f).0, tt);
-  lasts = λ f safe. (
+  durable = λ f safe. (
     tt,
     λ others. grown_left g.F.FlatFile c.intend.new.file c.args.ledger.now.seen.rows others
         c.args.ledger.now.seen.rows None
@@ -173,7 +173,7 @@ taken_back g c f safe =
     let before = (c.take_back.ensures.closes f).0 in
     let rows = c.args.ledger.now.seen.rows in
     cut_back g.F.FlatFile c.intend.new.file c.take_back.new.file rows c.in_ok-size.size
-    (c.in_ok-size.ensures.steady before).1.1 (c.take_back.ensures.leaves f (c.in_ok-size.ensures.lasts before safe))
+    (c.in_ok-size.ensures.steady before).1.1 (c.take_back.ensures.leaves f (c.in_ok-size.ensures.durable before safe))
     (with_open rows (intent_at c.args.uid.now c.in_ok-edges.edges.size c.entry_len-len.result))
     ((c.intend.ensures.keeps before).1 safe)
 
@@ -183,7 +183,7 @@ returns-in-Err-Nothing-clause-ledger g c = record {
   rows = c.intend.ensures.rows;
   opened = tt;
   steady = λ f. ((c.in_ok-size.ensures.steady (c.take_back.ensures.closes f).0).0, tt);
-  lasts = λ f safe. (
+  durable = λ f safe. (
     tt,
     λ others. grown_left g.F.FlatFile c.take_back.new.file c.args.ledger.now.seen.rows others c.args.ledger.now.seen.rows None
         (Some (intent g (goal.at.returns-in-Err-Nothing-clause-ledger g c).After-entry_len-len)) (inl refl)
@@ -199,21 +199,21 @@ returns-in-Ok-clause-ledger g c = record {
   steady = λ f.
       let steady = c.in_ok-size.ensures.steady f in
       (steady.0, rw (c.intend.ensures.rows, c.in_ok-size.ensures.opened) steady.1.0);
-  lasts = λ f safe. (
-    c.in_ok-size.ensures.lasts f safe,
+  durable = λ f safe. (
+    c.in_ok-size.ensures.durable f safe,
     λ others. grown_left g.F.FlatFile c.intend.new.file c.args.ledger.now.seen.rows others c.args.ledger.now.seen.rows None
         (Some (intent g (goal.at.returns-in-Ok-clause-ledger g c).After-entry_len-len)) (inl refl)
         ((c.intend.ensures.keeps f).1 safe),
   );
 }
 
--- ---- what outlives a loss of power
+-- ---- what is durable
 
 pub returns-in_err-edges-clause-keeps : goal.returns-in_err-edges-clause-keeps
 returns-in_err-edges-clause-keeps g c =
     λ m f. (
       no_more_keeps (g.F.FlatFile.stored c.args.mbox.now).content
-          (flushes_for_good (g.F.FlatFile.disk c.args.mbox.now) (g.F.FlatFile.disk c.edges.new.self) c.edges.result
+          (durable_flush (g.F.FlatFile.disk c.args.mbox.now) (g.F.FlatFile.disk c.edges.new.self) c.edges.result
           (c.edges.ensures.durable m)).no_more,
       λ last. last,
     )
@@ -222,7 +222,7 @@ pub returns-in_err-size-clause-keeps : goal.returns-in_err-size-clause-keeps
 returns-in_err-size-clause-keeps g c =
     λ m f. (
       no_more_keeps (g.F.FlatFile.stored c.args.mbox.now).content
-          (flushes_for_good (g.F.FlatFile.disk c.args.mbox.now) (g.F.FlatFile.disk c.edges.new.self) c.edges.result
+          (durable_flush (g.F.FlatFile.disk c.args.mbox.now) (g.F.FlatFile.disk c.edges.new.self) c.edges.result
           (c.edges.ensures.durable m)).no_more,
       (c.intend.ensures.keeps f).0 c.args.ledger.now.seen.rows,
     )
@@ -233,7 +233,7 @@ whole : (g : _) (c : After-append_entry g) → (m : g.F.FlatFile.sound c.append_
     (MayLeave (g.F.FlatFile.disk c.append_entry.new.file))
 whole g c m before bytes is front =
     c.append_entry.ensures.keeps m bytes (ap (λ (s : Stored). s.content) (c.in_ok-edges.ensures.measures before).1.1 ∙ is)
-    (no_more_keeps (g.F.FlatFile.stored c.args.mbox.now).content (flushes_for_good (g.F.FlatFile.disk c.args.mbox.now)
+    (no_more_keeps (g.F.FlatFile.stored c.args.mbox.now).content (durable_flush (g.F.FlatFile.disk c.args.mbox.now)
     (g.F.FlatFile.disk c.edges.new.self) c.edges.result (c.edges.ensures.durable before)).no_more bytes is front)
 
 pub returns-in-Ok-clause-keeps : goal.returns-in-Ok-clause-keeps
@@ -254,14 +254,14 @@ returns-in-Err-Nothing-clause-keeps g c = λ m f.
       λ last. c.take_back.ensures.keeps f rows (c.in_ok-size.ensures.steady before).1.1 ((c.intend.ensures.keeps before).0 rows last),
     )
 
-pub returns-in-Ok-clause-lasts : goal.returns-in-Ok-clause-lasts
-returns-in-Ok-clause-lasts g c = λ m f sure safe.
-    let firm = all_sure (g.F.FlatFile.disk c.args.mbox.now) (g.F.FlatFile.disk c.edges.new.self)
-    (c.in_ok-edges.ensures.durable (c.in-Ok.ensures.appends m).0) sure in
-    let durable = c.in-Ok.ensures.lasts m (durable_sure (g.F.FlatFile.disk c.edges.new.self) firm) in (
+pub returns-in-Ok-clause-durable : goal.returns-in-Ok-clause-durable
+returns-in-Ok-clause-durable g c = λ m f trust safe.
+    let firm = all_trust (g.F.FlatFile.disk c.args.mbox.now) (g.F.FlatFile.disk c.edges.new.self)
+    (c.in_ok-edges.ensures.durable (c.in-Ok.ensures.appends m).0) trust in
+    let durable = c.in-Ok.ensures.durable m (durable_trust (g.F.FlatFile.disk c.edges.new.self) firm) in (
       (
         durable_safe g.F.FlatFile c.append_entry.new.file (g.met.F.FlatFile.shown c.append_entry.new.file) durable,
-        c.in_ok-size.ensures.lasts f safe,
+        c.in_ok-size.ensures.durable f safe,
       ),
       λ whole. tt,
     )
@@ -270,19 +270,19 @@ returns-in-Ok-clause-lasts g c = λ m f sure safe.
 looked : (g : _) (c : After-edges g) → g.F.FlatFile.sound c.edges.new.self → IsSafeFile g.F.FlatFile c.args.mbox.now
     → (bytes : List ℕ) → (g.F.FlatFile.stored c.args.mbox.now).content ≡ Some bytes → (left : Option (List ℕ))
     → MayLeave (g.F.FlatFile.disk c.edges.new.self) left → left ≡ Some bytes
-looked g c m whole bytes has left may = (whole.1 bytes has).1 left ((flushes_for_good (g.F.FlatFile.disk c.args.mbox.now)
+looked g c m whole bytes has left may = (whole.1 bytes has).1 left ((durable_flush (g.F.FlatFile.disk c.args.mbox.now)
     (g.F.FlatFile.disk c.edges.new.self) c.edges.result (c.edges.ensures.durable m)).no_more left may)
 
-pub returns-in_err-edges-clause-lasts : goal.returns-in_err-edges-clause-lasts
-returns-in_err-edges-clause-lasts g c =
+pub returns-in_err-edges-clause-durable : goal.returns-in_err-edges-clause-durable
+returns-in_err-edges-clause-durable g c =
     let p = err_from_is_err_and c.from_residual.result c.from_residual.ensures.1 in
     let rows = c.args.ledger.now.seen.rows in
-    rw p.1 (λ m f sure safe. (
+    rw p.1 (λ m f trust safe. (
       tt,
       λ whole firm bytes has left may now is seen there. inl (
         same_grown g.F.FlatFile c.args.ledger.now.file (none_open rows)
             (with_open rows (intent_of bytes c.args.uid.now c.args.text.items)) safe (c.requires.steady f) now is seen there,
-        looked g (goal.at.returns-in_err-edges-clause-lasts g c).After-edges m whole bytes has left may,
+        looked g (goal.at.returns-in_err-edges-clause-durable g c).After-edges m whole bytes has left may,
       ),
     ))
 
@@ -292,11 +292,11 @@ grown_from : {a b : Intent} {rows : List Row} {left : Option (List ℕ)} → a �
 grown_from {rows = rows} {left} same grown =
     subst (λ (i : Intent). IsGrownAtMost (none_open rows) (with_open rows i) left) same grown
 
-pub returns-in_err-size-clause-lasts : goal.returns-in_err-size-clause-lasts
-returns-in_err-size-clause-lasts g c =
-    let here = goal.at.returns-in_err-size-clause-lasts g c in
+pub returns-in_err-size-clause-durable : goal.returns-in_err-size-clause-durable
+returns-in_err-size-clause-durable g c =
+    let here = goal.at.returns-in_err-size-clause-durable g c in
     rw (err_is c.from_residual-in_err-size.ensures.1)
-    (λ m f sure safe. (
+    (λ m f trust safe. (
       tt,
       λ whole firm bytes has left may now is seen there. inl (
         grown_from (same_intent g here.After-entry_len-len m bytes has) ((c.intend.ensures.keeps f).1 safe now is seen there),
@@ -306,39 +306,39 @@ returns-in_err-size-clause-lasts g c =
 
 -- what may be left of the entry
 entry_left : (g : _) (c : After-append_entry g) → g.F.FlatFile.sound c.append_entry.new.file
-    → g.F.FlatFile.sound c.edges.new.self → IsSure (g.F.FlatFile.disk c.args.mbox.now).now
+    → g.F.FlatFile.sound c.edges.new.self → Trusted (g.F.FlatFile.disk c.args.mbox.now).now
     → LeavesPart (g.F.FlatFile.stored c.edges.new.self).content (entry_of c.args.text.items)
     (MayLeave (g.F.FlatFile.disk c.append_entry.new.file))
     × IfErr c.append_entry.result (IsStillDurable (g.F.FlatFile.disk c.append_entry.new.file))
-entry_left g c m before sure = c.append_entry.ensures.leaves m (all_sure (g.F.FlatFile.disk c.args.mbox.now)
-    (g.F.FlatFile.disk c.edges.new.self) (c.in_ok-edges.ensures.durable before) sure)
+entry_left g c m before trust = c.append_entry.ensures.leaves m (all_trust (g.F.FlatFile.disk c.args.mbox.now)
+    (g.F.FlatFile.disk c.edges.new.self) (c.in_ok-edges.ensures.durable before) trust)
 
-pub returns-in-Err-Front-clause-lasts : goal.returns-in-Err-Front-clause-lasts
-returns-in-Err-Front-clause-lasts g c = λ m f sure safe. (
+pub returns-in-Err-Front-clause-durable : goal.returns-in-Err-Front-clause-durable
+returns-in-Err-Front-clause-durable g c = λ m f trust safe. (
   tt,
   λ whole firm bytes has left may now is seen there.
-      let here = goal.at.returns-in-Err-Front-clause-lasts g c in
+      let here = goal.at.returns-in-Err-Front-clause-durable g c in
       let before = (c.in-Err-Front.ensures.appends m).0 in
       let rows = c.args.ledger.now.seen.rows in
       let same = same_intent g here.After-entry_len-len before bytes has in
       inr (inl (
         subst (λ (i : Intent). IsGrownAtMost (with_open rows i) (with_open rows i) seen) same
             (same_grown g.F.FlatFile c.intend.new.file (opened g here.After-entry_len-len) (opened g here.After-entry_len-len)
-            (c.in_ok-size.ensures.lasts f safe) (c.in_ok-size.ensures.steady f).1.0 now is seen there),
-        (entry_left g here.After-append_entry m before sure).0 bytes
+            (c.in_ok-size.ensures.durable f safe) (c.in_ok-size.ensures.steady f).1.0 now is seen there),
+        (entry_left g here.After-append_entry m before trust).0 bytes
             (ap (λ (s : Stored). s.content) (c.in_ok-edges.ensures.measures before).1.1 ∙ has) left may,
       )),
 )
 
-pub returns-in-Err-Nothing-clause-lasts : goal.returns-in-Err-Nothing-clause-lasts
-returns-in-Err-Nothing-clause-lasts g c = λ m f sure safe. (
+pub returns-in-Err-Nothing-clause-durable : goal.returns-in-Err-Nothing-clause-durable
+returns-in-Err-Nothing-clause-durable g c = λ m f trust safe. (
   tt,
   λ whole firm bytes has left may now is seen there.
-      let here = goal.at.returns-in-Err-Nothing-clause-lasts g c in
+      let here = goal.at.returns-in-Err-Nothing-clause-durable g c in
       let appends = c.in-Err-Nothing.ensures.appends m in
       let same = ap (λ (s : Stored). s.content) (c.in_ok-edges.ensures.measures appends.0).1.1 in
-      let still = rw c.in-Err-Nothing.field-0-is at (c.in-Err-Nothing.ensures.leaves m (all_sure (g.F.FlatFile.disk c.args.mbox.now)
-      (g.F.FlatFile.disk c.edges.new.self) (c.in_ok-edges.ensures.durable appends.0) sure)).1 in
+      let still = rw c.in-Err-Nothing.field-0-is at (c.in-Err-Nothing.ensures.leaves m (all_trust (g.F.FlatFile.disk c.args.mbox.now)
+      (g.F.FlatFile.disk c.edges.new.self) (c.in_ok-edges.ensures.durable appends.0) trust)).1 in
       inl (
         grown_from (same_intent g here.After-entry_len-len appends.0 bytes has)
             (taken_back g here.After-take_back f safe now is seen there),

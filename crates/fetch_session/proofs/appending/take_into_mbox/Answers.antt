@@ -14,10 +14,10 @@ use Rattle.pop3_wire.proofs.LinkLemmas.{and_then, in_words}
 use Rattle.fetch_session.proofs.TalkLemmas.{took_talked, takes_held, before_cut, err_is, did_both, did_so}
 use Rattle.fetch_session.proofs.PartLemmas.{link_broke, link_then_cut, marked_ledger, same_ledger}
 use Rattle.fetch_session.specs.Parts.{KeepsLink}
-use Rattle.fetch_session.specs.Lasting.{IsEntryLeft, IsSafeFile, LeavesBoth}
+use Rattle.fetch_session.specs.Durable.{IsEntryLeft, IsSafeFile, LeavesBoth}
 use Rattle.fetch_session.specs.Report.{AddsLines}
 use Rattle.fetch_session.specs.Task.{stores}
-use Rattle.mail_store.specs.Durable.{IsSure}
+use Rattle.mail_store.specs.Durable.{Trusted}
 use Rattle.mail_store.specs.FlatFile.{Stored}
 use Rattle.mail_store.specs.Mboxrd.{entry_of}
 use Rattle.std.proofs.lemmas.Option.{same_Some}
@@ -64,7 +64,7 @@ returns-in_err-body g c = rw (err_is c.from_residual.ensures.1) (record {
   before = λ m. m;
   takes = link_alone (in_words g.W.Wire c.in_err-body.ensures.opens (text_broken AsEntries c.in_err-body.field-0.0 refl));
   keeps = search rules;
-  lasts = λ m f sure safe. (
+  durable = λ m f trust safe. (
     tt,
     λ whole w. none_left_of g.F.FlatFile c.args.mbox.now c.args.ledger.now.file (stores c.args.number c.args.uid.now)
         (place_of g.W.Wire c.args.client.now) c.args.ledger.now.seen.rows c.args.ledger.now.lines.items _ _ safe
@@ -88,7 +88,7 @@ returns-in_err-text g c = rw (err_is c.from_residual-in_err-text.ensures.1) (rec
   takes = link_alone (and_then g.W.Wire g.met.W.Wire.leads_on c.in_ok-body.ensures.opens c.in_err-text.ensures.holds
       (λ opened held. not_held (held c.args.number (place_of g.W.Wire c.args.client.now) opened)));
   keeps = search rules;
-  lasts = λ m f sure safe. (
+  durable = λ m f trust safe. (
     tt,
     λ whole w. none_left_of g.F.FlatFile c.args.mbox.now c.args.ledger.now.file (stores c.args.number c.args.uid.now)
         (place_of g.W.Wire c.args.client.now) c.args.ledger.now.seen.rows c.args.ledger.now.lines.items _ _ safe
@@ -108,7 +108,7 @@ returns-then-not-is_whole g c =
           absurd (true≢false (sym (c.is_whole.ensures.1
           (rw (c.deref.ensures.value, fetched.2) (body_whole fetched.0.body))) ∙ c.if-not-is_whole.true));
       keeps = search rules;
-      lasts = λ m f sure safe. (
+      durable = λ m f trust safe. (
         tt,
         λ whole w. none_left_of g.F.FlatFile c.args.mbox.now c.args.ledger.now.file (stores c.args.number c.args.uid.now)
             (place_of g.W.Wire c.args.client.now) c.args.ledger.now.seen.rows c.args.ledger.now.lines.items _ _ safe
@@ -127,21 +127,21 @@ returns-in_err-append_text g c =
         sound = λ f. (kept.ledger.steady f).0;
         written = tt;
         rows = tt;
-        left = λ f safe. (kept.ledger.lasts f safe).1 (marked c.args.ledger.now.seen.rows c.args.uid.now);
+        left = λ f safe. (kept.ledger.durable f safe).1 (marked c.args.ledger.now.seen.rows c.args.uid.now);
       };
       before = kept.before;
       takes = both_sound (read g here) c.in_err-append_text.ensures.appends (λ text _ refuses.
           inr (inl (inr (inl (text_refused c.in_ok-text.text.items c.in_err-append_text.field-0.0 text refuses kept.ledger.rows
           (ap (λ (v : Vec ReportLine _). v.items) kept.ledger.lines)).0))));
       keeps = kept.keeps;
-      lasts = λ m f sure safe. (
+      durable = λ m f trust safe. (
         tt,
         λ whole w firm bytes has left may now is seen there.
             let (e, its, text) = text_refused c.in_ok-text.text.items c.in_err-append_text.field-0.0 (read g here w).2
             (c.in_err-append_text.ensures.appends m f).2 kept.ledger.rows (ap (λ (v : Vec ReportLine _). v.items) kept.ledger.lines) in
             inr (inl (
               e,
-              rw (its, text) ((c.in_err-append_text.ensures.lasts m f sure safe).1 whole firm bytes has left may now is seen there),
+              rw (its, text) ((c.in_err-append_text.ensures.durable m f trust safe).1 whole firm bytes has left may now is seen there),
             )),
       );
     })
@@ -157,26 +157,26 @@ returns g c =
           (λ f. (kept.ledger.steady (marks.saves f).0).0)
           (marks.rows, record { closed = marks.closed; steady = λ f. (marks.steady f).1 })
           (λ f safe. (c.remember.ensures.keeps f).1
-          (c.in_ok-append_text.ensures.ledger.lasts (marks.saves f).0 safe).0);
+          (c.in_ok-append_text.ensures.ledger.durable (marks.saves f).0 safe).0);
       before = kept.before;
       takes = both_sound (read g here.In_ok-text) (λ m f. c.in_ok-append_text.ensures.appends m (marks.saves f).0) (λ text f appends.
           entry_stored c.len-length.result c.in_ok-text.text.items (g.F.FlatFile.stored c.append_text.new.ledger.file)
           c.args.ledger.now.seen c.append_text.new.ledger.seen text
           (long g here.After-len-length) appends kept.ledger.rows marks.rows (marks.saves f).1 (told g here.After-note));
       keeps = λ m f. let keeps = kept.keeps m (marks.saves f).0 in (keeps.0, λ last. (c.remember.ensures.keeps f).0 _ (keeps.1 last));
-      lasts = λ m f sure safe. let all = (c.in_ok-append_text.ensures.lasts m (marks.saves f).0 sure safe).0 in
-          ((all.0, marks.lasts f all.1), λ whole w. tt);
+      durable = λ m f trust safe. let all = (c.in_ok-append_text.ensures.durable m (marks.saves f).0 trust safe).0 in
+          ((all.0, marks.durable f all.1), λ whole w. tt);
     }
 
 -- the entry is whole, and its id may be marked
 marked_left : (g : _) (c : After-remember g) → g.F.FlatFile.sound c.append_text.new.mbox
-    → g.F.FlatFile.sound c.remember.new.file → IsSure (g.F.FlatFile.disk c.args.mbox.now).now
+    → g.F.FlatFile.sound c.remember.new.file → Trusted (g.F.FlatFile.disk c.args.mbox.now).now
     → IsSafeFile g.F.FlatFile c.args.ledger.now.file
     → LeavesBoth g.F.FlatFile (g.F.FlatFile.stored c.args.mbox.now).content c.append_text.new.mbox c.remember.new.file
     (λ bytes. IsEntryLeft c.args.ledger.now.seen.rows bytes c.args.uid.now c.in_ok-text.text.items)
-marked_left g c m f sure safe firm bytes has left may now is seen there =
+marked_left g c m f trust safe firm bytes has left may now is seen there =
     let before = (c.remember.ensures.saves f).0 in
-    let all = (c.in_ok-append_text.ensures.lasts m before sure safe).0 in
+    let all = (c.in_ok-append_text.ensures.durable m before trust safe).0 in
     let (mbox_sound, file_sound, (was, follows, holds, opened, saves)) = c.in_ok-append_text.ensures.appends m before in
     let text = c.in_ok-text.text.items in
     subst (λ (b : List ℕ). IsEntryLeft c.args.ledger.now.seen.rows b c.args.uid.now text seen left)
@@ -194,7 +194,7 @@ returns-in_err-remember g c =
       link = link_then_cut (took g here.In_ok-text);
       ledger = marked_ledger (Err _) c.marked_keeps_rows.ensures kept.ledger.rows (noted g here.After-note)
           (λ f. (kept.ledger.steady (marks.saves f).0).0) tt
-          (λ f safe. (c.remember.ensures.keeps f).1 (c.in_ok-append_text.ensures.ledger.lasts (marks.saves f).0 safe).0);
+          (λ f safe. (c.remember.ensures.keeps f).1 (c.in_ok-append_text.ensures.ledger.durable (marks.saves f).0 safe).0);
       before = kept.before;
       takes = both_sound (read g here.In_ok-text) (λ m f. c.in_ok-append_text.ensures.appends m (marks.saves f).0) (λ text f appends.
           inr (inr (entry_not_saved c.len-length.result c.in_ok-text.text.items
@@ -202,7 +202,7 @@ returns-in_err-remember g c =
           c.in_err-remember.field-0.0 text
           (long g here.After-len-length) appends kept.ledger.rows (marks.saves f).1 (told g here.After-note)).0));
       keeps = λ m f. let keeps = kept.keeps m (marks.saves f).0 in (keeps.0, λ last. (c.remember.ensures.keeps f).0 _ (keeps.1 last));
-      lasts = λ m f sure safe. (
+      durable = λ m f trust safe. (
         tt,
         λ whole w firm bytes has left may now is seen there.
             let (u, its, text) = entry_not_saved c.len-length.result c.in_ok-text.text.items
@@ -210,6 +210,6 @@ returns-in_err-remember g c =
             c.in_err-remember.field-0.0 (read g here.In_ok-text w).2 (long g here.After-len-length)
             (c.in_ok-append_text.ensures.appends m (marks.saves f).0).2 kept.ledger.rows (marks.saves f).1
             (told g here.After-note) in
-            inr (inr (u, rw (its, text) (marked_left g here.After-remember m f sure safe firm bytes has left may now is seen there))),
+            inr (inr (u, rw (its, text) (marked_left g here.After-remember m f trust safe firm bytes has left may now is seen there))),
       );
     })

@@ -10,7 +10,7 @@ use Rattle.fetch_session.proofs.TalkLemmas.{err_is}
 use Rattle.fetch_session.specs.Target.{AfterTakingIn, is_sound, stores_of, target_of}
 use Rattle.fetch_session.specs.Hearing.{AreMerged, HearsOne, IsPlanned}
 use Rattle.fetch_session.proofs.HearingLemmas.{heard_as, heard_then}
-use Rattle.fetch_session.specs.Lasting.{CarriesLast}
+use Rattle.fetch_session.specs.Durable.{DurableCarries}
 use Rattle.fetch_session.specs.CarryingOut.{Carries}
 use Rattle.fetch_session.specs.declared.fault.Cut.{Cut}
 use Rattle.fetch_session.specs.declared.account.Store.{Store}
@@ -51,7 +51,7 @@ returns-in_err-ready-clause-carries g c = rw (err_is c.from_residual.ensures.1) 
               }),
             ),
           ),
-          ready.2.2.lasts,
+          ready.2.2.durable,
         ),
       ),
     ))
@@ -118,7 +118,7 @@ carries : (g : _) (c : After-deref-3 g) (r : Result (Unit {0}) Cut) {client : Cl
     (λ old new. AfterTakingIn old.store (λ left.
     (is : Carries c.args.terms.settings.now (target_of c.args.work.now.store c.args.terms.account.now) c.args.listing.now c.args.terms.now
     old.place left old.file old.lines r new.place new.store new.file new.lines c.skips_of.result)
-    × CarriesLast g.F.FlatFile c.args.work.now.store c.args.work.now.ledger.file _ _ _ _ _ _ _ _ _ _ _ _ _ _ is work.store
+    × DurableCarries g.F.FlatFile c.args.work.now.store c.args.work.now.ledger.file _ _ _ _ _ _ _ _ _ _ _ _ _ _ is work.store
     work.ledger.file))
 carries g c r (keeps, does) = λ w d f.
     let done = does w d f in
@@ -130,7 +130,7 @@ carries g c r (keeps, does) = λ w d f.
     before.ledger.lines.items c.deref-2.result.now c.deref-3.result.now
     (ap (λ lines. lines.items) c.prepare.ensures.store.lines) is.readies c.deref-2.ensures.value c.deref-3.ensures.value
     (c.skips_of.ensures ∙ ap skips_of c.deref.ensures.value)
-    is.lasts (λ none. ((keeps.idle none).0, (keeps.idle none).1 d))
+    is.durable (λ none. ((keeps.idle none).0, (keeps.idle none).1 d))
     (in_kind before.store was.store c.args.terms.account.now c.prepare.ensures.store.kind done.4 (λ safe. safe)))
 
 -- ---- what calls leave as it was
@@ -192,7 +192,7 @@ returns-in_err-do_steps g c =
       store = stood g here.After-do_steps;
       carries = carries g here.After-deref-3 (Err c.in_err-do_steps.field-0.0) (runs_before _ _ done.runs);
       heard = told g here.After-do_steps c.do_steps.new.work.store c.do_steps.new.work.ledger.file
-          (λ d f. ((done.runs.0.store.none_begun d).0, (done.runs.0.lasts d f).0));
+          (λ d f. ((done.runs.0.store.none_begun d).0, (done.runs.0.durable d f).0));
     })
 
 pub returns : goal.returns
@@ -206,7 +206,7 @@ returns g c =
       store = store_on (omega arith) (stood g here.After-do_steps) c.end.ensures.store;
       carries = carries g here.After-deref-3 (Ok tt) all;
       heard = told g here.After-do_steps c.end.new.work.store c.end.new.work.ledger.file
-          (λ d f. ((all.0.store.none_begun d).0, (all.0.lasts d f).0));
+          (λ d f. ((all.0.store.none_begun d).0, (all.0.durable d f).0));
     }
 
 pub returns-in_err-end : goal.returns-in_err-end
@@ -220,7 +220,7 @@ returns-in_err-end g c =
       store = store_on (omega arith) (stood g here.After-do_steps) c.end.ensures.store;
       carries = carries g here.After-deref-3 (Err c.in_err-end.field-0.0) all;
       heard = told g here.After-do_steps c.end.new.work.store c.end.new.work.ledger.file
-          (λ d f. ((all.0.store.none_begun d).0, (all.0.lasts d f).0));
+          (λ d f. ((all.0.store.none_begun d).0, (all.0.durable d f).0));
     })
 
 pub returns-in_err-ready-clause-link : goal.returns-in_err-ready-clause-link

@@ -1,5 +1,5 @@
 use Rattle.fetch_session.specs.Account.{digits_of}
-use Rattle.fetch_session.specs.Lasting.{SessionLasts}
+use Rattle.fetch_session.specs.Durable.{DurableSession}
 use Rattle.fetch_session.specs.Session.{SessionIn, keeping}
 use Rattle.fetch_session.specs.Target.{AfterTakingIn}
 use Rattle.fetch_session.proofs.SessionLemmas.{entries_session, files_session}
@@ -18,5 +18,5 @@ returns-clause-mbox g c = λ now old new wire wire' report same runs w d f.
     entries_session g.D.MaildirDisk g.F.FlatFile old.store new.store (digits_of old.settings)
     (λ t s s'. (session : SessionIn old.settings t now (g.W.Wire.history wire) (keeping s (g.F.FlatFile.stored old.file))
     report (g.W.Wire.history wire') (keeping s' (g.F.FlatFile.stored new.file)))
-    × SessionLasts g.F.FlatFile old.store old.file session new.store new.file)
+    × DurableSession g.F.FlatFile old.store old.file session new.store new.file)
     _ _ _ same.kind (λ sound. runs w sound f) d

@@ -2,10 +2,10 @@ use Rattle.std.proofs.Common.{false, sym, refl, ◌∙◌, ℕ, List, Option, No
 use Rattle.std.proofs.lemmas.Result.{err_from_is_err_and}
 use Rattle.std.proofs.lemmas.Simd.{splat_is_map}
 use Rattle.fetch_record.specs.Record.{Intent}
-use Rattle.mail_store.specs.Durable.{IsSure, MayLeave}
+use Rattle.mail_store.specs.Durable.{Trusted, MayLeave}
 use Rattle.mail_store.specs.Power.{LeavesNoMore}
-use Rattle.mail_store.proofs.DiskLemmas.{all_sure, flushes_for_good}
-use Rattle.fetch_session.specs.Lasting.{LeavesSettled}
+use Rattle.mail_store.proofs.DiskLemmas.{all_trust, durable_flush}
+use Rattle.fetch_session.specs.Durable.{LeavesSettled}
 use Rattle.fetch_session.proofs.SessionLemmas.{durable_safe}
 use Rattle.fetch_session.proofs.TextLemmas.{asks_ok, asks_refused}
 use Rattle.fetch_session.proofs.SceneLemmas.{and_so}
@@ -33,11 +33,11 @@ returns-clause-asks g c = λ kept.
     (c.in_ok-held.ensures.items_if_clones_equal (λ y same. same)
     ∙ splat_is_map c.args.listing.now c.len.result false (sym c.len.ensures.count)))
 
-pub returns-clause-lasts : goal.returns-clause-lasts
-returns-clause-lasts g c = λ kept sure.
-    let firm = all_sure (g.F.FlatFile.disk c.settle.new.mbox) (g.F.FlatFile.disk c.check_mbox.new.file)
+pub returns-clause-durable : goal.returns-clause-durable
+returns-clause-durable g c = λ kept trust.
+    let firm = all_trust (g.F.FlatFile.disk c.settle.new.mbox) (g.F.FlatFile.disk c.check_mbox.new.file)
     (c.in_ok-check_mbox.ensures.durable kept)
-    (c.in_ok-stored.ensures.lasts (c.in_ok-check_mbox.ensures.checks kept).0 sure) in
+    (c.in_ok-stored.ensures.durable (c.in_ok-check_mbox.ensures.checks kept).0 trust) in
     durable_safe g.F.FlatFile c.check_mbox.new.file (g.met.F.FlatFile.shown c.check_mbox.new.file) firm
 
 -- what is left after another flush could be left before it
@@ -47,13 +47,13 @@ settled a b b' None content no_more leaves = λ left may. leaves left (no_more l
 settled a b b' (Some intent) content no_more leaves = λ left may. leaves left (no_more left may)
 
 checked : (g : _) (c : After-check_mbox g) → g.F.FlatFile.sound c.check_mbox.new.file
-    → IsSure (g.F.FlatFile.disk c.args.mbox.now).now
+    → Trusted (g.F.FlatFile.disk c.args.mbox.now).now
     → LeavesSettled c.args.seen.now.intent (g.F.FlatFile.stored c.args.mbox.now).content
     (MayLeave (g.F.FlatFile.disk c.args.mbox.now)) (MayLeave (g.F.FlatFile.disk c.check_mbox.new.file))
-checked g c kept sure = settled _ _ _ c.args.seen.now.intent (g.F.FlatFile.stored c.args.mbox.now).content
-    (flushes_for_good (g.F.FlatFile.disk c.settle.new.mbox) (g.F.FlatFile.disk c.check_mbox.new.file) c.check_mbox.result
+checked g c kept trust = settled _ _ _ c.args.seen.now.intent (g.F.FlatFile.stored c.args.mbox.now).content
+    (durable_flush (g.F.FlatFile.disk c.settle.new.mbox) (g.F.FlatFile.disk c.check_mbox.new.file) c.check_mbox.result
     (c.check_mbox.ensures.durable kept)).no_more
-    (c.settle.ensures.leaves (c.check_mbox.ensures.checks kept).0 sure)
+    (c.settle.ensures.leaves (c.check_mbox.ensures.checks kept).0 trust)
 
 pub returns-in_err-check_mbox-clause-leaves : goal.returns-in_err-check_mbox-clause-leaves
 returns-in_err-check_mbox-clause-leaves g c = checked g (goal.at.returns-in_err-check_mbox-clause-leaves g c).After-check_mbox

@@ -1,11 +1,12 @@
 use Rattle.std.proofs.Common.{subst}
-use Rattle.fetch_session.specs.Lasting.{is_sure}
+use Rattle.fetch_session.specs.Durable.{is_trusted}
 use Rattle.fetch_session.specs.Target.{no_maildir}
 use Rattle.mail_store.proofs.MaildirLemmas.{none_taken}
 use Rattle.fetch_session.proofs.readiness.ask_store.Goals as goal
 
-pub returns-in-Mboxrd-clause-lasts : goal.returns-in-Mboxrd-clause-lasts
-returns-in-Mboxrd-clause-lasts g c = λ d sure. c.ask_mbox.ensures.lasts d (subst (λ store. is_sure g.F.FlatFile store) c.in-Mboxrd.is sure)
+pub returns-in-Mboxrd-clause-durable : goal.returns-in-Mboxrd-clause-durable
+returns-in-Mboxrd-clause-durable g c = λ d trust. c.ask_mbox.ensures.durable d (subst
+    (λ store. is_trusted g.F.FlatFile store) c.in-Mboxrd.is trust)
 
 pub returns-in-Mboxrd-clause-finds : goal.returns-in-Mboxrd-clause-finds
 returns-in-Mboxrd-clause-finds g c = λ d. let asks = c.ask_mbox.ensures.asks d in

@@ -44,7 +44,7 @@ returns-in_err-found-clause-readies g c = rw (err_is c.from_residual.ensures.1)
             c.in_err-found.field-0.0 (c.requires.stands f) finds;
         content = inl refl;
       };
-      lasts = λ safe. (
+      durable = λ safe. (
         λ left may. may,
         inr (
           safe.1,
@@ -67,8 +67,8 @@ returns-in_err-take_in-clause-readies g c = rw (err_is c.from_residual-in_err-ta
     (Err c.in_err-take_in.field-0.0) merges.1
     (λ safe. (
       safe.1,
-      (c.in_err-take_in.ensures.lasts f safe.1).0,
-      c.in_ok-found.ensures.lasts d safe.0,
+      (c.in_err-take_in.ensures.durable f safe.1).0,
+      c.in_ok-found.ensures.durable d safe.0,
       c.in_ok-found.ensures.leaves d safe.0,
     ))))
 
@@ -82,8 +82,8 @@ returns-in_err-steps-clause-readies g c = rw (err_is c.from_residual-in_err-step
     (Ok tt) merges.1
     (λ safe. (
       safe.1,
-      (c.in_ok-take_in.ensures.lasts f safe.1).0,
-      c.in_ok-found.ensures.lasts d safe.0,
+      (c.in_ok-take_in.ensures.durable f safe.1).0,
+      c.in_ok-found.ensures.durable d safe.0,
       c.in_ok-found.ensures.leaves d safe.0,
     ))))
 
@@ -99,4 +99,4 @@ returns-clause-readies g c = λ d f.
     c.requires.is_record finds
     _ c.held_is_delivered.ensures c.marked_is_delivered.ensures only_asked merges.1 c.in_ok-take_in.ensures.rows refl
     c.in_ok-steps.ensures.steps
-    (λ safe. ((c.in_ok-take_in.ensures.lasts f safe.1).1, c.in_ok-found.ensures.lasts d safe.0)))
+    (λ safe. ((c.in_ok-take_in.ensures.durable f safe.1).1, c.in_ok-found.ensures.durable d safe.0)))

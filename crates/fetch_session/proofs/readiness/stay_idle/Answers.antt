@@ -83,5 +83,5 @@ returns-clause-readies g c = λ d f.
           c.known_listings_change_nothing.ensures stood c.requires.idle c.in_ok-ready.ready finds.1 (inr anew)
           (rw (saves.1, c.requires.idle.closed) (rw c.requires.idle.closed at c.save.ensures.stands))
           (rw saves.1 refl)
-          (refl, c.in_ok-save.ensures.lasts f) (c.rest.ensures.keeps d) c.in_ok-ready.ensures.steps c.in_ok-ready.ensures.length,
+          (refl, c.in_ok-save.ensures.durable f) (c.rest.ensures.keeps d) c.in_ok-ready.ensures.steps c.in_ok-ready.ensures.length,
     )

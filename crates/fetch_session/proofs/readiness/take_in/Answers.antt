@@ -2,7 +2,7 @@ use Rattle.std.proofs.Common.{◌≡◌, List, None, false, inl, sym, ap, subst,
 use Rattle.fetch_record.specs.Intents.{closed_rows}
 use Rattle.fetch_record.specs.Record.{Row, RecordState, none_open, merged}
 use Rattle.fetch_record.specs.RecordGrowth.{Updates}
-use Rattle.fetch_session.specs.Lasting.{LeavesMerged}
+use Rattle.fetch_session.specs.Durable.{LeavesMerged}
 use Rattle.mail_store.specs.Durable.{MayLeave}
 use Rattle.fetch_session.specs.Record.{Merges, Steady, record_state_in}
 use Rattle.fetch_session.proofs.SessionLemmas.{grown_merged, written_merged}
@@ -46,9 +46,9 @@ returns-clause-merges g c = λ kept.
     (held_is c.args.seen.now it.1)
     (saves_merges old new (none_open was) (none_open rows) c.grow.result it.0 (saves (none_open was) (none_open rows) (inl it.2))))
 
-pub returns-clause-lasts : goal.returns-clause-lasts
-returns-clause-lasts g c = λ kept safe.
-    let it = grows g (goal.at.returns-clause-lasts g c).After-grow kept in
+pub returns-clause-durable : goal.returns-clause-durable
+returns-clause-durable g c = λ kept safe.
+    let it = grows g (goal.at.returns-clause-durable g c).After-grow kept in
     let was = c.args.seen.now.rows in
     let rows = merged (closed_rows c.args.found.now.stored was c.args.seen.now.intent) c.args.listing.now
     c.args.found.now.held.items c.args.now in (
@@ -57,7 +57,7 @@ returns-clause-lasts g c = λ kept safe.
           (held_is c.args.seen.now it.1)
           (grown_merged g.F.FlatFile c.args.file.now c.grow.new.file (none_open was) rows c.deref-2.result.now it.2
           (c.grow.ensures.leaves kept safe (none_open was) it.0).1),
-      c.grow.ensures.lasts kept safe,
+      c.grow.ensures.durable kept safe,
     )
 
 -- ---- the record was written whole
@@ -70,10 +70,10 @@ returns-then-needs_rewrite-clause-merges g c = λ kept. and_so (c.save.ensures.s
     (record_state_in c.merge_rows.new.self) c.save.result
     (read_keeps old.content c.args.seen.now (c.requires.stands sound)) c.save.ensures.stands writes))
 
-pub returns-then-needs_rewrite-clause-lasts : goal.returns-then-needs_rewrite-clause-lasts
-returns-then-needs_rewrite-clause-lasts g c = λ kept safe. (
+pub returns-then-needs_rewrite-clause-durable : goal.returns-then-needs_rewrite-clause-durable
+returns-then-needs_rewrite-clause-durable g c = λ kept safe. (
   written_merged g.F.FlatFile c.args.file.now c.save.new.file (record_state_in c.args.seen.now) _ _
       (rw (c.in_ok-group.ensures.after, c.deref.ensures.value, c.close.ensures.after) at c.save.ensures.stands)
       (rw (c.in_ok-group.ensures.after, c.deref.ensures.value, c.close.ensures.after) at (c.save.ensures.leaves kept)),
-  c.save.ensures.lasts kept,
+  c.save.ensures.durable kept,
 )

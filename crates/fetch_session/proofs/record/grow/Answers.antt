@@ -1,6 +1,6 @@
 use Rattle.std.proofs.Common.{inl, inr, List, ℕ, sym, ap, ◌++◌, ◌∙◌, append-nil}
 use Rattle.mail_store.specs.FlatFile.{Stored}
-use Rattle.mail_store.proofs.DiskLemmas.{appends_for_good}
+use Rattle.mail_store.proofs.DiskLemmas.{durable_append}
 use Rattle.fetch_session.specs.Record.{bytes_in}
 use Rattle.fetch_session.proofs.SessionLemmas.{grown_safe, leaves_part, longer_rows, part_left, safe_left}
 use Rattle.fetch_session.proofs.SceneLemmas.{all_empty, is_there, not_empty, grown, cut_short, and_so}
@@ -54,15 +54,15 @@ returns-in-Err-clause-leaves g c = λ kept safe was stood.
 
 pub returns-in-Ok-clause-keeps : goal.returns-in-Ok-clause-keeps
 returns-in-Ok-clause-keeps g c = λ kept. longer_rows g.F.FlatFile c.args.file.now c.append.new.self
-    (appends_for_good (g.F.FlatFile.disk c.args.file.now) (g.F.FlatFile.disk c.append.new.self) c.args.group.now
+    (durable_append (g.F.FlatFile.disk c.args.file.now) (g.F.FlatFile.disk c.append.new.self) c.args.group.now
     c.append.result (c.append.ensures.durable kept)).longer
 
 pub returns-in-Err-clause-keeps : goal.returns-in-Err-clause-keeps
 returns-in-Err-clause-keeps g c = λ kept. longer_rows g.F.FlatFile c.args.file.now c.append.new.self
-    (appends_for_good (g.F.FlatFile.disk c.args.file.now) (g.F.FlatFile.disk c.append.new.self) c.args.group.now
+    (durable_append (g.F.FlatFile.disk c.args.file.now) (g.F.FlatFile.disk c.append.new.self) c.args.group.now
     c.append.result (c.append.ensures.durable kept)).longer
 
-pub returns-in-Ok-clause-lasts : goal.returns-in-Ok-clause-lasts
-returns-in-Ok-clause-lasts g c = λ kept. grown_safe g.F.FlatFile c.args.file.now c.append.new.self c.args.group.now
+pub returns-in-Ok-clause-durable : goal.returns-in-Ok-clause-durable
+returns-in-Ok-clause-durable g c = λ kept. grown_safe g.F.FlatFile c.args.file.now c.append.new.self c.args.group.now
     (tt {0}) (g.met.F.FlatFile.shown c.args.file.now) (g.met.F.FlatFile.shown c.append.new.self)
     (c.in-Ok.ensures.durable kept)

@@ -1,7 +1,7 @@
 use Rattle.std.proofs.Common.{◌≡◌, List, ◌++◌, None, Some, Result, Ok, Err, subst, ◌∙◌}
 use Rattle.fetch_record.specs.Record.{Row, none_open}
 use Rattle.fetch_record.specs.RecordGrowth.{Grows}
-use Rattle.fetch_session.specs.Lasting.{IsGrownAtMost, IsSafeFile, LeavesFile, RowsStillLast}
+use Rattle.fetch_session.specs.Durable.{IsGrownAtMost, IsSafeFile, LeavesFile, StillDurable}
 use Rattle.mail_store.specs.FlatFile.{Stored}
 use Rattle.fetch_session.specs.Record.{Saves, bytes_in, intent_at, with_open}
 use Rattle.fetch_session.specs.declared.fault.Fault.{Fault}
@@ -128,7 +128,7 @@ returns-in_err-size-clause-keeps g c = λ kept.
 
 -- whether the line was appended or not
 kept : (g : _) (c : After-grow g) → g.F.FlatFile.sound c.grow.new.file
-    → ((rows : List Row) → RowsStillLast g.F.FlatFile rows c.args.file.now c.grow.new.file)
+    → ((rows : List Row) → StillDurable g.F.FlatFile rows c.args.file.now c.grow.new.file)
     × (IsSafeFile g.F.FlatFile c.args.file.now → LeavesFile g.F.FlatFile c.grow.new.file (IsGrownAtMost
     (none_open c.args.seen.now.rows) (with_open c.args.seen.now.rows (intent_at c.args.uid.now c.args.start c.args.len))))
 kept g c sound =
@@ -137,7 +137,7 @@ kept g c sound =
       λ rows last. c.grow.ensures.keeps sound rows (λ left may. last left (c.measure.ensures.keeps before left may)),
       λ safe. part_grown g.F.FlatFile c.grow.new.file (none_open c.args.seen.now.rows)
           (with_open c.args.seen.now.rows (intent_at c.args.uid.now c.args.start c.args.len)) c.deref.result.now (grows g c)
-          (c.grow.ensures.leaves sound (c.in_ok-size.ensures.lasts before safe.0) (none_open c.args.seen.now.rows)
+          (c.grow.ensures.leaves sound (c.in_ok-size.ensures.durable before safe.0) (none_open c.args.seen.now.rows)
           (rw told.1.1 (c.requires.steady told.0))).0,
     )
 
@@ -147,6 +147,6 @@ returns-in_err-grow-clause-keeps g c = kept g (goal.at.returns-in_err-grow-claus
 pub returns-clause-keeps : goal.returns-clause-keeps
 returns-clause-keeps g c = kept g (goal.at.returns-clause-keeps g c).After-grow
 
-pub returns-clause-lasts : goal.returns-clause-lasts
-returns-clause-lasts g c = λ sound safe. c.in_ok-grow.ensures.lasts sound
-    (c.in_ok-size.ensures.lasts (c.in_ok-grow.ensures.saves sound).0 safe.0)
+pub returns-clause-durable : goal.returns-clause-durable
+returns-clause-durable g c = λ sound safe. c.in_ok-grow.ensures.durable sound
+    (c.in_ok-size.ensures.durable (c.in_ok-grow.ensures.saves sound).0 safe.0)

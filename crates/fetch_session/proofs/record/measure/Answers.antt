@@ -1,6 +1,6 @@
 use Rattle.std.proofs.Common.{List, ℕ, Option, length, ap, sym, ◌∙◌}
 use Rattle.mail_store.specs.declared.file.flat_file.Edges.{Edges}
-use Rattle.mail_store.proofs.DiskLemmas.{all_sure, flushes_for_good}
+use Rattle.mail_store.proofs.DiskLemmas.{all_trust, durable_flush}
 use Rattle.fetch_session.specs.Record.{bytes_in}
 use Rattle.fetch_session.proofs.SceneLemmas.{not_there, and_so}
 use Rattle.fetch_session.proofs.SessionLemmas.{durable_safe}
@@ -16,16 +16,16 @@ returns-in-Err-clause-size g c = λ kept. and_so (c.in-Err.ensures.measures kept
 
 pub returns-in-Ok-clause-keeps : goal.returns-in-Ok-clause-keeps
 returns-in-Ok-clause-keeps g c =
-    λ kept. (flushes_for_good (g.F.FlatFile.disk c.args.file.now) (g.F.FlatFile.disk c.edges.new.self) c.edges.result
+    λ kept. (durable_flush (g.F.FlatFile.disk c.args.file.now) (g.F.FlatFile.disk c.edges.new.self) c.edges.result
     (c.edges.ensures.durable kept)).no_more
 
 pub returns-in-Err-clause-keeps : goal.returns-in-Err-clause-keeps
 returns-in-Err-clause-keeps g c =
-    λ kept. (flushes_for_good (g.F.FlatFile.disk c.args.file.now) (g.F.FlatFile.disk c.edges.new.self) c.edges.result
+    λ kept. (durable_flush (g.F.FlatFile.disk c.args.file.now) (g.F.FlatFile.disk c.edges.new.self) c.edges.result
     (c.edges.ensures.durable kept)).no_more
 
-pub returns-in-Ok-clause-lasts : goal.returns-in-Ok-clause-lasts
-returns-in-Ok-clause-lasts g c = λ kept sure.
+pub returns-in-Ok-clause-durable : goal.returns-in-Ok-clause-durable
+returns-in-Ok-clause-durable g c = λ kept trust.
     durable_safe g.F.FlatFile c.edges.new.self (g.met.F.FlatFile.shown c.edges.new.self)
-    (all_sure (g.F.FlatFile.disk c.args.file.now) (g.F.FlatFile.disk c.edges.new.self)
-    (c.in-Ok.ensures.durable kept) sure)
+    (all_trust (g.F.FlatFile.disk c.args.file.now) (g.F.FlatFile.disk c.edges.new.self)
+    (c.in-Ok.ensures.durable kept) trust)

@@ -3,7 +3,7 @@ use Rattle.fetch_record.specs.Record.{Intent}
 use Rattle.fetch_record.specs.RecordFile.{file_of}
 use Rattle.mail_store.specs.Durable.{MayLeave}
 use Rattle.mail_store.specs.Power.{LeavesEither}
-use Rattle.mail_store.proofs.DiskLemmas.{replaces_for_good}
+use Rattle.mail_store.proofs.DiskLemmas.{durable_replace}
 use Rattle.fetch_session.proofs.SessionLemmas.{durable_safe}
 use Rattle.fetch_session.proofs.record.save.Goals.{After-replace}
 use Rattle.fetch_session.proofs.record.save.Goals as goal
@@ -26,7 +26,7 @@ leaves g c kept =
     c.deref.ensures.value ∙ c.in_ok-bytes.ensures.file ∙ ap (λ (i : Option Intent). file_of c.args.seen.now.rows i) c.requires.closed in
     subst (λ (bytes : List ℕ). LeavesEither (MayLeave (g.F.FlatFile.disk c.args.file.now)) bytes
     (MayLeave (g.F.FlatFile.disk c.replace.new.self))) bytes_are
-    (replaces_for_good (g.F.FlatFile.disk c.args.file.now) (g.F.FlatFile.disk c.replace.new.self) c.deref.result.now
+    (durable_replace (g.F.FlatFile.disk c.args.file.now) (g.F.FlatFile.disk c.replace.new.self) c.deref.result.now
     c.replace.result (c.replace.ensures.durable kept)).leaves
 
 pub returns-in-Ok-clause-leaves : goal.returns-in-Ok-clause-leaves
@@ -35,8 +35,8 @@ returns-in-Ok-clause-leaves g c = leaves g (goal.at.returns-in-Ok-clause-leaves 
 pub returns-clause-leaves : goal.returns-clause-leaves
 returns-clause-leaves g c = leaves g (goal.at.returns-clause-leaves g c).After-replace
 
-pub returns-in-Ok-clause-lasts : goal.returns-in-Ok-clause-lasts
-returns-in-Ok-clause-lasts g c = λ kept.
+pub returns-in-Ok-clause-durable : goal.returns-in-Ok-clause-durable
+returns-in-Ok-clause-durable g c = λ kept.
     durable_safe g.F.FlatFile c.replace.new.self (g.met.F.FlatFile.shown c.replace.new.self)
-    (replaces_for_good (g.F.FlatFile.disk c.args.file.now) (g.F.FlatFile.disk c.replace.new.self) c.deref.result.now
+    (durable_replace (g.F.FlatFile.disk c.args.file.now) (g.F.FlatFile.disk c.replace.new.self) c.deref.result.now
     (Ok (tt {0})) (c.in-Ok.ensures.durable kept)).durable

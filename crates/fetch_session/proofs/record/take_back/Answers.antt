@@ -1,5 +1,5 @@
 use Rattle.std.proofs.Common.{◌∙◌, inl, inr, sym, ⊎_elim}
-use Rattle.mail_store.proofs.DiskLemmas.{cuts_for_good}
+use Rattle.mail_store.proofs.DiskLemmas.{durable_cut}
 use Rattle.fetch_session.proofs.SessionLemmas.{front_rows}
 use Rattle.fetch_session.proofs.SceneLemmas.{taken_back, and_so}
 use Rattle.fetch_session.proofs.record.take_back.Goals as goal
@@ -18,5 +18,5 @@ returns-clause-leaves g c = λ kept safe left may.
     let there = c.requires.there sound in
     let shown = g.met.F.FlatFile.shown c.args.file.now in
     ⊎_elim inl (λ (was, has, all). inr (was, sym shown ∙ has, all))
-    ((cuts_for_good (g.F.FlatFile.disk c.args.file.now) (g.F.FlatFile.disk c.cut_to.new.self) c.args.size c.cut_to.result
+    ((durable_cut (g.F.FlatFile.disk c.args.file.now) (g.F.FlatFile.disk c.cut_to.new.self) c.args.size c.cut_to.result
     (c.cut_to.ensures.durable kept)).leaves (safe.1 there.0 there.1).0 left may)

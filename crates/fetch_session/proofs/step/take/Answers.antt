@@ -19,8 +19,8 @@ returns-in-Maildir g c =
     took.ensures.link took.ensures.ledger refl took.ensures.grows took.ensures.takes (λ d f. (
       (λ bytes has is. is, took.ensures.keeps f c.args.work.now.ledger.seen.rows),
       λ safe.
-          let lasts = took.ensures.lasts d f safe.0 in
-          (on_ok_weaker took.result (λ all. (all, tt)) lasts.0, λ s. err_if _ took.result lasts.1),
+          let durable = took.ensures.durable d f safe.0 in
+          (on_ok_weaker took.result (λ all. (all, tt)) durable.0, λ s. err_if _ took.result durable.1),
     )))
 
 pub returns-in-Mboxrd : goal.returns-in-Mboxrd
@@ -35,6 +35,6 @@ returns-in-Mboxrd g c =
     (λ d. (took.ensures.before d, record { none_begun = refl; came = inl refl }, on_any took.result tt)) took.ensures.takes (λ d f. (
       took.ensures.keeps d f,
       λ safe.
-          let lasts = took.ensures.lasts d f safe.1.0 safe.0 in
-          (on_ok_weaker took.result (λ all. (all.1, all.0)) lasts.0, lasts.1 safe.1),
+          let durable = took.ensures.durable d f safe.1.0 safe.0 in
+          (on_ok_weaker took.result (λ all. (all.1, all.0)) durable.0, durable.1 safe.1),
     )))

@@ -57,7 +57,7 @@ returns-in_err-stem g c = rw (err_is c.from_residual.ensures.1) (record {
         (AsFiles c.args.account.now) NoMemory refl (inr (inr (refl, refl, refl))),
   ));
   keeps = search rules;
-  lasts = λ d f safe. (tt, inl (same_left g.F.FlatFile c.args.ledger.now.file safe (c.requires.ready.steady f)));
+  durable = λ d f safe. (tt, inl (same_left g.F.FlatFile c.args.ledger.now.file safe (c.requires.ready.steady f)));
 })
 
 pub returns-in_err-body : goal.returns-in_err-body
@@ -69,7 +69,7 @@ returns-in_err-body g c = rw (err_is c.from_residual-in_err-body.ensures.1) (rec
   takes = link_alone (in_words g.W.Wire c.in_err-body.ensures.opens
       (text_broken (AsFiles c.args.account.now) c.in_err-body.field-0.0 refl));
   keeps = search rules;
-  lasts = λ d f safe. (tt, inl (same_left g.F.FlatFile c.args.ledger.now.file safe (c.requires.ready.steady f)));
+  durable = λ d f safe. (tt, inl (same_left g.F.FlatFile c.args.ledger.now.file safe (c.requires.ready.steady f)));
 })
 
 pub returns-in_err-length : goal.returns-in_err-length
@@ -92,7 +92,7 @@ returns-in_err-length g c =
           (λ link stored same. text_stops stores.0 (string_bytes c.in_ok-stem.stem) cut.fault cut.rest
           c.in_ok-stem.ensures.stem stored link);
       keeps = λ f rows last. last;
-      lasts = λ d f safe. (tt, inl (same_left g.F.FlatFile c.args.ledger.now.file safe (c.requires.ready.steady f)));
+      durable = λ d f safe. (tt, inl (same_left g.F.FlatFile c.args.ledger.now.file safe (c.requires.ready.steady f)));
     })
 
 -- the text was read
@@ -128,7 +128,7 @@ returns g c =
           c.in_ok-stem.ensures.stem stored link marks.rows
           (rw c.requires.ready.closed at saved) c.note.ensures.items);
       keeps = λ f. (c.remember.ensures.keeps f).0;
-      lasts = λ d f safe. (marks.lasts f safe, tt);
+      durable = λ d f safe. (marks.durable f safe, tt);
     }
 
 pub returns-in_err-remember : goal.returns-in_err-remember
@@ -150,5 +150,5 @@ returns-in_err-remember g c =
           (g.F.FlatFile.stored c.remember.new.file)) (sym (held_is c.args.ledger.now.seen c.requires.ready.closed))
           saved) c.note.ensures.items);
       keeps = λ f. (c.remember.ensures.keeps f).0;
-      lasts = λ d f safe. (tt, inr (sized_file (string_bytes c.in_ok-stem.stem) stores.0, rw (stores.1 d).1.0 refl, (refl, refl)));
+      durable = λ d f safe. (tt, inr (sized_file (string_bytes c.in_ok-stem.stem) stores.0, rw (stores.1 d).1.0 refl, (refl, refl)));
     })

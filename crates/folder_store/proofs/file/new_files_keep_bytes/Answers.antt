@@ -1,4 +1,4 @@
 use Rattle.folder_store.proofs.file.new_files_keep_bytes.Goals as goal
 
 pub returns-clause-left : goal.returns-clause-left
-returns-clause-left g c = λ old f loses. loses.on_disk f.name.now
+returns-clause-left g c = λ old f loses. loses.durable f.name.now

@@ -1,13 +1,13 @@
 use Rattle.std.proofs.Common.{◌∙◌, ◌≡◌, ◌||◌, ℕ, List, [], Bool, Bor, arith, append-nil, get_or, sym, not, refl}
 use Rattle.std.proofs.lemmas.List.Elements.{filter_more}
 use Rattle.mail_store.specs.Held.{has_text}
-use Rattle.folder_store.specs.FlushPass.{has_flushed, has_missed, is_settled}
+use Rattle.folder_store.specs.FlushPass.{has_flushed, has_missed, was_flushed}
 use Rattle.folder_store.proofs.flush_pass.unsettled.Goals as goal
 use Rattle.folder_store.proofs.flush_pass.unsettled.Goals.{then-is_left+in_ok-push, else-is_left}
 
 pub loop-stem-preserved : goal.loop-stem-preserved
 loop-stem-preserved c =
-    let p : Bor (List ℕ) → Bool = λ stem. not (is_settled c.args.found.now stem.now) in
+    let p : Bor (List ℕ) → Bool = λ stem. not (was_flushed c.args.found.now stem.now) in
     let flushed : (q : List ℕ) → has_text c.add_stems.new.flushed q ≡ has_flushed c.args.found.now q =
     λ q. c.in_ok-add_stems.ensures.flushed q ∙ rw c.new-flushed.ensures.empty refl in
     let missed : (q : List ℕ)

@@ -2,4 +2,4 @@ use Rattle.local_fetch.proofs.FetchLemmas.{from_nothing}
 use Rattle.local_fetch.proofs.laws.promises_hold_in_memory.Goals as goal
 
 pub returns : goal.returns
-returns c = from_nothing _ _ _ _ c.empty_accounts_are_kept.ensures c.fetches_keep_promises.ensures
+returns c = from_nothing _ _ _ _ c.empty_accounts_hold.ensures c.fetches_keep_promises.ensures

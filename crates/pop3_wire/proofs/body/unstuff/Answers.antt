@@ -1,6 +1,6 @@
 use Rattle.std.proofs.Common.{◌≡◌, refl, ap, subst, sym, ◌∙◌, ◌++◌, ◌∷◌, [], List, ℕ, append_assoc}
 use Rattle.std.proofs.lemmas.Bool.{false≢true}
-use Rattle.pop3_wire.specs.Body.{kept, unstuffed}
+use Rattle.pop3_wire.specs.Body.{lf_line, unstuffed}
 use Rattle.pop3_wire.proofs.BodyLemmas.{Reads, no_body, reads_end, reads_more}
 use Rattle.pop3_wire.proofs.body.unstuff.Goals as goal
 
@@ -10,7 +10,7 @@ returns-then-is_end_mark-clause-found c =
 
 pub loop-line-preserved : goal.loop-line-preserved
 loop-line-preserved c =
-    let text : c.push.new.self.items ≡ c.loop-line.text.items ++ kept c.in-Some.line.now =
+    let text : c.push.new.self.items ≡ c.loop-line.text.items ++ lf_line c.in-Some.line.now =
     c.in_ok-push.ensures.items ∙ ap (λ (t : List ℕ). t ++ 10 ∷ []) (c.in_ok-extend_from_slice.ensures.items
     ∙ ap (λ (t : List ℕ). c.loop-line.text.items ++ t) c.without_dot.ensures)
     ∙ append_assoc c.loop-line.text.items (unstuffed c.in-Some.line.now) (10 ∷ []) in

@@ -10,13 +10,13 @@ returns-then-not-is_file_name-clause-settles g c = rw (sym c.take.ensures.value 
       λ f h. inl (rw c.refuse-then-not-is_file_name.ensures.counted (maildir_same _ _ None _ (moved_rests _ _ t.2))),
     ))
 
-pub returns-in-Err-put_for_good-clause-settles : goal.returns-in-Err-put_for_good-clause-settles
-returns-in-Err-put_for_good-clause-settles g c =
+pub returns-in-Err-put_durably-clause-settles : goal.returns-in-Err-put_durably-clause-settles
+returns-in-Err-put_durably-clause-settles g c =
     let was = sym c.take.ensures.value ∙ c.in-Some.is in
     rw (was, c.take.ensures.after) (λ s.
-    let t = c.in-Err-put_for_good.ensures s.0 in
+    let t = c.in-Err-put_durably.ensures s.0 in
     let below = c.in_default.ensures.admitted in (
       (t.0, t.1, below),
-      λ f h. not_settled _ _ _ f c.args.name.now _ _ c.in-Err-put_for_good.field-0
-          c.refuse-in-Err-put_for_good.ensures.counted (c.requires.not_there (t.0, rw was t.1, below)) h t.2,
+      λ f h. not_settled _ _ _ f c.args.name.now _ _ c.in-Err-put_durably.field-0
+          c.refuse-in-Err-put_durably.ensures.counted (c.requires.not_there (t.0, rw was t.1, below)) h t.2,
     ))

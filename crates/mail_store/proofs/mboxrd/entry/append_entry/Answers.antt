@@ -7,14 +7,14 @@ use Rattle.mail_store.specs.declared.fault.EntryFault.{EntryFault}
 use Rattle.mail_store.specs.declared.fault.EntryFault.TheVariants.{Nothing, Front}
 use Rattle.mail_store.specs.declared.fault.StoreFault.{StoreFault}
 use Rattle.mail_store.specs.DiskCalls.{CutsDisk, FlushesDisk}
-use Rattle.mail_store.specs.Durable.{Disk, IsDurable, IsSure, MayLeave, seen_on}
+use Rattle.mail_store.specs.Durable.{Disk, IsDurable, Trusted, MayLeave, seen_on}
 use Rattle.mail_store.specs.FlatFile.{Stored}
 use Rattle.mail_store.specs.Mboxrd.{entry_of}
 use Rattle.mail_store.specs.MboxCalls.{IsStillDurable}
 use Rattle.mail_store.specs.Power.{KeepsWhole, LeavesPart}
 use Rattle.mail_store.specs.Settling.{MayBeLeft}
-use Rattle.mail_store.proofs.DiskLemmas.{all_no_more, all_sure, appends_for_good, cut_back, cuts_for_good, durable_sure}
-use Rattle.mail_store.proofs.DiskLemmas.{flush_durable, flushes_for_good}
+use Rattle.mail_store.proofs.DiskLemmas.{all_no_more, all_trust, durable_append, cut_back, durable_cut, durable_trust}
+use Rattle.mail_store.proofs.DiskLemmas.{flush_durable, durable_flush}
 use Rattle.mail_store.proofs.DurableLemmas.{durable_is_left}
 use Rattle.mail_store.proofs.SettlingLemmas.{cut_keeps, longer_keeps}
 use Rattle.mail_store.proofs.mboxrd.entry.append_entry.Given.{Over}
@@ -67,7 +67,7 @@ returns-clause-appends g c = λ sound.
 kept : (g : Over) (c : After-cut_to g) → g.F.FlatFile.sound c.cut_to.new.self
     → KeepsWhole (g.F.FlatFile.stored c.args.file.now).content (MayLeave (g.F.FlatFile.disk c.args.file.now))
     (MayLeave (g.F.FlatFile.disk c.cut_to.new.self))
-kept g c = λ sound bytes is outlives.
+kept g c = λ sound bytes is durable.
     let cuts = c.cut_to.ensures.cuts sound in
     let appends = c.in-Err.ensures.appends cuts.0 in
     let looks = c.in_ok-edges.ensures.looks appends.0 in
@@ -77,12 +77,12 @@ kept g c = λ sound bytes is outlives.
     cut_keeps (MayLeave (g.F.FlatFile.disk c.look_at.new.file)) (MayLeave (g.F.FlatFile.disk c.append.new.self))
     (MayLeave (g.F.FlatFile.disk c.cut_to.new.self)) bytes
     left.0 (seen_on (g.F.FlatFile.disk c.append.new.self))
-    (λ left may. outlives left (all_no_more (g.F.FlatFile.disk c.args.file.now) (g.F.FlatFile.disk c.look_at.new.file)
+    (λ left may. durable left (all_no_more (g.F.FlatFile.disk c.args.file.now) (g.F.FlatFile.disk c.look_at.new.file)
     (c.in_ok-edges.ensures.durable appends.0) left may))
-    (appends_for_good (g.F.FlatFile.disk c.look_at.new.file) (g.F.FlatFile.disk c.append.new.self) c.deref.result.now
+    (durable_append (g.F.FlatFile.disk c.look_at.new.file) (g.F.FlatFile.disk c.append.new.self) c.deref.result.now
     c.append.result (c.append.ensures.durable cuts.0)).longer
     (g.met.F.FlatFile.shown c.append.new.self ∙ ap (λ (s : Stored). s.content) left.3 ∙ ap (λ (l : List ℕ). Some (l ++ left.0)) same)
-    (rw size at (cuts_for_good (g.F.FlatFile.disk c.append.new.self) (g.F.FlatFile.disk c.cut_to.new.self)
+    (rw size at (durable_cut (g.F.FlatFile.disk c.append.new.self) (g.F.FlatFile.disk c.cut_to.new.self)
     c.in_ok-edges.edges.size c.cut_to.result (c.cut_to.ensures.durable sound)).front)
 
 pub returns-in-Ok-cut_to-clause-keeps : goal.returns-in-Ok-cut_to-clause-keeps
@@ -91,29 +91,29 @@ returns-in-Ok-cut_to-clause-keeps g c = kept g (goal.at.returns-in-Ok-cut_to-cla
 pub returns-clause-keeps : goal.returns-clause-keeps
 returns-clause-keeps g c = kept g (goal.at.returns-clause-keeps g c).After-cut_to
 
-pub returns-in-Ok-clause-lasts : goal.returns-in-Ok-clause-lasts
-returns-in-Ok-clause-lasts g c = λ sound sure.
-    let before = all_sure (g.F.FlatFile.disk c.args.file.now) (g.F.FlatFile.disk c.look_at.new.file)
-    (c.in_ok-edges.ensures.durable (c.in-Ok.ensures.appends sound).0) sure in
-    (appends_for_good (g.F.FlatFile.disk c.look_at.new.file) (g.F.FlatFile.disk c.append.new.self) c.deref.result.now
+pub returns-in-Ok-clause-durable : goal.returns-in-Ok-clause-durable
+returns-in-Ok-clause-durable g c = λ sound trust.
+    let before = all_trust (g.F.FlatFile.disk c.args.file.now) (g.F.FlatFile.disk c.look_at.new.file)
+    (c.in_ok-edges.ensures.durable (c.in-Ok.ensures.appends sound).0) trust in
+    (durable_append (g.F.FlatFile.disk c.look_at.new.file) (g.F.FlatFile.disk c.append.new.self) c.deref.result.now
     (Ok (tt {0})) (c.in-Ok.ensures.durable sound)).durable before
 
 pub returns-in-Ok-clause-keeps : goal.returns-in-Ok-clause-keeps
-returns-in-Ok-clause-keeps g c = λ sound bytes is outlives left may.
+returns-in-Ok-clause-keeps g c = λ sound bytes is durable left may.
     let before = all_no_more (g.F.FlatFile.disk c.args.file.now) (g.F.FlatFile.disk c.look_at.new.file)
     (c.in_ok-edges.ensures.durable (c.in-Ok.ensures.appends sound).0) in
-    let longer = (appends_for_good (g.F.FlatFile.disk c.look_at.new.file) (g.F.FlatFile.disk c.append.new.self)
+    let longer = (durable_append (g.F.FlatFile.disk c.look_at.new.file) (g.F.FlatFile.disk c.append.new.self)
     c.deref.result.now (Ok (tt {0})) (c.in-Ok.ensures.durable sound)).longer in
-    longer_keeps _ _ longer bytes (λ left may. outlives left (before left may)) left may
+    longer_keeps _ _ longer bytes (λ left may. durable left (before left may)) left may
 
 pub returns-in_err-edges-clause-keeps : goal.returns-in_err-edges-clause-keeps
-returns-in_err-edges-clause-keeps g c = λ sound bytes is outlives left may.
-    outlives left ((flushes_for_good (g.F.FlatFile.disk c.args.file.now) (g.F.FlatFile.disk c.look_at.new.file)
+returns-in_err-edges-clause-keeps g c = λ sound bytes is durable left may.
+    durable left ((durable_flush (g.F.FlatFile.disk c.args.file.now) (g.F.FlatFile.disk c.look_at.new.file)
     c.look_at.result (c.look_at.ensures.durable sound)).no_more left may)
 
 pub returns-in_err-make_entry-clause-keeps : goal.returns-in_err-make_entry-clause-keeps
-returns-in_err-make_entry-clause-keeps g c = λ sound bytes is outlives left may.
-    outlives left ((flushes_for_good (g.F.FlatFile.disk c.args.file.now) (g.F.FlatFile.disk c.look_at.new.file)
+returns-in_err-make_entry-clause-keeps g c = λ sound bytes is durable left may.
+    durable left ((durable_flush (g.F.FlatFile.disk c.args.file.now) (g.F.FlatFile.disk c.look_at.new.file)
     c.look_at.result (c.look_at.ensures.durable sound)).no_more left may)
 
 -- ---- what a loss of power leaves of a durable file
@@ -126,7 +126,7 @@ looked : {T : Type 0} {F : Type 0} (disk : F → Disk) (old new : F) (bytes : Li
 looked disk old new bytes content r result shown flushes on = (
   λ was has left may. (
     [],
-    durable_is_left (disk old) left on ((flushes_for_good (disk old) (disk new) r flushes).no_more left may) ∙ shown ∙ has
+    durable_is_left (disk old) left on ((durable_flush (disk old) (disk new) r flushes).no_more left may) ∙ shown ∙ has
         ∙ ap Some (sym (append-nil was)),
     tt,
   ),
@@ -153,11 +153,11 @@ returns-in-Ok-clause-leaves g c = λ sound on. (
   λ was has left may.
       let before = (c.in-Ok.ensures.appends sound).0 in
       let looks = c.in_ok-edges.ensures.looks before in
-      let firm = all_sure (g.F.FlatFile.disk c.args.file.now) (g.F.FlatFile.disk c.look_at.new.file)
-      (c.in_ok-edges.ensures.durable before) (durable_sure (g.F.FlatFile.disk c.args.file.now) on) in
+      let firm = all_trust (g.F.FlatFile.disk c.args.file.now) (g.F.FlatFile.disk c.look_at.new.file)
+      (c.in_ok-edges.ensures.durable before) (durable_trust (g.F.FlatFile.disk c.args.file.now) on) in
       subst (λ (bytes : List ℕ). (behind : List ℕ) × (left ≡ Some (was ++ behind)) × MayBeLeft (length was) bytes behind)
       (c.deref.ensures.value ∙ c.in_ok-make_entry.ensures.entry)
-      ((appends_for_good (g.F.FlatFile.disk c.look_at.new.file) (g.F.FlatFile.disk c.append.new.self) c.deref.result.now
+      ((durable_append (g.F.FlatFile.disk c.look_at.new.file) (g.F.FlatFile.disk c.append.new.self) c.deref.result.now
       (Ok (tt {0})) (c.in-Ok.ensures.durable sound)).leaves firm was
       (g.met.F.FlatFile.shown c.look_at.new.file ∙ ap (λ (s : Stored). s.content) looks.1.1 ∙ has) left may),
   tt,
@@ -169,13 +169,13 @@ cut : (g : Over) (c : After-cut_to g) (r : Result (Unit {0}) StoreFault) → g.F
     → IsDurable (g.F.FlatFile.disk c.args.file.now)
     → LeavesPart (g.F.FlatFile.stored c.args.file.now).content (entry_of c.args.text.items)
     (MayLeave (g.F.FlatFile.disk c.cut_to.new.self))
-    × OnOk r (IsSure (g.F.FlatFile.disk c.cut_to.new.self).now → IsDurable (g.F.FlatFile.disk c.cut_to.new.self))
+    × OnOk r (Trusted (g.F.FlatFile.disk c.cut_to.new.self).now → IsDurable (g.F.FlatFile.disk c.cut_to.new.self))
 cut g c r mid cuts on =
     let before = (c.in-Err.ensures.appends mid).0 in
     let looks = c.in_ok-edges.ensures.looks before in
     let was = looks.1.0.0 in
-    let firm = all_sure (g.F.FlatFile.disk c.args.file.now) (g.F.FlatFile.disk c.look_at.new.file)
-    (c.in_ok-edges.ensures.durable before) (durable_sure (g.F.FlatFile.disk c.args.file.now) on) in
+    let firm = all_trust (g.F.FlatFile.disk c.args.file.now) (g.F.FlatFile.disk c.look_at.new.file)
+    (c.in_ok-edges.ensures.durable before) (durable_trust (g.F.FlatFile.disk c.args.file.now) on) in
     let back = cut_back (g.F.FlatFile.disk c.look_at.new.file) (g.F.FlatFile.disk c.append.new.self)
     (g.F.FlatFile.disk c.cut_to.new.self) was c.deref.result.now r firm
     (g.met.F.FlatFile.shown c.look_at.new.file ∙ ap (λ (s : Stored). s.content) looks.1.1 ∙ looks.1.0.1.0)

@@ -1,8 +1,8 @@
 use Rattle.std.proofs.Common.{inl, inr, ⊎_elim, ap, sym, ◌∙◌}
-use Rattle.mail_store.specs.Durable.{IsSure, MayLeave}
+use Rattle.mail_store.specs.Durable.{Trusted, MayLeave}
 use Rattle.mail_store.specs.FlatFile.{Stored}
 use Rattle.mail_store.specs.Power.{LeavesCut, LeavesFront}
-use Rattle.mail_store.proofs.DiskLemmas.{cuts_for_good}
+use Rattle.mail_store.proofs.DiskLemmas.{durable_cut}
 use Rattle.mail_store.proofs.mboxrd.settling.settle_file.Goals.{After-cut_to}
 use Rattle.mail_store.proofs.mboxrd.settling.settle_file.Goals as goal
 
@@ -11,7 +11,7 @@ cut_back : (g : _) (c : After-cut_to g) → g.F.FlatFile.sound c.cut_to.new.self
     (MayLeave (g.F.FlatFile.disk c.args.file.now)) (MayLeave (g.F.FlatFile.disk c.cut_to.new.self))
 cut_back g c = λ kept was has left may.
     let sound = (c.cut_to.ensures.cuts kept).0 in
-    let law = cuts_for_good (g.F.FlatFile.disk c.look_behind.new.file) (g.F.FlatFile.disk c.cut_to.new.self)
+    let law = durable_cut (g.F.FlatFile.disk c.look_behind.new.file) (g.F.FlatFile.disk c.cut_to.new.self)
     c.args.start c.cut_to.result (c.cut_to.ensures.durable kept) in
     let same = g.met.F.FlatFile.shown c.look_behind.new.file
     ∙ ap (λ (s : Stored). s.content) (c.in_ok-look_behind.ensures.looks sound).1.1 in
@@ -24,18 +24,18 @@ pub returns-in_ok-cut_to-in-Torn-clause-keeps : goal.returns-in_ok-cut_to-in-Tor
 returns-in_ok-cut_to-in-Torn-clause-keeps g c = cut_back g (goal.at.returns-in_ok-cut_to-in-Torn-clause-keeps g c).After-cut_to
 
 -- the file was durable before the cut
-cut_leaves : (g : _) (c : After-cut_to g) → g.F.FlatFile.sound c.cut_to.new.self → IsSure (g.F.FlatFile.disk c.args.file.now).now
+cut_leaves : (g : _) (c : After-cut_to g) → g.F.FlatFile.sound c.cut_to.new.self → Trusted (g.F.FlatFile.disk c.args.file.now).now
     → LeavesCut (g.F.FlatFile.stored c.args.file.now).content c.args.start
     (MayLeave (g.F.FlatFile.disk c.args.file.now)) (MayLeave (g.F.FlatFile.disk c.cut_to.new.self))
-cut_leaves g c = λ kept sure left may.
+cut_leaves g c = λ kept trust left may.
     let sound = (c.cut_to.ensures.cuts kept).0 in
-    let law = cuts_for_good (g.F.FlatFile.disk c.look_behind.new.file) (g.F.FlatFile.disk c.cut_to.new.self)
+    let law = durable_cut (g.F.FlatFile.disk c.look_behind.new.file) (g.F.FlatFile.disk c.cut_to.new.self)
     c.args.start c.cut_to.result (c.cut_to.ensures.durable kept) in
     let same = g.met.F.FlatFile.shown c.look_behind.new.file
     ∙ ap (λ (s : Stored). s.content) (c.in_ok-look_behind.ensures.looks sound).1.1 in
     ⊎_elim (λ before. inl (c.look_behind.ensures.keeps sound left before))
     (λ (was, has, all). inr (was, sym same ∙ has, all))
-    (law.leaves (c.in_ok-look_behind.ensures.lasts sound sure) left may)
+    (law.leaves (c.in_ok-look_behind.ensures.durable sound trust) left may)
 
 pub returns-in_err-cut_to-in-Torn-clause-leaves : goal.returns-in_err-cut_to-in-Torn-clause-leaves
 returns-in_err-cut_to-in-Torn-clause-leaves g c = cut_leaves g (goal.at.returns-in_err-cut_to-in-Torn-clause-leaves g c).After-cut_to

@@ -1,5 +1,5 @@
 use Rattle.std.proofs.Common.{◌≡◌, ◌-◌}
-use Rattle.folder_store.proofs.rests.Rests.keep.Given as goal
+use Rattle.folder_store.proofs.cut_off.CutOff.keep.Given as goal
 
 abbrev pub invariant-loop-at : goal.invariant-loop-at
 invariant-loop-at g l = g.F.FolderState.sound l.other → g.F.FolderState.sound l.fn.other

@@ -1,16 +1,16 @@
--- What of a session outlives a loss of power, by what the devices of its files say. What of a Maildir is durable,
--- `SessionIn` says.
+-- What of a session is durable, by what the devices of its files say. What of a Maildir is durable, `SessionIn`
+-- says.
 use Rattle.std.specs.Prelude.{◌≡◌, ◌≢◌, ◌⊎◌, ℕ, List, [], ◌∷◌, ◌++◌, length, Option, None, Some, Result, Ok, Err}
 use Rattle.std.specs.List.{flat_map}
 use Rattle.std.proofs.Common.{inl, inr}
 use Rattle.mail_store.specs.declared.maildir.disk.MaildirDisk.{Ghosts as DiskGhosts}
 use Rattle.mail_store.specs.declared.file.flat_file.FlatFile.{Ghosts as FileGhosts}
-use Rattle.mail_store.specs.Durable.{IsDurable as IsFileDurable, IsSure, MayLeave}
+use Rattle.mail_store.specs.Durable.{IsDurable as IsFileDurable, Trusted, MayLeave}
 use Rattle.mail_store.specs.FlatFile.{Stored}
 use Rattle.mail_store.specs.Maildir.{File, IsDurableFile, Maildir}
 use Rattle.mail_store.specs.Mboxrd.{entry_of}
 use Rattle.mail_store.specs.Settling.{MayBeLeft}
-use Rattle.mail_store.specs.Power.{KeepsWhole, LastsWhole, LeavesCut, LeavesNoMore, Outlives}
+use Rattle.mail_store.specs.Power.{KeepsWhole, IsLeftWhole, LeavesCut, LeavesNoMore, LeavesAll}
 use Rattle.mail_terms.specs.Listing.{Item}
 use Rattle.pop3_client.specs.Texts.{body_text}
 use Rattle.pop3_wire.specs.Link.{Link}
@@ -47,14 +47,14 @@ may_leave_in file (InMaildir device) left = Unit {0}
 may_leave_in file (InMbox device) left = MayLeave (file.disk device) left
 
 -- no flush of the mboxrd file was refused
-abbrev pub is_sure : {D F : Type 0} → FileGhosts F → Store D F → Type 0
-is_sure file (InMaildir device) = Unit {0}
-is_sure file (InMbox device) = IsSure (file.disk device).now
+abbrev pub is_trusted : {D F : Type 0} → FileGhosts F → Store D F → Type 0
+is_trusted file (InMaildir device) = Unit {0}
+is_trusted file (InMbox device) = Trusted (file.disk device).now
 
--- a file is on the disk, a loss of power leaves exactly its bytes, and no flush of it was refused
+-- a file is durable, a loss of power leaves exactly its bytes, and no flush of it was refused
 abbrev pub IsSafeFile : {F : Type 0} → FileGhosts F → F → Type 0
-IsSafeFile file f = IsSure (file.disk f).now
-    × LastsWhole (file.stored f).content (IsFileDurable (file.disk f)) (MayLeave (file.disk f))
+IsSafeFile file f = Trusted (file.disk f).now
+    × IsLeftWhole (file.stored f).content (IsFileDurable (file.disk f)) (MayLeave (file.disk f))
 
 -- the same for an mboxrd file
 abbrev pub IsSafeStore : {D F : Type 0} → FileGhosts F → Store D F → Type 0
@@ -69,14 +69,14 @@ IsSafeWork file work = IsSafeFile file work.ledger.file × IsSafeStore file work
 abbrev pub KeepsMboxIn : {D F : Type 0} → FileGhosts F → Store D F → Store D F → Type 0
 KeepsMboxIn file old new = KeepsWhole (mbox_of file old).content (may_leave_in file old) (may_leave_in file new)
 
--- ---- what tasks leave that outlives it
+-- ---- what tasks leave that is durable
 
 -- the texts that these tasks stored as entries, after the bytes that the mboxrd file had
-abbrev pub TextsLast : {D F : Type 0} → FileGhosts F → Target → List Done → Stores → Store D F → Type 0
-TextsLast file (AsFiles account) dones old store = Unit {0}
-TextsLast file AsEntries dones old store =
+abbrev pub DurableTexts : {D F : Type 0} → FileGhosts F → Target → List Done → Stores → Store D F → Type 0
+DurableTexts file (AsFiles account) dones old store = Unit {0}
+DurableTexts file AsEntries dones old store =
     (was : List ℕ) → old.mbox.content ≡ Some was
-    → Outlives (may_leave_in file store) (was ++ flat_map entry_of (done_texts dones))
+    → LeavesAll (may_leave_in file store) (was ++ flat_map entry_of (done_texts dones))
 
 -- what is left of the record's file begins with bytes that stand for these rows; if there are none, there may be no
 -- file
@@ -85,17 +85,17 @@ ShowsRows rows left = (bytes behind : List ℕ) × ((bytes ≡ []) ⊎ (left ≡
     × Steady (Some bytes) (none_open rows)
 
 -- whatever a loss of power leaves of it does
-abbrev pub RowsLast : {F : Type 0} → FileGhosts F → F → List Row → Type 0
-RowsLast file f rows = (left : Option (List ℕ)) → MayLeave (file.disk f) left → ShowsRows rows left
+abbrev pub DurableRows : {F : Type 0} → FileGhosts F → F → List Row → Type 0
+DurableRows file f rows = (left : Option (List ℕ)) → MayLeave (file.disk f) left → ShowsRows rows left
 
--- these rows still outlive it, if they did before
-abbrev pub RowsStillLast : {F : Type 0} → FileGhosts F → List Row → F → F → Type 0
-RowsStillLast file rows old new = RowsLast file old rows → RowsLast file new rows
+-- these rows are still durable, if they were
+abbrev pub StillDurable : {F : Type 0} → FileGhosts F → List Row → F → F → Type 0
+StillDurable file rows old new = DurableRows file old rows → DurableRows file new rows
 
 -- all of a session's files
 abbrev pub KeepsWork : {D F H Z : Type 0} → FileGhosts F → Work D F H Z → Work D F H Z → Type 0
 KeepsWork file old new =
-    KeepsMboxIn file old.store new.store × RowsStillLast file old.ledger.seen.rows old.ledger.file new.ledger.file
+    KeepsMboxIn file old.store new.store × StillDurable file old.ledger.seen.rows old.ledger.file new.ledger.file
 
 -- this holds of whatever a loss of power leaves of a file that is there
 abbrev pub LeavesFile : {F : Type 0} → FileGhosts F → F → (Option (List ℕ) → Type 0) → Type 0
@@ -128,12 +128,13 @@ pub record AreLeft (rows others : List Row) (left : Option (List ℕ)) : Type 0 
   pub next_is : (next ≡ rows) ⊎ (next ≡ others)
   pub file : IsRecordLeft (record_state rows before) added left
 
--- what these tasks stored and marked outlives a loss of power; and at most a part of one intent, or of the marks of
--- these other ids, may be left behind it
-pub record DonesLast {D F : Type 0} (file : FileGhosts F) (target : Target) (dones : List Done) (next : List (List ℕ))
+-- what these tasks stored and marked is durable; and at most a part of one intent, or of the marks of these other
+-- ids, may be left behind it
+pub record DurableDones {D F : Type 0} (file : FileGhosts F) (target : Target) (dones : List Done) (next : List
+    (List ℕ))
     (old : Scene) (store : Store D F) (f : F) : Type 0 where
-  pub texts : TextsLast file target dones old.store store
-  pub rows : RowsLast file f (marked_all old.rows (marked_ids dones))
+  pub texts : DurableTexts file target dones old.store store
+  pub rows : DurableRows file f (marked_all old.rows (marked_ids dones))
   pub left : LeavesFile file f (AreLeft (marked_all old.rows (marked_ids dones))
       (marked_all (marked_all old.rows (marked_ids dones)) next))
 
@@ -156,7 +157,7 @@ IsEntryLeft rows bytes uid text left mbox =
 -- bytes, if no flush of the latter was refused
 abbrev pub LeavesBoth : {F : Type 0} → FileGhosts F → Option (List ℕ) → F → F
     → (List ℕ → Option (List ℕ) → Option (List ℕ) → Type 0) → Type 0
-LeavesBoth file content mbox f Are = IsSure (file.disk mbox).now → (bytes : List ℕ) → content ≡ Some bytes
+LeavesBoth file content mbox f Are = Trusted (file.disk mbox).now → (bytes : List ℕ) → content ≡ Some bytes
     → (left : Option (List ℕ)) → MayLeave (file.disk mbox) left → LeavesFile file f (λ seen. Are bytes seen left)
 
 -- both files are left as they were before the task that was cut; or its text was read and its entry not appended, or
@@ -169,32 +170,33 @@ IsCutLeft next old cut new bytes left mbox =
 
 -- no mark of the task that was cut may be left; or its file came and is durable. Of both files of an account with an
 -- mboxrd file that is left
-abbrev pub CutLasts : {D F : Type 0} → FileGhosts F → Target → Task → Scene → Cut → Scene → Store D F → F → Type 0
-CutLasts file (AsFiles account) next old cut new store f = LeavesFile file f (AreLeft old.rows old.rows)
+abbrev pub DurableCut : {D F : Type 0} → FileGhosts F → Target → Task → Scene → Cut → Scene → Store D F → F → Type 0
+DurableCut file (AsFiles account) next old cut new store f = LeavesFile file f (AreLeft old.rows old.rows)
     ⊎ OneDurable old.store.maildir new.store.maildir
-CutLasts file AsEntries next old cut new (InMaildir device) f = Unit {0}
-CutLasts file AsEntries next old cut new (InMbox mbox) f =
+DurableCut file AsEntries next old cut new (InMaildir device) f = Unit {0}
+DurableCut file AsEntries next old cut new (InMbox mbox) f =
     LeavesBoth file old.store.mbox.content mbox f (IsCutLeft next old cut new)
 
 -- the same for the tasks of a list that were done, and for the one that was cut; if none was, the files are safe
-abbrev pub Lasts : {D F : Type 0} → FileGhosts F → (target : Target) (tasks : List Task) (old : Scene)
+abbrev pub Durably : {D F : Type 0} → FileGhosts F → (target : Target) (tasks : List Task) (old : Scene)
     (result : Result (Unit {0}) Cut) (new : Scene) → Does target tasks old result new → Store D F → F → Type 0
-Lasts file target tasks old (Ok done) new does store f = DonesLast file target does.dones [] old store f
+Durably file target tasks old (Ok done) new does store f = DurableDones file target does.dones [] old store f
     × IsSafeFile file f × IsSafeStore file store
-Lasts file target tasks old (Err cut) new does store f = DonesLast file target does.dones (ids_in does.next) old store f
-    × CutLasts file target does.next does.mid cut new store f
+Durably file target tasks old (Err cut) new does store f = DurableDones file target does.dones
+    (ids_in does.next) old store f
+    × DurableCut file target does.next does.mid cut new store f
 
--- a list of tasks was done, or as far as went well; and if this premise holds, what was done outlives a loss of power
-pub record DoesAndLasts {D F : Type 0} (file : FileGhosts F) (safe : Type 0) (target : Target) (tasks : List Task)
+-- a list of tasks was done, or as far as went well; and if this premise holds, what was done is durable
+pub record DoesDurably {D F : Type 0} (file : FileGhosts F) (safe : Type 0) (target : Target) (tasks : List Task)
     (old : Scene) (result : Result (Unit {0}) Cut) (new : Scene) (store : Store D F) (f : F) : Type 0 where
   pub does : Does target tasks old result new
-  pub lasts : safe → Lasts file target tasks old result new does store f
+  pub durable : safe → Durably file target tasks old result new does store f
 
 -- ---- a whole session
 
 -- no flush of the record's file or of an mboxrd file was refused
-abbrev pub AreSure : {D F : Type 0} → FileGhosts F → Store D F → F → Type 0
-AreSure files was from = is_sure files was × IsSure (files.disk from).now
+abbrev pub AreTrusted : {D F : Type 0} → FileGhosts F → Store D F → F → Type 0
+AreTrusted files was from = is_trusted files was × Trusted (files.disk from).now
 
 -- nothing was written to the record's file: a loss of power leaves no more of it than before
 pub record IsRecordUntouched {F : Type 0} (files : FileGhosts F) (from f : F) : Type 0 where
@@ -228,110 +230,111 @@ LeavesSettled (Some intent) content may_leave may_leave' = LeavesCut content int
 -- what a session leaves of both files that was cut while it prepared the record: no more than before, or the record
 -- that was read and a settled mboxrd file; or what a merge leaves, and the settled file. Unless no intent was open, the
 -- record was durable before the merge, and the mboxrd file is
-abbrev pub UnreadyLasts : {D F : Type 0} → FileGhosts F → Store D F → F
+abbrev pub DurableUnready : {D F : Type 0} → FileGhosts F → Store D F → F
     → {target : Target} {items : List Item} {now : ℕ} {store : Stores} {file : Stored}
     {store' : Stores} {file' : Stored} → IsMergedAtMost target items now store file store' file' → Store D F → F
     → Type 0
-UnreadyLasts files was from (inl same) store' f = LeavesNoMore (MayLeave (files.disk from)) (MayLeave (files.disk f))
+DurableUnready files was from (inl same) store' f = LeavesNoMore (MayLeave (files.disk from)) (MayLeave (files.disk f))
     × (LeavesStore files was store' ⊎ (IsSafeFile files f × ((state : RecordState)
     × Keeps (files.stored f).content state × LeavesSettled state.intent (mbox_of files was).content
     (may_leave_in files was) (may_leave_in files store'))))
-UnreadyLasts files was from {target} {items} {now} {store} {file} (inr merged) store' f =
+DurableUnready files was from {target} {items} {now} {store} {file} (inr merged) store' f =
     let rows = merged_in target store merged.was items now in
     ((merged.was.intent ≡ None) × LeavesMerged (MayLeave (files.disk from)) merged.was rows (MayLeave (files.disk f))
     × LeavesStore files was store')
     ⊎ (LeavesMerged (λ left. left ≡ file.content) merged.was rows (MayLeave (files.disk f)) × IsSafeStore files store')
 
 -- the record's file wasn't written; or it was written anew, and is safe
-abbrev pub KeptLasts : {F : Type 0} → FileGhosts F → F → (rows : List Row) (old new : Stored) → IsFileKept rows old new
+abbrev pub DurableKept : {F : Type 0} → FileGhosts F → F → (rows : List Row) (old new : Stored)
+    → IsFileKept rows old new
     → F → Type 0
-KeptLasts files from rows old new (inl same) f = IsRecordUntouched files from f
-KeptLasts files from rows old new (inr anew) f = (files.stored f ≡ new) × IsSafeFile files f
+DurableKept files from rows old new (inl same) f = IsRecordUntouched files from f
+DurableKept files from rows old new (inr anew) f = (files.stored f ≡ new) × IsSafeFile files f
 
 -- nothing is to be fetched or deleted, and this is left of the record's file; or what was found is durable, and this
 -- holds
 abbrev pub UnlessQuiet : {D F : Type 0} → FileGhosts F → Store D F → F → {Quiet Durable : Type 0} → (rows : List Row)
     (old new : Stored) → (Quiet × IsFileKept rows old new) ⊎ Durable → Type 0 → Store D F → F → Type 0
-UnlessQuiet files was from rows old new (inl (quiet, kept)) Safe store f = KeptLasts files from rows old new kept f
+UnlessQuiet files was from rows old new (inl (quiet, kept)) Safe store f = DurableKept files from rows old new kept f
     × LeavesStore files was store
 UnlessQuiet files was from rows old new (inr durable) Safe store f = Safe
 
--- what is ready outlives a loss of power: the record's file was kept, or the files are safe
-abbrev pub ReadyLasts : {D F : Type 0} → FileGhosts F → Store D F → F
+-- what is ready is durable: the record's file was kept, or the files are safe
+abbrev pub DurableReady : {D F : Type 0} → FileGhosts F → Store D F → F
     → (settings : Settings) (target : Target) (items : List Item) (now : ℕ)
     (old : Stores) (file : Stored) (result : Result Ready Fault) (after : List Row) (new : Stores) (file' : Stored)
     → Readies settings target items now old file result after new file' → Store D F → F → Type 0
-ReadyLasts files was from _ _ _ _ _ file (Ok ready) after _ file' is store f =
+DurableReady files was from _ _ _ _ _ file (Ok ready) after _ file' is store f =
     UnlessQuiet files was from after file file' is.durable (IsSafeFile files f × IsSafeStore files store) store f
-ReadyLasts files was from _ _ _ _ _ _ (Err fault) _ _ _ unready store f =
-    UnreadyLasts files was from unready.content store f
+DurableReady files was from _ _ _ _ _ _ (Err fault) _ _ _ unready store f =
+    DurableUnready files was from unready.content store f
 
 -- the record was made ready, or wasn't; and if this premise holds, this is left
-pub record ReadiesAndLasts {D F : Type 0} (disk : DiskGhosts D) (files : FileGhosts F) (safe : Type 0)
+pub record ReadiesDurably {D F : Type 0} (disk : DiskGhosts D) (files : FileGhosts F) (safe : Type 0)
     (was : Store D F) (from : F) (settings : Settings) (target : Target) (items : List Item) (now : ℕ) (old : Stores)
     (result : Result Ready Fault) (after : List Row)
     (store : Store D F) (f : F) : Type 0 where
   pub readies : Readies settings target items now old (files.stored from) result after (stores_of disk files store)
       (files.stored f)
-  pub lasts : safe → ReadyLasts files was from _ _ _ _ _ _ _ _ _ _ readies store f
+  pub durable : safe → DurableReady files was from _ _ _ _ _ _ _ _ _ _ readies store f
 
 -- what was planned was done, or as much as went well: if no flush was refused before, nothing was to be fetched or
--- deleted and the record's file was kept, or what was done outlives a loss of power
-abbrev pub CarriedLasts : {D F : Type 0} → FileGhosts F → Store D F → F → {settings : Settings} {target : Target}
+-- deleted and the record's file was kept, or what was done is durable
+abbrev pub DurableCarried : {D F : Type 0} → FileGhosts F → Store D F → F → {settings : Settings} {target : Target}
     {items : List Item} {now : ℕ} {place : Place} {old : Stores} {file : Stored} {lines : List ReportLine} {result :
     Result (Unit {0}) Cut}
     {new : Scene} {skipped : Skips} → Carried settings target items now place old file lines result new skipped
     → Store D F → F → Type 0
-CarriedLasts files was from {settings} {target} {items} {now} {place} {old} {file} {lines} {result} {new} {skipped}
+DurableCarried files was from {settings} {target} {items} {now} {place} {old} {file} {lines} {result} {new} {skipped}
     carried store f =
-    AreSure files was from → UnlessQuiet files was from carried.mid.rows file carried.mid.file
+    AreTrusted files was from → UnlessQuiet files was from carried.mid.rows file carried.mid.file
     carried.prepared.durable
-    (Lasts files target (tasks_ahead settings target items now old carried.mid.rows) carried.mid result new
+    (Durably files target (tasks_ahead settings target items now old carried.mid.rows) carried.mid result new
     carried.does store f) store f
 
 -- the same, or the record wasn't ready
-abbrev pub CarriesLast : {D F : Type 0} → FileGhosts F → Store D F → F → (settings : Settings) (target : Target)
+abbrev pub DurableCarries : {D F : Type 0} → FileGhosts F → Store D F → F → (settings : Settings) (target : Target)
     (items : List Item) (now : ℕ) (place : Place) (old : Stores) (file : Stored) (lines : List ReportLine)
     (result : Result (Unit {0}) Cut)
     (place' : Place) (new : Stores) (file' : Stored) (lines' : List ReportLine) (skipped : Skips)
     → Carries settings target items now place old file lines result place' new file' lines' skipped → Store D F
     → F → Type 0
-CarriesLast files was from _ _ _ _ _ _ _ _ (Ok done) _ _ _ _ _
-    (rows, carried) store f = CarriedLasts files was from carried store f
-CarriesLast files was from _ _ _ _ _ _ _ _ (Err cut) _ _ _ _ _ (rows, inl (none, unprepared)) store f =
-    AreSure files was from → UnreadyLasts files was from unprepared.unready.content store f
-CarriesLast files was from _ _ _ _ _ _ _ _ (Err cut) _ _ _ _ _
-    (rows, inr carried) store f = CarriedLasts files was from carried store f
+DurableCarries files was from _ _ _ _ _ _ _ _ (Ok done) _ _ _ _ _
+    (rows, carried) store f = DurableCarried files was from carried store f
+DurableCarries files was from _ _ _ _ _ _ _ _ (Err cut) _ _ _ _ _ (rows, inl (none, unprepared)) store f =
+    AreTrusted files was from → DurableUnready files was from unprepared.unready.content store f
+DurableCarries files was from _ _ _ _ _ _ _ _ (Err cut) _ _ _ _ _
+    (rows, inr carried) store f = DurableCarried files was from carried store f
 
 -- a session up to its QUIT, or until it was cut: before its listing was known it wrote nothing
-abbrev pub ProceedsLast : {D F : Type 0} → FileGhosts F → Store D F → F
+abbrev pub DurableProceeds : {D F : Type 0} → FileGhosts F → Store D F → F
     → (settings : Settings) (target : Target) (now : ℕ)
     (old : Place) (before : Keeping) (result : Result (Unit {0}) Cut) (new : Place) (after : Keeping) (notes : Noted)
     → Proceeds settings target now old before result new after notes → Store D F → F → Type 0
-ProceedsLast files was from settings target now old before (Ok done) new after notes dealt store f =
-    CarriesLast files was from settings target dealt.items now dealt.mid before.store before.file []
+DurableProceeds files was from settings target now old before (Ok done) new after notes dealt store f =
+    DurableCarries files was from settings target dealt.items now dealt.mid before.store before.file []
     (Ok done) new after.store
     after.file notes.lines notes.skipped dealt.carries store f
-ProceedsLast files was from _ _ _ _ _ (Err cut) _ _ _ (inl stopped) store f = IsRecordUntouched files from f
+DurableProceeds files was from _ _ _ _ _ (Err cut) _ _ _ (inl stopped) store f = IsRecordUntouched files from f
     × LeavesStore files was store
-ProceedsLast files was from _ _ _ _ _ (Err cut) _ _ _ (inr (inl wanting)) store f = IsRecordUntouched files from f
+DurableProceeds files was from _ _ _ _ _ (Err cut) _ _ _ (inr (inl wanting)) store f = IsRecordUntouched files from f
     × LeavesStore files was store
-ProceedsLast files was from settings target now old before (Err cut) new after notes (inr (inr dealt)) store f =
-    CarriesLast files was from settings target dealt.items now dealt.mid before.store before.file []
+DurableProceeds files was from settings target now old before (Err cut) new after notes (inr (inr dealt)) store f =
+    DurableCarries files was from settings target dealt.items now dealt.mid before.store before.file []
     (Err cut) new after.store
     after.file notes.lines notes.skipped dealt.carries store f
 
 -- a whole session: if no flush was refused before, what was stored as entries and marked for each task that was done
--- outlives a loss of power. Tasks are done in order, and a deletion comes after its message's other task, so a DELE is
--- sent only for a message whose mark does
-abbrev pub SessionLasts : {D F : Type 0} → FileGhosts F → Store D F → F
+-- is durable. Tasks are done in order, and a deletion comes after its message's other task, so a DELE is sent only for
+-- a message whose mark is
+abbrev pub DurableSession : {D F : Type 0} → FileGhosts F → Store D F → F
     → {settings : Settings} {target : Target} {now : ℕ}
     {link : Link} {before : Keeping} {report : Report} {link' : Link} {after : Keeping}
     → SessionIn settings target now link before report link' after → Store D F → F → Type 0
-SessionLasts files was from session store f = ProceedsLast files was from _ _ _ _ _ _ _ _ _ session.proceeds store f
+DurableSession files was from session store f = DurableProceeds files was from _ _ _ _ _ _ _ _ _ session.proceeds store
+    f
 
--- a session of an account over these devices, if they are sound after it; and what of its files outlives a loss of
--- power
+-- a session of an account over these devices, if they are sound after it; and what of its files is durable
 abbrev pub RunsSession : {W D F : Type 0} → WireGhosts W → DiskGhosts D → FileGhosts F → ℕ → Holding D F → W → Report
     → Holding D F → W
     → Type 0
@@ -341,4 +344,4 @@ RunsSession link disk files now old wire report new wire' =
     (AfterTakingIn (stores_of disk files old.store) (λ left. (session : SessionIn old.settings
     (target_of old.store (digits_of old.settings)) now (link.history wire) (keeping left (files.stored old.file)) report
     (link.history wire') (keeping (stores_of disk files new.store) (files.stored new.file)))
-    × SessionLasts files old.store old.file session new.store new.file))
+    × DurableSession files old.store old.file session new.store new.file))

@@ -1,6 +1,6 @@
 use Rattle.std.proofs.Common.{◌≡◌, map, take, vec_len}
 use Rattle.folder_drop.specs.RealMaildir.{id_of_name, listed_names, uid_of}
-use Rattle.folder_drop.proofs.listing.Listing.entries.Given as goal
+use Rattle.folder_drop.proofs.listing.DropListing.entries.Given as goal
 
 abbrev pub invariant-loop-file : goal.invariant-loop-file
 invariant-loop-file l = (vec_len l.entries ≡ l.file-index)

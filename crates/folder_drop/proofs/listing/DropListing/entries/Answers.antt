@@ -7,7 +7,7 @@ use Rattle.folder_drop.specs.Listing.{FileListing}
 use Rattle.folder_drop.specs.MaildirNames.{id_of}
 use Rattle.folder_drop.specs.RealMaildir.{HaveIds, id_of_name, listed_name, listed_names, uid_of}
 use Rattle.folder_drop.proofs.MaildirLemmas.{entry_more}
-use Rattle.folder_drop.proofs.listing.Listing.entries.Goals as goal
+use Rattle.folder_drop.proofs.listing.DropListing.entries.Goals as goal
 
 pub loop-file-init : goal.loop-file-init
 loop-file-init c = (c.in_ok-entries.ensures.len, ap (map uid_of) c.in_ok-entries.ensures.items)

@@ -26,7 +26,7 @@ fn begins_with(entry: &[u8], kept: &[u8]) -> bool
 /// need be none. It is never written over: what is kept comes after what is there, without what a
 /// refused or killed cut kept of the same octets.
 #[derive(Drop)]
-pub struct Rests<'a, F> {
+pub struct CutOff<'a, F> {
     folder: F,
     name: &'a str,
     /// Whether the last bytes that were appended to the other file were refused: what is cut off next
@@ -40,10 +40,10 @@ pub struct Rests<'a, F> {
     are_ours: bool,
 }
 
-impl<'a, F> Rests<'a, F> {
+impl<'a, F> CutOff<'a, F> {
     /// The file of a name in a folder.
-    pub fn over(folder: F, name: &'a str) -> Rests<'a, F> {
-        Rests {
+    pub fn over(folder: F, name: &'a str) -> CutOff<'a, F> {
+        CutOff {
             folder,
             name,
             is_refused: false,
@@ -69,7 +69,7 @@ impl<'a, F> Rests<'a, F> {
     }
 }
 
-impl<'a, F: FileFolder + Drop> Rests<'a, F> {
+impl<'a, F: FileFolder + Drop> CutOff<'a, F> {
     // The size of the file, which is made unless it is there.
     fn make(&mut self) -> Result<u64, StoreFault> {
         match self.folder.edges(self.name) {
@@ -167,15 +167,15 @@ pub fn append_noting<F: FileFolder + Drop>(
     name: &str,
     bytes: &[u8],
     appending: Appending,
-    rests: &mut Option<Rests<'_, F>>,
+    cut_off: &mut Option<CutOff<'_, F>>,
 ) -> Result<(), StoreFault>
     ensures { F.sound folder.new → F.sound folder.old
         × AppendsDisk (disk_at (F.directory folder.old) name.now) bytes.now result
         (disk_at (F.directory folder.new) name.now) }
 {
     let answer = append_in(folder, name, bytes, appending);
-    if let Some(rests) = rests {
-        rests.note(bytes, answer.is_ok());
+    if let Some(cut_off) = cut_off {
+        cut_off.note(bytes, answer.is_ok());
     }
     answer
 }
@@ -186,14 +186,14 @@ pub fn cut_keeping<F: FileFolder + Drop>(
     folder: &mut F,
     name: &str,
     len: u64,
-    rests: &mut Option<Rests<'_, F>>,
+    cut_off: &mut Option<CutOff<'_, F>>,
 ) -> Result<(), StoreFault>
     ensures { F.sound folder.new → F.sound folder.old
         × CutsDisk (disk_at (F.directory folder.old) name.now) len result (disk_at (F.directory folder.new) name.now) }
 {
-    if let Some(rests) = rests {
-        if !rests.is_refused {
-            rests.keep(folder, name, len)?;
+    if let Some(cut_off) = cut_off {
+        if !cut_off.is_refused {
+            cut_off.keep(folder, name, len)?;
         }
     }
     cut_flushed(folder, name, len)

@@ -1,5 +1,5 @@
 use Rattle.std.proofs.Common.{◌≡◌, ◌-◌}
-use Rattle.folder_store.proofs.rests.Rests.octets_there.Given as goal
+use Rattle.folder_store.proofs.cut_off.CutOff.octets_there.Given as goal
 
 abbrev pub invariant-loop-done : goal.invariant-loop-done
 invariant-loop-done g l = g.F.FolderState.sound l.other → g.F.FolderState.sound l.fn.other
