@@ -58,7 +58,7 @@ abbrev pub Kept : Event → ℕ
 Kept event = Hidden Gone
 """,
     "high/specs/Hidden.antt": """\
-use Rattle.low.specs.Words.{unused}
+use Rattle.low.specs.{Words.unused}
 abbrev pub Hidden : ℕ → ℕ
 Hidden n = unused
 """,

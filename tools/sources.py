@@ -39,7 +39,8 @@ def uses_in(text):
             uses[alias] = (crate, module, "")
         for word in names.split(", ") if names else ():
             name, _, other = word.partition(" as ")
-            uses[other or name] = (crate, module, name)
+            path, _, last = f"{module}.{name}".rpartition(".")
+            uses[other or last] = (crate, path, last)
     return uses
 
 

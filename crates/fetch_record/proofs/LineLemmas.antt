@@ -7,17 +7,13 @@ use Rattle.mail_terms.specs.Numeral.{greatest_size, is_numeral, numeral_value}
 use Rattle.mail_terms.specs.UniqueId.{IsLegalId}
 use Rattle.mail_terms.proofs.IdLemmas.{id_characters}
 use Rattle.std.proofs.lemmas.Bool.{and_parts, cases_eq, leb-true}
-use Rattle.std.proofs.lemmas.Bool.Decides.{Decides-eqb}
+use Rattle.std.proofs.{lemmas.Bool.Decides.Decides-eqb, lemmas.List.Elements.recursion_from_All, lemmas.Slice.Eq.strip_prefix_is}
 use Rattle.std.proofs.lemmas.Fmt.{decimal-digits_value, decimal_digit, decimal_injective, decimal_is_IsNumeral}
 use Rattle.std.proofs.lemmas.Fmt.{first_decimal}
-use Rattle.std.proofs.lemmas.List.Elements.{recursion_from_All}
 use Rattle.std.proofs.lemmas.Option.{cond_some, none-some}
-use Rattle.std.proofs.lemmas.Slice.Eq.{strip_prefix_is}
 use Rattle.std.proofs.lemmas.Str.Parse.{digit_at}
-use Rattle.std.specs.Char.{is_ascii_digit}
-use Rattle.std.specs.Cmp.Lexicographic.{pointwise}
+use Rattle.std.specs.{Char.is_ascii_digit, Cmp.Lexicographic.pointwise, Str.Parse.digits_value}
 use Rattle.std.specs.List.{AllByRecursion, list_all}
-use Rattle.std.specs.Str.Parse.{digits_value}
 use Rattle.fetch_record.specs.Record.{Intent, Row}
 use Rattle.fetch_record.specs.RecordFile.{GroupLine, IntentLine, IsRecordLine, Line, RowLine, group_line, intent_line}
 use Rattle.fetch_record.specs.RecordFile.{record_row_line, delivered_octets, record_line}

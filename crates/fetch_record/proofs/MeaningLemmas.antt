@@ -7,12 +7,11 @@ use Rattle.std.proofs.Common.{◌-◌, ◌<◌, ◌≤◌, ◌⊎◌, []}
 use Rattle.std.proofs.Math.Bool.{or-false, or-true}
 use Rattle.std.proofs.lemmas.Bool.{and_from, and_parts, cases_Bool, cond_both, or_cases, or_left, or_right, eq-eqb}
 use Rattle.std.proofs.lemmas.Bool.{not-false, not-true, or_parts}
-use Rattle.std.proofs.lemmas.Bool.Decides.{eqb_tells}
-use Rattle.std.proofs.lemmas.List.Concat.{flat_map-append}
+use Rattle.std.proofs.{lemmas.Bool.Decides.eqb_tells, lemmas.List.Concat.flat_map-append}
 use Rattle.std.proofs.lemmas.List.Elements.{All-append, All-from_recursion, All-nil, recursion_from_All, All-map}
 use Rattle.std.proofs.lemmas.List.Folds.{Any-from_list_any, list_any-from_Any, flat_map-map, list_any-append}
 use Rattle.std.specs.List.{AllByRecursion}
-use Rattle.fetch_record.specs.Intents.{IsNoneOrOf}
+use Rattle.fetch_record.specs.{Intents.IsNoneOrOf, declared.seen.SeenFault.SeenFault}
 use Rattle.fetch_record.specs.Record.{Intent, IntentHasRow, IsIntent, Row, has_row, IsRecord, IsRow}
 use Rattle.fetch_record.specs.RecordFile.{GroupLine, IntentLine, IsRecordLine, Line, One, RowLine, Two, Version, header}
 use Rattle.fetch_record.specs.RecordFile.{record_line, file_of, group_line, group_of, intent_line, record_row_line}
@@ -24,12 +23,10 @@ use Rattle.fetch_record.specs.RecordMeaning.{after_intent, after_line, at_end, c
 use Rattle.fetch_record.specs.RecordMeaning.{has_line_feed, lacks_rows, judged, left_open, line_after, may_take}
 use Rattle.fetch_record.specs.RecordMeaning.{with_taken}
 use Rattle.fetch_record.specs.RecordTorn.{IsPartOf, TornIsIgnoredOrSeen, ends_at_zero}
-use Rattle.fetch_record.specs.declared.seen.SeenFault.{SeenFault}
 use Rattle.fetch_record.specs.declared.seen.SeenFault.TheVariants.{RepeatedId, BadRow}
 use Rattle.fetch_record.proofs.LineLemmas.{text_unique, body, body_text, clean_body, cut_unique, no_line, same_cons}
 use Rattle.fetch_record.proofs.RowLemmas.{fresh}
-use Rattle.mail_terms.proofs.ListLemmas.{both_none}
-use Rattle.mail_terms.proofs.NumeralLemmas.{HasNo}
+use Rattle.mail_terms.proofs.{ListLemmas.both_none, NumeralLemmas.HasNo}
 
 judged_fails : (version : Version) (n : ℕ) (fault : SeenFault) (lines : List Line) → judged version n (Fails fault) lines ≡ Fails fault
 judged_fails _ n _ [] = refl
@@ -495,8 +492,7 @@ cut_is_ignored bytes added front behind old new before after some means (inl (in
 cut_is_ignored bytes added front behind old new before after some means (inl (inr one)) cut left =
     group_cut (stood Two bytes old before false some means) one.0 front behind one.1 (sym cut ∙ one.2) left
 cut_is_ignored bytes added front behind old new before after some means (inr opens) cut left =
-    intent_cut (stood Two bytes old before false some means) opens.intent front behind opens.is_one (sym cut
-    ∙ opens.bytes_are) left
+    intent_cut (stood Two bytes old before false some means) opens.intent front behind opens.is_one (sym cut ∙ opens.bytes_are) left
 
 -- ---- what `bytes` writes stands for the record
 
@@ -595,8 +591,7 @@ torn_ignored_or_seen bytes added left old new before after some means grows part
   | inr k ↦ (
     λ ends. rw (k.1, has_bytes_behind s.front 0 k.0, ← append_assoc bytes s.front (0 ∷ k.0))
         (zero_ignored piece k.0 (not-true (has_line_feed k.0) (sym k.2 ∙ ends))),
-    λ ends. rw (k.1, ← append_assoc bytes s.front (0 ∷ k.0))
-        (zero_seen piece k.0 (not-false (has_line_feed k.0) (sym k.2 ∙ ends))),
+    λ ends. rw (k.1, ← append_assoc bytes s.front (0 ∷ k.0)) (zero_seen piece k.0 (not-false (has_line_feed k.0) (sym k.2 ∙ ends))),
   )
 ]
   where

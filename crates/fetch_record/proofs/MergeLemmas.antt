@@ -9,12 +9,11 @@ use Rattle.mail_terms.proofs.IdLemmas.{nobody, same_from_test, test_from_same}
 use Rattle.std.proofs.Math.Bool.{and-false, or-false, or-true, or_assoc}
 use Rattle.std.proofs.lemmas.Bool.{OnFalse_at, OnTrue_at, and_parts, cases_Bool, cond_both, or_cases, or_from, or_left}
 use Rattle.std.proofs.lemmas.Bool.{or_parts, or_right, true_from_ne_false, and_from, eq-eqb}
-use Rattle.std.proofs.lemmas.Cmp.{nat_list_eq_equiv}
+use Rattle.std.proofs.{lemmas.Cmp.nat_list_eq_equiv, lemmas.Slice.Eq.bytes_eq-Decides}
 use Rattle.std.proofs.lemmas.List.{ext_get_or, get_or-map, length-map, map-append, map_more, flat_map_more, length-take, take_more}
 use Rattle.std.proofs.lemmas.List.Elements.{All-from_recursion, recursion_from_All, filter-append}
 use Rattle.std.proofs.lemmas.List.Folds.{Any-from_list_any, list_any-append, list_any_more, map_fixed}
 use Rattle.std.proofs.lemmas.Map.Made.{alike_from_same, is_member-filter, length-le_from_is_member}
-use Rattle.std.proofs.lemmas.Slice.Eq.{bytes_eq-Decides}
 use Rattle.std.proofs.lemmas.Slice.Zip.{get_or-zip, length-zip}
 use Rattle.std.specs.Bool.{OnFalse, OnTrue}
 use Rattle.std.specs.List.{AllByRecursion, IsDistinct, list_any}
@@ -148,30 +147,26 @@ pub merged_steps : (rows : List Row) (listing : List Item) (held : List Bool) (n
 merged_steps rows listing held now =
     cc (
       map-append (λ (row : Row). with_delivered (is_flagged listing held row.uid) row) rows (map (undelivered now) (new_ids rows listing)),
-      map-map (λ (row : Row). with_delivered (is_flagged listing held row.uid) row) (undelivered now)
-          (new_ids rows listing),
+      map-map (λ (row : Row). with_delivered (is_flagged listing held row.uid) row) (undelivered now) (new_ids rows listing),
     )
 
 pub delivered-merged : (rows : List Row) (listing : List Item) (held : List Bool) (now : ℕ) (uid : List ℕ)
     → is_delivered (merged rows listing held now) uid ≡ is_delivered rows uid || is_flagged listing held uid
 delivered-merged rows listing held now uid =
     ap (λ (rs : List Row). is_delivered rs uid) (sym (merged_steps rows listing held now))
-    ∙ delivered-with (is_flagged listing held) (rows ++ map (undelivered now) (new_ids rows listing)) uid
-    ∙ rw (
+    ∙ delivered-with (is_flagged listing held) (rows ++ map (undelivered now) (new_ids rows listing)) uid ∙ rw (
       list_any-append (λ row. is_of uid row && row.delivered) rows (map (undelivered now) (new_ids rows listing)),
       none_new now (new_ids rows listing) uid,
       has_row-longer rows (ids_of listing) now uid,
       any_map (bytes_eq uid) (λ (item : Item). item.uid) listing,
-    )
-    (let listed = flagged_listed listing held uid in grind (arith, listed))
+    ) (let listed = flagged_listed listing held uid in grind (arith, listed))
 
 pub has_row-merged : (rows : List Row) (listing : List Item) (held : List Bool) (now : ℕ) (uid : List ℕ)
     → has_row (merged rows listing held now) uid ≡ has_row rows uid || has_item listing uid
 has_row-merged rows listing held now uid =
     ap (λ (rs : List Row). has_row rs uid) (sym (merged_steps rows listing held now))
     ∙ any_map (is_of uid) (λ (row : Row). with_delivered (is_flagged listing held row.uid) row)
-    (rows ++ map (undelivered now) (new_ids rows listing))
-    ∙ has_row-longer rows (ids_of listing) now uid
+    (rows ++ map (undelivered now) (new_ids rows listing)) ∙ has_row-longer rows (ids_of listing) now uid
     ∙ ap (λ (b : Bool). has_row rows uid || b) (any_map (bytes_eq uid) (λ (item : Item). item.uid) listing)
 
 -- ---- a merge changes no more rows than the listing has messages
@@ -215,12 +210,10 @@ merge_is_short : (rows : List Row) (listing : List Item) (held : List Bool) (now
 merge_is_short rows listing held now is = omega (
   arith,
   length-le_from_is_member nat_list_eq_equiv (map uid_of group) (ids_of listing)
-      (changed_are rows (merged rows listing held now) (recursion_from_All IsRow _ is.each, ids_distinct _ is)).1
-      (λ uid there.
+      (changed_are rows (merged rows listing held now) (recursion_from_All IsRow _ is.each, ids_distinct _ is)).1 (λ uid there.
       any_map (bytes_eq uid) (λ (item : Item). item.uid) listing ∙ changed_listed listing held rows _ uid
       (λ at. (and_parts _ _ (sym (any_map (is_of uid) (new_row listing held now) (new_ids rows listing)
-      ∙ has_id-new_ids rows listing uid) ∙ at)).0)
-      (sym (any_map (bytes_eq uid) uid_of group) ∙ there)),
+      ∙ has_id-new_ids rows listing uid) ∙ at)).0) (sym (any_map (bytes_eq uid) uid_of group) ∙ there)),
   length-map group uid_of,
   length-map listing (λ (item : Item). item.uid),
 )

@@ -2,23 +2,19 @@
 use Rattle.std.proofs.Common.{Bool, List, None, Option, Some, ap, append-nil, append_assoc, ap₂, arith, false, flat_map}
 use Rattle.std.proofs.Common.{length, length-append, refl, suc, sym, true, true≢false, zero, ℕ, ◌++◌, ◌+◌, ◌∙◌, ◌∷◌}
 use Rattle.std.proofs.Common.{◌≡◌, ◌≢◌, ◌-◌, ◌≤◌, All, min, take, []}
-use Rattle.std.proofs.Math.Seq.{take-append_seam}
-use Rattle.std.proofs.lemmas.List.Concat.{flat_map-append}
+use Rattle.std.proofs.{Math.Seq.take-append_seam, lemmas.List.Concat.flat_map-append}
 use Rattle.std.proofs.lemmas.List.Elements.{All-nil, All-push}
 use Rattle.fetch_record.specs.Lines.{EndsAt, IsPlaced, TakesIntent, TakesRow, after_row, behind_base, is_in_group}
 use Rattle.fetch_record.specs.Lines.{open_behind, open_seen, progress_of, version_of}
-use Rattle.fetch_record.specs.Outgrown.{BeginsWithNoRow}
+use Rattle.fetch_record.specs.{Outgrown.BeginsWithNoRow, declared.seen.SeenFault.SeenFault, declared.seen.SeenFault.TheVariants.BadRow}
 use Rattle.fetch_record.specs.Record.{Intent, IsIntent, Row, IsRecord, IsRow}
 use Rattle.fetch_record.specs.RecordFile.{GroupLine, IntentLine, IsRecordLine, Line, RowLine, Version, header}
 use Rattle.fetch_record.specs.RecordFile.{record_line, record_row_line}
 use Rattle.fetch_record.specs.RecordMeaning.{BetweenGroups, Fails, Fault, InGroup, Means, Progress, Rows, Stands}
 use Rattle.fetch_record.specs.RecordMeaning.{after_line, counted, lacks_rows, left_open, line_after}
-use Rattle.fetch_record.specs.declared.seen.SeenFault.{SeenFault}
-use Rattle.fetch_record.specs.declared.seen.SeenFault.TheVariants.{BadRow}
 use Rattle.fetch_record.specs.declared.line.Intent.{Intent as ReadIntent}
-use Rattle.fetch_record.specs.declared.reading.End.{End}
+use Rattle.fetch_record.specs.{declared.reading.End.End, declared.reading.Part.Part}
 use Rattle.fetch_record.specs.declared.reading.End.TheVariants.{NoneOpen, Open}
-use Rattle.fetch_record.specs.declared.reading.Part.{Part}
 use Rattle.fetch_record.specs.declared.reading.Part.TheVariants.{Base, Between, Within}
 use Rattle.fetch_record.proofs.LineLemmas.{text_unique, no_line}
 use Rattle.fetch_record.proofs.MeaningLemmas.{rows_no_fault, same_rows, one_meaning, IsBehind, behind_header}
@@ -57,8 +53,7 @@ apart_row _ _ _ _ _ behind begins follows _ _ = (begins, follows)
 -- after a line that is no row's
 no_row : (part : Part) (rest appended : List ℕ) (line : Line) (behind : List ℕ) → Follows part appended rest
     → IsRecordLine line → rest ≡ record_line line ++ behind → ((row : Row) → RowLine row ≢ line) → BeginsWithNoRow appended
-no_row Base _ _ _ behind at is line_is other =
-    λ row _ is_row here. other row (text_unique _ _ _ _ is_row is (sym here ∙ at ∙ line_is)).0
+no_row Base _ _ _ behind at is line_is other = λ row _ is_row here. other row (text_unique _ _ _ _ is_row is (sym here ∙ at ∙ line_is)).0
 no_row _ _ _ _ behind none _ _ _ = none
 
 -- ---- the loop

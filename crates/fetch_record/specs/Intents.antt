@@ -3,8 +3,7 @@ use Rattle.std.specs.Prelude.{◌≡◌, ◌||◌, true, false, option_map, ℕ,
 use Rattle.fetch_record.specs.Record.{Row, Intent, Loaded, marked}
 use Rattle.fetch_record.specs.RecordFile.{Version, One, Two}
 use Rattle.fetch_record.specs.RecordMeaning.{Means, Rows}
-use Rattle.fetch_record.specs.Outgrown.{IsOutgrown}
-use Rattle.fetch_record.specs.declared.seen.OwnedIntent.{OwnedIntent}
+use Rattle.fetch_record.specs.{Outgrown.IsOutgrown, declared.seen.OwnedIntent.OwnedIntent}
 
 abbrev pub intent_from : OwnedIntent → Intent
 intent_from open' = record { uid = open'.uid.items; start = open'.start; len = open'.len }

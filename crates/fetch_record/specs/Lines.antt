@@ -5,15 +5,12 @@ use Rattle.fetch_record.specs.Record.{Row, Intent}
 use Rattle.fetch_record.specs.RecordFile.{Version, One, Two, RowLine, GroupLine, IntentLine, Line as FileLine}
 use Rattle.fetch_record.specs.RecordMeaning.{Progress, InBase, BetweenGroups, InGroup, Stands, Fails, after_line}
 use Rattle.fetch_record.specs.RecordMeaning.{line_after, Means, Rows}
-use Rattle.fetch_record.specs.Rows.{row_from}
-use Rattle.fetch_record.specs.declared.seen.SeenFault.{SeenFault}
-use Rattle.fetch_record.specs.declared.line.Line.{Line}
+use Rattle.fetch_record.specs.{Rows.row_from, declared.seen.SeenFault.SeenFault, declared.line.Line.Line}
 use Rattle.fetch_record.specs.declared.line.Line.TheVariants.{Row as TheRow, Group as TheGroup}
 use Rattle.fetch_record.specs.declared.line.Line.TheVariants.{Opening as TheIntent}
 use Rattle.fetch_record.specs.declared.line.Intent.{Intent as ReadIntent}
-use Rattle.fetch_record.specs.declared.reading.Part.{Part}
+use Rattle.fetch_record.specs.{declared.reading.Part.Part, declared.reading.End.End}
 use Rattle.fetch_record.specs.declared.reading.Part.TheVariants.{Base, Between, Within}
-use Rattle.fetch_record.specs.declared.reading.End.{End}
 use Rattle.fetch_record.specs.declared.reading.End.TheVariants.{NoneOpen, Open}
 
 abbrev pub version_of : Bool → Version

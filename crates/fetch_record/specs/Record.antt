@@ -3,8 +3,7 @@
 use Rattle.std.specs.Prelude.{ℕ, ◌<◌, ◌^◌, Bool, false, ◌&&◌, ◌||◌, not, List, [], ◌∷◌, ◌++◌, Option}
 use Rattle.std.specs.Prelude.{Some, None, map, filter, find, All, bytes_eq, option_map, IsTrue}
 use Rattle.std.specs.List.{list_any}
-use Rattle.mail_terms.specs.UniqueId.{IsLegalId}
-use Rattle.mail_terms.specs.Distinct.{AreDistinct}
+use Rattle.mail_terms.specs.{UniqueId.IsLegalId, Distinct.AreDistinct}
 use Rattle.mail_terms.specs.Listing.{Item, is_flagged}
 
 -- one message: its id, the second since 1970 at which it was first listed, and whether it was

@@ -2,10 +2,8 @@
 use Rattle.std.specs.Prelude.{◌≡◌, ◌≢◌, ◌⊎◌, ℕ, ◌==◌, List, [], ◌∷◌, ◌++◌, Bool, true, false, not, if◌then◌else◌}
 use Rattle.std.specs.Prelude.{Option}
 use Rattle.fetch_record.specs.Record.{Row, Intent}
-use Rattle.fetch_record.specs.RecordFile.{Two}
+use Rattle.fetch_record.specs.{RecordFile.Two, RecordGrowth.Grows, declared.seen.SeenFault.TheVariants.BadRow}
 use Rattle.fetch_record.specs.RecordMeaning.{Rows, Fault, Means, has_bytes, has_line_feed}
-use Rattle.fetch_record.specs.RecordGrowth.{Grows}
-use Rattle.fetch_record.specs.declared.seen.SeenFault.TheVariants.{BadRow}
 
 -- at most as many bytes as were appended, each as it was, or zero
 abbrev pub IsPartOf : List ℕ → List ℕ → Type 0

@@ -5,36 +5,28 @@ use Rattle.std.proofs.Common.{take_at, true, zero, zip, ℕ, ◌&&◌, ◌++◌,
 use Rattle.std.proofs.Common.{◌⊎◌, Less, All, Option, Some, None, bytes_eq, drop, if◌then◌else◌, is_none, length-set, nat_cmp, nat_le, not}
 use Rattle.std.proofs.Common.{replicate, set, true≢false, ◌≢◌}
 use Rattle.mail_terms.specs.Listing.{Item, has_item, is_first, numbered, HasDistinctIds, Joins, ids_of, is_last, UidRow}
-use Rattle.mail_terms.specs.Numbering.{IsNumbering}
-use Rattle.mail_terms.specs.UniqueId.{has_id}
-use Rattle.mail_terms.specs.declared.listing.ScanRow.{ScanRow}
+use Rattle.mail_terms.specs.{Numbering.IsNumbering, UniqueId.has_id, declared.listing.ScanRow.ScanRow}
 use Rattle.mail_terms.proofs.IdLemmas.{nobody, test_from_other}
 use Rattle.rc_file.specs.declared.settings.Settings.{Settings}
 use Rattle.std.proofs.Math.Bool.{and-true, or_comm}
 use Rattle.std.proofs.lemmas.Bool.{and_parts, cases_Bool, cond_both, not-true, cases_lt, not_from_false}
 use Rattle.std.proofs.lemmas.Bool.Decides.{nat_tests, Decides-at}
-use Rattle.std.proofs.lemmas.Cmp.{nat_list_cmp_total}
+use Rattle.std.proofs.{lemmas.Cmp.nat_list_cmp_total, lemmas.List.Filters.length-filter_more, lemmas.Map.Made.AllPairs-from_IsDistinct}
 use Rattle.std.proofs.lemmas.List.{length-take, map_more, drop-set, drop_all, drop_more, ext_get_or, get_or-drop}
 use Rattle.std.proofs.lemmas.List.{get_or-map, get_or-take, length-drop, length-map}
 use Rattle.std.proofs.lemmas.List.Elements.{All-head, All-tail}
 use Rattle.std.proofs.lemmas.List.Folds.{list_any_none, list_any_more}
 use Rattle.std.proofs.lemmas.List.FromFn.{get_or-enumerate_from, length-enumerate_from}
-use Rattle.std.proofs.lemmas.List.Filters.{length-filter_more}
 use Rattle.std.proofs.lemmas.Map.Keys.{IsDistinct-from_sorted, sorted_from_all_adjacent}
-use Rattle.std.proofs.lemmas.Map.Made.{AllPairs-from_IsDistinct}
-use Rattle.std.proofs.lemmas.Map.Text.{is_eq-slice_cmp}
-use Rattle.std.proofs.lemmas.Slice.Eq.{bytes_eq-Decides}
-use Rattle.std.specs.Cmp.Lexicographic.{slice_cmp}
-use Rattle.std.specs.List.{enumerate_from}
-use Rattle.std.specs.Option.{option_or}
+use Rattle.std.proofs.{lemmas.Map.Text.is_eq-slice_cmp, lemmas.Slice.Eq.bytes_eq-Decides}
+use Rattle.std.specs.{Cmp.Lexicographic.slice_cmp, List.enumerate_from, Option.option_or}
 use Rattle.fetch_record.specs.Record.{Row, is_delivered}
 use Rattle.fetch_rules.specs.Due.{is_due, may_delete}
 use Rattle.fetch_rules.specs.Laws.{FetchesAsked, FetchesFirsts}
 use Rattle.fetch_rules.specs.Plan.{fetches, is_deleted, planned, retrieved, step_of}
 use Rattle.fetch_rules.specs.Wanted.{WantedAreFirst, at_most, is_candidate, is_full, is_within, own_skip, skip_for, skip_of, wanted}
-use Rattle.fetch_rules.specs.declared.plans.Skip.{Skip}
+use Rattle.fetch_rules.specs.{declared.plans.Skip.Skip, declared.plans.Step.Step}
 use Rattle.fetch_rules.specs.declared.plans.Skip.TheVariants.{Delivered, TooLarge, PastLimit, SameId}
-use Rattle.fetch_rules.specs.declared.plans.Step.{Step}
 
 -- a message with its number
 abbrev pub Message : Type 0
@@ -244,8 +236,7 @@ HasPlanned-more settings rows listing now i steps fetched full skip deleted next
         ∙ ap (λ (k : ℕ). is_full settings (before settings rows listing k)) (sym place))
 
 pub HasPlanned-all : (settings : Settings) (rows : List Row) (listing : List Item) (now i : ℕ) (steps : List Step)
-    (fetched : ℕ) → HasPlanned settings rows listing now i steps fetched → length listing ≤ i
-    → steps ≡ planned settings rows listing now
+    (fetched : ℕ) → HasPlanned settings rows listing now i steps fetched → length listing ≤ i → steps ≡ planned settings rows listing now
 HasPlanned-all settings rows listing now i steps fetched has past =
     rw (← take_all i (numbered listing) (omega (arith, length-enumerate_from 1 listing))) has.steps_are
 
@@ -307,23 +298,20 @@ pub record HasFirsts (listing : List Item) (i : ℕ) (ids : List (List ℕ)) (fl
 
 pub HasFirsts-more : (listing : List Item) (i : ℕ) (ids ids' : List (List ℕ)) (flags : List Bool) (uid : List ℕ) (new : Bool)
     → HasFirsts listing i ids flags → i < length listing → uid ≡ (get_or listing i nobody).uid → new ≡ not (has_id ids uid)
-    → ((id : List ℕ) → has_id ids' id ≡ (bytes_eq id uid || has_id ids id))
-    → HasFirsts listing (i + 1) ids' (flags ++ new ∷ [])
+    → ((id : List ℕ) → has_id ids' id ≡ (bytes_eq id uid || has_id ids id)) → HasFirsts listing (i + 1) ids' (flags ++ new ∷ [])
 HasFirsts-more listing i ids ids' flags uid new was inside uid_is new_is grown =
     let number : i + 1 - 1 ≡ i = omega arith in
     let within : i < length (numbered listing) = omega (arith, length-enumerate_from 1 listing) in
     record {
       same = λ id. grown id ∙ rw (
         was.same id,
-        list_any_more (λ (item : Item). bytes_eq id item.uid) listing i nobody
-            inside,
+        list_any_more (λ (item : Item). bytes_eq id item.uid) listing i nobody inside,
         ← uid_is,
       ) (or_comm (bytes_eq id uid) (has_item (take i listing) id));
       flags_are = rw (
         was.flags_are,
         map_more (is_first listing) (numbered listing) i (0, nobody) within,
-        message_at
-            listing i nobody inside,
+        message_at listing i nobody inside,
         number,
         new_is,
         was.same uid,
@@ -332,8 +320,7 @@ HasFirsts-more listing i ids ids' flags uid new was inside uid_is new_is grown =
     }
 
 pub HasFirsts-all : (listing : List Item) (i : ℕ) (ids : List (List ℕ)) (flags : List Bool)
-    → HasFirsts listing i ids flags → length listing ≤ i
-    → flags ≡ map (is_first listing) (numbered listing)
+    → HasFirsts listing i ids flags → length listing ≤ i → flags ≡ map (is_first listing) (numbered listing)
 HasFirsts-all listing i ids flags was past =
     was.flags_are ∙ ap (map (is_first listing)) (take_all i (numbered listing) (omega (arith, past, length-enumerate_from 1 listing)))
 
@@ -350,15 +337,13 @@ HasLasts-none listing i ids flags all none count = record {
   count = count;
   flags_are = rw (
     drop_all i flags (omega (arith, all, count)),
-    drop_all i (numbered listing)
-        (omega (arith, all, length-enumerate_from 1 listing)),
+    drop_all i (numbered listing) (omega (arith, all, length-enumerate_from 1 listing)),
   ) refl;
 }
 
 pub HasLasts-more : (listing : List Item) (i : ℕ) (ids ids' : List (List ℕ)) (flags : List Bool) (uid : List ℕ) (new : Bool)
     → HasLasts listing (i + 1) ids flags → i < length listing → uid ≡ (get_or listing i nobody).uid → new ≡ not (has_id ids uid)
-    → ((id : List ℕ) → has_id ids' id ≡ (bytes_eq id uid || has_id ids id))
-    → HasLasts listing i ids' (set flags i new)
+    → ((id : List ℕ) → has_id ids' id ≡ (bytes_eq id uid || has_id ids id)) → HasLasts listing i ids' (set flags i new)
 HasLasts-more listing i ids ids' flags uid new was inside uid_is new_is grown =
     let within : i < length (numbered listing) = omega (arith, length-enumerate_from 1 listing) in
     record {
@@ -367,8 +352,7 @@ HasLasts-more listing i ids ids' flags uid new was inside uid_is new_is grown =
       flags_are = rw (
         drop-set flags i new (omega (arith, was.count)),
         was.flags_are,
-        drop_more (numbered listing) i
-            (0, nobody) within,
+        drop_more (numbered listing) i (0, nobody) within,
         message_at listing i nobody inside,
         new_is,
         was.same uid,
@@ -398,14 +382,12 @@ abbrev pub Ascends : List Item → ℕ → Type 0
 Ascends listing i = (k : ℕ) → k + 1 < i → slice_cmp nat_cmp (uid_at listing k) (uid_at listing (k + 1)) ≡ Less
 
 pub Ascends-more : (listing : List Item) (i : ℕ) (last next : List ℕ) → Ascends listing i
-    → last ≡ uid_at listing (i - 1) → next ≡ uid_at listing i → slice_cmp nat_cmp last next ≡ Less
-    → Ascends listing (i + 1)
-Ascends-more listing i last next was last_is next_is less = λ k within.
-    elim (cases_lt (k + 1) i) [
-      | inl before ↦ was k before
-      | inr past ↦ let here : k ≡ i - 1 = omega (arith, past, within) in let there : i - 1 + 1 ≡ i =
-          omega (arith, past, within) in rw (here, there, ← last_is, ← next_is) less
-    ]
+    → last ≡ uid_at listing (i - 1) → next ≡ uid_at listing i → slice_cmp nat_cmp last next ≡ Less → Ascends listing (i + 1)
+Ascends-more listing i last next was last_is next_is less = λ k within. elim (cases_lt (k + 1) i) [
+  | inl before ↦ was k before
+  | inr past ↦ let here : k ≡ i - 1 = omega (arith, past, within) in let there : i - 1 + 1 ≡ i =
+      omega (arith, past, within) in rw (here, there, ← last_is, ← next_is) less
+]
 
 pub Ascends-all : (listing : List Item) (i : ℕ) → Ascends listing i → length listing ≤ i → HasDistinctIds listing
 Ascends-all listing i was past =
@@ -415,8 +397,7 @@ Ascends-all listing i was past =
     let inside : k + 1 < length listing = omega (arith, within, length-map listing (λ (item : Item). item.uid)) in
     rw (
       get_or-map (λ (item : Item). item.uid) listing k nobody [] (omega arith),
-      get_or-map (λ (item : Item). item.uid)
-          listing (k + 1) nobody [] inside,
+      get_or-map (λ (item : Item). item.uid) listing (k + 1) nobody [] inside,
     ) (was k (omega arith)))))
 
 -- ---- if no id occurs twice, each message is the first with its id, and the last
@@ -440,8 +421,7 @@ pub are_last : (listing : List Item) → HasDistinctIds listing → All (λ mess
 are_last listing distinct = λ k d inside.
     let there : k < length listing = omega (arith, inside, length-enumerate_from 1 listing) in
     rw (get_or-enumerate_from 1 listing k d there) (not_from_false _ (list_any_none _ (drop (1 + k) listing) (λ j e within.
-    rw (get_or-drop (1 + k) listing j e)
-    (test_from_other _ _ (other_ids listing k (1 + k + j) d.1 e distinct (omega arith)
+    rw (get_or-drop (1 + k) listing j e) (test_from_other _ _ (other_ids listing k (1 + k + j) d.1 e distinct (omega arith)
     (omega (arith, within, length-drop (1 + k) listing)))))))
 
 all_pass : {X : Type 0} (test : X → Bool) (xs : List X) → All (λ x. test x ≡ true) xs → map test xs ≡ replicate (length xs) true
@@ -459,8 +439,7 @@ all_flags test listing n flags all count are = rw (are, count, ← length-enumer
 
 pub wanted-first : WantedAreFirst
 wanted-first settings rows listing distinct =
-    firsts settings.max_count (is_candidate settings rows listing) (gets settings rows listing) (numbered listing) (0, nobody)
-    (λ i inside.
+    firsts settings.max_count (is_candidate settings rows listing) (gets settings rows listing) (numbered listing) (0, nobody) (λ i inside.
     let there = message_at listing i nobody (omega (arith, inside, length-enumerate_from 1 listing)) in
     ap (gets settings rows listing) there ∙ gets_at settings rows listing i
     ∙ ap (λ (m : Message). is_candidate settings rows listing m && not (is_full settings (before settings rows listing i))) (sym there))

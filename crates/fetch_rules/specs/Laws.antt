@@ -3,8 +3,7 @@ use Rattle.std.specs.Prelude.{◌≡◌, ◌||◌, not, true, false, List, [], �
 use Rattle.mail_terms.specs.Listing.{Item, has_item}
 use Rattle.rc_file.specs.declared.settings.Settings.{Settings}
 use Rattle.fetch_record.specs.Record.{Row, is_delivered}
-use Rattle.fetch_rules.specs.Plan.{fetches}
-use Rattle.fetch_rules.specs.declared.plans.Step.{Step}
+use Rattle.fetch_rules.specs.{Plan.fetches, declared.plans.Step.Step}
 
 -- each of these steps fetches its message only if no message before it has the same id; `front` are the messages before
 -- the first step's

@@ -2,10 +2,8 @@
 use Rattle.std.specs.Prelude.{◌≡◌, ℕ, Bool, false, ◌&&◌, ◌||◌, List, map, filter, zip, unwrap_or, is_none}
 use Rattle.mail_terms.specs.Listing.{Item, numbered, is_first, is_last}
 use Rattle.fetch_record.specs.Record.{Row, is_delivered, first_seen_of}
-use Rattle.fetch_rules.specs.Wanted.{skip_of}
-use Rattle.fetch_rules.specs.Due.{is_due}
+use Rattle.fetch_rules.specs.{Wanted.skip_of, Due.is_due, declared.plans.Step.Step}
 use Rattle.rc_file.specs.declared.settings.Settings.{Settings}
-use Rattle.fetch_rules.specs.declared.plans.Step.{Step}
 
 -- when the id was first seen: now, if it has no row
 abbrev pub seen_since : List Row → List ℕ → ℕ → ℕ

@@ -30,8 +30,7 @@ use Rattle.pop3_wire.specs.declared.command.Command.{Command}
 
 pub has_listed : {listing : List Item} (ms : List Message) → listing ≡ listing_of ms → (id : List ℕ)
     → has_item listing id ≡ has_id (message_ids ms) id
-has_listed ms e id = rw e (any_map (λ (i : Item). bytes_eq id i.uid) item_of ms
-    ∙ sym (any_map (bytes_eq id) (λ (m : Message). m.uid) ms))
+has_listed ms e id = rw e (any_map (λ (i : Item). bytes_eq id i.uid) item_of ms ∙ sym (any_map (bytes_eq id) (λ (m : Message). m.uid) ms))
 
 -- ---- numbered messages
 

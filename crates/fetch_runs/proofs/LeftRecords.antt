@@ -13,12 +13,10 @@ use Rattle.std.proofs.lemmas.List.Elements.{recursion_from_All, Contains-push}
 use Rattle.fetch_record.specs.RecordFile.{Version, Two, Line, RowLine, IsRecordLine, GroupLine, file_of}
 use Rattle.fetch_record.specs.RecordMeaning.{Ends, Fails, Judged, InBase, InGroup, Means, Progress, Rows, Stands, after_intent, after_line}
 use Rattle.fetch_record.specs.RecordMeaning.{counted, judged, may_take, with_taken, BetweenGroups, Fault, FileStandsFor}
-use Rattle.mail_store.specs.Durable.{MayLeave}
+use Rattle.mail_store.specs.{Durable.MayLeave, FlatFile.Stored}
 use mathlib.Core.Logic.{⊎_map}
-use Rattle.std.proofs.lemmas.Bool.Decides.{nat_tests}
+use Rattle.std.proofs.{lemmas.Bool.Decides.nat_tests, lemmas.List.Concat.flat_map-append, lemmas.List.Folds.list_any_at}
 use Rattle.std.proofs.lemmas.List.{append-nil, append_cancel_left}
-use Rattle.std.proofs.lemmas.List.Concat.{flat_map-append}
-use Rattle.std.proofs.lemmas.List.Folds.{list_any_at}
 use Rattle.std.proofs.lemmas.Slice.Eq.{bytes_eq-Decides}
 use Rattle.fetch_record.specs.RecordGrowth.{AppendedCounts, OneMeaning, OneRecord}
 use Rattle.fetch_record.specs.RecordTorn.{IsPartOf, TornIsIgnoredOrSeen, ends_at_zero}
@@ -27,21 +25,17 @@ use Rattle.fetch_rules.specs.Plan.{IsQuiet, planned}
 use Rattle.fetch_session.specs.Durable.{AreLeft, DurableCarried, DurableCarries, IsRecordUntouched, Durably, LeavesFile}
 use Rattle.fetch_session.specs.Durable.{IsGrownAtMost, LeavesMerged, DurableProceeds, DurableSession, UnlessQuiet, DurableUnready}
 use Rattle.fetch_session.specs.Durable.{IsSafeFile}
-use Rattle.fetch_session.specs.Laws.{LeavesDurable}
+use Rattle.fetch_session.specs.{Laws.LeavesDurable, Store.RefusesText, declared.fault.Cut.Cut, declared.report.Report.Report}
 use Rattle.fetch_session.specs.CarryingOut.{Carried, Carries, tasks_ahead}
 use Rattle.fetch_session.specs.Readiness.{AreDurable, IsMerged, IsMergedAtMost, IsAnew, IsFileKept}
 use Rattle.fetch_session.specs.Scene.{Does, FileNotSaved, NoFile, Scene, Stops, Went, scene}
 use Rattle.fetch_session.specs.Session.{Keeping, Proceeds, Session, account_files, keeps_files}
-use Rattle.fetch_session.specs.Store.{RefusesText}
 use Rattle.fetch_session.specs.Target.{AsFiles, in_maildir}
 use Rattle.fetch_session.specs.Task.{Done, Task, file_from, files_in, files_of, ids_ahead, ids_in, marked_ids, stores}
 use Rattle.fetch_session.specs.Task.{tasks_of}
 use Rattle.fetch_session.specs.declared.account.Store.TheVariants.{Maildir as InMaildir}
-use Rattle.fetch_session.specs.declared.fault.Cut.{Cut}
-use Rattle.fetch_session.specs.declared.report.Report.{Report}
 use Rattle.fetch_session.specs.declared.report.Skips.{Skips}
 use Rattle.mail_store.specs.FileName.{IsAccountText, is_held, names_id, sized_file, stem, stem_of}
-use Rattle.mail_store.specs.FlatFile.{Stored}
 use Rattle.mail_store.specs.Held.{HasDurable, flags_of}
 use Rattle.mail_store.specs.Maildir.{AllNamed, File, IsNamed, Maildir}
 use Rattle.mail_store.specs.Settling.{MayBeLeft, block_size, is_lost}
@@ -51,12 +45,9 @@ use Rattle.pop3_wire.specs.Link.{Link}
 use Rattle.pop3_wire.specs.Place.{Place, at}
 use Rattle.rc_file.specs.declared.settings.Settings.{Settings}
 use Rattle.fetch_runs.specs.Accounts.{has_named, AccountMail}
-use Rattle.fetch_runs.specs.Losses.{TrustsRecord}
-use Rattle.fetch_runs.specs.Steps.{holds}
+use Rattle.fetch_runs.specs.{Losses.TrustsRecord, Steps.holds, Below.Below}
 use Rattle.fetch_runs.proofs.Lists.{bytes_same, all_append, both_none, same_held, same_rows}
-use Rattle.fetch_runs.specs.Below.{Below}
-use Rattle.fetch_session.proofs.TakenLemmas.{unready_same}
-use Rattle.fetch_session.proofs.SessionLemmas.{quiet_ids}
+use Rattle.fetch_session.proofs.{TakenLemmas.unready_same, SessionLemmas.quiet_ids}
 
 abbrev AreLegal : List Row → Type 0
 AreLegal rows = AllByRecursion (λ (row : Row). is_legal_id row.uid ≡ true) rows
@@ -359,8 +350,7 @@ module _ (laws : Below) {D F : Type 0} (files : FileGhosts F) (device device' : 
       unready : (content : IsMergedAtMost (AsFiles account) items now (in_maildir left) (files.stored from)
           (in_maildir maildir) (files.stored f)) → DurableUnready files (InMaildir device) from content (InMaildir device') f → Answered
       unready (inl _) (leaves, _) = λ could then may k _ d. inr (inr (leaves could may))
-      unready (inr m) (inl (_, leaves, _)) =
-          merged_left m (MayLeave (files.disk from)) (λ _ then before k _ d. inr (inr before)) leaves
+      unready (inr m) (inl (_, leaves, _)) = merged_left m (MayLeave (files.disk from)) (λ _ then before k _ d. inr (inr before)) leaves
       unready (inr m) (inr (leaves, _)) = merged_left m (λ left. left ≡ (files.stored from).content)
           (λ could then is k id d. by_was could id then (subst (λ (c : Option (List ℕ)). KeepsRows c then) is k) d) leaves
 
@@ -481,8 +471,7 @@ module _ (laws : Below) {D F : Type 0} (files : FileGhosts F) (device device' : 
     pub records_left : DurableSession files (InMaildir device) from session (InMaildir device') f → Answered
     records_left durably = by session.result session.proceeds durably
       where
-        by : (result : Result (Unit {0}) Cut)
-            → (proceeds : Proceeds settings (AsFiles account) now (at link [])
+        by : (result : Result (Unit {0}) Cut) → (proceeds : Proceeds settings (AsFiles account) now (at link [])
             (keeps_files (account_files left (files.stored from))) result session.mid
             (keeps_files (account_files maildir (files.stored f))) session.notes)
             → DurableProceeds files (InMaildir device) from _ _ _ _ _ _ _ _ _ proceeds (InMaildir device') f → Answered
@@ -527,8 +516,7 @@ module _ (laws : Below) {D F : Type 0} (files : FileGhosts F) (device device' : 
           → (durable.came ++ durable.last ≡ []) ⊎ AllNamed left.files
       of {items} {place} {rows'} {result} c = elim c.prepared.durable [
         | inl quiet ↦ same (quiet_came account settings items now place left (files.stored from) result
-            (scene session.mid (in_maildir maildir) (files.stored f) rows' session.notes.lines)
-            session.notes.skipped c quiet.0)
+            (scene session.mid (in_maildir maildir) (files.stored f) rows' session.notes.lines) session.notes.skipped c quiet.0)
         | inr found ↦ inr found.0
       ]
 

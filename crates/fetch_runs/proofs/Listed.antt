@@ -2,24 +2,20 @@
 use Rattle.std.proofs.Common.{◌≡◌, ◌-◌, ◌+◌, ◌<◌, ℕ, take_while, List, [], ◌∷◌, ◌++◌, Bool, rules, length, map, get_or, refl, sym, ◌∙◌, ap}
 use Rattle.std.proofs.Common.{arith, Ok, Result, Option, Contains, inl, inr, append_assoc, Some, None}
 use Rattle.std.specs.List.{All, AllByRecursion, AllZip, HoldsAt, enumerate_from, filter, flat_map}
-use Rattle.std.specs.Char.{is_ascii_digit}
-use Rattle.std.specs.Str.Parse.{digits_value}
+use Rattle.std.specs.{Char.is_ascii_digit, Str.Parse.digits_value}
 use Rattle.std.proofs.lemmas.Bool.{cond-true, cond-false}
-use Rattle.std.proofs.lemmas.Bool.Decides.{eqb_tells}
-use Rattle.std.proofs.lemmas.List.Splits.{slice_split-cons_yes}
+use Rattle.std.proofs.{lemmas.Bool.Decides.eqb_tells, lemmas.List.Splits.slice_split-cons_yes, lemmas.List.Sorted.Contains-permutation}
 use Rattle.std.proofs.lemmas.List.{ext_get_or, length-map, get_or-map, get_or_default, append-nil, append_cancel_left}
 use Rattle.std.proofs.lemmas.List.Elements.{All-from_recursion, recursion_from_All}
-use Rattle.std.proofs.lemmas.List.Sorted.{Contains-permutation}
 use Rattle.std.proofs.lemmas.List.FromFn.{length-enumerate_from, get_or-enumerate_from}
 use Rattle.pop3_wire.specs.declared.command.Command.TheVariants.{Stat, Retr, UidlAll, ListAll, User, Pass}
-use Rattle.pop3_wire.specs.declared.fault.WireFault.{WireFault}
+use Rattle.pop3_wire.specs.{declared.fault.WireFault.WireFault, World.Message, declared.command.Command.Command}
 use Rattle.pop3_wire.specs.declared.reply.Status.TheVariants.{Positive, Negative}
 use Rattle.pop3_wire.specs.Line.{IsLine, ended, OneLine}
 use Rattle.pop3_wire.specs.Body.{IsContent, unstuffed}
 use Rattle.mail_terms.specs.declared.listing.ScanRow.{ScanRow}
 use Rattle.pop3_wire.specs.Reply.{IsFirstLine, without_space, indicator}
 use Rattle.pop3_wire.specs.Fields.{is_space, number_and_size, number_and_id}
-use Rattle.pop3_wire.specs.World.{Message}
 use Rattle.pop3_wire.specs.Honest.{SaysAnything, fields, IsUidRow, IsScanRow, UidRowsHaveFields, ScanRowsHaveFields}
 use Rattle.pop3_wire.specs.Honest.{ListsAll, Grants, no_marks, Reply, Replies}
 use Rattle.mail_terms.specs.Listing.{Item, UidRow}
@@ -27,7 +23,6 @@ use Rattle.fetch_runs.specs.Accounts.{item_of, listing_of}
 use Rattle.pop3_wire.specs.Reading.{WholeReply, body_bytes, reply_bytes, HasListing, OneListOfLines, GivesCount}
 use Rattle.pop3_wire.specs.Reading.{has_body, IsBodyIf, IsReplyTo, OneReading}
 use Rattle.fetch_runs.specs.Sessions.{IsGoodReply, AreGood, AreGranted, HonestIsGranted, IsListed, IsNumbered, Retrieves}
-use Rattle.pop3_wire.specs.declared.command.Command.{Command}
 use Rattle.fetch_runs.specs.Below.{Below}
 use Rattle.pop3_wire.proofs.BodyLemmas.{two_statuses}
 
@@ -219,8 +214,7 @@ module _ (law : OneReading) (drop : List Message) where
         whole = said ∙ sym (append-nil (ended (indicator Negative ++ after)));
       } in
       let no : IsFirstLine (indicator Negative ++ after) Negative (without_space after) = (after, refl, refl) in
-      absurd (two_statuses refl good.positive
-      (rw (ap (λ (r : WholeReply). r.first) (same_reply reply more tail refused good e).0) at no))
+      absurd (two_statuses refl good.positive (rw (ap (λ (r : WholeReply). r.first) (same_reply reply more tail refused good e).0) at no))
   granted marks command bytes next reply more tail (inr grants) good e =
       let look = looks drop marks command bytes next grants in
       let same = same_reply reply more tail look good e in

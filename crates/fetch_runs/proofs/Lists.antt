@@ -4,21 +4,17 @@ use Rattle.std.proofs.Common.{◌≡◌, ℕ, List, [], ◌∷◌, ◌++◌, Boo
 use Rattle.std.proofs.Common.{take-append-drop, ◌≢◌, ◌≤◌, ◌<◌, inl, zero, suc, cond, sym, ◌⊎◌, Some, Option}
 use Rattle.std.specs.List.{filter, list_any, AllByRecursion}
 use Rattle.std.specs.Prelude.{bytes_eq, slice_get}
-use Rattle.std.proofs.Math.Bool.{or-false}
-use Rattle.std.proofs.Math.Logic.{⊎_elim}
+use Rattle.std.proofs.{Math.Bool.or-false, Math.Logic.⊎_elim, lemmas.List.Kept.AllPairs-cons, lemmas.Option.same_Some}
 use Rattle.std.proofs.lemmas.Bool.{both_ways, or_cases, or_left, or_right, false_from_ne_true}
 use Rattle.std.proofs.lemmas.Bool.Decides.{same_from_decides, Decides-like}
 use Rattle.std.proofs.lemmas.List.{take_at, map-append, take-take, nil_from_length}
 use Rattle.std.proofs.lemmas.List.Folds.{list_any-append, list_any_at, list_any_none}
-use Rattle.std.proofs.lemmas.List.Kept.{AllPairs-cons}
-use Rattle.std.proofs.lemmas.Option.{same_Some}
 use Rattle.std.proofs.lemmas.Slice.Eq.{bytes_eq-Decides}
 use Rattle.pop3_wire.specs.World.{Message}
 pub use Rattle.mail_terms.proofs.ListLemmas.{all_append, all_back, all_front, any_map, both_none}
 pub use Rattle.mail_terms.proofs.IdLemmas.{same_from_test as bytes_same}
-use Rattle.mail_terms.specs.Distinct.{AreDistinct}
+use Rattle.mail_terms.specs.{Distinct.AreDistinct, UniqueId.has_id}
 use Rattle.mail_terms.specs.Listing.{Item, has_item, is_flagged}
-use Rattle.mail_terms.specs.UniqueId.{has_id}
 use Rattle.fetch_record.specs.Record.{RecordState, Row, has_row, is_delivered, marked, merged, marked_all}
 use Rattle.fetch_record.specs.RecordGrowth.{OneRecord}
 use Rattle.mail_store.specs.FileName.{is_held, names_id, stem, stem_of}

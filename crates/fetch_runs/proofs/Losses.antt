@@ -6,8 +6,7 @@ use Rattle.mail_store.specs.Durable.{Disk, MayLeave}
 use Rattle.std.specs.List.{AllByRecursion, filter, list_any}
 use Rattle.std.proofs.lemmas.Bool.{both_ways, cases_Bool, or_left, or_right, or_cases, and_from}
 use Rattle.std.proofs.lemmas.List.{append-nil, append_cancel_left, nil_from_length, length-map}
-use Rattle.std.proofs.lemmas.List.Elements.{filter-append}
-use Rattle.std.proofs.lemmas.List.Folds.{list_any-append}
+use Rattle.std.proofs.{lemmas.List.Elements.filter-append, lemmas.List.Folds.list_any-append}
 use Rattle.mail_terms.specs.UniqueId.{has_id, is_legal_id}
 use Rattle.pop3_wire.specs.World.{Message}
 use Rattle.mail_store.specs.FileName.{is_held, name_of, names_id, stem, stem_of}
@@ -18,7 +17,7 @@ use Rattle.fetch_record.specs.Record.{Intent, is_delivered}
 use Rattle.fetch_record.specs.RecordMeaning.{FileStandsFor}
 use Rattle.fetch_runs.specs.Accounts.{AccountMail, copies, has_named, without_flags, message_ids}
 use Rattle.fetch_runs.specs.Promises.{IsBetween, Mail, State, is_safe, state_with, IsFront, Invariant, Promises, ShowsNext, Call}
-use Rattle.fetch_runs.proofs.Promised.{IsSession}
+use Rattle.fetch_runs.proofs.{Promised.IsSession, Safety.served_session, State.came_too}
 use Rattle.fetch_runs.specs.Sessions.{IsHonest, Leaves, StoresTexts, wanted_at}
 use Rattle.fetch_runs.specs.Losses.{DurableAccountsAreSafe, DurableFrontsBegin, IsCrashSafe, IsDurableFront}
 use Rattle.fetch_runs.specs.Losses.{IsDurableFor, IsFlushedFor, TrustsRecord, KeepsDurable, is_durable}
@@ -26,8 +25,6 @@ use Rattle.fetch_runs.proofs.LeftRecords.{LeavesDurably, all_named, kept_legal}
 use Rattle.fetch_runs.proofs.Lists.{fewer_copies, held_some, part_copies, reached_copies, some_held, all_append, all_both, all_filter}
 use Rattle.fetch_runs.proofs.Lists.{all_front, all_ids_at, all_map, bytes_same, same_rows, all_at, ids_both, members, all_back, none_or_one}
 use Rattle.fetch_runs.specs.Below.{Below}
-use Rattle.fetch_runs.proofs.Safety.{served_session}
-use Rattle.fetch_runs.proofs.State.{came_too}
 
 -- ---- files whose names are durable
 

@@ -1,44 +1,36 @@
 -- What a loss of power may leave of an account with an mboxrd file holds entries, also after a session that was cut.
 use Rattle.std.proofs.Common.{◌≡◌, ◌⊎◌, inl, inr, ℕ, true, false, List, [], ◌∷◌, ◌++◌, length, take, refl, sym, ap, subst, ◌∙◌}
 use Rattle.std.proofs.Common.{All, Option, None, Some, Result, Ok, Err, append_assoc, append-nil, ⊎_elim}
-use Rattle.std.proofs.Math.Seq.{take-append_seam}
-use Rattle.std.proofs.lemmas.Option.{same_Some}
+use Rattle.std.proofs.{Math.Seq.take-append_seam, lemmas.Option.same_Some}
 use Rattle.mail_terms.specs.Listing.{Item}
-use Rattle.pop3_wire.specs.Link.{Link}
+use Rattle.pop3_wire.specs.{Link.Link, World.Message}
 use Rattle.pop3_wire.specs.Place.{Place, at}
-use Rattle.pop3_wire.specs.World.{Message}
 use Rattle.pop3_client.specs.Texts.{body_text}
 use Rattle.rc_file.specs.Settings.{IsValid}
 use Rattle.fetch_record.specs.Record.{Intent, RecordState, Row, has_row, is_delivered, marked, none_open}
 use Rattle.fetch_rules.specs.Plan.{IsQuiet, planned}
 use Rattle.mail_store.specs.Durable.{MayLeave, seen_on}
-use Rattle.mail_store.specs.FlatFile.{Stored}
-use Rattle.mail_store.specs.Mboxrd.{entry_of}
-use Rattle.mail_store.specs.Settling.{MayBeLeft}
+use Rattle.mail_store.specs.{FlatFile.Stored, Mboxrd.entry_of, Settling.MayBeLeft}
 use Rattle.mail_store.specs.declared.file.flat_file.FlatFile.{Ghosts as FileGhosts}
 use Rattle.mail_store.proofs.DiskLemmas.{may_arrive, may_now}
 use Rattle.mail_store.proofs.SettlingLemmas.{all_left}
 use Rattle.fetch_session.specs.Durable.{AreTrusted, DurableCarries, IsCutLeft, IsEntryLeft, IsGrownAtMost, IsSafeFile}
 use Rattle.fetch_session.specs.Durable.{DurableKept, Durably, LeavesSettled, LeavesStore, DurableProceeds, DurableSession, UnlessQuiet}
 use Rattle.fetch_session.specs.Durable.{DurableUnready}
-use Rattle.fetch_session.specs.Mbox.{intent_of}
+use Rattle.fetch_session.specs.{Mbox.intent_of, Report.Reports, declared.fault.Cut.Cut, declared.report.ReportLine.ReportLine}
 use Rattle.fetch_session.specs.CarryingOut.{Carried, Carries, tasks_ahead}
 use Rattle.fetch_session.specs.Readiness.{AreDurable, IsFileKept, IsMerged, IsMergedAtMost, merged_in}
 use Rattle.fetch_session.specs.Record.{Keeps, record_state, with_open}
-use Rattle.fetch_session.specs.Report.{Reports}
 use Rattle.fetch_session.specs.Scene.{EntryNotSaved, NoEntry, Scene, Stops, scene}
 use Rattle.fetch_session.specs.Session.{Enters_with, LeavesLink, MboxAccountFiles, MboxSession, Noted, Proceeds, SessionIn, keeps_entries}
 use Rattle.fetch_session.specs.Session.{mbox_account_files, outcome_of}
 use Rattle.fetch_session.specs.Target.{AsEntries, Stores, closed_file, in_mbox, mail_in}
 use Rattle.fetch_session.specs.declared.account.Store.TheVariants.{Mboxrd as InMbox}
-use Rattle.fetch_session.specs.declared.fault.Cut.{Cut}
-use Rattle.fetch_session.specs.declared.report.ReportLine.{ReportLine}
 use Rattle.fetch_session.specs.declared.report.Skips.{Skips}
-use Rattle.fetch_runs.specs.Below.{Below}
+use Rattle.fetch_runs.specs.{Below.Below, Steps.mbox_holds}
 use Rattle.fetch_runs.specs.Losses.{TrustsMbox, IsMboxSafe}
 use Rattle.fetch_runs.specs.Promises.{Base, Call, Devices, HoldsEntries, IsMaildrop, IsMboxFront, IsOpenFor, ShowsNext, Stands}
 use Rattle.fetch_runs.specs.Sessions.{MboxMail, Served, entry_intent, settled}
-use Rattle.fetch_runs.specs.Steps.{mbox_holds}
 use Rattle.fetch_runs.proofs.LeftRecords.{grown_reads}
 use Rattle.fetch_runs.proofs.Lists.{delivered_unheld, same_held}
 use Rattle.fetch_runs.proofs.MboxPromised.{bytes_of, ends_whole, entered, front_after, holds_after, next_is, open_row, opened_after}
@@ -602,12 +594,9 @@ module _ (laws : Below) (D : Type 0) {F : Type 0} (files : FileGhosts F)
           (keeps_entries new_files) session.notes) → LeavesLink result session.mid link'
           → Reports (outcome_of result) session.notes.total session.notes.skipped session.notes.lines v.report
           → DurableProceeds {D = D} files (InMbox from.store) from.file _ _ _ _ _ _ _ _ _ proceeds (InMbox to.store) to.file → Leaves
-      by (Ok done) dealt _ _ durably =
-          let c = dealt.carries.1 in planned_left c _ (ended_left c) c.prepared.durable (durably are_trusted)
-      by (Err _) (inl _) _ _ (un, still) =
-          λ left mbox may also. left_before left mbox (un.no_more left may) (still mbox also)
-      by (Err _) (inr (inl _)) _ _ (un, still) =
-          λ left mbox may also. left_before left mbox (un.no_more left may) (still mbox also)
+      by (Ok done) dealt _ _ durably = let c = dealt.carries.1 in planned_left c _ (ended_left c) c.prepared.durable (durably are_trusted)
+      by (Err _) (inl _) _ _ (un, still) = λ left mbox may also. left_before left mbox (un.no_more left may) (still mbox also)
+      by (Err _) (inr (inl _)) _ _ (un, still) = λ left mbox may also. left_before left mbox (un.no_more left may) (still mbox also)
       by (Err cut) (inr (inr dealt)) leaves reports durably = of dealt.carries durably
         where
           of : (carries : Carries v.settings AsEntries dealt.items v.now dealt.mid (in_mbox (files.stored from.store))

@@ -7,33 +7,27 @@ use Rattle.std.proofs.lemmas.Bool.{both_ways, false_from_ne_true, or_left, or_ri
 use Rattle.std.proofs.lemmas.List.{append-nil, map-append, take_all}
 use Rattle.std.proofs.Math.Bool.{or-false, or_assoc}
 use Rattle.std.proofs.Math.Logic.{⊎_elim, ⊎_map}
-use Rattle.mail_terms.specs.UniqueId.{has_id}
-use Rattle.mail_terms.specs.Listing.{Item}
+use Rattle.mail_terms.specs.{UniqueId.has_id, Listing.Item}
 use Rattle.mail_store.specs.Mboxrd.{entry_of}
 use Rattle.mail_store.specs.Settling.{MayBeLeft, listed_size}
 use Rattle.mail_store.proofs.SettlingLemmas.{all_left, part_left}
-use Rattle.std.proofs.lemmas.Grind.{flat_map-append}
-use Rattle.std.proofs.lemmas.Option.{same_Some}
+use Rattle.std.proofs.{lemmas.Grind.flat_map-append, lemmas.Option.same_Some, lemmas.List.Folds.flat_map-map}
 use Rattle.fetch_runs.specs.Sessions.{AreTexts, Effect, IsHonest, SendsOnly, IsBegun, Served, is_retr, MboxMail, settled, mbox_rows}
 use Rattle.fetch_runs.specs.Sessions.{mbox_wanted, entries, IsBroken, MboxLeaves, MboxStores, entries_of, MboxSessionOverLink}
 use Rattle.fetch_record.specs.Record.{Intent, marked, is_delivered, Row, has_row, marked_all}
 use Rattle.fetch_record.specs.RecordMeaning.{FileStandsFor}
 use Rattle.pop3_wire.specs.World.{Message}
-use Rattle.fetch_runs.specs.Accounts.{message_ids}
-use Rattle.fetch_runs.specs.Below.{Below}
+use Rattle.fetch_runs.specs.{Accounts.message_ids, Below.Below}
 use Rattle.fetch_runs.specs.Promises.{IsOf, IsMaildrop, ShowsNext, Call, Base, is_entered, IsOpenFor, Stands}
 use Rattle.fetch_runs.specs.Promises.{HoldsEntries, IsMboxFront, MboxPromises, MboxStarts, AppendsMail}
-use Rattle.fetch_runs.proofs.Promised.{sends_such}
+use Rattle.fetch_runs.proofs.{Promised.sends_such, Safety.mbox_served_session}
 use Rattle.fetch_runs.proofs.Core.{BeginsWith, next_in, added, added_begins, prefix_after, all_added, parts_apart, IsNumbered, num_item}
 use Rattle.fetch_runs.proofs.Core.{Fetch, all_wanted, distinct_wanted, fetches_wanted, wanted_is, taken_is, texts_are, wanted_ids}
 use Rattle.fetch_runs.proofs.Core.{none_recorded, qs, wants, wants_placed, has_listed, length_is, mbox_fetched}
 use Rattle.fetch_runs.proofs.Lists.{all_ids_at, distinct_filter, filter_all, other_id, bytes_self, Distinct}
 use Rattle.fetch_runs.proofs.Lists.{distinct_is, are_distinct, all_map, all_take, all_append, all_back, all_mapped}
 use Rattle.fetch_runs.proofs.Lists.{members, ids_both, bytes_swap, delivered_unheld, delivered_one, delivered_all}
-use Rattle.fetch_session.specs.Target.{none_held}
-use Rattle.fetch_session.specs.declared.report.Outcome.TheVariants.{Ended}
-use Rattle.fetch_runs.proofs.Safety.{mbox_served_session}
-use Rattle.std.proofs.lemmas.List.Folds.{flat_map-map}
+use Rattle.fetch_session.specs.{Target.none_held, declared.report.Outcome.TheVariants.Ended}
 
 -- ---- distinct lists of messages
 
@@ -412,8 +406,7 @@ module _ (base : Base) where
         );
         wanted = λ uncut. fetches_wanted fetch (is_entered base was) (all_map _ (members v.maildrop) (λ m there. known m.uid))
             s.stored (let all = (s.ended (ended.1 uncut)).0 in omega (arith, all)) (all_retrieved (ended.1 uncut) uncut)
-            (λ m. is_entered base (was ++ new s.stored) m.uid ≡ true)
-            (λ m got. in_more was (new s.stored) m.uid ∙ or_right _ _ got)
+            (λ m. is_entered base (was ++ new s.stored) m.uid ≡ true) (λ m got. in_more was (new s.stored) m.uid ∙ or_right _ _ got)
             (λ m old. in_more was (new s.stored) m.uid ∙ or_left _ _ (sym (known m.uid) ∙ old));
         deletes = sends_such (λ id. is_entered base (was ++ new s.stored) id ≡ true) v.maildrop did
             (inl honest.listing) begun_entered sends;

@@ -3,7 +3,7 @@ use Rattle.std.proofs.Common.{◌≡◌, ◌+◌, ℕ, true, false, List, ◌∷
 use Rattle.std.proofs.Common.{arith, take, ◌∙◌, ⊎_elim, ◌⊎◌, inl, inr, None, Result, Ok, Err, []}
 use Rattle.std.specs.List.{AllByRecursion}
 use Rattle.std.proofs.lemmas.List.{append-nil, take_at, length-map, map-append}
-use Rattle.std.proofs.lemmas.List.Concat.{flat_map-append}
+use Rattle.std.proofs.{lemmas.List.Concat.flat_map-append, lemmas.Simd.map-map, lemmas.Option.same_Some}
 use Rattle.mail_terms.specs.Listing.{Item}
 use Rattle.rc_file.specs.declared.settings.Settings.{Settings}
 use Rattle.fetch_record.specs.Record.{Row, marked, RecordState, none_open, Intent}
@@ -11,27 +11,21 @@ use Rattle.fetch_session.specs.Task.{Task, stores, rereads, Done, IsAnswered, ta
 use Rattle.fetch_session.specs.Target.{Stores, no_maildir, AsEntries, mail_in, closed_file, closed_rows_in}
 use Rattle.pop3_wire.specs.Reading.{WholeReply}
 use Rattle.fetch_runs.specs.Sessions.{MboxLeaves, MboxStores, IsBroken, settled, entries, bytes_at}
-use Rattle.std.proofs.lemmas.Simd.{map-map}
 use Rattle.fetch_runs.proofs.Turns.{found_in, found_by, text_found, Course, course}
 use Rattle.fetch_runs.proofs.Turns.{course_proceeded, stored_done, found_of}
 use Rattle.fetch_runs.proofs.Turns.{course_stopped, course_does, begun_of, effect_of}
 use Rattle.fetch_runs.proofs.Lists.{at_length, mapped_at, same_held as same_record}
-use Rattle.fetch_runs.specs.Below.{Below}
+use Rattle.fetch_runs.specs.{Below.Below, Steps.mbox_holds}
 use mathlib.Core.Logic.{⊎_map}
-use Rattle.mail_store.specs.FlatFile.{Stored}
+use Rattle.mail_store.specs.{FlatFile.Stored, Mboxrd.entry_of}
 use Rattle.pop3_client.specs.Texts.{body_text}
-use Rattle.fetch_session.specs.declared.fault.Cut.{Cut}
-use Rattle.fetch_session.specs.declared.fault.Fault.{Fault}
+use Rattle.fetch_session.specs.{declared.fault.Cut.Cut, declared.fault.Fault.Fault, declared.report.Report.Report}
 use Rattle.fetch_session.specs.declared.fault.Fault.TheVariants.{SeenRefused, NoMemory, StoreRefused}
 use Rattle.fetch_session.specs.CarryingOut.{Carried, tasks_ahead as tasks_for}
 use Rattle.fetch_session.specs.Record.{Keeps, Steady, record_state, with_open}
 use Rattle.fetch_session.specs.Scene.{Scene, Went, Fell, NoEntry, Stops, Does, EntryNotSaved}
 use Rattle.fetch_session.specs.Session.{outcome_of, Keeping, Noted, Proceeds}
 use Rattle.fetch_session.specs.Readiness.{IsSettledBy, SettlesStore}
-use Rattle.fetch_session.specs.declared.report.Report.{Report}
-use Rattle.fetch_runs.specs.Steps.{mbox_holds}
-use Rattle.mail_store.specs.Mboxrd.{entry_of}
-use Rattle.std.proofs.lemmas.Option.{same_Some}
 use Rattle.fetch_session.specs.Laws.{SteadyFilesKeep, UnsavedFilesKeep}
 use Rattle.fetch_session.specs.Mbox.{IsTakenBack, RefusesAgain, RefusesEntry, intent_of}
 use Rattle.fetch_session.specs.declared.fault.Why.TheVariants as why

@@ -10,9 +10,7 @@ use Rattle.std.proofs.lemmas.List.Elements.{filter-append}
 use Rattle.std.proofs.Math.Logic.{⊎_elim, ⊎_map}
 use Rattle.mail_terms.specs.UniqueId.{is_legal_id, has_id}
 use Rattle.mail_terms.specs.Listing.{Item, has_item}
-use Rattle.pop3_wire.specs.World.{Message}
-use Rattle.pop3_wire.specs.declared.command.Command.{Command}
-use Rattle.pop3_wire.specs.declared.command.Command.TheVariants.{Dele}
+use Rattle.pop3_wire.specs.{World.Message, declared.command.Command.Command, declared.command.Command.TheVariants.Dele}
 use Rattle.fetch_record.specs.Record.{is_delivered, Row}
 use Rattle.mail_store.specs.Maildir.{File, file as file_of}
 use Rattle.mail_terms.specs.MaildirName.{base}
@@ -215,8 +213,7 @@ module _ {W S F : Type 0} (laws : Below) {mail : Mail} (account_is : IsAccountTe
   known id = is_delivered state.account.rows id || held id
 
   known_listed : AllByRecursion (λ (m : Message). is_delivered rows m.uid ≡ known m.uid) o.maildrop
-  known_listed = all_map _ (members o.maildrop)
-      (λ m there. known_parts m.uid ∙ rw (has_listed o.maildrop honest.listing m.uid, there) refl)
+  known_listed = all_map _ (members o.maildrop) (λ m there. known_parts m.uid ∙ rw (has_listed o.maildrop honest.listing m.uid, there) refl)
 
   known_safe : (id : List ℕ) → is_delivered rows id ≡ true → IsSafe mail state id
   known_safe id d = ⊎_elim (kept.recorded id) (λ now'. let parts = and_parts _ _ now' in (

@@ -7,31 +7,23 @@ use Rattle.mail_terms.specs.Listing.{Item}
 use Rattle.rc_file.specs.declared.settings.Settings.{Settings}
 use Rattle.fetch_record.specs.Record.{Row, marked, none_open}
 use Rattle.mail_store.specs.Maildir.{Maildir, File}
-use Rattle.mail_store.specs.FileName.{stem_of}
+use Rattle.mail_store.specs.{FileName.stem_of, FlatFile.Stored}
 use Rattle.fetch_session.specs.Task.{Task, stores, Done, files_in, files_of, file_from}
 use Rattle.fetch_session.specs.Target.{AsFiles, in_maildir, Target, Stores}
-use Rattle.pop3_wire.specs.Reading.{WholeReply}
+use Rattle.pop3_wire.specs.{Reading.WholeReply, declared.command.Command.Command}
 use Rattle.fetch_runs.specs.Sessions.{StopsAtList, StoresTexts as Did}
 use Rattle.fetch_runs.proofs.Turns.{deleted_by, text_found, Course, course, SessionCourse, Idle}
 use Rattle.fetch_runs.proofs.Turns.{Deals, course_carried, course_carries, course_proceeded, stored_done, found_of}
 use Rattle.fetch_runs.proofs.Turns.{spare_in, course_stopped, course_does, begun_of, effect_of}
 use Rattle.fetch_runs.proofs.Lists.{same_rows}
-use Rattle.fetch_runs.specs.Below.{Below}
+use Rattle.fetch_runs.specs.{Below.Below, Accounts.without_flags, Steps.holds}
 use mathlib.Core.Logic.{⊎_map}
-use Rattle.mail_store.specs.FlatFile.{Stored}
-use Rattle.fetch_session.specs.declared.fault.Cut.{Cut}
-use Rattle.fetch_session.specs.declared.fault.Fault.TheVariants.{StoreRefused}
+use Rattle.fetch_session.specs.{declared.fault.Cut.Cut, declared.fault.Fault.TheVariants.StoreRefused}
 use Rattle.fetch_session.specs.declared.report.Outcome.TheVariants.{Cut as WasCut}
-use Rattle.fetch_session.specs.declared.report.ReportLine.{ReportLine}
+use Rattle.fetch_session.specs.{declared.report.ReportLine.ReportLine, Record.KeepsRows, Store.RefusesText, declared.report.Report.Report}
 use Rattle.fetch_session.specs.CarryingOut.{Unprepared, Carried, Carries}
-use Rattle.fetch_session.specs.Record.{KeepsRows}
 use Rattle.fetch_session.specs.Scene.{Scene, scene, Went, Fell, NoFile, FileNotSaved, Stops, Does}
 use Rattle.fetch_session.specs.Session.{outcome_of, Keeping, Noted, Proceeds, AccountFiles, keeping, keeps_files}
-use Rattle.fetch_runs.specs.Accounts.{without_flags}
-use Rattle.fetch_session.specs.Store.{RefusesText}
-use Rattle.fetch_session.specs.declared.report.Report.{Report}
-use Rattle.pop3_wire.specs.declared.command.Command.{Command}
-use Rattle.fetch_runs.specs.Steps.{holds}
 use Rattle.fetch_session.specs.declared.fault.Why.TheVariants as why
 use Rattle.fetch_runs.proofs.Tasks.{tasks_ahead, Inputs, rows_on, count}
 use Rattle.fetch_runs.proofs.Tasks.{rows_after, records_part, files_part, is_ended, Starts}
@@ -74,8 +66,7 @@ module _ (settings : Settings) (target : Target) (now : ℕ) (before : Keeping) 
   by_course _ (Ok _) new _ notes dealt = carries_lead _ dealt.mid _ new _ notes.lines notes.skipped dealt.carries
   by_course _ (Err _) _ _ _ (inl stopped) = (refl, stopped.same, ap (λ (n : Noted). n.lines) stopped.nothing)
   by_course _ (Err _) _ _ _ (inr (inl wanting)) = (refl, wanting.same, ap (λ (n : Noted). n.lines) wanting.nothing)
-  by_course _ (Err _) new _ notes (inr (inr dealt)) = carries_lead dealt.items dealt.mid _ new _
-      notes.lines notes.skipped dealt.carries
+  by_course _ (Err _) new _ notes (inr (inr dealt)) = carries_lead dealt.items dealt.mid _ new _ notes.lines notes.skipped dealt.carries
 
 -- ---- with a Maildir
 
@@ -241,24 +232,19 @@ module _ (laws : Below) (settings : Settings) (account : List ℕ) (now : ℕ) (
 
   module _ (file : Stored) (keeps : KeepsRows file.content rows) where
     pub course_leads : (old : _) (result : Result (Unit {0}) Cut) (new : _) (after : AccountFiles) (notes : Noted)
-        (is : Proceeds settings (AsFiles account) now old (keeping (in_maildir maildir) file) result new
-        (keeps_files after) notes)
+        (is : Proceeds settings (AsFiles account) now old (keeping (in_maildir maildir) file) result new (keeps_files after) notes)
         → CourseLeads (λ (c : Course). Leading result c after.maildir after.file.content) result
         (keeping (in_maildir maildir) file) (keeps_files after) notes.lines
-        (course_proceeded settings (AsFiles account) now old (keeping (in_maildir maildir) file) result new
-        (keeps_files after) notes is)
+        (course_proceeded settings (AsFiles account) now old (keeping (in_maildir maildir) file) result new (keeps_files after) notes is)
     course_leads old result new after notes is =
         by_course settings (AsFiles account) now (keeping (in_maildir maildir) file)
-        (λ r c store file'. Leading r c store.maildir file'.content)
-        (λ items place cut new is.
-        let none : Tally (p items) (Err cut) (course items [] [] []) [] [] (RefusedIn (Err cut)) =
-        tally_none laws (p items) in
+        (λ r c store file'. Leading r c store.maildir file'.content) (λ items place cut new is.
+        let none : Tally (p items) (Err cut) (course items [] [] []) [] [] (RefusedIn (Err cut)) = tally_none laws (p items) in
         let same : AddsFiles account maildir [] new.store.maildir =
         ap without_flags (unready_same cut.fault maildir file new.store.maildir new.file is.unready.cause)
         ∙ sym (append-nil (without_flags maildir.files)) in
         -- the record is as it was
-        let stays : KeepsRows new.file.content rows
-        → Leading (Err cut) (course items [] [] []) new.store.maildir new.file.content =
+        let stays : KeepsRows new.file.content rows → Leading (Err cut) (course items [] [] []) new.store.maildir new.file.content =
         λ keeps'. record {
           full = [];
           noted = [];
@@ -273,10 +259,8 @@ module _ (laws : Below) (settings : Settings) (account : List ℕ) (now : ℕ) (
           | inr m ↦
               let were = same_rows laws.one file.content m.was.rows rows (m.was.intent, m.stood) keeps in
               ⊎_elim (λ left. stays (m.was.intent, rw (← were) left))
-              (λ merges. lead items none new.store.maildir new.file.content same (None, rw (← were) merges))
-              m.stands
-        ])
-        (λ items place result new skipped is.
+              (λ merges. lead items none new.store.maildir new.file.content same (None, rw (← were) merges)) m.stands
+        ]) (λ items place result new skipped is.
         let rows_are : is.mid.rows ≡ rows_on (p items) =
         rw (
           is.prepared.rows,

@@ -3,27 +3,19 @@ use Rattle.std.proofs.Common.{◌≡◌, inl, inr, ℕ, true, List, ◌∷◌, �
 use Rattle.std.specs.Prelude.{bytes_eq, ◌↔◌}
 use Rattle.std.specs.List.{AllByRecursion, count_by, flat_map}
 use Rattle.std.proofs.lemmas.Bool.{both_ways, or_right}
-use Rattle.std.proofs.lemmas.List.{append-nil}
-use Rattle.std.proofs.lemmas.List.Folds.{list_any-append}
-use Rattle.std.proofs.lemmas.Grind.{flat_map-append}
-use Rattle.mail_terms.specs.Listing.{Item}
+use Rattle.std.proofs.{lemmas.List.append-nil, lemmas.List.Folds.list_any-append, lemmas.Grind.flat_map-append}
+use Rattle.mail_terms.specs.{Listing.Item, UniqueId.has_id}
 use Rattle.rc_file.specs.declared.settings.Settings.{Settings}
 use Rattle.fetch_record.specs.Record.{Row, RecordState}
-use Rattle.mail_terms.specs.UniqueId.{has_id}
 use Rattle.fetch_runs.specs.Sessions.{IsBegun, SendsOnly, BeginsOne, Leaves, SessionOverLink, is_retr, tail_behind}
 use Rattle.fetch_runs.specs.Sessions.{AsksForNoMessage, IsHonest, MboxSessionOverLink, Served, mbox_wanted}
-use Rattle.pop3_wire.specs.World.{Message}
-use Rattle.mail_store.specs.FlatFile.{Stored}
-use Rattle.pop3_wire.specs.declared.command.Command.{Command}
+use Rattle.pop3_wire.specs.{World.Message, declared.command.Command.Command, Honest.HasSent, Place.at, Link.Link}
+use Rattle.mail_store.specs.{FlatFile.Stored, Maildir.Maildir}
 use Rattle.pop3_wire.specs.declared.command.Command.TheVariants.{Dele, User, Pass, Stat, UidlAll, ListAll, Retr}
 use Rattle.fetch_runs.specs.Steps.{holds, IsStep, SessionsLoseNothing, IsMboxStep, MboxSessionsLoseNothing, mbox_holds}
 use Rattle.fetch_runs.specs.Below.{Below}
-use Rattle.pop3_wire.specs.Honest.{HasSent}
 use Rattle.fetch_runs.proofs.Lists.{all_map, bytes_self, all_back}
-use Rattle.pop3_wire.specs.Place.{at}
-use Rattle.mail_store.specs.Maildir.{Maildir}
-use Rattle.fetch_session.specs.declared.report.Outcome.TheVariants.{Ended}
-use Rattle.fetch_session.specs.Report.{retrieved_in}
+use Rattle.fetch_session.specs.{declared.report.Outcome.TheVariants.Ended, Report.retrieved_in, declared.report.Report.Report}
 use Rattle.fetch_session.specs.Task.{Task, deletes, Done, report_lines}
 use Rattle.fetch_session.specs.Record.{Keeps, KeepsRows}
 use Rattle.fetch_session.specs.Session.{MboxAccountFiles, keeps_files, outcome_of, Keeping, keeps_entries, SessionIn}
@@ -34,8 +26,6 @@ use Rattle.fetch_runs.proofs.Turns.{deleted_by, effect_of, tail_for, course_proc
 use Rattle.fetch_runs.proofs.Tasks.{IsRight, found_all, count, is_ended, tally_numbers, tally_right}
 use Rattle.fetch_runs.proofs.MboxState.{MboxLeads, Rests, course_leaves, mbox_figures, mbox_inputs}
 use Rattle.fetch_runs.proofs.State.{CourseLeads, Leads, course_leads, figures, inputs}
-use Rattle.pop3_wire.specs.Link.{Link}
-use Rattle.fetch_session.specs.declared.report.Report.{Report}
 use Rattle.fetch_runs.proofs.Safety.{session_holds, mbox_session_holds, session_honest}
 use Rattle.mail_terms.proofs.ListLemmas.{both_none}
 

@@ -4,18 +4,14 @@ use Rattle.std.proofs.Common.{◌≡◌, inl, inr, ℕ, List, ◌∷◌, ◌++�
 use Rattle.std.proofs.Common.{sym, ap, ◌∙◌, append_assoc, Bool, Option, ◌≤◌, ◌+◌, length, arith, rules, take}
 use Rattle.std.proofs.Common.{ap₂, ⊎_elim, map-id, subst, cond, false, subst₂, []}
 use Rattle.std.specs.List.{flat_map, count_by, AllByRecursion, AllZip, enumerate_from}
-use Rattle.pop3_wire.specs.Link.{Link}
+use Rattle.pop3_wire.specs.{Link.Link, declared.command.Command.Command, Honest.HasSent, declared.reply.Status.TheVariants.Positive}
 use Rattle.pop3_wire.specs.Place.{Place, at}
 use Rattle.pop3_wire.specs.Reading.{WholeReply, reply_bytes}
-use Rattle.pop3_wire.specs.declared.command.Command.{Command}
 use Rattle.pop3_wire.specs.declared.command.Command.TheVariants.{User, Pass, Stat, UidlAll, ListAll, Quit}
 use Rattle.mail_terms.specs.Listing.{Item, Joins, UidRow}
-use Rattle.rc_file.specs.declared.settings.Settings.{Settings}
-use Rattle.mail_store.specs.FileName.{is_held}
-use Rattle.mail_store.specs.FlatFile.{Stored}
-use Rattle.fetch_session.specs.declared.fault.Cut.{Cut}
-use Rattle.fetch_session.specs.declared.report.ReportLine.{ReportLine}
-use Rattle.fetch_session.specs.declared.report.Skips.{Skips}
+use Rattle.rc_file.specs.{declared.settings.Settings.Settings, Settings.IsValid}
+use Rattle.mail_store.specs.{FileName.is_held, FlatFile.Stored}
+use Rattle.fetch_session.specs.{declared.fault.Cut.Cut, declared.report.ReportLine.ReportLine, declared.report.Skips.Skips, Fault.fault_of}
 use Rattle.fetch_session.specs.Task.{Task, stores, rereads, Done, tasks_of, says, turns_in, turns_of}
 use Rattle.fetch_session.specs.Task.{IsAnswered, tasks_planned, report_lines, lines_in}
 use Rattle.fetch_session.specs.CarryingOut.{tasks_ahead, Carried, Carries, Prepared}
@@ -25,7 +21,6 @@ use Rattle.fetch_session.specs.Target.{Target, AsFiles, AsEntries, Stores}
 use mathlib.Core.Logic.{⊎_map}
 use Rattle.std.proofs.lemmas.List.{append-nil, append_cancel_left}
 use Rattle.std.proofs.lemmas.List.Concat.{flat_map-append, flat_map_single}
-use Rattle.pop3_wire.specs.Honest.{HasSent}
 use Rattle.pop3_client.specs.Turns.{Turn, quit, IsBody, IsGood, greeting, rset}
 use Rattle.fetch_runs.specs.Sessions.{BeginsOne, ReadsReplies, Retrieves, IsListed, TalkedWith as IsTalked, tail_behind, SaysOnly, is_retr}
 use Rattle.fetch_runs.specs.Conversations.{Conversation, plan_turns, Converses, plan_commands, IsTail as IsTailOf, IsFrontOfPlan}
@@ -36,24 +31,17 @@ use Rattle.fetch_rules.specs.Plan.{planned, step_of}
 use Rattle.fetch_rules.specs.declared.plans.Step.{Step}
 use Rattle.pop3_client.specs.declared.fault.ClientFault.{ClientFault}
 use Rattle.pop3_client.specs.Conversation.{Talked, Talks}
-use Rattle.fetch_session.specs.Fault.{fault_of}
 use Rattle.fetch_session.specs.Tail.{tail, turns_of_tail as tail_turns}
-use Rattle.std.proofs.lemmas.List.Folds.{flat_map-map}
-use Rattle.pop3_wire.specs.declared.reply.Status.TheVariants.{Positive}
+use Rattle.std.proofs.{lemmas.List.Folds.flat_map-map, lemmas.List.Sums.sum_by-append}
 use Rattle.pop3_wire.specs.Fields.{number_and_size}
 use Rattle.pop3_wire.specs.Reply.{indicator, without_space}
-use Rattle.mail_terms.specs.Credential.{is_credential}
-use Rattle.mail_terms.specs.declared.listing.ScanRow.{ScanRow}
+use Rattle.mail_terms.specs.{Credential.is_credential, declared.listing.ScanRow.ScanRow}
 use Rattle.fetch_session.specs.Opening.{opening, SessionOpened, Enters}
 use Rattle.pop3_wire.specs.declared.note.Asked.TheVariants.{Greeting as ByGreeting}
-use Rattle.fetch_session.specs.declared.fault.Fault.{Fault}
-use Rattle.fetch_session.specs.declared.fault.Fault.TheVariants.{Refused}
+use Rattle.fetch_session.specs.{declared.fault.Fault.Fault, declared.fault.Fault.TheVariants.Refused, Report.is_text_taken}
 use Rattle.fetch_runs.proofs.Lists.{all_append, all_back, all_front}
 use Rattle.fetch_runs.specs.Below.{Below}
-use Rattle.std.proofs.lemmas.List.Sums.{sum_by-append}
-use Rattle.fetch_session.specs.Report.{is_text_taken}
 use Rattle.std.specs.String.{string_bytes}
-use Rattle.rc_file.specs.Settings.{IsValid}
 use Rattle.fetch_session.specs.declared.report.Report.{Report}
 use Rattle.fetch_runs.proofs.Turns.{Course, SessionCourse, Idle, Deals, course_does, course_carried, course_carries, course_dealt}
 use Rattle.fetch_runs.proofs.Turns.{course_proceeded, found_of, begun_of, IsOfTask, number_found, number_of, effect_of, said_in}
@@ -287,8 +275,7 @@ module _ (laws : Below) (name word : List ℕ) (start new last : Place) (none : 
   pub opens_cut : (why : ClientFault) → Enters name word start (Err why) new → (result : Result (Unit {0}) ClientFault)
       → Talks (tail_turns (tail (fault_of why))) new result last
       → OpensAlone name word (tail_turns (tail (fault_of why))) start.link last.link
-  opens_cut _ (inl s) _ talks =
-      opens_by _ s.split (inr (s.next, refl)) s.talked (goes_broke _ _ _ _ _ s.broke (fronted laws _ _ _ _ talks))
+  opens_cut _ (inl s) _ talks = opens_by _ s.split (inr (s.next, refl)) s.talked (goes_broke _ _ _ _ _ s.broke (fronted laws _ _ _ _ talks))
   opens_cut _ (inr (inl (is, (_, _, _, opened, _)))) _ talks = opens_all _ opened _ talks
   opens_cut _ (inr (inr (is, (_, _, _, opened)))) _ talks = opens_all _ opened _ talks
 

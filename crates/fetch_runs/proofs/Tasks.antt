@@ -6,38 +6,32 @@ use Rattle.std.specs.Prelude.{◌&&◌, ◌<◌, slice_get, option_to_list}
 use Rattle.std.specs.List.{flat_map, filter, AllByRecursion, enumerate_from, AllZip}
 use Rattle.std.proofs.lemmas.Bool.{or_right, or_left}
 use Rattle.std.proofs.lemmas.List.{append-nil, take_at, take-map, length-map, map-append}
-use Rattle.std.proofs.lemmas.List.Concat.{flat_map-append}
+use Rattle.std.proofs.{lemmas.List.Concat.flat_map-append, lemmas.List.Sums.sum_by-append, lemmas.Simd.map-map}
 use Rattle.std.proofs.lemmas.List.Folds.{flat_map-map, list_any_at}
 use Rattle.mail_terms.specs.Listing.{Item, has_item, numbered, is_first, is_last, is_flagged}
 use Rattle.rc_file.specs.declared.settings.Settings.{Settings}
 use Rattle.fetch_record.specs.Record.{Row, is_delivered, is_of, has_row, with_delivered, marked, marked_all, new_ids}
 use Rattle.fetch_record.specs.Record.{merged, none_open}
-use Rattle.fetch_rules.specs.Wanted.{wanted}
+use Rattle.fetch_rules.specs.{Wanted.wanted, declared.plans.Step.Step}
 use Rattle.fetch_rules.specs.Plan.{fetches, step_of}
-use Rattle.fetch_rules.specs.declared.plans.Step.{Step}
-use Rattle.mail_store.specs.Maildir.{Maildir}
-use Rattle.mail_store.specs.FileName.{is_held}
+use Rattle.mail_store.specs.{Maildir.Maildir, FileName.is_held, Held.flags_of}
 use Rattle.pop3_client.specs.Turns.{quit, IsGood}
 use Rattle.fetch_session.specs.Task.{Task, says, stores, rereads, deletes, fetching, deleting, tasks_in, tasks_planned, Done, IsAnswered}
 use Rattle.fetch_session.specs.Task.{turns_in, tasks_of, files_in, files_of, lines_in, report_lines, ids_ahead, task_in, ids_in, marked_ids}
 use Rattle.fetch_session.specs.Target.{AsFiles, in_maildir, Target}
-use Rattle.std.proofs.lemmas.List.Sums.{sum_by-append}
 use Rattle.pop3_wire.specs.Reading.{WholeReply}
 use Rattle.fetch_session.specs.Report.{is_text_taken, retrieved_in}
 use Rattle.fetch_runs.specs.Sessions.{file_for, is_unheld, ids_wanted, IsUnsaved, settled}
-use Rattle.std.proofs.lemmas.Simd.{map-map}
 use Rattle.fetch_runs.proofs.Turns.{found_in, found_by, deleted_in, deleted_by, number_found, text_found, Course}
 use Rattle.fetch_runs.proofs.Turns.{course, stored_done, found_of, nothing_found, number_of}
-use Rattle.mail_store.specs.Held.{flags_of}
 use Rattle.fetch_runs.proofs.Lists.{bytes_self, bytes_same, all_append, all_front, all_map, marks_stay}
 use Rattle.fetch_runs.specs.Below.{Below}
 use mathlib.Core.Logic.{⊎_map}
 use Rattle.pop3_client.specs.Texts.{body_text}
-use Rattle.fetch_session.specs.declared.fault.Cut.{Cut}
+use Rattle.fetch_session.specs.{declared.fault.Cut.Cut, Session.outcome_of}
 use Rattle.fetch_session.specs.declared.report.Outcome.TheVariants.{Cut as WasCut}
 use Rattle.fetch_session.specs.Record.{Keeps, Steady}
 use Rattle.fetch_session.specs.Scene.{Scene, Went, Fell}
-use Rattle.fetch_session.specs.Session.{outcome_of}
 use Rattle.fetch_session.specs.CarryingOut as Session
 use Rattle.std.proofs.lemmas.Option.{slice_get_within, get_or_from_slice_get}
 use Rattle.fetch_runs.proofs.Core.{IsNumbered, are_numbered}
@@ -116,8 +110,7 @@ tasks_are p = rw (by_message (steps_on p) (is_held p.account p.maildir) 1 p.item
 -- ---- what is fetched
 
 fetched_plan : (f : ℕ × Item → Step) (held : List ℕ → Bool) → ((q : ℕ × Item) → (f q).number ≡ q.0) → (qs : List (ℕ × Item))
-    → fetched (flat_map (tasks_at f held) qs)
-    ≡ map key (map (λ (p : Step × (ℕ × Item)). p.1)
+    → fetched (flat_map (tasks_at f held) qs) ≡ map key (map (λ (p : Step × (ℕ × Item)). p.1)
     (filter (λ (p : Step × (ℕ × Item)). fetches p.0) (zip (map f qs) qs)))
 fetched_plan f held same [] = refl
 fetched_plan f held same (q ∷ qs) =

@@ -3,47 +3,34 @@
 use Rattle.std.proofs.Common.{◌≡◌, inl, inr, ℕ, List, ◌∷◌, ◌++◌, map, Result, Ok, Err, ◌⊎◌, true, None, Some, refl, sym}
 use Rattle.std.proofs.Common.{ap, ◌∙◌, append_assoc, ◌<◌, ◌^◌, Bool, Option, ◌≤◌, ◌+◌, length, arith, rules, cond, []}
 use Rattle.std.specs.List.{flat_map, count_by, AllByRecursion, AllZip, enumerate_from}
-use Rattle.pop3_wire.specs.Link.{Link}
+use Rattle.pop3_wire.specs.{Link.Link, declared.command.Command.Command, Line.ended, CommandLine.HasNumbers, Body.Body}
 use Rattle.pop3_wire.specs.Place.{Place, at}
 use Rattle.pop3_wire.specs.Reading.{WholeReply, body_bytes, has_body, IsBodyIf}
-use Rattle.pop3_wire.specs.declared.command.Command.{Command}
 use Rattle.pop3_wire.specs.declared.command.Command.TheVariants.{Retr, Dele}
-use Rattle.pop3_client.specs.Texts.{body_text}
+use Rattle.pop3_client.specs.{Texts.body_text, declared.fault.ClientFault.ClientFault}
 use Rattle.mail_terms.specs.Listing.{Item}
 use Rattle.rc_file.specs.declared.settings.Settings.{Settings}
-use Rattle.mail_store.specs.FileName.{stem_of}
-use Rattle.mail_store.specs.FlatFile.{Stored}
-use Rattle.fetch_session.specs.declared.fault.Cut.{Cut}
-use Rattle.fetch_session.specs.declared.report.ReportLine.{ReportLine}
-use Rattle.fetch_session.specs.declared.report.Skips.{Skips}
+use Rattle.mail_store.specs.{FileName.stem_of, FlatFile.Stored}
+use Rattle.fetch_session.specs.{declared.fault.Cut.Cut, declared.report.ReportLine.ReportLine, declared.report.Skips.Skips}
 use Rattle.fetch_session.specs.Task.{Task, stores, rereads, deletes, Done, tasks_of, says, skips, turns_in, turns_of}
 use Rattle.fetch_session.specs.Task.{replies_of, IsAnswered, tasks_planned, task_in, report_lines, delivered}
-use Rattle.fetch_session.specs.Store.{RefusesText}
+use Rattle.fetch_session.specs.{Store.RefusesText, Fault.fault_of, declared.fault.Fault.TheVariants.StoreRefused}
 use Rattle.fetch_session.specs.CarryingOut.{tasks_ahead, Carried, Carries}
 use Rattle.fetch_session.specs.Scene.{Scene, scene, NoFile, Stops, Does}
 use Rattle.fetch_session.specs.Session.{Keeping, Noted, Dealt, Proceeds, outcome_of}
 use Rattle.fetch_session.specs.Target.{Target, AsFiles, AsEntries, Stores}
 use mathlib.Core.Logic.{⊎_map}
 use Rattle.std.proofs.lemmas.List.{append-nil, append_cancel_left, map-append}
-use Rattle.std.proofs.lemmas.List.Concat.{flat_map-append}
-use Rattle.pop3_wire.specs.Line.{ended}
+use Rattle.std.proofs.{lemmas.List.Concat.flat_map-append, lemmas.Bool.true≢false, lemmas.List.Folds.flat_map-map}
 use Rattle.pop3_wire.specs.Commands.{line_of, can_be_sent, octets_of}
-use Rattle.pop3_wire.specs.CommandLine.{HasNumbers}
 use Rattle.pop3_wire.specs.Honest.{HasSent, BeginsNext}
 use Rattle.pop3_client.specs.Turns.{Turn, asking, retr, dele, quit, IsBody, IsGood, turn_bytes}
 use Rattle.fetch_runs.specs.Sessions.{BeginsOne, AreGood, Retrieves, Effect, tail_behind, is_retr}
 use Rattle.fetch_runs.specs.Conversations.{SentBehind, Conversation}
-use Rattle.std.proofs.lemmas.Bool.{true≢false}
-use Rattle.pop3_wire.specs.Body.{Body}
 use Rattle.fetch_record.specs.Record.{Row}
-use Rattle.fetch_rules.specs.Plan.{step_of}
-use Rattle.fetch_rules.specs.declared.plans.Step.{Step}
-use Rattle.pop3_client.specs.declared.fault.ClientFault.{ClientFault}
+use Rattle.fetch_rules.specs.{Plan.step_of, declared.plans.Step.Step}
 use Rattle.pop3_client.specs.Conversation.{Talked, Talks, Broke, IsFrontOfNext}
-use Rattle.fetch_session.specs.Fault.{fault_of}
 use Rattle.fetch_session.specs.Tail.{tail, turns_of_tail as tail_turns, TalksTailBy, TalksTail, WentOn}
-use Rattle.std.proofs.lemmas.List.Folds.{flat_map-map}
-use Rattle.fetch_session.specs.declared.fault.Fault.TheVariants.{StoreRefused}
 use Rattle.std.specs.Prelude.{◌-◌, slice_get, option_to_list}
 use Rattle.fetch_session.specs.declared.report.Outcome.TheVariants.{Ended, Cut as WasCut}
 use Rattle.fetch_runs.proofs.Lists.{all_append, both_none}
@@ -342,8 +329,7 @@ read_first : (task : Task) (replies others : List WholeReply) (commands : List C
 read_first (says _) (r ∷ []) _ _ _ is _ later = rw is later
 read_first (skips _ _) [] _ _ _ _ _ later = later
 read_first (stores number _) (r ∷ []) _ _ found _ good later = (body_text r.body, found, text_body number r.body good.0.body, refl, later)
-read_first (rereads number _) (r ∷ []) _ _ found _ good later =
-    (body_text r.body, found, text_body number r.body good.0.body, refl, later)
+read_first (rereads number _) (r ∷ []) _ _ found _ good later = (body_text r.body, found, text_body number r.body good.0.body, refl, later)
 read_first (deletes _) (r ∷ []) _ _ _ _ _ later = later
 read_first task replies others commands found is good later = search rules
 

@@ -6,8 +6,7 @@ use Rattle.std.specs.List.{filter, list_any}
 use Rattle.fetch_record.specs.Record.{Row}
 use Rattle.mail_store.specs.Maildir.{File, Maildir, file}
 use Rattle.mail_store.specs.FileName.{names_id, stem}
-use Rattle.mail_terms.specs.UniqueId.{has_id}
-use Rattle.mail_terms.specs.Listing.{Item}
+use Rattle.mail_terms.specs.{UniqueId.has_id, Listing.Item}
 use Rattle.fetch_rules.specs.Wanted.{is_within}
 use Rattle.pop3_wire.specs.World.{Message}
 

@@ -5,21 +5,16 @@ use Rattle.std.specs.List.{AllByRecursion}
 use Rattle.pop3_wire.specs.World.{Message}
 use Rattle.pop3_wire.specs.declared.wire.Wire.{Ghosts as WireGhosts}
 use Rattle.mail_terms.specs.UniqueId.{is_legal_id}
-use Rattle.rc_file.specs.Settings.{IsValid}
-use Rattle.rc_file.specs.declared.settings.Settings.{Settings}
-use Rattle.fetch_record.specs.Record.{Intent}
-use Rattle.fetch_record.specs.RecordMeaning.{FileStandsFor}
-use Rattle.mail_store.specs.Durable.{MayLeave}
+use Rattle.rc_file.specs.{Settings.IsValid, declared.settings.Settings.Settings}
+use Rattle.fetch_record.specs.{Record.Intent, RecordMeaning.FileStandsFor}
+use Rattle.mail_store.specs.{Durable.MayLeave, Loss.LosesPower}
 use Rattle.mail_store.specs.FileName.{is_held, stem_of}
-use Rattle.mail_store.specs.Loss.{LosesPower}
 use Rattle.mail_store.specs.Maildir.{Maildir, WereTaken}
 use Rattle.mail_store.specs.declared.file.flat_file.FlatFile.{Ghosts as FileGhosts}
 use Rattle.mail_store.specs.declared.maildir.disk.MaildirDisk.{Ghosts as DiskGhosts}
 use Rattle.fetch_session.specs.Account.{Holding, IsSameAccount, digits_of}
-use Rattle.fetch_session.specs.Durable.{RunsSession}
-use Rattle.fetch_session.specs.declared.account.Store.{Store}
+use Rattle.fetch_session.specs.{Durable.RunsSession, declared.account.Store.Store, declared.report.Report.Report}
 use Rattle.fetch_session.specs.declared.account.Store.TheVariants.{Maildir as InMaildir, Mboxrd as InMbox}
-use Rattle.fetch_session.specs.declared.report.Report.{Report}
 use Rattle.fetch_runs.specs.Accounts.{AccountMail, copies, files}
 use Rattle.fetch_runs.specs.Sessions.{Served, MboxMail}
 use Rattle.fetch_runs.specs.Promises.{Call, Devices, IsBetween, IsMaildrop, Invariant, Mail, Promises, ShowsNext, State}

@@ -3,21 +3,15 @@
 use Rattle.std.specs.Prelude.{◌≡◌, ◌⊎◌, ◌<◌, ◌-◌, ◌&&◌, ◌||◌, ℕ, Bool, true, false, not, List, [], ◌∷◌, ◌++◌, map}
 use Rattle.std.specs.Prelude.{length, Some, slice_get, None, is_none}
 use Rattle.std.specs.List.{AllByRecursion, count_by, filter}
-use Rattle.pop3_wire.specs.World.{Message}
-use Rattle.pop3_wire.specs.declared.command.Command.{Command}
-use Rattle.pop3_wire.specs.declared.command.Command.TheVariants.{Dele}
-use Rattle.mail_terms.specs.Distinct.{AreDistinct}
-use Rattle.mail_terms.specs.Text.{IsWhole}
+use Rattle.pop3_wire.specs.{World.Message, declared.command.Command.Command, declared.command.Command.TheVariants.Dele}
+use Rattle.mail_terms.specs.{Distinct.AreDistinct, Text.IsWhole}
 use Rattle.mail_terms.specs.UniqueId.{is_legal_id, has_id}
 use Rattle.rc_file.specs.declared.settings.Settings.{Settings}
 use Rattle.fetch_record.specs.Record.{is_delivered}
 use Rattle.fetch_rules.specs.Wanted.{at_most, is_within, own_skip}
 use Rattle.mail_store.specs.FileName.{is_held, name_of, stem_of}
-use Rattle.mail_store.specs.Maildir.{file}
-use Rattle.mail_store.specs.Mboxrd.{entry_of}
-use Rattle.mail_store.specs.Settling.{MayBeLeft}
-use Rattle.fetch_session.specs.declared.report.Outcome.TheVariants.{Ended}
-use Rattle.fetch_session.specs.declared.report.Report.{Report}
+use Rattle.mail_store.specs.{Maildir.file, Mboxrd.entry_of, Settling.MayBeLeft}
+use Rattle.fetch_session.specs.{declared.report.Outcome.TheVariants.Ended, declared.report.Report.Report}
 use Rattle.fetch_runs.specs.Accounts.{AccountMail, copies, has_named, message_ids, without_flags}
 use Rattle.fetch_runs.specs.Sessions.{SendsOnly, is_retr, MboxMail, entries_of, entry_intent}
 use Rattle.std.proofs.Common.{inr}

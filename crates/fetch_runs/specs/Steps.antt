@@ -1,14 +1,10 @@
 -- What holds of one session of the code, whatever its server says, and if it is honest.
 use Rattle.std.specs.Prelude.{◌≡◌, ◌⊎◌, ◌<◌, ◌-◌, ℕ, Bool, true, List, [], ◌∷◌, ◌++◌, zip, length, Some, slice_get}
 use Rattle.std.specs.List.{AllByRecursion}
-use Rattle.pop3_wire.specs.declared.command.Command.{Command}
-use Rattle.pop3_wire.specs.declared.command.Command.TheVariants.{Dele}
-use Rattle.pop3_wire.specs.Honest.{Honest}
-use Rattle.pop3_wire.specs.Link.{Link}
-use Rattle.pop3_wire.specs.World.{Message}
+use Rattle.pop3_wire.specs.{declared.command.Command.Command, declared.command.Command.TheVariants.Dele, Honest.Honest}
+use Rattle.pop3_wire.specs.{Link.Link, World.Message}
 use Rattle.mail_terms.specs.Listing.{Item}
-use Rattle.rc_file.specs.Settings.{IsValid}
-use Rattle.rc_file.specs.declared.settings.Settings.{Settings}
+use Rattle.rc_file.specs.{Settings.IsValid, declared.settings.Settings.Settings}
 use Rattle.fetch_record.specs.Record.{RecordState, Row, is_delivered}
 use Rattle.mail_store.specs.FileName.{is_held, mail_file}
 use Rattle.mail_store.specs.FlatFile.{Stored}
@@ -17,8 +13,7 @@ use Rattle.mail_store.specs.Mboxrd.{MboxFile, entry_of}
 use Rattle.fetch_session.specs.Record.{Keeps, KeepsRows}
 use Rattle.fetch_session.specs.Session.{AccountFiles, MboxAccountFiles, SessionIn, keeps_entries, keeps_files}
 use Rattle.fetch_session.specs.Target.{AsEntries, AsFiles, mail_in}
-use Rattle.fetch_session.specs.declared.report.Outcome.TheVariants.{Ended}
-use Rattle.fetch_session.specs.declared.report.Report.{Report}
+use Rattle.fetch_session.specs.{declared.report.Outcome.TheVariants.Ended, declared.report.Report.Report}
 use Rattle.fetch_runs.specs.Accounts.{AccountMail, listing_of, without_flags}
 use Rattle.fetch_runs.specs.Sessions.{Effect, Leaves, SendsOnly, SessionOverLink, wanted_at, MboxLeaves, MboxMail}
 use Rattle.fetch_runs.specs.Sessions.{MboxSessionOverLink}

@@ -1,36 +1,25 @@
 -- A session that was cut has its cause.
 use Rattle.std.proofs.Common.{◌≡◌, ◌≤◌, ℕ, Bool, true, false, List, [], ◌∷◌, ◌++◌, Result, Ok, Err, refl, sym, ap, ◌∙◌}
 use Rattle.std.proofs.Common.{append_assoc, inl, inr, arith}
-use Rattle.std.proofs.lemmas.Bool.{false≢true}
-use Rattle.std.proofs.lemmas.List.Concat.{flat_map-append}
-use Rattle.std.proofs.lemmas.List.Folds.{flat_map-map}
+use Rattle.std.proofs.{lemmas.Bool.false≢true, lemmas.List.Concat.flat_map-append, lemmas.List.Folds.flat_map-map}
 use Rattle.std.specs.String.{string_bytes}
 use Rattle.fetch_record.specs.Record.{RecordState, Row}
 use Rattle.mail_terms.specs.Listing.{Item}
-use Rattle.mail_store.specs.FileName.{stem_of}
-use Rattle.mail_store.specs.FlatFile.{Stored}
-use Rattle.mail_store.specs.MboxCalls.{RefusesLook}
-use Rattle.mail_store.specs.Maildir.{Maildir}
+use Rattle.mail_store.specs.{FileName.stem_of, FlatFile.Stored, MboxCalls.RefusesLook, Maildir.Maildir}
 use Rattle.mail_store.specs.declared.fault.StoreFault.{StoreFault}
 use Rattle.mail_store.specs.declared.fault.StoreFault.TheVariants as refused
 use Rattle.rc_file.specs.declared.settings.Settings.{Settings}
-use Rattle.pop3_wire.specs.Bodies.{Rest}
-use Rattle.pop3_wire.specs.Link.{Link}
+use Rattle.pop3_wire.specs.{Bodies.Rest, Link.Link, Reading.WholeReply}
 use Rattle.pop3_wire.specs.Place.{Place, at}
-use Rattle.pop3_wire.specs.Reading.{WholeReply}
 use Rattle.pop3_client.specs.Conversation.{Broke, Talked, TurnsJoin}
-use Rattle.pop3_client.specs.Texts.{body_text}
+use Rattle.pop3_client.specs.{Texts.body_text, declared.fault.ClientFault.ClientFault}
 use Rattle.pop3_client.specs.Turns.{Turn, asking}
-use Rattle.pop3_client.specs.declared.fault.ClientFault.{ClientFault}
 use Rattle.pop3_client.specs.declared.fault.ClientFault.TheVariants as talk
-use Rattle.fetch_session.specs.declared.fault.Cut.{Cut}
-use Rattle.fetch_session.specs.declared.fault.Fault.{Fault}
+use Rattle.fetch_session.specs.{declared.fault.Cut.Cut, declared.fault.Fault.Fault, declared.report.Outcome.Outcome, Fault.fault_of}
 use Rattle.fetch_session.specs.declared.fault.Fault.TheVariants.{NoMemory, SeenRefused, BadSeen, StoreRefused}
 use Rattle.fetch_session.specs.declared.fault.Why.TheVariants.{Missing, Refused, NotMbox}
-use Rattle.fetch_session.specs.declared.report.Outcome.{Outcome}
 use Rattle.fetch_session.specs.declared.report.Outcome.TheVariants.{Ended, Cut as WasCut}
 use Rattle.fetch_session.specs.Cuts.{ArePlanned, CausesFault, CutsHaveCauses, TurnBroke}
-use Rattle.fetch_session.specs.Fault.{fault_of}
 use Rattle.fetch_session.specs.Mbox.{IsStoreFault, RefusesEntry}
 use Rattle.fetch_session.specs.Opening.{Enters, opening}
 use Rattle.fetch_session.specs.CarryingOut.{Carried, tasks_ahead}
@@ -121,8 +110,7 @@ unready : (settings : Settings) (target : Target) (now : ℕ) (link : Link) (ite
 unready _ (AsFiles _) _ _ _ SeenRefused _ _ _ _ _ c = c.0
 unready _ (AsFiles _) _ _ _ (BadSeen _) _ _ _ _ _ c = c.0
 unready _ (AsFiles _) _ _ _ (StoreRefused Missing) _ _ _ _ _ c = inr (rw c.1 c.0)
-unready _ (AsFiles _) _ _ _ (StoreRefused Refused) _ _ _ _ _ c =
-    omega (arith, ap (λ (m : Maildir). m.failures) c)
+unready _ (AsFiles _) _ _ _ (StoreRefused Refused) _ _ _ _ _ c = omega (arith, ap (λ (m : Maildir). m.failures) c)
 unready _ (AsFiles _) _ _ _ NoMemory _ _ _ _ _ c = tt
 unready _ (AsFiles _) _ _ _ _ _ _ _ _ _ c = absurd c
 unready _ AsEntries _ _ _ SeenRefused _ _ _ _ _ c = c.0
@@ -148,23 +136,18 @@ module _ (settings : Settings) (now : ℕ) (link : Link) (before : Keeping) (old
     (file_count : before.file.failures ≤ old.file.failures) where
   -- a text was refused by a Maildir
   by_maildir : (account stem : List ℕ) (rest : Rest) (text : List ℕ) (fault : Fault) (store' : Stores) (file' : Stored)
-      (mid : Place) → NoLess (AsFiles account) before.store old.store
-      → RefusesText old.store.maildir stem rest text fault store'.maildir
+      (mid : Place) → NoLess (AsFiles account) before.store old.store → RefusesText old.store.maildir stem rest text fault store'.maildir
       → CausesFault settings (AsFiles account) now link before fault mid (keeping store' file')
   by_maildir _ _ _ _ _ _ _ _ _ (inl (is, tmp, same)) = rw is (inl (rw same tmp))
-  by_maildir _ _ _ _ _ _ _ _ less (inr (is, inl dropped)) =
-      rw is (omega (arith, less, ap (λ (m : Maildir). m.failures) dropped))
-  by_maildir _ _ _ _ _ _ _ _ less (inr (is, inr (_, (_, has)))) =
-      rw is (omega (arith, less, ap (λ (m : Maildir). m.failures) has))
+  by_maildir _ _ _ _ _ _ _ _ less (inr (is, inl dropped)) = rw is (omega (arith, less, ap (λ (m : Maildir). m.failures) dropped))
+  by_maildir _ _ _ _ _ _ _ _ less (inr (is, inr (_, (_, has)))) = rw is (omega (arith, less, ap (λ (m : Maildir). m.failures) has))
 
   -- an entry was refused
   by_entry : (rows : List Row) (uid text : List ℕ) (fault : Fault) (store' : Stores) (file' : Stored) (mid : Place)
-      → NoLess AsEntries before.store old.store
-      → RefusesEntry old.store.mbox old.file rows uid text fault store'.mbox file'
+      → NoLess AsEntries before.store old.store → RefusesEntry old.store.mbox old.file rows uid text fault store'.mbox file'
       → CausesFault settings AsEntries now link before fault mid (keeping store' file')
   by_entry _ _ _ (StoreRefused Missing) _ _ _ _ (none, same, _) = rw same none
-  by_entry _ _ _ (StoreRefused Refused) _ _ _ less (inl (same, _)) =
-      omega (arith, less, ap (λ (s : Stored). s.failures) same)
+  by_entry _ _ _ (StoreRefused Refused) _ _ _ less (inl (same, _)) = omega (arith, less, ap (λ (s : Stored). s.failures) same)
   by_entry _ _ _ (StoreRefused Refused) _ _ _ less
       (inr (_, (_, _, _, _, _, same))) = omega (arith, less, ap (λ (s : Stored). s.failures) same)
   by_entry _ _ _ (StoreRefused NotMbox) _ _ _ _ (other, same, _) = rw same other
@@ -182,8 +165,7 @@ module _ (settings : Settings) (now : ℕ) (link : Link) (before : Keeping) (old
   by_look refused.NoMemory _ _ _ _ _ is _ = rw is tt
 
   by_store : (target : Target) (next : Task) (new : Scene) (cut : Cut) → NoLess target before.store old.store
-      → NotStored target next old new cut
-      → CausesFault settings target now link before cut.fault new.place (keeping new.store new.file)
+      → NotStored target next old new cut → CausesFault settings target now link before cut.fault new.place (keeping new.store new.file)
   by_store (AsFiles account) next new cut less not = by_maildir account (stem_of account not.uid) not.rest not.text
       cut.fault new.store new.file new.place less not.refuses
   by_store AsEntries next new cut less (inl room) = rw room.wants tt
@@ -227,11 +209,8 @@ by_plan join settings target items now link before mid enters cut new skipped ca
     let all = join.on _ _ _ _ _ _ _ opened.talked went in
     let begin = opening (string_bytes settings.username) (string_bytes settings.password) in
     by_task settings now link before fell.mid (omega (arith, prepared.file_count, fell.went.file_count)) target
-    (begin ++ turns_of fell.dones) _ all
-    (brought target fell.dones before.store carried.mid.store fell.mid.store
-    (settled target prepared.was items before.store carried.mid.store prepared.settles) fell.went.stored)
-    fell.next
-    (λ turn takes.
+    (begin ++ turns_of fell.dones) _ all (brought target fell.dones before.store carried.mid.store fell.mid.store
+    (settled target prepared.was items before.store carried.mid.store prepared.settles) fell.went.stored) fell.next (λ turn takes.
     let ahead : turns_ahead (tasks_of fell.dones ++ fell.next ∷ fell.later) ≡ turns_of fell.dones ++ turn ∷ turns_ahead
     fell.later = simp (flat_map-append, flat_map-map, takes) in (
       turns_ahead fell.later,
@@ -248,12 +227,10 @@ by_plan join settings target items now link before mid enters cut new skipped ca
               ∙ ap (λ (rows : List Row). begin ++ turns_ahead (tasks_ahead settings target items now before.store rows)) prepared.rows,
         ),
       ),
-    ))
-    new cut fell.stops
+    )) new cut fell.stops
 
 by_session : TurnsJoin → (settings : Settings) (target : Target) (now : ℕ) (link : Link) (before : Keeping) (cut : Cut)
-    (mid : Place) (after : Keeping) (notes : Noted)
-    → Proceeds settings target now (at link []) before (Err cut) mid after notes
+    (mid : Place) (after : Keeping) (notes : Noted) → Proceeds settings target now (at link []) before (Err cut) mid after notes
     → CausesFault settings target now link before cut.fault mid after
 by_session join settings target now link before cut mid after notes (inl not) =
     rw (ap (λ (c : Cut). c.fault) not.is) (by_opening settings target now link before not.why mid after not.enters)
@@ -267,10 +244,8 @@ pub cuts_have_causes : TurnsJoin → CutsHaveCauses
 cuts_have_causes join settings target now link before report _ after done fault is =
     by_result done.result done.proceeds done.reports.outcome_is
   where
-    by_result : (result : Result (Unit {0}) Cut)
-        → Proceeds settings target now (at link []) before result done.mid after done.notes
-        → report.outcome ≡ outcome_of result
-        → CausesFault settings target now link before fault done.mid after
+    by_result : (result : Result (Unit {0}) Cut) → Proceeds settings target now (at link []) before result done.mid after done.notes
+        → report.outcome ≡ outcome_of result → CausesFault settings target now link before fault done.mid after
     by_result (Ok _) _ outcome = absurd (false≢true (cc))
     by_result (Err cut) proceeds outcome =
         let same : cut.fault ≡ fault = cc in

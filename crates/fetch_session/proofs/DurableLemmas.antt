@@ -14,21 +14,16 @@ use Rattle.mail_store.specs.FlatFile.{Stored}
 use Rattle.mail_store.specs.Held.{FoundDurable, HasDurable, flags_of}
 use Rattle.mail_store.specs.Maildir.{AllFlushed, File, IsDurableFile, Maildir}
 use Rattle.mail_terms.specs.Listing.{Item, is_flagged}
-use Rattle.pop3_wire.specs.Bodies.{Rest}
+use Rattle.pop3_wire.specs.{Bodies.Rest, Reading.WholeReply}
 use Rattle.pop3_wire.specs.Place.{Place, at}
-use Rattle.pop3_wire.specs.Reading.{WholeReply}
 use Rattle.rc_file.specs.declared.settings.Settings.{Settings}
-use Rattle.fetch_session.specs.declared.fault.Cut.{Cut}
-use Rattle.fetch_session.specs.declared.fault.Fault.{Fault}
-use Rattle.fetch_session.specs.declared.report.ReportLine.{ReportLine}
-use Rattle.fetch_session.specs.declared.report.Skips.{Skips}
+use Rattle.fetch_session.specs.{declared.fault.Cut.Cut, declared.fault.Fault.Fault, declared.report.ReportLine.ReportLine}
+use Rattle.fetch_session.specs.{declared.report.Skips.Skips, Record.KeepsRows, Store.RefusesText}
 use Rattle.fetch_session.specs.Laws.{LeavesDurable, SessionsAreDurable}
 use Rattle.fetch_session.specs.CarryingOut.{Carried, Carries}
 use Rattle.fetch_session.specs.Readiness.{IsMergedAtMost, are_undelivered}
-use Rattle.fetch_session.specs.Record.{KeepsRows}
 use Rattle.fetch_session.specs.Scene.{Does, Scene, Stops, Went}
 use Rattle.fetch_session.specs.Session.{AccountFiles, Keeping, Noted, Proceeds, keeps_files}
-use Rattle.fetch_session.specs.Store.{RefusesText}
 use Rattle.fetch_session.specs.Target.{AsFiles, Stores, in_maildir}
 use Rattle.fetch_session.specs.Task.{Done, IsAnswered, Task, file_from, files_in, files_of, ids_in, marked_ids, stores}
 use Rattle.mail_terms.proofs.ListLemmas.{all_append}
@@ -124,8 +119,7 @@ module _ (account : List ℕ) where
 -- a durable file is still there once others came
 still_has : (account uid : List ℕ) (old new : Maildir) (files : List File) → new.files ≡ old.files ++ files
     → HasDurable account old uid → HasDurable account new uid
-still_has _ _ old _ files came (f, there, named, durable) =
-    (f, rw came (Contains-append_left _ _ f there), named, durable)
+still_has _ _ old _ files came (f, there, named, durable) = (f, rw came (Contains-append_left _ _ f there), named, durable)
 
 same_rows : OneRecord → (file : Stored) (a b : List Row) → KeepsRows file.content a → KeepsRows file.content b → a ≡ b
 same_rows one file a b (i, x) (j, y) = (one _ a b i j x y).0
@@ -143,53 +137,40 @@ module _ (laws : DurableLaws) (account : List ℕ) (text : IsAccountText account
   -- one mark more
   one_mark : (rows : List Row) (uid id : List ℕ) (reply : WholeReply) → is_delivered (marked rows uid) id ≡ true
       → (is_delivered rows id ≡ true) ⊎ HasAmong (file_from account uid reply ∷ []) id
-  one_mark rows uid id reply d = ⊎_map (λ was. was)
-      (λ both. (
-        file_from account uid reply,
-        (0, omega arith, refl),
-        rw
-            (← (bytes_eq-Decides uid id).0 (and_parts (has_row rows id) (bytes_eq uid id) both).1)
-            (its_name _ _),
-        (refl, refl),
-      ))
-      (or_cases _ _ (cc (laws.marks rows uid id)))
+  one_mark rows uid id reply d = ⊎_map (λ was. was) (λ both. (
+    file_from account uid reply,
+    (0, omega arith, refl),
+    rw (← (bytes_eq-Decides uid id).0 (and_parts (has_row rows id) (bytes_eq uid id) both).1) (its_name _ _),
+    (refl, refl),
+  )) (or_cases _ _ (cc (laws.marks rows uid id)))
 
   -- what these tasks marked
   marks_have : (dones : List Done) (rows : List Row) (id : List ℕ) → AllByRecursion IsAnswered dones
-      → is_delivered (marked_all rows (marked_ids dones)) id ≡ true
-      → (is_delivered rows id ≡ true) ⊎ HasAmong (files_of account dones) id
+      → is_delivered (marked_all rows (marked_ids dones)) id ≡ true → (is_delivered rows id ≡ true) ⊎ HasAmong (files_of account dones) id
   marks_have [] rows id each d = inl d
   marks_have (done ∷ dones) rows id each d =
-      ⊎_elim (λ was. ⊎_map (λ was. was)
-      (λ (f, there, named, durable). (
+      ⊎_elim (λ was. ⊎_map (λ was. was) (λ (f, there, named, durable). (
         f,
-        Contains-append_left (files_in account done.task done.replies)
-            (files_of account dones) f there,
+        Contains-append_left (files_in account done.task done.replies) (files_of account dones) f there,
         named,
         durable,
-      )) (first done.task done.replies each.0 was))
-      (λ (f, there, named, durable). inr (
+      )) (first done.task done.replies each.0 was)) (λ (f, there, named, durable). inr (
         f,
-        Contains-append_right (files_in account done.task done.replies)
-            (files_of account dones) f there,
+        Contains-append_right (files_in account done.task done.replies) (files_of account dones) f there,
         named,
         durable,
-      ))
-      (marks_have dones (marked_all rows (ids_in done.task)) id each.1 (rw marked_on at d))
+      )) (marks_have dones (marked_all rows (ids_in done.task)) id each.1 (rw marked_on at d))
     where
       first : (task : Task) (replies : List WholeReply) → IsAnswered (record { task = task; replies = replies })
           → is_delivered (marked_all rows (ids_in task)) id ≡ true
           → (is_delivered rows id ≡ true) ⊎ HasAmong (files_in account task replies) id
       first (stores number uid) [] never d = absurd never
-      first (stores number uid) (reply ∷ replies) good d = ⊎_map (λ was. was)
-          (λ (f, there, named, durable). (
-            f,
-            Contains-append_left (file_from account uid reply ∷ [])
-                (files_in account (stores number uid) replies) f there,
-            named,
-            durable,
-          ))
-          (one_mark rows uid id reply d)
+      first (stores number uid) (reply ∷ replies) good d = ⊎_map (λ was. was) (λ (f, there, named, durable). (
+        f,
+        Contains-append_left (file_from account uid reply ∷ []) (files_in account (stores number uid) replies) f there,
+        named,
+        durable,
+      )) (one_mark rows uid id reply d)
       first other replies good d = inl d
 
   -- what was found and isn't shown as delivered is durable
@@ -212,8 +193,7 @@ module _ (laws : DurableLaws) (account : List ℕ) (text : IsAccountText account
       ⊎ HasDurable account maildir id
   merged_has maildir rows items now id found d =
       ⊎_elim inl (λ flagged. ⊎_elim inl (λ new. inr (found_has maildir rows items id found new flagged))
-      (cases_Bool (is_delivered rows id)))
-      (or_cases _ _ (sym (laws.flagged rows items (flags_of account maildir items) now id) ∙ d))
+      (cases_Bool (is_delivered rows id))) (or_cases _ _ (sym (laws.flagged rows items (flags_of account maildir items) now id) ∙ d))
 
   -- ---- a session
 
@@ -263,14 +243,12 @@ module _ (laws : DurableLaws) (account : List ℕ) (text : IsAccountText account
           let came : later.store.maildir.files ≡ before.maildir.files ++ files_of account dones = went.stored.came
           ∙ ap (λ (s : Stores). s.maildir.files ++ files_of account dones) c.prepared.settles in
           ⊎_elim (λ known. ⊎_map (λ was. was) (still_has account id before.maildir later.store.maildir
-          (files_of account dones) came) (prepared_shown id known))
-          (λ (f, there, named, durable). inr (
+          (files_of account dones) came) (prepared_shown id known)) (λ (f, there, named, durable). inr (
             f,
             rw came (Contains-append_right before.maildir.files (files_of account dones) f there),
             named,
             durable,
-          ))
-          (marks_have dones mid.rows id went.each (rw went.rows at d))
+          )) (marks_have dones mid.rows id went.each (rw went.rows at d))
 
       keeps_mid : {later : Scene} (dones : List Done) → Went (AsFiles account) dones mid later → KeepsRows later.file.content later.rows
       keeps_mid {later} _ went = (None, steady_keeps _ _ (went.saved c.prepared.saved))
@@ -281,13 +259,11 @@ module _ (laws : DurableLaws) (account : List ℕ) (text : IsAccountText account
           by : (r : Result (Unit {0}) Cut) (tasks : List Task) → Does (AsFiles account) tasks mid r new
               → (id : List ℕ) (rows : List Row) → KeepsRows new.file.content rows → Shown new.store.maildir id rows
           by (Ok done) tasks all id rows keeps d =
-              went_shown all.dones all.went id
-              (rw (same_rows laws.one new.file rows new.rows keeps (keeps_mid all.dones all.went)) at d)
+              went_shown all.dones all.went id (rw (same_rows laws.one new.file rows new.rows keeps (keeps_mid all.dones all.went)) at d)
           by (Err cut) tasks fell id rows keeps d = stopped fell.stops
             where
               then_has : (files : List File) → new.store.maildir.files ≡ fell.mid.store.maildir.files ++ files
-                  → is_delivered fell.mid.rows id ≡ true → (is_delivered was id ≡ true)
-                  ⊎ HasDurable account new.store.maildir id
+                  → is_delivered fell.mid.rows id ≡ true → (is_delivered was id ≡ true) ⊎ HasDurable account new.store.maildir id
               then_has files came known =
                   ⊎_map (λ was. was) (still_has account id fell.mid.store.maildir new.store.maildir files came)
                   (went_shown fell.dones fell.went id known)
@@ -295,35 +271,30 @@ module _ (laws : DurableLaws) (account : List ℕ) (text : IsAccountText account
               unmarked : Came fell.mid.store.maildir new.store.maildir → new.file ≡ fell.mid.file
                   → (is_delivered was id ≡ true) ⊎ HasDurable account new.store.maildir id
               unmarked came same = then_has (came.came ++ came.last) came.files
-                  (rw (same_rows laws.one fell.mid.file rows fell.mid.rows (rw same at keeps)
-                  (keeps_mid fell.dones fell.went)) at d)
+                  (rw (same_rows laws.one fell.mid.file rows fell.mid.rows (rw same at keeps) (keeps_mid fell.dones fell.went)) at d)
 
               stopped : Stops (AsFiles account) fell.next fell.mid cut new → (is_delivered was id ≡ true)
                   ⊎ HasDurable account new.store.maildir id
               stopped (inl broken) = unmarked (stops_came account fell.next fell.mid new cut (inl broken)) broken.file
               stopped (inr (inl n)) = unmarked (stops_came account fell.next fell.mid new cut (inr (inl n))) n.file
               stopped (inr (inr u)) = elim (unsaved_keeps fell.mid.file (none_open fell.mid.rows)
-                  (none_open (marked fell.mid.rows u.uid)) cut.fault new.file u.saves
-                  (fell.went.saved c.prepared.saved)) [
+                  (none_open (marked fell.mid.rows u.uid)) cut.fault new.file u.saves (fell.went.saved c.prepared.saved)) [
                     | inl old ↦ then_has (file_from account u.uid u.reply ∷ []) u.stored.came
                         (rw (same_rows laws.one new.file rows fell.mid.rows keeps (None, old)) at d)
-                    | inr more ↦ ⊎_elim (then_has (file_from account u.uid u.reply ∷ []) u.stored.came)
-                        (λ (f, there, named, durable). inr (
-                          f,
-                          rw u.stored.came (Contains-append_right fell.mid.store.maildir.files
-                              (file_from account u.uid u.reply ∷ []) f there),
-                          named,
-                          durable,
-                        ))
-                        (one_mark fell.mid.rows u.uid id u.reply
+                    | inr more ↦ ⊎_elim (then_has (file_from account u.uid u.reply ∷ []) u.stored.came) (λ (f, there, named, durable). inr (
+                      f,
+                      rw u.stored.came (Contains-append_right fell.mid.store.maildir.files
+                          (file_from account u.uid u.reply ∷ []) f there),
+                      named,
+                      durable,
+                    )) (one_mark fell.mid.rows u.uid id u.reply
                         (rw (same_rows laws.one new.file rows (marked fell.mid.rows u.uid) keeps (None, more)) at d))
                   ]
 
   -- what was left
   made : (before after : AccountFiles) → Came before.maildir after.maildir
       → ((was : List Row) (stood : KeepsRows before.file.content was) (id : List ℕ) (rows : List Row)
-      → KeepsRows after.file.content rows → Shown before was stood after.maildir id rows)
-      → LeavesDurable account before after
+      → KeepsRows after.file.content rows → Shown before was stood after.maildir id rows) → LeavesDurable account before after
   made _ _ came shown = record {
     came = came.came;
     last = came.last;
@@ -350,8 +321,7 @@ module _ (laws : DurableLaws) (account : List ℕ) (text : IsAccountText account
       (λ was stood id rows keeps. rw maildir_is (carried_shown before was stood c id rows (rw file_is at keeps)))
 
   carries_leaves : (settings : Settings) (items : List Item) (now : ℕ) (place : Place) (before after : AccountFiles)
-      (lines : List ReportLine) (r : Result (Unit {0}) Cut) (place' : Place)
-      (lines' : List ReportLine) (skipped : Skips)
+      (lines : List ReportLine) (r : Result (Unit {0}) Cut) (place' : Place) (lines' : List ReportLine) (skipped : Skips)
       → Carries settings (AsFiles account) items now place (in_maildir before.maildir) before.file lines r place'
       (in_maildir after.maildir) after.file lines' skipped → LeavesDurable account before after
   carries_leaves settings items now place before after lines (Ok done) place' lines' skipped (rows, c) =

@@ -17,8 +17,7 @@ module _ (settings : Settings) (rows : List Row) (now : ℕ) where
         ≡ message_previews settings rows now steps items flags
 
   pub told_more : (steps : List Step) (items : List Item) (flags : List Bool) (i : ℕ) (told : List MessagePreview)
-      (p : MessagePreview) → IsTold steps items flags i told
-      → i < length items → length steps ≡ length items → length flags ≡ length items
+      (p : MessagePreview) → IsTold steps items flags i told → i < length items → length steps ≡ length items → length flags ≡ length items
       → p ≡ message_preview_of settings rows now (step_at steps i) (get_or items i no_item) (get_or flags i false)
       → IsTold steps items flags (i + 1) (told ++ p ∷ [])
   told_more steps items flags i told p was within all_steps all_flags p_is = record {

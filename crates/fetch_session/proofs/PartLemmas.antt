@@ -2,43 +2,31 @@
 use Rattle.std.proofs.Common.{rules, ◌≡◌, ◌≤◌, ◌+◌, ◌*◌, ℕ, Bool, true, false, List, [], ◌∷◌, ◌++◌, length, None}
 use Rattle.std.proofs.Common.{Result, Ok, Err, IfErr, OnErr, OnOk, refl, sym, ap, subst, ◌∙◌, inl, arith, append_assoc}
 use Rattle.std.proofs.Common.{length-append, Vec, Global, Option, inr}
-use Rattle.std.proofs.lemmas.Grind.{flat_map-append}
-use Rattle.std.proofs.lemmas.Result.{on_ok_weaker}
+use Rattle.std.proofs.{lemmas.Grind.flat_map-append, lemmas.Result.on_ok_weaker}
 use Rattle.std.specs.List.{AllByRecursion}
-use Rattle.mail_terms.specs.Listing.{Item}
+use Rattle.mail_terms.specs.{Listing.Item, FailureCount.Tallies}
 use Rattle.mail_store.specs.declared.file.flat_file.FlatFile.{Ghosts as FileGhosts}
 use Rattle.mail_store.specs.declared.maildir.disk.MaildirDisk.{Ghosts as DiskGhosts}
-use Rattle.mail_store.specs.FileName.{stem_of}
+use Rattle.mail_store.specs.{FileName.stem_of, Power.LeavesNoMore, FlatFile.Stored, declared.file.flat_file.Edges.Edges}
 use Rattle.mail_store.specs.Maildir.{AllNamed, Maildir}
 use Rattle.fetch_record.specs.Record.{Intent, Row, has_row, none_open, marked, marked_all}
-use Rattle.fetch_rules.specs.Plan.{fetches}
-use Rattle.fetch_rules.specs.declared.plans.Step.{Step}
-use Rattle.mail_terms.specs.FailureCount.{Tallies}
+use Rattle.fetch_rules.specs.{Plan.fetches, declared.plans.Step.Step}
 use Rattle.pop3_client.specs.Client.{HasSameLink, link_of, place_of}
 use Rattle.pop3_client.specs.Conversation.{Broke, ConversationsArePaced, TurnsJoin, is_link_refusal, most_of}
-use Rattle.pop3_client.specs.declared.fault.ClientFault.{ClientFault}
-use Rattle.fetch_session.specs.declared.fault.Fault.{Fault}
+use Rattle.pop3_client.specs.{declared.fault.ClientFault.ClientFault, declared.client.Client.Client}
+use Rattle.fetch_session.specs.{declared.fault.Fault.Fault, declared.fault.Cut.Cut, declared.report.ReportLine.ReportLine}
 use Rattle.pop3_client.specs.Turns.{Turn, line_limit, text_limit, quit}
-use Rattle.pop3_client.specs.declared.client.Client.{Client}
 use Rattle.pop3_wire.specs.declared.wire.Wire.{Ghosts as WireGhosts}
-use Rattle.pop3_wire.specs.Link.{WhereSound}
-use Rattle.pop3_wire.specs.Place.{Place}
-use Rattle.fetch_session.specs.declared.fault.Cut.{Cut}
-use Rattle.fetch_session.specs.declared.report.ReportLine.{ReportLine}
-use Rattle.fetch_session.specs.declared.work.Ledger.{Ledger}
-use Rattle.fetch_session.specs.declared.work.Work.{Work}
+use Rattle.pop3_wire.specs.{Link.WhereSound, Place.Place}
+use Rattle.fetch_session.specs.{declared.work.Ledger.Ledger, declared.work.Work.Work, Report.AddsLines, Store.MayGain, Tail.tail}
 use Rattle.fetch_session.specs.Fault.{cut_of, fault_of}
 use Rattle.fetch_session.specs.Refusal.{Took, TookTillCut, TookWithTail, step_limit, tail_limit}
 use Rattle.fetch_session.specs.Durable.{AreLeft, DurableCut, DoesDurably, IsSafeFile, IsSafeStore, IsSafeWork}
 use Rattle.fetch_session.specs.Durable.{IsGrownAtMost, KeepsWork, LeavesFile, may_leave_in}
-use Rattle.mail_store.specs.Power.{LeavesNoMore}
 use Rattle.fetch_session.specs.Parts.{DoesTasks, RunsTasks, IsReadyFor, KeepsLedger, KeepsLink, KeepsStore}
 use Rattle.fetch_session.specs.Parts.{IsReadyForNext, IsWritten, WhereWorkSound, scene_of}
 use Rattle.fetch_session.specs.Record.{Steady, record_state}
-use Rattle.fetch_session.specs.Report.{AddsLines}
 use Rattle.fetch_session.specs.Scene.{TakesTask, scene, Stops}
-use Rattle.fetch_session.specs.Store.{MayGain}
-use Rattle.fetch_session.specs.Tail.{tail}
 use Rattle.fetch_session.specs.Target.{Target, is_sound, kind_of, stores_of, target_of, Kind, Files, Entries, Stores, target}
 use Rattle.fetch_session.specs.Task.{Task, stores, ids_in, ids_ahead, turns_in, turns_ahead, AreFresh, fetching}
 use Rattle.fetch_session.specs.Task.{deleting, tasks_in, tasks_planned, says}
@@ -48,8 +36,6 @@ use Rattle.fetch_session.proofs.SessionLemmas.{good_before, good_more, in_kind, 
 use Rattle.fetch_session.proofs.SessionLemmas.{grown_left, rows_last, same_left, scene_at, texts_ok}
 use Rattle.mail_terms.proofs.ListLemmas.{all_append, all_front, both_none}
 use Rattle.fetch_session.proofs.SceneLemmas.{did_then, all_sound, all_none, all_weaker, fell_first, on_any}
-use Rattle.mail_store.specs.FlatFile.{Stored}
-use Rattle.mail_store.specs.declared.file.flat_file.Edges.{Edges}
 use Rattle.fetch_session.specs.declared.account.Store.{Store}
 use Rattle.fetch_session.specs.Mbox.{IsToldOfMbox, LooksAgain}
 
@@ -88,15 +74,13 @@ pub marked_ledger : {F H Z : Type 0} {file : FileGhosts F} {uid : List ℕ} {old
     → ((rows : List Row) (uid other : List ℕ) → has_row (marked rows uid) other ≡ has_row rows other)
     → rows ≡ old.seen.rows → AddsLines old.lines 1 new.lines → (file.sound new.file → file.sound old.file)
     → OnOk r ((new.seen.rows ≡ marked rows uid) × IsWritten file new) → (file.sound new.file → IsSafeFile file old.file
-    → LeavesFile file new.file (IsGrownAtMost (record_state rows intent) (none_open (marked rows uid))))
-    → KeepsLedger file uid old r new
+    → LeavesFile file new.file (IsGrownAtMost (record_state rows intent) (none_open (marked rows uid)))) → KeepsLedger file uid old r new
 marked_ledger {file = file} {uid} {old} {new} {rows} {intent} r law same lines sound marks left = record {
   lines = lines;
   sound = sound;
   written = on_ok_weaker r (λ is. is.1) marks;
   rows = on_ok_weaker r (λ is other has. rw (is.0, law, same) has) marks;
-  left = λ f safe. rw same at
-      (grown_left file new.file rows (marked rows uid) (marked rows uid) intent None (inr refl) (left f safe));
+  left = λ f safe. rw same at (grown_left file new.file rows (marked rows uid) (marked rows uid) intent None (inr refl) (left f safe));
 }
 
 -- ---- bounds of tasks
@@ -130,12 +114,10 @@ most_planned _ _ _ = (omega arith, omega arith)
 
 -- what holds of each listed id holds of each that will be marked
 pub planned_all : (P : List ℕ → Type 0) (steps : List Step) (items : List Item) (held : List Bool)
-    → AllByRecursion (λ (item : Item). P item.uid) items
-    → AllByRecursion P (ids_ahead (tasks_planned steps items held))
+    → AllByRecursion (λ (item : Item). P item.uid) items → AllByRecursion P (ids_ahead (tasks_planned steps items held))
 planned_all P (s ∷ ss) (i ∷ is) (h ∷ hs) all =
     rw (ahead s i h (tasks_planned ss is hs)) (all_append P (ids_ahead (fetching (fetches s) h s.number i.uid i.size))
-    (ids_ahead (tasks_planned ss is hs)) (fetched_all P (fetches s) h s.number i.uid i.size (λ _. all.0))
-    (planned_all P ss is hs all.1))
+    (ids_ahead (tasks_planned ss is hs)) (fetched_all P (fetches s) h s.number i.uid i.size (λ _. all.0)) (planned_all P ss is hs all.1))
 planned_all P _ _ _ _ = tt
 
 -- ---- the first of these tasks
@@ -146,8 +128,7 @@ fresh_front account maildir [] ys fresh = tt
 fresh_front account maildir (x ∷ xs) ys fresh = (fresh.0, fresh.1, all_front _ xs ys fresh.2, fresh_front account maildir xs ys fresh.3)
 
 pub ready_front : {D F H Z : Type 0} {disk : DiskGhosts D} {file : FileGhosts F} {account : List ℕ}
-    {work : Work D F H Z} (xs ys : List Task)
-    → IsReadyFor disk file account (xs ++ ys) work → IsReadyFor disk file account xs work
+    {work : Work D F H Z} (xs ys : List Task) → IsReadyFor disk file account (xs ++ ys) work → IsReadyFor disk file account xs work
 ready_front {D} {F} {H} {Z} {disk} {file} {account} {work} xs ys ready =
     let split = flat_map-append ids_in xs ys in
     record {
@@ -165,8 +146,7 @@ ready_front {D} {F} {H} {Z} {disk} {file} {account} {work} xs ys ready =
 module _ {W : Type 0} {link : WireGhosts W} where
   -- a part, and then another
   link_then : {First Then All : Place → Result (Unit {0}) Cut → Place
-      → Type 0} {a b c : Client W} {r : Result (Unit {0}) Cut} → KeepsLink link First a (Ok tt) b
-      → KeepsLink link Then b r c
+      → Type 0} {a b c : Client W} {r : Result (Unit {0}) Cut} → KeepsLink link First a (Ok tt) b → KeepsLink link Then b r c
       → (First (place_of link a) (Ok tt) (place_of link b) → Then (place_of link b) r (place_of link c)
       → All (place_of link a) r (place_of link c)) → KeepsLink link All a r c
   link_then {a = a} {b} {c} {r} first then both = record {
@@ -176,14 +156,12 @@ module _ {W : Type 0} {link : WireGhosts W} where
   }
 
   link_on : {m n : ℕ} (limit : ℕ) {a b c : Client W} {r : Result (Unit {0}) Cut} → m + n ≤ limit
-      → KeepsLink link (TookTillCut m) a (Ok tt) b
-      → KeepsLink link (TookTillCut n) b r c → KeepsLink link (TookTillCut limit) a r c
+      → KeepsLink link (TookTillCut m) a (Ok tt) b → KeepsLink link (TookTillCut n) b r c → KeepsLink link (TookTillCut limit) a r c
   link_on {m} {n} limit {r = r} less first then = link_then first then (takes_on limit m n _ _ _ r less)
 
   -- the same, with what is said after a fault
   pub link_on_tail : {m n limit : ℕ} {a b c : Client W} {r : Result (Unit {0}) Cut} → m + n ≤ limit
-      → KeepsLink link (TookTillCut m) a (Ok tt) b
-      → KeepsLink link (TookWithTail n) b r c → KeepsLink link (TookWithTail limit) a r c
+      → KeepsLink link (TookTillCut m) a (Ok tt) b → KeepsLink link (TookWithTail n) b r c → KeepsLink link (TookWithTail limit) a r c
   link_on_tail {m} {n} {limit} {r = r} less first then = link_then first then (with_tail_on limit m n _ _ _ r less)
 
   pub link_still : {c : Client W} → KeepsLink link (TookTillCut 0) c (Ok tt) c
@@ -213,8 +191,7 @@ module _ {W : Type 0} {link : WireGhosts W} where
 
   pub link_broke : ConversationsArePaced → (turn : Turn) (fault : ClientFault) {a b : Client W} → HasSameLink a b
       → Tallies (is_link_refusal fault) (link_of link a).failures (link_of link b).failures
-      → WhereSound link.sound link.leads_to a.wire.now b.wire.now
-      (Broke turn (place_of link a) (place_of link b) fault)
+      → WhereSound link.sound link.leads_to a.wire.now b.wire.now (Broke turn (place_of link a) (place_of link b) fault)
       → KeepsLink link (TookTillCut (most_of (turn ∷ []))) a (Err (cut_of (fault_of fault) None)) b
   link_broke paced turn fault same counts broke = link_cut fault same counts (λ s. let all = broke s
       in (all.0, took_broke paced turn _ _ fault all.2))
@@ -290,12 +267,10 @@ module _ {W D F H Z : Type 0} {link : WireGhosts W} {disk : DiskGhosts D} {file 
           let later = then.durable d f in
           let before = first.durable (then.store.none_begun d).0 later.0 in
           (before.0, λ safe. later.1 (before.1 safe));
-      idle = λ none. let both = both_none (ids_ahead xs) (ids_ahead ys) (sym (flat_map-append ids_in xs ys) ∙ none)
-          in (
-            (then.idle both.1).0 ∙ (first.idle both.0).0,
-            λ d left may.
-                (first.idle both.0).1 (then.store.none_begun d).0 left ((then.idle both.1).1 d left may),
-          );
+      idle = λ none. let both = both_none (ids_ahead xs) (ids_ahead ys) (sym (flat_map-append ids_in xs ys) ∙ none) in (
+        (then.idle both.1).0 ∙ (first.idle both.0).0,
+        λ d left may. (first.idle both.0).1 (then.store.none_begun d).0 left ((then.idle both.1).1 d left may),
+      );
       next = on_ok_weaker r (λ next later ready. next later (first.next (ys ++ later) (rw append_assoc at ready))) then.next;
     },
     λ s d f.
@@ -310,8 +285,7 @@ module _ {W D F H Z : Type 0} {link : WireGhosts W} {disk : DiskGhosts D} {file 
   )
 
   pub runs_before : (xs ys : List Task) {c c' : Client W} {w w' : Work D F H Z} {cut : Cut}
-      → RunsTasks link disk file account xs c w (Err cut) c' w'
-      → RunsTasks link disk file account (xs ++ ys) c w (Err cut) c' w'
+      → RunsTasks link disk file account xs c w (Err cut) c' w' → RunsTasks link disk file account (xs ++ ys) c w (Err cut) c' w'
   runs_before xs ys (kept, did) = (
     record {
       talk = link_on (most_of (turns_ahead (xs ++ ys))) (omega (arith, most_ahead xs ys)) link_still kept.talk;
@@ -404,8 +378,7 @@ module _ {D F H Z : Type 0} {disk : DiskGhosts D} {file : FileGhosts F} where
       → WhereSound link.sound link.leads_to client.wire.now client'.wire.now
       (TakesTask (target_of work.store account) task (scene_at disk file (place_of link client) work) r
       (scene_at disk file (place_of link client') (record work { ledger = record work.ledger { lines = lines } })))
-      → IsReadyForNext disk file work
-      → DoesTasks link disk file account (task ∷ []) client work r client'
+      → IsReadyForNext disk file work → DoesTasks link disk file account (task ∷ []) client work r client'
       (record work { ledger = record work.ledger { lines = lines } })
   does_talking link account task client client' work lines r talked ready = all_sound talked (λ d. (d, tt {0})) (λ f. (f, f)) (λ took _ f.
       let steady = ready.written.steady f in
@@ -423,8 +396,7 @@ look_told Files _ _ _ _ is = (tt, is)
 look_told Entries _ _ _ _ is = is
 
 pub look_maildir : (kind : Kind) (lines : List ReportLine) (old : Stores) (r : Result (Option Edges) Fault)
-    (new : Stores) → LooksAgain kind lines old r new
-    → new.maildir ≡ old.maildir
+    (new : Stores) → LooksAgain kind lines old r new → new.maildir ≡ old.maildir
 look_maildir Files _ _ (Ok _) _ is = cc
 look_maildir Files _ _ (Err _) _ never = absurd never
 look_maildir Entries _ _ (Ok _) _ is = cc
@@ -432,12 +404,10 @@ look_maildir Entries _ _ (Err _) _ is = is.2
 
 -- the store refused, and QUIT wasn't said
 pub not_left : (kind : Kind) (account : List ℕ) {a : Place} {old new : Stores} {file : Stored} {rows : List Row}
-    {lines seen : List ReportLine} (fault : Fault)
-    → seen ≡ lines → LooksAgain kind seen old (Err fault) new
+    {lines seen : List ReportLine} (fault : Fault) → seen ≡ lines → LooksAgain kind seen old (Err fault) new
     → Stops (target kind account) (says quit) (scene a old file rows lines) (cut_of fault None) (scene a new file rows lines)
 not_left Files account fault same never = absurd never
-not_left Entries account fault same (deleted, refuses, maildir) =
-    inr (inl (inr (inr (search (rules, rw same at deleted)))))
+not_left Entries account fault same (deleted, refuses, maildir) = inr (inl (inr (inr (search (rules, rw same at deleted)))))
 
 -- ---- what QUIT keeps and does
 
@@ -466,8 +436,7 @@ module _ {D F H Z : Type 0} {disk : DiskGhosts D} {file : FileGhosts F} {work : 
       → (is_sound disk file store → IsSafeStore file work.store → OnOk r (IsSafeStore file store))
       → (is_sound disk file store → WhereSound link.sound link.leads_to c.wire.now c'.wire.now
       (TakesTask (target_of work.store account) (says quit) (scene_at disk file (place_of link c) work) r
-      (scene_at disk file (place_of link c') left)))
-      → RunsTasks link disk file account (says quit ∷ []) c work r c' left
+      (scene_at disk file (place_of link c') left))) → RunsTasks link disk file account (says quit ∷ []) c work r c' left
   runs_quitting {link = link} {c = c} {r = r} account talk safe took = (
     record {
       talk = talk;
@@ -491,12 +460,8 @@ module _ {D F H Z : Type 0} {disk : DiskGhosts D} {file : FileGhosts F} {work : 
           (is.same d).0,
           f,
           all.1,
-          good_task disk _ _ _ _ work left r all.2
-              (no_more_keeps _ (is.keeps d), λ last. last)
-              steady (on_any r steady)
-              (λ trust. on_ok_weaker r (λ s. (trust.0, s)) (safe d trust.1))
-              (λ trust. same_left file work.ledger.file trust.0 steady)
-              (λ trust. if_err r (λ cut. nothing_cut disk file _ _ _ _ _
-              _ _ _ _ _ trust.1 (is.keeps d) trust.0 steady)),
+          good_task disk _ _ _ _ work left r all.2 (no_more_keeps _ (is.keeps d), λ last. last) steady (on_any r steady)
+              (λ trust. on_ok_weaker r (λ s. (trust.0, s)) (safe d trust.1)) (λ trust. same_left file work.ledger.file trust.0 steady)
+              (λ trust. if_err r (λ cut. nothing_cut disk file _ _ _ _ _ _ _ _ _ _ trust.1 (is.keeps d) trust.0 steady)),
         ),
   )

@@ -4,21 +4,19 @@ use Rattle.std.proofs.Common.{drop, get_or, length, refl, sym, ap, ◌∙◌, ar
 use Rattle.std.proofs.Common.{drop-cons, map, take, Option, Ok, subst, HoldsAt, Result, Err, All, IfOk, ⊎_elim, None}
 use Rattle.std.specs.List.{AllByRecursion}
 use Rattle.std.proofs.lemmas.Bool.{cases_Bool, false_from_ne_true, not-true, true≢false, or_parts}
-use Rattle.std.proofs.lemmas.Grind.{flat_map-append}
-use Rattle.std.proofs.lemmas.Slice.Eq.{bytes_eq-Decides}
+use Rattle.std.proofs.{lemmas.Grind.flat_map-append, lemmas.Slice.Eq.bytes_eq-Decides, lemmas.List.Elements.recursion_from_All}
 use Rattle.mail_terms.specs.UniqueId.{IsLegalId}
 use Rattle.mail_terms.specs.Listing.{Item, has_item, is_flagged, numbered}
 use Rattle.fetch_rules.specs.declared.plans.Step.{Step}
 use Rattle.mail_store.proofs.MaildirLemmas.{none_taken}
-use Rattle.mail_store.specs.Durable.{MayLeave}
+use Rattle.mail_store.specs.{Durable.MayLeave, Power.LeavesNoMore, declared.fault.StoreFault.StoreFault}
 use Rattle.mail_store.specs.Maildir.{File, Maildir, WereTaken, with_file}
 use Rattle.mail_store.specs.FileName.{mail_file, sized_file, stem_of, is_held, IsAccountText}
 use Rattle.fetch_session.specs.Task.{Task, ids_ahead, AreFresh, fetching, deleting, tasks_in, tasks_planned}
-use Rattle.fetch_session.specs.Store.{MayGain}
+use Rattle.fetch_session.specs.{Store.MayGain, declared.account.Store.Store, declared.readiness.Found.Found, declared.fault.Fault.Fault}
 use Rattle.std.proofs.lemmas.List.Folds.{list_any-append, list_any_at}
 use Rattle.mail_store.specs.declared.maildir.disk.MaildirDisk.{Ghosts as DiskGhosts}
 use Rattle.mail_store.specs.declared.file.flat_file.FlatFile.{Ghosts as FileGhosts}
-use Rattle.fetch_session.specs.declared.account.Store.{Store}
 use Rattle.fetch_session.specs.declared.account.Store.TheVariants.{Maildir as InMaildir, Mboxrd as InMbox}
 use Rattle.fetch_session.specs.Target.{held_flags, stores_of, target_of, Stores, in_maildir, kind_of, with_maildir}
 use Rattle.fetch_session.specs.Target.{AfterTakingIn, AsFiles, Target, AsEntries, closed_file, closed_rows_in, Kind}
@@ -29,7 +27,6 @@ use Rattle.mail_terms.proofs.ListLemmas.{all_append}
 use Rattle.fetch_session.proofs.SceneLemmas.{all_weaker, read_keeps, steady_keeps, not_whole}
 use Rattle.std.proofs.lemmas.List.{map-append, take_more, length-map}
 use Rattle.fetch_record.specs.Record.{Loaded, Row, is_delivered, Intent, RecordState, has_row, marked, none_open, merged, IsRecord}
-use Rattle.fetch_session.specs.declared.readiness.Found.{Found}
 use Rattle.fetch_session.specs.Durable.{IsSafeFile, IsSafeStore, DurableKept, LeavesMerged, LeavesSettled, LeavesStore}
 use Rattle.fetch_session.specs.Durable.{ReadiesDurably, DurableReady, UnlessQuiet, DurableUnready, may_leave_in}
 use Rattle.fetch_session.specs.Readiness.{AreDurable, FindsIn, are_undelivered, flags_found, IsMergedAtMost}
@@ -39,18 +36,13 @@ use Rattle.fetch_session.specs.Readiness.{Readies, ChecksIdle}
 use Rattle.fetch_session.specs.Record.{FileReadAs, IsSecured, ReadsRecord, Keeps, Merges, Steady, record_state_in}
 use Rattle.fetch_rules.specs.Plan.{IsQuiet, fetches, planned, step_of}
 use Rattle.mail_store.specs.FlatFile.{Stored, holding}
-use Rattle.fetch_record.specs.RecordFile.{file_of}
-use Rattle.mail_store.specs.Power.{LeavesNoMore}
+use Rattle.fetch_record.specs.{RecordFile.file_of, Intents.closed_rows}
 use Rattle.rc_file.specs.declared.settings.Settings.{Settings}
-use Rattle.fetch_session.specs.declared.fault.Fault.{Fault}
 use Rattle.fetch_session.specs.declared.fault.Fault.TheVariants.{BadSeen, NoMemory, SeenRefused, StoreRefused}
 use Rattle.fetch_session.specs.declared.fault.Why.TheVariants as why
 use Rattle.fetch_session.specs.declared.readiness.Ready.{Ready}
 use Rattle.std.proofs.Math.Bool.{and-false, or-true}
-use Rattle.std.proofs.lemmas.List.Elements.{recursion_from_All}
-use Rattle.fetch_record.specs.Intents.{closed_rows}
 use Rattle.fetch_session.specs.Mbox.{AsksMbox, IsStoreFault}
-use Rattle.mail_store.specs.declared.fault.StoreFault.{StoreFault}
 use Rattle.mail_store.specs.declared.fault.StoreFault.TheVariants as refused
 use Rattle.fetch_session.proofs.TextLemmas.{asks_refused, held_same}
 use Rattle.std.proofs.lemmas.List.FromFn.{length-enumerate_from}
@@ -69,8 +61,7 @@ by_names account uid maildir f is_named =
     list_any-append _ maildir.files (record f { is_named = is_named } ∷ []) ∙ sym (list_any-append _ maildir.files (f ∷ []))
 
 still_free : OneMore → (account uid other : List ℕ) (a b : Maildir) → IsAccountText account → IsLegalId uid
-    → IsLegalId other → other ≢ uid → MayGain (stem_of account uid) a b
-    → is_held account a other ≡ false → is_held account b other ≡ false
+    → IsLegalId other → other ≢ uid → MayGain (stem_of account uid) a b → is_held account a other ≡ false → is_held account b other ≡ false
 still_free law account uid other a b text legal legal' apart grows free =
     elim grows.came [
       | inl same ↦ rw same free
@@ -87,16 +78,14 @@ fresh_grows law account uid (x ∷ xs) a b text legal apart grows fresh = (
   fresh.0,
   still_free law account uid x a b text legal fresh.0 apart.0 grows fresh.1,
   fresh.2,
-  fresh_grows law
-      account uid xs a b text legal apart.1 grows fresh.3,
+  fresh_grows law account uid xs a b text legal apart.1 grows fresh.3,
 )
 
 no_ids_deleting : (delete : Bool) (number : ℕ) → ids_ahead (deleting delete number) ≡ []
 no_ids_deleting true _ = refl
 no_ids_deleting false _ = refl
 
-pub ahead : (step : Step) (item : Item) (held : Bool) (later : List Task)
-    → ids_ahead (tasks_in step item held ++ later)
+pub ahead : (step : Step) (item : Item) (held : Bool) (later : List Task) → ids_ahead (tasks_in step item held ++ later)
     ≡ ids_ahead (fetching (fetches step) held step.number item.uid item.size) ++ ids_ahead later
 ahead step item held later = simp (flat_map-append, no_ids_deleting, append_assoc)
 
@@ -149,8 +138,7 @@ not_in front (s ∷ ss) (i ∷ is) (h ∷ hs) firsts =
     (ids_ahead (fetching (fetches s) h s.number i.uid i.size)) (ids_ahead (tasks_planned ss is hs))
     (fetched_all (λ (id : List ℕ). has_item front id ≡ false) (fetches s) h s.number i.uid i.size firsts.0)
     (all_weaker (λ (id : List ℕ). has_item (front ++ i ∷ []) id ≡ false) (λ (id : List ℕ). has_item front id ≡ false)
-    (ids_ahead (tasks_planned ss is hs))
-    (λ id none. (has_item-last front i id none).0) (not_in (front ++ i ∷ []) ss is hs firsts.1)))
+    (ids_ahead (tasks_planned ss is hs)) (λ id none. (has_item-last front i id none).0) (not_in (front ++ i ∷ []) ss is hs firsts.1)))
 not_in front _ _ _ firsts = tt
 
 fresh_head : (account : List ℕ) (maildir : Maildir) (retrieve held : Bool) (number size : ℕ) (uid : List ℕ)
@@ -161,14 +149,12 @@ fresh_head _ _ true false _ _ _ _ legal is apart fresh = (legal, sym is, apart, 
 fresh_head _ _ _ _ _ _ _ _ _ is _ fresh = fresh
 
 pub fresh_firsts : (account : List ℕ) (maildir : Maildir) (front : List Item) (steps : List Step) (items : List Item)
-    → FetchesFirsts front steps items
-    → AllByRecursion (λ (item : Item). IsLegalId item.uid) items
+    → FetchesFirsts front steps items → AllByRecursion (λ (item : Item). IsLegalId item.uid) items
     → AreFresh account maildir (ids_ahead (tasks_planned steps items (flags_of account maildir items)))
 fresh_firsts account maildir front (s ∷ ss) (i ∷ is) firsts legal =
     let later = tasks_planned ss is (flags_of account maildir is) in
     rw (ahead s i (is_held account maildir i.uid) later)
-    (fresh_head account maildir (fetches s) (is_held account maildir i.uid) s.number i.size i.uid
-    (ids_ahead later) legal.0 refl
+    (fresh_head account maildir (fetches s) (is_held account maildir i.uid) s.number i.size i.uid (ids_ahead later) legal.0 refl
     (all_weaker (λ (id : List ℕ). has_item (front ++ i ∷ []) id ≡ false) (λ (other : List ℕ). other ≢ i.uid) (ids_ahead later)
     (λ id none. (has_item-last front i id none).1) (not_in (front ++ i ∷ []) ss is (flags_of account maildir is) firsts.1))
     (fresh_firsts account maildir (front ++ i ∷ []) ss is firsts.1 legal.1))
@@ -206,8 +192,7 @@ module _ {D F : Type 0} (disk : DiskGhosts D) (files : FileGhosts F) where
       {after : List Row} (was : Store D F) (from f : F) (target : Target) → A → B
       → CausesUnready target items fault (stores_of disk files was) (files.stored from) (stores_of disk files was)
       (files.stored f) → (files.stored f).content ≡ (files.stored from).content
-      → LeavesNoMore (MayLeave (files.disk from)) (MayLeave (files.disk f))
-      → A × B × AfterTakingIn (stores_of disk files was)
+      → LeavesNoMore (MayLeave (files.disk from)) (MayLeave (files.disk f)) → A × B × AfterTakingIn (stores_of disk files was)
       (λ left. ReadiesDurably disk files safe was from settings target items now left (Err fault) after was f)
   unasked _ _ f _ a b why same no_more = (
     a,
@@ -242,19 +227,16 @@ module _ {D F : Type 0} (disk : DiskGhosts D) (files : FileGhosts F) where
         by (inr merged) (inr both) = inr both
 
     pub readies_from : {safe trust : Type 0} {store : Store D F} {settings : Settings} {target : Target}
-        {items : List Item} {now : ℕ} {old : Stores} {r : Result Ready Fault}
-        {after : List Row} → (trust → safe)
+        {items : List Item} {now : ℕ} {old : Stores} {r : Result Ready Fault} {after : List Row} → (trust → safe)
         → ReadiesDurably disk files safe was mid settings target items now old r after store f
         → ReadiesDurably disk files trust was from settings target items now old r after store f
     readies_from {trust} {store} {settings} {target} {items} {now} {old} {r} {after} firm is =
         let both = subst (λ (file : Stored). (readies : Readies settings target items now old file r after
         (stores_of disk files store) (files.stored f))
         × (trust → DurableReady files was from settings target items now old file r after (stores_of disk files store)
-        (files.stored f) readies store f))
-        same (
+        (files.stored f) readies store f)) same (
           is.readies,
-          λ s. ready_from _ _ _ _ _ _ _
-              _ _ _ r _ (is.durable (firm s)),
+          λ s. ready_from _ _ _ _ _ _ _ _ _ _ r _ (is.durable (firm s)),
         ) in
         record { readies = both.0; durable = both.1 }
 
@@ -299,8 +281,7 @@ flagged_sought account maildir rows (item ∷ items) uid new =
     ]
 
 merged_found : (read_all : Bool) (account : List ℕ) (maildir : Maildir) (rows : List Row) (items : List Item) (now : ℕ)
-    → MergesAsk → IsRecord rows
-    → merged rows items (flags_asked read_all account maildir items (are_undelivered rows items)) now
+    → MergesAsk → IsRecord rows → merged rows items (flags_asked read_all account maildir items (are_undelivered rows items)) now
     ≡ merged rows items (flags_of account maildir items) now
 merged_found true account maildir rows items now law is = refl
 merged_found false account maildir rows items now law is = law rows items _ _ now is (flagged_sought account maildir rows items)
@@ -333,8 +314,7 @@ found_as_held (AsFiles account) store settings was rows steps items new asked = 
 
 -- whatever isn't delivered once the intent was ended and the listing merged wasn't before
 pub not_before : HeldIsDelivered → MarkedIsDelivered
-    → (whole : Bool) (was : List Row) (intent : Option Intent) (items : List Item) (held : List Bool)
-    (now : ℕ) (rows : List Row)
+    → (whole : Bool) (was : List Row) (intent : Option Intent) (items : List Item) (held : List Bool) (now : ℕ) (rows : List Row)
     → rows ≡ merged (closed_rows whole was intent) items held now → (uid : List ℕ) → is_delivered rows uid ≡ false
     → is_delivered was uid ≡ false
 not_before delivers marks whole was intent items held now rows is uid none =
@@ -348,14 +328,12 @@ not_before delivers marks whole was intent items held now rows is uid none =
 
 -- the rows once the open intent was ended by what was found and the listing merged, what was found, and the store
 found_is : (read_all : Bool) (target : Target) (store store' : Stores) (items : List Item) (now : ℕ) (was : RecordState)
-    (found : Found) → MergesAsk → IsRecord was.rows
-    → FindsIn read_all target was store items (Ok found) store'
+    (found : Found) → MergesAsk → IsRecord was.rows → FindsIn read_all target was store items (Ok found) store'
     → (merged (closed_rows found.stored was.rows was.intent) items found.held.items now ≡ merged_in target store was items now)
     × (found.held.items ≡ flags_found read_all target was.rows store items) × SettlesStore target was items store store'
     × AreDurable target was.rows items store
 found_is read_all (AsFiles account) store store' items now was found law is_record (held, stored, same, durable) = (
-  rw (stored, not_whole was.rows was.intent, held) (merged_found read_all account store.maildir was.rows items now
-      law is_record),
+  rw (stored, not_whole was.rows was.intent, held) (merged_found read_all account store.maildir was.rows items now law is_record),
   held,
   same,
   durable,
@@ -384,15 +362,12 @@ files_refused NoMemory _ _ _ _ is = is
 files_refused _ _ _ _ _ never = absurd never
 
 mbox_refused : (fault : Fault) (items : List Item) (was : RecordState) (mbox file mbox' file' : Stored)
-    → Keeps file.content was → AsksMbox was.intent mbox items (Err fault) mbox'
-    → MboxUnready items fault mbox file mbox' file'
+    → Keeps file.content was → AsksMbox was.intent mbox items (Err fault) mbox' → MboxUnready items fault mbox file mbox' file'
 mbox_refused (StoreRefused why.Missing) _ _ _ _ _ _ kept is = is
-mbox_refused (StoreRefused why.Refused) _ was _ _ _ _ kept (up, most) =
-    (omega (arith, up), inr (was, kept, most))
+mbox_refused (StoreRefused why.Refused) _ was _ _ _ _ kept (up, most) = (omega (arith, up), inr (was, kept, most))
 mbox_refused (StoreRefused why.NotMbox) items was _ _ _ _ kept (bytes, is, other, now) = (
   (closed_file was.intent items bytes, cc, other),
-  inr
-      (was, kept, inr (bytes, is, cc)),
+  inr (was, kept, inr (bytes, is, cc)),
 )
 mbox_refused NoMemory _ was _ _ _ _ kept (_, most) = inr (was, kept, most)
 mbox_refused _ _ _ _ _ _ _ kept never = absurd never
@@ -402,10 +377,8 @@ pub not_found : (read_all : Bool) (target : Target) (items : List Item) (store s
     (loaded : Loaded) (fault : Fault) → FileReadAs file.content loaded
     → FindsIn read_all target (record_state_in loaded) store items (Err fault) store'
     → CausesUnready target items fault store file store' new
-not_found _ (AsFiles _) _ store store' file new _ fault _ finds =
-    files_refused _ _ _ _ _ finds
-not_found _ AsEntries items store store' file new loaded fault stood finds =
-    mbox_refused _ _ _ _ _ _ _ (read_keeps _ _ stood) finds
+not_found _ (AsFiles _) _ store store' file new _ fault _ finds = files_refused _ _ _ _ _ finds
+not_found _ AsEntries items store store' file new loaded fault stood finds = mbox_refused _ _ _ _ _ _ _ (read_keeps _ _ stood) finds
 
 -- ---- the listing was merged
 
@@ -448,8 +421,7 @@ module _ {D F : Type 0} (disk : DiskGhosts D) (files : FileGhosts F) (was place 
       × ((files.stored from).failures < (files.stored f).failures
       → CausesUnready t items SeenRefused store (files.stored from) (stores_of disk files place) (files.stored f))
   cause (AsFiles _) same = let is = ap (λ (s : Stores). s.maildir) same in (is, λ risen. (risen, is))
-  cause AsEntries (bytes, is, now, _) = let settled =
-      inr (state, kept, inr (bytes, is, cc)) in (settled, λ risen. (risen, settled))
+  cause AsEntries (bytes, is, now, _) = let settled = inr (state, kept, inr (bytes, is, cc)) in (settled, λ risen. (risen, settled))
 
   reason : (r : Result (Unit {0}) Fault) → Merges (files.stored from) state (none_open here) r (files.stored f)
       → CausesUnready (target_of was account) items (stop_of r) store (files.stored from) (stores_of disk files place) (files.stored f)
@@ -475,8 +447,7 @@ module _ {D F : Type 0} (disk : DiskGhosts D) (files : FileGhosts F) (was place 
       → MayLeave (files.disk from) left → left ≡ (files.stored from).content
   read_left opened firm left may = by _ refl kept
     where
-      by : (content : Option (List ℕ)) → (files.stored from).content ≡ content → Keeps content state
-          → left ≡ (files.stored from).content
+      by : (content : Option (List ℕ)) → (files.stored from).content ≡ content → Keeps content state → left ≡ (files.stored from).content
       by None is keeps = absurd (let never = sym keeps.1 ∙ opened in cc)
       by (Some bytes) is _ = (firm.1 bytes is).1 left may ∙ sym is
 
@@ -485,8 +456,7 @@ module _ {D F : Type 0} (disk : DiskGhosts D) (files : FileGhosts F) (was place 
       → LeavesMerged (MayLeave (files.disk from)) state now_rows (MayLeave (files.disk f)) → IsSafeStore files place
       → LeavesSettled loaded.intent (mbox_of files was).content (may_leave_in files was) (may_leave_in files place)
       → ((loaded.intent ≡ None) × LeavesMerged (MayLeave (files.disk from)) state now_rows (MayLeave (files.disk f))
-      × LeavesStore files was place)
-      ⊎ (LeavesMerged (λ left. left ≡ (files.stored from).content) state now_rows (MayLeave (files.disk f))
+      × LeavesStore files was place) ⊎ (LeavesMerged (λ left. left ≡ (files.stored from).content) state now_rows (MayLeave (files.disk f))
       × IsSafeStore files place)
   merging None closed firm leaves whole settled = inl (
     closed,
@@ -499,8 +469,7 @@ module _ {D F : Type 0} (disk : DiskGhosts D) (files : FileGhosts F) (was place 
 
   -- it wasn't saved, or memory ran out for the plan
   pub unready : {safe : Type 0} {after : List Row} (r : Result (Unit {0}) Fault)
-      → Merges (files.stored from) state (none_open here) r (files.stored f)
-      → (safe → IsSafeFile files from
+      → Merges (files.stored from) state (none_open here) r (files.stored f) → (safe → IsSafeFile files from
       × LeavesMerged (MayLeave (files.disk from)) state here (MayLeave (files.disk f)) × IsSafeStore files place
       × LeavesSettled loaded.intent (mbox_of files was).content (may_leave_in files was) (may_leave_in files place))
       → ReadiesDurably disk files safe was from settings (target_of was account) items now store (Err (stop_of r)) after place f
@@ -514,10 +483,8 @@ module _ {D F : Type 0} (disk : DiskGhosts D) (files : FileGhosts F) (was place 
   }
 
   pub ready : {safe : Type 0} (plan : Ready) {after : List Row} → HeldIsDelivered → MarkedIsDelivered
-      → FetchesAsked settings after plan.steps.items items
-      → Merges (files.stored from) state (none_open here) (Ok tt) (files.stored f)
-      → after ≡ here
-      → plan.held.items ≡ found.held.items → plan.steps.items ≡ planned settings after items now
+      → FetchesAsked settings after plan.steps.items items → Merges (files.stored from) state (none_open here) (Ok tt) (files.stored f)
+      → after ≡ here → plan.held.items ≡ found.held.items → plan.steps.items ≡ planned settings after items now
       → (safe → IsSafeFile files f × IsSafeStore files place)
       → ReadiesDurably disk files safe was from settings (target_of was account) items now store (Ok plan) after place f
   ready plan {after} delivers marks asked merges rows_are flags_are steps_are firm = record {
@@ -526,8 +493,7 @@ module _ {D F : Type 0} (disk : DiskGhosts D) (files : FileGhosts F) (was place 
       stood = kept;
       held = ap (tasks_planned plan.steps.items items) (flags_are ∙ is.1)
           ∙ found_as_held (target_of was account) store settings loaded.rows after plan.steps.items items
-          (not_before delivers marks found.stored loaded.rows loaded.intent items found.held.items
-          now after rows_are) asked;
+          (not_before delivers marks found.stored loaded.rows loaded.intent items found.held.items now after rows_are) asked;
       rows = rows_are ∙ as_now;
       steps = steps_are;
       durable = inr is.3;
@@ -562,8 +528,7 @@ quiet_same (s ∷ _) (i ∷ is) (x ∷ _) [] _ _ others = absurd (omega (arith, 
 quiet_same (s ∷ ss) (i ∷ is) (x ∷ xs) (y ∷ ys) quiet ones others =
     rw (
       (quiet 0 s (omega arith)).0,
-      quiet_same ss is xs ys (λ k d inside. quiet (suc k) d (omega (arith, inside)))
-          (omega (arith, ones)) (omega (arith, others)),
+      quiet_same ss is xs ys (λ k d inside. quiet (suc k) d (omega (arith, inside))) (omega (arith, ones)) (omega (arith, others)),
     )
 quiet_same _ _ _ _ _ _ _ = refl
 
@@ -576,13 +541,11 @@ flags_length AsEntries _ items = length-map items (λ _. false)
 -- the record was read and written anew
 pub is_anew : (loaded : Loaded) (old new : Stored) → FileReadAs old.content loaded → loaded.intent ≡ None
     → loaded.stale ≡ true → new ≡ holding old (file_of loaded.rows loaded.intent) → IsAnew loaded.rows old new
-is_anew loaded old new stood closed stale is =
-    (rw closed at (read_keeps old.content loaded stood), (loaded, stood, stale), rw closed at is)
+is_anew loaded old new stood closed stale is = (rw closed at (read_keeps old.content loaded stood), (loaded, stood, stale), rw closed at is)
 
 -- there is no place
 pub no_place : (kind : Kind) (items : List Item) (old new : Stores) (refusal : StoreFault) (fault : Fault)
-    → ChecksStore {T = Unit {0}} kind old (Err refusal) new → IsStoreFault refusal fault
-    → ChecksIdle kind old items (Err fault) new
+    → ChecksStore {T = Unit {0}} kind old (Err refusal) new → IsStoreFault refusal fault → ChecksIdle kind old items (Err fault) new
 no_place Files items old new refused.Missing fault is told = rw told is.0
 no_place Files items old new refused.Refused fault is told = rw told is.0
 no_place Files items old new _ fault is told = absurd is.0
@@ -619,21 +582,17 @@ module _ {D F : Type 0} (disk : DiskGhosts D) (files : FileGhosts F) (account : 
         let flags = held_flags (target_of store account) looked_at items in
         cc (rows_same store was_read items idle.closed, law loaded.rows items flags now idle.is_record idle.known)
 
-    pub rested : {safe : Type 0} (ready : Ready)
-        → ChecksIdle (kind_of store) looked_at items (Ok ready) (stores_of disk files store')
-        → (kept : IsFileKept loaded.rows (files.stored from) (files.stored f))
-        → Steady (files.stored f).content (none_open loaded.rows)
+    pub rested : {safe : Type 0} (ready : Ready) → ChecksIdle (kind_of store) looked_at items (Ok ready) (stores_of disk files store')
+        → (kept : IsFileKept loaded.rows (files.stored from) (files.stored f)) → Steady (files.stored f).content (none_open loaded.rows)
         → (files.stored f).failures ≡ (files.stored from).failures
         → DurableKept files from loaded.rows (files.stored from) (files.stored f) kept f → LeavesStore files store store'
         → ready.steps.items ≡ steps → length ready.held.items ≡ length items
-        → ReadiesDurably disk files safe store from settings (target_of store account) items now looked_at (Ok ready) loaded.rows
-        store' f
+        → ReadiesDurably disk files safe store from settings (target_of store account) items now looked_at (Ok ready) loaded.rows store' f
     rested ready rests kept saved count lasting still are counted = record {
       readies = record {
         was = was_read;
         stood = read_keeps _ _ stood;
-        held = quiet_same _ _ _ _ (rw are idle.quiet) counted
-            (flags_length _ _ _);
+        held = quiet_same _ _ _ _ (rw are idle.quiet) counted (flags_length _ _ _);
         rows = sym merged_same;
         steps = cc;
         durable = inl (rw are idle.quiet, kept);
@@ -646,10 +605,8 @@ module _ {D F : Type 0} (disk : DiskGhosts D) (files : FileGhosts F) (account : 
 
     -- the store refused to be looked at
     pub unrested : {safe : Type 0} (fault : Fault)
-        → ChecksIdle (kind_of store) looked_at items (Err fault) (stores_of disk files store') → LeavesStore files store store'
-        → f ≡ from
-        → ReadiesDurably disk files safe store from settings (target_of store account) items now looked_at (Err fault) loaded.rows
-        store' f
+        → ChecksIdle (kind_of store) looked_at items (Err fault) (stores_of disk files store') → LeavesStore files store store' → f ≡ from
+        → ReadiesDurably disk files safe store from settings (target_of store account) items now looked_at (Err fault) loaded.rows store' f
     unrested fault finds still same = record {
       readies = record {
         cause = by store finds;
@@ -673,10 +630,8 @@ module _ {D F : Type 0} (disk : DiskGhosts D) (files : FileGhosts F) (account : 
     pub unrenewed : {safe : Type 0} (ready : Ready) (fault : Fault)
         → ChecksIdle (kind_of store) looked_at items (Ok ready) (stores_of disk files store')
         → Merges (files.stored from) was_read was_read (Err fault) (files.stored f)
-        → LeavesMerged (MayLeave (files.disk from)) was_read loaded.rows (MayLeave (files.disk f))
-        → LeavesStore files store store'
-        → ReadiesDurably disk files safe store from settings (target_of store account) items now looked_at (Err fault) loaded.rows
-        store' f
+        → LeavesMerged (MayLeave (files.disk from)) was_read loaded.rows (MayLeave (files.disk f)) → LeavesStore files store store'
+        → ReadiesDurably disk files safe store from settings (target_of store account) items now looked_at (Err fault) loaded.rows store' f
     unrenewed ready fault rests merges leaves still = record {
       readies = record {
         cause = why fault merges store rests;
@@ -707,8 +662,7 @@ module _ {D F : Type 0} (disk : DiskGhosts D) (files : FileGhosts F) (account : 
             → CausesUnready (target_of store account) items fault (stores_of disk files store) (files.stored from)
             (stores_of disk files store') (files.stored f)
         why SeenRefused merges (InMaildir _) ((_, _, same), _) = (omega (arith, merges.0), same)
-        why SeenRefused merges (InMbox _) ((_, same), _) =
-            (omega (arith, merges.0), inl (cc))
+        why SeenRefused merges (InMbox _) ((_, same), _) = (omega (arith, merges.0), inl (cc))
         why NoMemory _ (InMaildir _) ((_, _, same), _) = same
         why NoMemory _ (InMbox _) ((_, same), _) = inl (cc)
         why _ never store _ = absurd never
@@ -722,8 +676,7 @@ pub rest_has_plan : (settings : Settings) (items : List Item) (now : ℕ) (seen 
 rest_has_plan settings items now seen (Ok ready) steps law idle same held = record {
   steps = cc;
   lengths = (cc (planned_length settings seen.rows items now), held);
-  rows = recursion_from_All _ items
-      (λ k d inside. law seen.rows _ (idle.known k d inside));
+  rows = recursion_from_All _ items (λ k d inside. law seen.rows _ (idle.known k d inside));
   closed = idle.closed;
 }
 rest_has_plan _ _ _ _ (Err _) _ _ _ _ _ = tt
@@ -731,8 +684,7 @@ rest_has_plan _ _ _ _ (Err _) _ _ _ _ _ = tt
 pub rest_held : (r : Result Ready Fault) (target : Target) (steps : List Step) (items : List Item) (new : Stores) → All IsQuiet steps
     → IfOk r (λ ready. ready.steps.items ≡ steps) → IfOk r (λ ready. length ready.held.items ≡ length items)
     → IfOk r (λ ready. AreAsHeld ready.steps.items items ready.held.items (held_flags target new items))
-rest_held (Ok ready) target _ items new quiet same held =
-    quiet_same _ _ _ _ (rw same quiet) held (flags_length _ _ _)
+rest_held (Ok ready) target _ items new quiet same held = quiet_same _ _ _ _ (rw same quiet) held (flags_length _ _ _)
 rest_held (Err _) _ _ _ _ _ _ _ = tt
 
 pub rest_named : (P : Type 0) (r : Result Ready Fault) (steps : List Step) → All IsQuiet steps → IfOk r (λ ready. ready.steps.items ≡ steps)

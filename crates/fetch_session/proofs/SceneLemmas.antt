@@ -4,7 +4,7 @@ use Rattle.std.proofs.Common.{◌≡◌, ◌≢◌, ◌⊎◌, inl, inr, ℕ, Bo
 use Rattle.std.proofs.Common.{Ok, Err, ◌≤◌, refl, sym, ap, arith, ◌∙◌, OnOk, ◌==◌, ◌||◌, true, if◌then◌else◌, length}
 use Rattle.std.proofs.Common.{append-nil, subst, append_assoc, option_map, take, length-append}
 use Rattle.std.proofs.lemmas.Bool.{true≢false, or_parts}
-use Rattle.std.proofs.lemmas.Bool.Decides.{nat_tests}
+use Rattle.std.proofs.{lemmas.Bool.Decides.nat_tests, Math.Seq.take-append_seam, lemmas.Grind.flat_map-append}
 use Rattle.fetch_record.specs.Record.{Row, Intent, RecordState, Loaded, none_open, IsIntent, has_row, marked, marked_all}
 use Rattle.fetch_record.specs.RecordFile.{Version, One, Two, header, file_of, intent_line}
 use Rattle.fetch_record.specs.RecordMeaning.{Rows, Means, has_bytes, with_taken, Fault as Faulty}
@@ -12,9 +12,9 @@ use Rattle.fetch_record.specs.RecordGrowth.{Updates, Grows, AppendedCounts, CutI
 use Rattle.fetch_record.specs.Intents.{has_intent, is_older, closed_rows}
 use Rattle.mail_terms.proofs.ListLemmas.{all_append}
 use Rattle.mail_store.specs.FlatFile.{Stored, Appends, Cuts, FailsAs, file_refused}
-use Rattle.mail_store.specs.declared.fault.StoreFault.{StoreFault}
+use Rattle.mail_store.specs.{declared.fault.StoreFault.StoreFault, Mboxrd.entry_of, FileName.mail_file}
 use Rattle.mail_store.specs.declared.fault.StoreFault.TheVariants.{Missing, Refused}
-use Rattle.fetch_session.specs.declared.fault.Fault.{Fault}
+use Rattle.fetch_session.specs.{declared.fault.Fault.Fault, declared.fault.Cut.Cut}
 use Rattle.fetch_session.specs.declared.fault.Fault.TheVariants.{SeenRefused, NoMemory, BadSeen}
 use Rattle.fetch_session.specs.Record.{bytes_in, record_state, Keeps, Steady, FileReadAs, StandsTill, TellsSize}
 use Rattle.fetch_session.specs.Record.{WritesRecord, Saves, Merges, TakesBack, record_state_in, LineOf, ReadsRecord}
@@ -22,14 +22,10 @@ use Rattle.fetch_session.specs.Record.{IsLineFault}
 use Rattle.fetch_record.specs.declared.seen.SeenFault.{SeenFault}
 use Rattle.fetch_record.specs.declared.seen.SeenFault.TheVariants.{NoMemory as WantsMemory}
 use Rattle.std.proofs.lemmas.List.{append-nil, map-append}
-use Rattle.std.proofs.Math.Seq.{take-append_seam}
-use Rattle.std.proofs.lemmas.Grind.{flat_map-append}
 use Rattle.std.proofs.lemmas.Iterator.Adapters.{option_map_id}
 use Rattle.std.specs.List.{flat_map, AllByRecursion}
-use Rattle.mail_store.specs.Mboxrd.{entry_of}
 use Rattle.mail_store.specs.Maildir.{Maildir, File}
 use Rattle.pop3_client.specs.Conversation.{TurnsJoin, Talked, ConversationsArePaced}
-use Rattle.fetch_session.specs.declared.fault.Cut.{Cut}
 use Rattle.fetch_session.specs.Task.{Task, Done, files_in, texts_in, tasks_of, turns_of, replies_of}
 use Rattle.fetch_session.specs.Task.{done_texts, stores, ids_in, marked_ids}
 use Rattle.fetch_session.specs.Store.{Gained, Appended, Brings}
@@ -38,7 +34,6 @@ use Rattle.fetch_session.specs.Scene.{Scene, Went, AllWent, Fell, Stops, NoFile,
 use Rattle.fetch_session.proofs.TalkLemmas.{talked_none, stopped_first}
 use Rattle.pop3_client.specs.Turns.{Turn, retr}
 use Rattle.pop3_wire.specs.Reading.{WholeReply}
-use Rattle.mail_store.specs.FileName.{mail_file}
 use Rattle.fetch_session.specs.Laws.{CameWhole, ExtraIs, MarksAre, CutShort, StoppingCutsShort, UnsavedFilesKeep}
 
 -- ---- what saving the record leaves
@@ -97,8 +92,7 @@ is_there (Some bytes) some = refl
 -- ---- the whole record written
 
 pub writes_merges : (old new : Stored) (was now : RecordState) (r : Result (Unit {0}) Fault) → Keeps old.content was
-    → Means (file_of now.rows now.intent) (Rows Two now.rows now.intent false) → WritesRecord old now r new
-    → Merges old was now r new
+    → Means (file_of now.rows now.intent) (Rows Two now.rows now.intent false) → WritesRecord old now r new → Merges old was now r new
 writes_merges _ _ _ _ (Ok _) _ stands is = rw is (refl, stands)
 writes_merges _ _ _ _ (Err SeenRefused) kept _ (inl is) = rw is (refl, inl kept)
 writes_merges _ _ _ _ (Err SeenRefused) _ stands (inr is) = rw is (refl, inr (Two, false, stands))
@@ -108,8 +102,7 @@ writes_merges _ _ _ _ (Err _) _ _ never = absurd never
 -- what stands for the rows at the front of a file is cut off from the rest
 pub till_front : (stored : Stored) (size : ℕ) (rows : List Row) (bytes : List ℕ) → StandsTill stored size rows
     → stored.content ≡ Some bytes → Steady (Some (take size bytes)) (none_open rows)
-till_front _ size rows _ till is =
-    rw is at till.1
+till_front _ size rows _ till is = rw is at till.1
 
 -- an open intent was closed in this way
 pub taken_back : (old new : Stored) (size : ℕ) (was : RecordState) (r : Result (Unit {0}) StoreFault) → StandsTill old size was.rows
@@ -186,13 +179,11 @@ kept_front _ ignored bytes added front (byte ∷ rest) was now some grows stood 
     inl (
       Two,
       has_bytes front,
-      ignored bytes added front (byte ∷ rest) was.rows now.rows was.intent now.intent some
-          stood grows split (λ none. true≢false (cc)),
+      ignored bytes added front (byte ∷ rest) was.rows now.rows was.intent now.intent some stood grows split (λ none. true≢false (cc)),
     )
 
 pub cut_short : AppendedCounts → CutIsIgnored
-    → (old new : Stored) (added : List ℕ) (was now : RecordState) (fault : StoreFault) → bytes_in old.content ≢ []
-    → GrowsBy added was now
+    → (old new : Stored) (added : List ℕ) (was now : RecordState) (fault : StoreFault) → bytes_in old.content ≢ [] → GrowsBy added was now
     → Appends {T = Unit {0}} old added (Err fault) new → Saves old was now (Err SeenRefused) new
 cut_short counts ignored old new added was now fault some grows appends =
     let cut = appends (bytes_in old.content) (is_there old.content some) in
@@ -244,8 +235,7 @@ saves_steady _ _ _ _ (Err _) _ _ = tt
 -- ---- why a record isn't read
 
 pub read_fault : (old new : Stored) (loaded : Loaded) (why : SeenFault) (fault : Fault) → new ≡ old
-    → (why ≢ WantsMemory → Means (bytes_in old.content) (Faulty why)) → IsLineFault why fault
-    → ReadsRecord old loaded (Err fault) new
+    → (why ≢ WantsMemory → Means (bytes_in old.content) (Faulty why)) → IsLineFault why fault → ReadsRecord old loaded (Err fault) new
 read_fault _ _ _ why (BadSeen line) same is at = (why, is (λ none. subst (λ (w : SeenFault). LineOf w line) none at), at, same)
 read_fault _ _ _ _ NoMemory same _ at = same
 read_fault _ _ _ _ _ _ _ at = absurd at
@@ -408,8 +398,7 @@ link_alone link w d f = let l = link w in (l.0, d, f, l.1, l.2)
 -- ---- a list of tasks that stopped leaves what tasks that were cut short leave
 
 stand : (turns : List Turn) (replies : List WholeReply) (old mid new : Scene) (more : List ℕ) → old.place.waiting ≡ []
-    → Talked turns replies old.place mid.place
-    → new.place.link.got ≡ mid.place.link.got ++ more → CameWhole replies old new
+    → Talked turns replies old.place mid.place → new.place.link.got ≡ mid.place.link.got ++ more → CameWhole replies old new
 stand _ _ _ mid _ more none talked is =
     let heard = rw none at talked.heard in
     (mid.place.waiting ++ more, simp (is, talked.got, heard, append_assoc))
@@ -431,8 +420,7 @@ module _ (account : List ℕ) (tasks : List Task) (old new : Scene) (cut : Cut)
     (stood : Steady old.file.content (none_open old.rows)) where
   -- nothing was marked
   short_unmarked : (more : List ℕ) → new.place.link.got ≡ fell.mid.place.link.got ++ more → new.file ≡ fell.mid.file
-      → new.lines ≡ fell.mid.lines → (extra : List File)
-      → new.store.maildir.files ≡ fell.mid.store.maildir.files ++ extra
+      → new.lines ≡ fell.mid.lines → (extra : List File) → new.store.maildir.files ≡ fell.mid.store.maildir.files ++ extra
       → ExtraIs account fell.dones (fell.next ∷ fell.later) old cut.fault new extra → CutShort account tasks old cut.fault new
   short_unmarked more got file lines extra came extra_is = record {
     taken = fell.dones;
@@ -473,16 +461,14 @@ module _ (account : List ℕ) (tasks : List Task) (old new : Scene) (cut : Cut)
   short_not_saved joining refused =
       elim (unsaved_keeps fell.mid.file (none_open fell.mid.rows) (none_open (marked fell.mid.rows refused.uid))
       cut.fault new.file refused.saves (fell.went.saved stood)) [
-        | inl was ↦ with_marks (marked_ids fell.dones)
-            (inr (
-              unsaved_why fell.mid.file (none_open fell.mid.rows) (none_open (marked fell.mid.rows refused.uid))
-                  cut.fault new.file refused.saves,
-              (
-                refused.uid,
-                flat_map-append (λ (d : Done). ids_in d.task) fell.dones
-                    (last ∷ []),
-              ),
-            )) (rw fell.went.rows at was)
+        | inl was ↦ with_marks (marked_ids fell.dones) (inr (
+          unsaved_why fell.mid.file (none_open fell.mid.rows) (none_open (marked fell.mid.rows refused.uid))
+              cut.fault new.file refused.saves,
+          (
+            refused.uid,
+            flat_map-append (λ (d : Done). ids_in d.task) fell.dones (last ∷ []),
+          ),
+        )) (rw fell.went.rows at was)
         | inr is ↦ with_marks (marked_ids (fell.dones ++ last ∷ [])) (inl refl)
             (simp (flat_map-append, marked_on) (rw fell.went.rows at is))
       ]
@@ -495,8 +481,7 @@ module _ (account : List ℕ) (tasks : List Task) (old new : Scene) (cut : Cut)
           (refused.reply ∷ []) old.place fell.mid.place new.place fell.went.talked refused.talked)
 
       with_marks : (marks : List (List ℕ)) → MarksAre (marked_ids (fell.dones ++ last ∷ [])) cut.fault marks
-          → Keeps new.file.content (none_open (marked_all old.rows marks))
-          → CutShort account tasks old cut.fault new
+          → Keeps new.file.content (none_open (marked_all old.rows marks)) → CutShort account tasks old cut.fault new
       with_marks marks are stands = record {
         taken = fell.dones ++ last ∷ [];
         next = fell.later;

@@ -3,29 +3,24 @@ use Rattle.std.proofs.Common.{◌≡◌, ◌≢◌, ◌<◌, ◌≤◌, ◌+◌,
 use Rattle.std.proofs.Common.{None, Some, Result, Ok, Err, IsOk, Contains, refl, sym, ap, subst, ◌∙◌, inl, inr, arith}
 use Rattle.std.proofs.Common.{append_assoc, length, length-append, take, zip, map, filter}
 use Rattle.std.specs.List.{AllByRecursion, AllZip, enumerate_from, flat_map}
-use Rattle.std.proofs.Math.Seq.{take-append-add}
+use Rattle.std.proofs.{Math.Seq.take-append-add, lemmas.List.Concat.flat_map-append}
 use Rattle.std.proofs.lemmas.Bool.{cases_Bool, false≢true}
 use Rattle.std.proofs.lemmas.List.{append_cancel_left, append-nil, take-append-le}
-use Rattle.std.proofs.lemmas.List.Concat.{flat_map-append}
 use Rattle.std.proofs.lemmas.List.Elements.{Contains-append_left, Contains-append_right}
 use Rattle.mail_terms.specs.Listing.{Item, message_limit}
-use Rattle.mail_store.specs.FileName.{is_held}
-use Rattle.mail_store.specs.FlatFile.{Stored}
-use Rattle.mail_store.specs.Mboxrd.{entry_of}
+use Rattle.mail_store.specs.{FileName.is_held, FlatFile.Stored, Mboxrd.entry_of}
 use Rattle.rc_file.specs.declared.settings.Settings.{Settings}
 use Rattle.fetch_record.specs.Record.{RecordState, Row}
 use Rattle.fetch_record.specs.RecordGrowth.{OneMeaning}
 use Rattle.fetch_record.specs.RecordMeaning.{Meaning, Rows, Fault as Faulty}
 use Rattle.fetch_rules.specs.Plan.{fetches, planned, retrieved, step_of}
-use Rattle.fetch_rules.specs.Wanted.{wanted}
-use Rattle.fetch_rules.specs.declared.plans.Step.{Step}
+use Rattle.fetch_rules.specs.{Wanted.wanted, declared.plans.Step.Step}
 use Rattle.pop3_wire.proofs.BodyLemmas.{first_lines, IsLine-front, no_body, one_line, one_reading, two_statuses}
 use Rattle.pop3_wire.specs.Body.{HasNoBody, IsContent, body_of, dot, text_of}
 use Rattle.pop3_wire.specs.Line.{crlf, IsLine, ended}
-use Rattle.pop3_wire.specs.Link.{Link}
+use Rattle.pop3_wire.specs.{Link.Link, Fields.number_and_size}
 use Rattle.pop3_wire.specs.Place.{Place, at}
 use Rattle.pop3_wire.specs.Reading.{IsBodyIf, IsReplyTo, WholeReply, body_bytes, gives_body, reply_bytes}
-use Rattle.pop3_wire.specs.Fields.{number_and_size}
 use Rattle.pop3_wire.specs.Reply.{IsFirstLine, indicator, without_space}
 use Rattle.pop3_wire.specs.declared.command.Command.TheVariants.{UidlAll, ListAll, Retr}
 use Rattle.pop3_wire.specs.declared.reply.Status.TheVariants.{Negative, Positive}
@@ -33,31 +28,23 @@ use Rattle.pop3_client.specs.Causes.{BeginsPositive, Cause, HasRows, IsOverlong,
 use Rattle.pop3_client.specs.Conversation.{Broke, ConversationsArePaced, Talked, Talks}
 use Rattle.pop3_client.specs.Turns.{asking, IsBody, IsGood, IsListingRow, IsShort, LinesFit}
 use Rattle.pop3_client.specs.Turns.{Turn, line_limit, retr, text_limit, turn_bytes}
-use Rattle.pop3_client.specs.declared.fault.ClientFault.{ClientFault}
+use Rattle.pop3_client.specs.{declared.fault.ClientFault.ClientFault, Texts.body_text}
 use Rattle.pop3_client.specs.declared.fault.ClientFault.TheVariants as talk
-use Rattle.fetch_session.specs.declared.fault.Cut.{Cut}
-use Rattle.fetch_session.specs.declared.fault.Fault.{Fault}
+use Rattle.fetch_session.specs.{declared.fault.Cut.Cut, declared.fault.Fault.Fault, declared.report.Outcome.Outcome}
 use Rattle.fetch_session.specs.declared.fault.Fault.TheVariants.{BadSeen, ListingsDisagree, NoMemory, SeenRefused, StoreRefused}
 use Rattle.fetch_session.specs.declared.fault.Why.TheVariants.{Missing, NotMbox, Refused}
-use Rattle.fetch_session.specs.declared.report.Outcome.{Outcome}
 use Rattle.fetch_session.specs.declared.report.Outcome.TheVariants.{Ended, Cut as WasCut}
-use Rattle.fetch_session.specs.declared.report.Report.{Report}
-use Rattle.fetch_session.specs.declared.tail.Tail.TheVariants.{Nothing}
+use Rattle.fetch_session.specs.{declared.report.Report.Report, declared.tail.Tail.TheVariants.Nothing, Fault.fault_of}
 use Rattle.fetch_session.specs.Cuts.{ArePlanned, CausesFault, CutsHaveCauses, Extends, IsMissing, IsUnusable, StoreRose, TurnBroke}
-use Rattle.fetch_session.specs.Fault.{fault_of}
-use Rattle.fetch_session.specs.CarryingOut.{tasks_ahead}
-use Rattle.fetch_session.specs.Readiness.{SettlesStore}
-use Rattle.fetch_session.specs.Record.{Misread}
+use Rattle.fetch_session.specs.{CarryingOut.tasks_ahead, Readiness.SettlesStore, Record.Misread, Store.Brings}
 use Rattle.fetch_session.specs.Served.{refused_in, HasText, Succeeds, IsStored, IsUsable, GoodSessionsStoreAll, StoresAll}
 use Rattle.fetch_session.specs.Scene.{Scene, Stops}
 use Rattle.fetch_session.specs.Session.{Dealt, Keeping, LeavesLink, Noted, Proceeds, SessionIn, outcome_of}
-use Rattle.fetch_session.specs.Store.{Brings}
 use Rattle.fetch_session.specs.Tail.{tail, turns_of_tail as tail_turns}
 use Rattle.fetch_session.specs.Target.{Target, AsFiles, AsEntries, Stores, closed_file, held_flags}
 use Rattle.fetch_session.specs.Task.{Done, IsAnswered, Task, deleting, fetching, file_from, files_in, files_of}
 use Rattle.fetch_session.specs.Task.{replies_of, stores, tasks_in, tasks_of, tasks_planned, texts_in, done_texts}
 use Rattle.fetch_session.specs.Task.{turns_in, turns_of}
-use Rattle.pop3_client.specs.Texts.{body_text}
 use Rattle.mail_terms.proofs.ListLemmas.{all_front, all_back}
 use Rattle.pop3_client.proofs.TalkLemmas.{by_listing}
 
@@ -74,8 +61,7 @@ not_overlong : (line more bytes later : List ℕ) → IsShort line → bytes ++ 
 not_overlong line more bytes later short is over =
     IsLine-front (ended line) (take (line_limit - length (ended line)) more)
     (subst IsLine (sym (take-append-le line_limit bytes later over.1) ∙ ap (take line_limit) is
-    ∙ take_past line_limit (ended line) more (omega (arith, short, length-append line crlf))) over.0.none) line []
-    refl
+    ∙ take_past line_limit (ended line) more (omega (arith, short, length-append line crlf))) over.0.none) line [] refl
 
 -- nor do those that begin with what is left of a body of short lines
 next_not_overlong : (more : List (List ℕ)) (behind later rest : List ℕ) → AllByRecursion IsShort more
@@ -168,8 +154,7 @@ module _ (turn : Turn) (reply : WholeReply) (good : IsGood turn reply) (bytes la
       (ap (λ (l : List ℕ). l ++ (next.behind ++ later)) (append-nil (ended row))
       ∙ sym (append_assoc (ended row) next.behind later) ∙ listing.behind_is) in (
         (subst (AllByRecursion (IsListingRow turn)) first.2 listing.rows).0,
-        omega
-            (arith, listing.few, next.count, ap (λ (l : List (List ℕ)). length l) first.2),
+        omega (arith, listing.few, next.count, ap (λ (l : List (List ℕ)). length l) first.2),
       )
 
   part_gives : (after : List ℕ) → IsPartOfBody turn after → gives_body turn ≡ true
@@ -219,10 +204,8 @@ module _ (turn : Turn) (reply : WholeReply) (good : IsGood turn reply) (bytes la
       let (lines, body_is, content, fit) = lines_of (rw is_retr refl) in
       let fits : length (body_of lines) ≤ text_limit = subst (λ (t : Turn). LinesFit t lines) is_retr fit in
       absurd (none_there (body_of lines) (text_of lines) (take (text_limit - length (body_of lines)) rest)
-      (record { lines = lines; content = content; whole = refl; read = refl })
-      (sym (take-append-le text_limit after later long)
-      ∙ ap (take text_limit) (body_begins_with after lines body_is begins)
-      ∙ take_past text_limit (body_of lines) rest fits))
+      (record { lines = lines; content = content; whole = refl; read = refl }) (sym (take-append-le text_limit after later long)
+      ∙ ap (take text_limit) (body_begins_with after lines body_is begins) ∙ take_past text_limit (body_of lines) rest fits))
   no_cause talk.NoMemory old new none all cause = refl
 
 -- a good reply is one that a client reads
@@ -276,8 +259,7 @@ is_store other = false
 rest_stopped : (target : Target) (next : Task) (old new : Scene) (cut : Cut) → Stops target next old cut new
     → (cut.rest ≡ None) ⊎ (is_store cut.fault ≡ true)
 rest_stopped _ _ _ _ _ (inl broken) = inl broken.none
-rest_stopped (AsFiles _) _ _ _ _ (inr (inl not)) =
-    inr (elim not.refuses [ inl missing ↦ cc | inr refused ↦ cc ])
+rest_stopped (AsFiles _) _ _ _ _ (inr (inl not)) = inr (elim not.refuses [ inl missing ↦ cc | inr refused ↦ cc ])
 rest_stopped AsEntries _ _ _ _ (inr (inl (inl room))) = inl room.none
 rest_stopped AsEntries _ _ _ _ (inr (inl (inr (inl not)))) = inl not.none
 rest_stopped AsEntries _ _ _ _ (inr (inl (inr (inr left)))) = inl left.none
@@ -303,15 +285,13 @@ talks_extend paced turns old new result talks =
 abbrev LeftOn : Fault → Link → Link → Type 0
 LeftOn fault old new = Extends old new × (tail fault ≡ Nothing → new ≡ old)
 
-left_on : ConversationsArePaced
-    → (settings : Settings) (target : Target) (now : ℕ) (link : Link) (before : Keeping) (report : Report)
+left_on : ConversationsArePaced → (settings : Settings) (target : Target) (now : ℕ) (link : Link) (before : Keeping) (report : Report)
     (link' : Link) (after : Keeping) (done : SessionIn settings target now link before report link' after)
     (fault : Fault) → report.outcome ≡ WasCut fault → is_store fault ≡ false → LeftOn fault done.mid.link link'
 left_on paced settings target now link before report link' after done fault is other =
     by done.result done.proceeds done.leaves done.reports.outcome_is
   where
-    by : (result : Result (Unit {0}) Cut)
-        → Proceeds settings target now (at link []) before result done.mid after done.notes
+    by : (result : Result (Unit {0}) Cut) → Proceeds settings target now (at link []) before result done.mid after done.notes
         → LeavesLink result done.mid link' → report.outcome ≡ outcome_of result → LeftOn fault done.mid.link link'
     by (Ok unit) proceeds leaves outcome = absurd (false≢true (ap was_cut (sym outcome ∙ is)))
     by (Err cut) proceeds (new, left, link_is) outcome =
@@ -320,8 +300,7 @@ left_on paced settings target now link before report link' after done fault is o
           | inl none ↦
               let said = rw none at left in (
                 rw link_is (talks_extend paced (tail_turns (tail cut.fault)) done.mid new said.0 said.1),
-                λ quiet.
-                    link_is ∙ ap (λ (p : Place). p.link) (said.2 (ap tail same ∙ quiet)),
+                λ quiet. link_is ∙ ap (λ (p : Place). p.link) (said.2 (ap tail same ∙ quiet)),
               )
           | inr store ↦ absurd (false≢true (sym other ∙ ap is_store (sym same) ∙ store))
         ]
@@ -373,8 +352,7 @@ planned_on : (settings : Settings) (target : Target) (now : ℕ) (link : Link) (
     (turns : List Turn) → Extends mid new → ArePlanned settings target now link before mid turns
     → ArePlanned settings target now link before new turns
 planned_on _ _ _ _ _ _ _ _ more (inl is) = inl is
-planned_on _ _ _ _ _ mid new _ more (inr (items, place, enters, first, by)) =
-    inr (items, place, enters, extends_on _ _ _ first more, by)
+planned_on _ _ _ _ _ mid new _ more (inr (items, place, enters, first, by)) = inr (items, place, enters, extends_on _ _ _ first more, by)
 
 module _ (one : OneMeaning) (settings : Settings) (target : Target) (now : ℕ) (link : Link) (before : Keeping)
     (report : Report) (mid : Place) (link' : Link) (after : Keeping)
@@ -384,8 +362,7 @@ module _ (one : OneMeaning) (settings : Settings) (target : Target) (now : ℕ) 
 
   -- a turn that broke, if the link gives a good reply to it, broke for want of memory
   only_memory : (turns : List Turn) (replies : List WholeReply) (next : Turn) (later : List Turn) (old : Place)
-      → ArePlanned settings target now link before old.link (turns ++ next ∷ later)
-      → Talked turns replies (at link []) old
+      → ArePlanned settings target now link before old.link (turns ++ next ∷ later) → Talked turns replies (at link []) old
       → (why : ClientFault) → Extends mid.link link' → (is_silent why ≡ true → link' ≡ mid.link)
       → Broke next old mid why → why ≡ talk.NoMemory
   only_memory turns replies next later old planned talked why on stays broke = by broke
@@ -413,16 +390,14 @@ module _ (one : OneMeaning) (settings : Settings) (target : Target) (now : ℕ) 
           let after = not.gained ++ (on.gained ++ was.later) in
           let got_is : link'.got ++ was.later ≡ link.got ++ (talked.gained ++ after) =
           ap (λ (l : List ℕ). l ++ was.later) (on.got
-          ∙ ap (λ (l : List ℕ). l ++ on.gained) (not.got ∙ ap (λ (l : List ℕ). l ++ not.gained) talked.got))
-          ∙ simp append_assoc in
+          ∙ ap (λ (l : List ℕ). l ++ on.gained) (not.got ∙ ap (λ (l : List ℕ). l ++ not.gained) talked.got)) ∙ simp append_assoc in
           let all : talked.gained ++ after ≡ flat_map reply_bytes was.replies ++ was.rest =
           append_cancel_left link.got _ _ (sym got_is ∙ was.whole) in
           let last : flat_map reply_bytes (front ++ reply ∷ []) ++ was.rest ≡ flat_map reply_bytes front
           ++ (reply_bytes reply ++ was.rest) = last_apart reply_bytes front reply was.rest in
           let read = one_reading turns replies front (old.waiting ++ after) (reply_bytes reply ++ was.rest)
           (reads_all turns replies talked.good) (reads_all turns front goods)
-          (sym (append_assoc (flat_map reply_bytes replies) old.waiting after)
-          ∙ ap (λ (l : List ℕ). l ++ after) (sym talked.heard) ∙ all
+          (sym (append_assoc (flat_map reply_bytes replies) old.waiting after) ∙ ap (λ (l : List ℕ). l ++ after) (sym talked.heard) ∙ all
           ∙ ap (λ (rs : List WholeReply). flat_map reply_bytes rs ++ was.rest) replies_are ∙ last) in
           no_cause next reply good (old.waiting ++ not.gained) (on.gained ++ was.later) was.rest
           (append_assoc old.waiting not.gained (on.gained ++ was.later) ∙ read.1) why old.link mid.link none
@@ -430,8 +405,7 @@ module _ (one : OneMeaning) (settings : Settings) (target : Target) (now : ℕ) 
       by (inr (inr (is, may, same))) = is
 
   no_fault : (fault : Fault) → fault ≢ NoMemory → (is_store fault ≡ false → LeftOn fault mid.link link')
-      → (TurnBroke settings target now link before mid fault → ⊥)
-      → CausesFault settings target now link before fault mid after → ⊥
+      → (TurnBroke settings target now link before mid fault → ⊥) → CausesFault settings target now link before fault mid after → ⊥
   no_fault (StoreRefused Missing) other left unbroken cause = usable_is_there target after.store served.usable cause
   no_fault (StoreRefused Refused) other left unbroken cause = none_rose target before.store after.store served.store_refused cause
   no_fault (StoreRefused NotMbox) other left unbroken cause = usable_goes_on target after.store served.usable cause
@@ -491,14 +465,11 @@ module _ {X : Type 0} (brings : Task → List WholeReply → List X) (made : Lis
   all_did [] each said has = tt
   all_did (done ∷ dones) each said has =
       let on = zip_on (turns_in done.task) (turns_of dones) done.replies (replies_of dones) each.0 in (
-        one_did done.task done.replies each.0
-            (λ p there. said p (subst (λ (ps : List (Turn × WholeReply)). Contains ps p) (sym on)
-            (Contains-append_left (zip (turns_in done.task) done.replies)
-            (zip (turns_of dones) (replies_of dones)) p there)))
+        one_did done.task done.replies each.0 (λ p there. said p (subst (λ (ps : List (Turn × WholeReply)). Contains ps p) (sym on)
+            (Contains-append_left (zip (turns_in done.task) done.replies) (zip (turns_of dones) (replies_of dones)) p there)))
             (λ x there. has x (Contains-append_left (brings done.task done.replies) (brought_by dones) x there)),
         all_did dones each.1 (λ p there. said p (subst (λ (ps : List (Turn × WholeReply)). Contains ps p) (sym on)
-            (Contains-append_right (zip (turns_in done.task) done.replies)
-            (zip (turns_of dones) (replies_of dones)) p there)))
+            (Contains-append_right (zip (turns_in done.task) done.replies) (zip (turns_of dones) (replies_of dones)) p there)))
             (λ x there. has x (Contains-append_right (brings done.task done.replies) (brought_by dones) x there)),
       )
 
@@ -507,8 +478,7 @@ module _ (is_there : Item → Bool) (D : Task → Type 0) (P : ℕ × Item → T
     (same : (message : ℕ × Item) → (step message).number ≡ message.0)
     (so : (number : ℕ) (item : Item) → AllByRecursion D (fetching true (is_there item) number item.uid item.size) → P (number, item)) where
   abbrev fetched_from : ℕ → List Item → List (ℕ × Item)
-  fetched_from k items = map (λ (pair : Step × (ℕ × Item)). pair.1)
-      (filter (λ (pair : Step × (ℕ × Item)). fetches pair.0)
+  fetched_from k items = map (λ (pair : Step × (ℕ × Item)). pair.1) (filter (λ (pair : Step × (ℕ × Item)). fetches pair.0)
       (zip (map step (enumerate_from k items)) (enumerate_from k items)))
 
   each_fetched : (k : ℕ) (items : List Item)
@@ -530,8 +500,7 @@ module _ (settings : Settings) (target : Target) (items : List Item) (now : ℕ)
     (said : List (Turn × WholeReply)) (new : Stores) where
   -- by what its task did
   stored_by : (is_there : Item → Bool) → ((item : Item) → held_flags target store (item ∷ []) ≡ is_there item ∷ [])
-      → (number : ℕ) (item : Item)
-      → AllByRecursion (Did (Contains said) (HasText target new))
+      → (number : ℕ) (item : Item) → AllByRecursion (Did (Contains said) (HasText target new))
       (fetching true (is_there item) number item.uid item.size) → IsStored target store said new (number, item)
   stored_by is_there flags _ item did = elim (cases_Bool (is_there item)) [
     | inl held ↦ inl (flags item ∙ rw held refl)
@@ -543,10 +512,8 @@ module _ (settings : Settings) (target : Target) (items : List Item) (now : ℕ)
       → AllByRecursion (Did (Contains said) (HasText target new)) (tasks_ahead settings target items now store rows)
       → AllByRecursion (IsStored target store said new) (retrieved (planned settings rows items now) items)
   each_by is_there one all did =
-      each_fetched _ _ (IsStored target store said new)
-      (step_of settings rows items now) (λ _. refl) (stored_by _ one) 1 items
-      (all_front _ _ _
-      (rw all at did))
+      each_fetched _ _ (IsStored target store said new) (step_of settings rows items now) (λ _. refl) (stored_by _ one) 1 items
+      (all_front _ _ _ (rw all at did))
 
 each_stored : (settings : Settings) (target : Target) (items : List Item) (now : ℕ) (store : Stores) (rows : List Row)
     (said : List (Turn × WholeReply)) (new : Stores)
@@ -605,8 +572,7 @@ module _ (fetch_wanted : (settings : Settings) (rows : List Row) (listing : List
 
 pub store_all : CutsHaveCauses → ConversationsArePaced → OneMeaning
     → ((settings : Settings) (rows : List Row) (listing : List Item) (now : ℕ)
-    → retrieved (planned settings rows listing now) listing ≡ wanted settings rows listing)
-    → GoodSessionsStoreAll
+    → retrieved (planned settings rows listing now) listing ≡ wanted settings rows listing) → GoodSessionsStoreAll
 store_all causes paced one fetch_wanted settings target now link before report link' after done = (
   λ served. by_outcome served report.outcome refl,
   λ ended. by_result ended done.result done.proceeds done.leaves done.reports.outcome_is,
@@ -622,8 +588,7 @@ store_all causes paced one fetch_wanted settings target now link before report l
 
     by_result : report.outcome ≡ Ended → (result : Result (Unit {0}) Cut)
         → Proceeds settings target now (at link []) before result done.mid after done.notes
-        → LeavesLink result done.mid link' → report.outcome ≡ outcome_of result
-        → StoresAll settings target now link before link' after
+        → LeavesLink result done.mid link' → report.outcome ≡ outcome_of result → StoresAll settings target now link before link' after
     by_result ended (Ok unit) proceeds leaves is = ended_stores fetch_wanted settings target now link before done.mid
         link' after done.notes unit proceeds leaves
     by_result ended (Err cut) proceeds leaves is = absurd (false≢true (ap was_cut (sym ended) ∙ ap was_cut is))

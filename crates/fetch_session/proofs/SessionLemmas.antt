@@ -2,15 +2,14 @@
 use Rattle.std.proofs.Common.{◌≡◌, ◌≢◌, ◌⊎◌, ℕ, List, [], ◌∷◌, ◌++◌, Option, None, Some, Result, Ok, Err, refl, sym, ap}
 use Rattle.std.proofs.Common.{subst, ◌∙◌, inl, inr, append_assoc, length, ⊎_elim, Bool, false, append-nil, All, take}
 use Rattle.std.proofs.Common.{option_map}
-use Rattle.std.proofs.lemmas.List.{append-nil}
-use Rattle.std.proofs.lemmas.Grind.{flat_map-append}
+use Rattle.std.proofs.{lemmas.List.append-nil, lemmas.Grind.flat_map-append, lemmas.List.Elements.recursion_from_All}
 use Rattle.std.proofs.lemmas.Option.{none-some, same_Some}
 use Rattle.std.specs.List.{flat_map, AllByRecursion}
 use Rattle.pop3_wire.specs.Place.{Place, at}
 use Rattle.fetch_record.specs.Record.{Row, RecordState, Intent, none_open, marked_all, Loaded, merged}
 use Rattle.fetch_record.specs.RecordGrowth.{Grows, Updates}
 use Rattle.mail_store.specs.FlatFile.{Stored, holding}
-use Rattle.mail_store.specs.declared.fault.StoreFault.{StoreFault}
+use Rattle.mail_store.specs.{declared.fault.StoreFault.StoreFault, Mboxrd.entry_of}
 use Rattle.mail_store.specs.DiskCalls.{AppendsDisk, CutsDisk, DurableCutTo}
 use Rattle.mail_store.specs.Durable.{IsDurable as IsFileDurable, Trusted, MayLeave, content_in, seen_on}
 use Rattle.mail_store.proofs.DiskLemmas.{durable_append, durable_cut, durable_trust}
@@ -18,16 +17,12 @@ use Rattle.mail_store.proofs.DurableLemmas.{durable_is_left}
 use Rattle.mail_store.specs.declared.maildir.disk.MaildirDisk.{Ghosts as DiskGhosts}
 use Rattle.mail_store.specs.declared.file.flat_file.FlatFile.{Ghosts as FileGhosts}
 use Rattle.mail_store.specs.Maildir.{Maildir, File, IsWithout, WereTaken}
-use Rattle.mail_store.specs.Mboxrd.{entry_of}
 use Rattle.mail_store.specs.Power.{IsLonger, KeepsWhole, LeavesCut, LeavesEither, LeavesLonger, LeavesNoMore, LeavesPart, LeavesAll}
 use Rattle.pop3_client.specs.Conversation.{TurnsJoin, Talks}
-use Rattle.fetch_session.specs.declared.account.Store.{Store}
+use Rattle.fetch_session.specs.{declared.account.Store.Store, declared.fault.Cut.Cut, declared.work.Work.Work, Store.Brings}
 use Rattle.fetch_session.specs.declared.account.Store.TheVariants.{Maildir as InMaildir, Mboxrd as InMbox}
-use Rattle.fetch_session.specs.declared.fault.Cut.{Cut}
-use Rattle.fetch_session.specs.declared.work.Work.{Work}
 use Rattle.fetch_session.specs.Record.{StandsTill, Steady, bytes_in, record_state, FileReadAs, ReadsRecord, record_state_in}
 use Rattle.fetch_session.specs.Scene.{Scene, scene, Went, AllWent}
-use Rattle.fetch_session.specs.Store.{Brings}
 use Rattle.fetch_session.specs.Durable.{AreLeft, AreTrusted, DurableCarried, DurableCarries, DurableCut, DoesDurably, DurableDones}
 use Rattle.fetch_session.specs.Durable.{IsGrownAtMost, IsRecordLeft, IsSafeFile, IsSafeStore, IsSafeWork, IsRecordUntouched, KeepsWork}
 use Rattle.fetch_session.specs.Durable.{IsCutLeft, DurableKept, Durably, LeavesBoth, LeavesFile, LeavesLeft, LeavesMerged, LeavesStore}
@@ -42,28 +37,21 @@ use Rattle.fetch_session.proofs.SceneLemmas.{is_there, not_whole, till_front, re
 use Rattle.pop3_wire.specs.Link.{Link}
 use Rattle.mail_terms.specs.Listing.{Item}
 use Rattle.rc_file.specs.declared.settings.Settings.{Settings}
-use Rattle.fetch_session.specs.declared.fault.Fault.{Fault}
+use Rattle.fetch_session.specs.{declared.fault.Fault.Fault, declared.report.ReportLine.ReportLine, declared.report.Report.Report}
 use Rattle.fetch_session.specs.declared.fault.Fault.TheVariants.{StoreRefused, NoMemory}
 use Rattle.fetch_session.specs.declared.fault.Why.TheVariants as why
-use Rattle.fetch_session.specs.declared.report.ReportLine.{ReportLine}
 use Rattle.fetch_session.specs.CarryingOut.{Carries, Carried, tasks_ahead}
 use Rattle.fetch_session.specs.Session.{Dealt, Keeping, LeavesLink, Noted, Enters_with, Proceeds, SessionIn, outcome_of, keeping}
 use Rattle.fetch_session.specs.Report.{Reports, skips_of}
-use Rattle.fetch_session.specs.declared.report.Report.{Report}
 use Rattle.fetch_rules.specs.Plan.{IsQuiet, planned}
 use Rattle.fetch_rules.specs.declared.plans.Step.{Step}
-use Rattle.pop3_client.specs.Turns.{quit}
-use Rattle.fetch_session.specs.declared.readiness.Ready.{Ready}
+use Rattle.pop3_client.specs.{Turns.quit, declared.fault.ClientFault.ClientFault}
+use Rattle.fetch_session.specs.{declared.readiness.Ready.Ready, declared.report.Skips.Skips, declared.readiness.Found.Found}
 use Rattle.fetch_session.specs.Fault.{cut_of, fault_of}
 use Rattle.fetch_session.specs.Readiness.{AreDurable, IsFileKept, IsReady, FindsRefused, SettlesStore}
-use Rattle.fetch_session.specs.declared.report.Skips.{Skips}
-use Rattle.std.proofs.lemmas.List.Elements.{recursion_from_All}
 use Rattle.fetch_session.proofs.ReadyLemmas.{ahead, not_found, unread}
 use Rattle.fetch_record.specs.Intents.{closed_rows}
-use Rattle.pop3_client.specs.declared.fault.ClientFault.{ClientFault}
-use Rattle.fetch_session.specs.declared.readiness.Found.{Found}
-use Rattle.fetch_session.specs.declared.preview.Preview.{Preview}
-use Rattle.fetch_session.specs.declared.message_preview.MessagePreview.{MessagePreview}
+use Rattle.fetch_session.specs.{declared.preview.Preview.Preview, declared.message_preview.MessagePreview.MessagePreview}
 use Rattle.fetch_session.specs.Pretend.{PreviewsMerged, WouldBeUnready, HoldsTheSame, IsUntouched as ChangesNothing}
 use Rattle.fetch_session.specs.Pretend.{JudgesMbox, LooksAtMbox, LooksIn, Pretends, PreviewsSession, counted_as}
 use Rattle.fetch_session.specs.Pretend.{previews_of, preview_told}
@@ -82,25 +70,20 @@ durable_safe files f shown is = (
   durable_trust _ is,
   λ _ has. (
     is,
-    λ left may. durable_is_left (files.disk f) left is may ∙ shown
-        ∙ has,
+    λ left may. durable_is_left (files.disk f) left is may ∙ shown ∙ has,
   ),
 )
 
 -- there is no file
 pub missing_safe : {F : Type 0} (file : FileGhosts F) (f f' : F) → file.disk f' ≡ file.disk f
-    → ((file.stored f).content ≡ None) × (file.stored f' ≡ file.stored f)
-    → Trusted (file.disk f).now → IsSafeFile file f'
-missing_safe _ f _ same (none, as_was) trust =
-    (rw same trust, λ bytes is. absurd (none-some bytes (cc)))
+    → ((file.stored f).content ≡ None) × (file.stored f' ≡ file.stored f) → Trusted (file.disk f).now → IsSafeFile file f'
+missing_safe _ f _ same (none, as_was) trust = (rw same trust, λ bytes is. absurd (none-some bytes (cc)))
 
 -- bytes are appended to a safe file: what is left of them stands behind what it had; after Ok it is safe again
 pub leaves_part : {F T : Type 0} (file : FileGhosts F) (f f' : F) (bytes : List ℕ) (r : Result T StoreFault)
-    → seen_on (file.disk f) ≡ (file.stored f).content
-    → AppendsDisk (file.disk f) bytes r (file.disk f') → IsSafeFile file f
+    → seen_on (file.disk f) ≡ (file.stored f).content → AppendsDisk (file.disk f) bytes r (file.disk f') → IsSafeFile file f
     → LeavesPart (file.stored f).content bytes (MayLeave (file.disk f'))
-leaves_part file f f' bytes r shown appends safe was has =
-    (durable_append _ _ _ r appends).leaves (safe.1 was has).0 was (cc)
+leaves_part file f f' bytes r shown appends safe was has = (durable_append _ _ _ r appends).leaves (safe.1 was has).0 was (cc)
 
 pub grown_safe : {F T : Type 0} (file : FileGhosts F) (f f' : F) (bytes : List ℕ) (done : T)
     → seen_on (file.disk f) ≡ (file.stored f).content
@@ -116,8 +99,7 @@ pub no_more_left : {F : Type 0} (file : FileGhosts F) (f f' : F) → (file.store
 no_more_left file f f' same no_more Is leaves bytes is left may = leaves bytes (sym same ∙ is) left (no_more left may)
 
 -- no rows are left but these, and those that they were to be made
-pub grown_rows : (rows others next : List Row) (before after : Option Intent) (left : Option (List ℕ))
-    → (next ≡ rows) ⊎ (next ≡ others)
+pub grown_rows : (rows others next : List Row) (before after : Option Intent) (left : Option (List ℕ)) → (next ≡ rows) ⊎ (next ≡ others)
     → IsGrownAtMost (record_state rows before) (record_state next after) left → AreLeft rows others left
 grown_rows rows _ next before after _ next_is g = elim g.grows [
   | inr grows ↦ record {
@@ -189,21 +171,17 @@ module _ {F : Type 0} (file : FileGhosts F) (f : F) where
   -- the file is safe and stands for the record
   pub same_grown : (was now : RecordState) → IsSafeFile file f → Steady (file.stored f).content was
       → LeavesFile file f (IsGrownAtMost was now)
-  same_grown was now safe stood bytes is left may =
-      still_grown _ _ _ _ (rw is at stood) ((safe.1 bytes is).1 left may)
+  same_grown was now safe stood bytes is left may = still_grown _ _ _ _ (rw is at stood) ((safe.1 bytes is).1 left may)
 
   -- what makes it another was appended, or a part of it
   pub part_grown : (was now : RecordState) (added : List ℕ) → Grows was.rows was.intent added now.rows now.intent
       → LeavesFile file f (IsRecordLeft was added) → LeavesFile file f (IsGrownAtMost was now)
-  part_grown _ _ added grows leaves bytes is left may =
-      record { added = added; file = leaves _ is left may; grows = inr grows }
+  part_grown _ _ added grows leaves bytes is left may = record { added = added; file = leaves _ is left may; grows = inr grows }
 
   -- so no rows are left but these, and those that they were to be made
   pub grown_left : (rows others next : List Row) (before after : Option Intent) → (next ≡ rows) ⊎ (next ≡ others)
-      → LeavesFile file f (IsGrownAtMost (record_state rows before) (record_state next after))
-      → LeavesFile file f (AreLeft rows others)
-  grown_left rows others next before after next_is leaves bytes is left may =
-      grown_rows _ _ _ _ _ _ next_is (leaves _ is left may)
+      → LeavesFile file f (IsGrownAtMost (record_state rows before) (record_state next after)) → LeavesFile file f (AreLeft rows others)
+  grown_left rows others next before after next_is leaves bytes is left may = grown_rows _ _ _ _ _ _ next_is (leaves _ is left may)
 
   -- the file is safe and stands for the rows
   pub same_left : {rows others : List Row} {intent : Option Intent} → IsSafeFile file f
@@ -238,14 +216,12 @@ pub in_kind : {D F : Type 0} {file : FileGhosts F} {here safe : Type 0} {tasks :
     {r : Result (Unit {0}) Cut} {store : Store D F} {f : F} (a b : Store D F) (account : List ℕ) → kind_of a ≡ kind_of b
     → DoesDurably file here (target_of a account) tasks old r new store f → (safe → here)
     → DoesDurably file safe (target_of b account) tasks old r new store f
-in_kind {r} a b _ same does on =
-    let moved = rw same at does in record { does = moved.does; durable = λ s. moved.durable (on s) }
+in_kind {r} a b _ same does on = let moved = rw same at does in record { does = moved.does; durable = λ s. moved.durable (on s) }
 
 module _ {D F : Type 0} {file : FileGhosts F} {safe : Type 0} {target : Target} where
   -- some tasks were done, and then others, or not all of them
   pub good_more : TurnsJoin → {xs ys : List Task} {a b c : Scene} (r : Result (Unit {0}) Cut) {new : Store D F} {f : F}
-      → (went : AllWent target xs a b)
-      → DoesDurably file safe target ys b r c new f → DoesDurably file safe target (xs ++ ys) a r c new f
+      → (went : AllWent target xs a b) → DoesDurably file safe target ys b r c new f → DoesDurably file safe target (xs ++ ys) a r c new f
   unfolding all_on fell_on
   good_more joining {xs} {ys} {a} {b} {c} (Ok done) {new} {f} went then = record {
     does = all_on joining target xs ys a b c went then.does;
@@ -255,16 +231,14 @@ module _ {D F : Type 0} {file : FileGhosts F} {safe : Type 0} {target : Target} 
   good_more joining {xs} {ys} {a} {b} {c} (Err cut) {new} {f} went then = record {
     does = fell_on joining target xs ys a b c cut went then.does;
     durable = λ s. (
-      dones_on file target went.dones then.does.dones (ids_in then.does.next) a b new f went.went
-          (then.durable s).0,
+      dones_on file target went.dones then.does.dones (ids_in then.does.next) a b new f went.went (then.durable s).0,
       (then.durable s).1,
     );
   }
 
   -- some of these tasks were done, and none of those after them
   pub good_before : {xs : List Task} (ys : List Task) {a new : Scene} {cut : Cut} {store : Store D F} {f : F}
-      → DoesDurably file safe target xs a (Err cut) new store f
-      → DoesDurably file safe target (xs ++ ys) a (Err cut) new store f
+      → DoesDurably file safe target xs a (Err cut) new store f → DoesDurably file safe target (xs ++ ys) a (Err cut) new store f
   unfolding fell_before
   good_before {xs} ys {a} {new} {cut} does = record {
     does = fell_before _ xs ys a _ _ does.does;
@@ -275,14 +249,12 @@ module _ {D F : Type 0} {file : FileGhosts F} {safe : Type 0} {target : Target} 
 
 -- the record's file is safe and stands for the rows, so they are durable
 pub rows_last : {F : Type 0} (file : FileGhosts F) (f : F) (rows : List Row) → IsSafeFile file f
-    → Steady (file.stored f).content (none_open rows)
-    → DurableRows file f rows
+    → Steady (file.stored f).content (none_open rows) → DurableRows file f rows
 rows_last file f rows safe steady = by _ refl steady
   where
     by : (content : Option (List ℕ)) → (file.stored f).content ≡ content → Steady content (none_open rows) → DurableRows file f rows
     by None _ stands _ _ = ([], [], inl refl, stands)
-    by (Some bytes) is stands left may =
-        (bytes, [], inr (cc ((safe.1 bytes is).1 left may, append-nil bytes)), stands)
+    by (Some bytes) is stands left may = (bytes, [], inr (cc ((safe.1 bytes is).1 left may, append-nil bytes)), stands)
 
 -- what begins with bytes that stand for these rows still does if it is longer
 shown_longer : (rows : List Row) (was left : Option (List ℕ)) → ShowsRows rows was → IsLonger was left → ShowsRows rows left
@@ -297,8 +269,7 @@ shown_longer _ _ _ (bytes, behind, inr is, stands) (inr (some, more, was_is, lon
 
 pub longer_rows : {F : Type 0} (file : FileGhosts F) (f f' : F)
     → LeavesLonger (MayLeave (file.disk f)) (MayLeave (file.disk f')) → (rows : List Row) → StillDurable file rows f f'
-longer_rows file f f' longer rows last left may =
-    let was = longer left may in shown_longer rows was.0 left (last was.0 was.1) was.2
+longer_rows file f f' longer rows last left may = let was = longer left may in shown_longer rows was.0 left (last was.0 was.1) was.2
 
 -- the file was cut to bytes that stand for the rows, or may have been
 module _ {F T : Type 0} (file : FileGhosts F) (f f' : F) (rows : List Row) (size : ℕ)
@@ -337,8 +308,7 @@ module _ {F : Type 0} (files : FileGhosts F) (from f : F) (was : RecordState) (r
       (λ all. inr (inr (still_grown files f (none_open rows) (none_open rows) bytes left stands all))) (either left may)
 
   -- a group was appended
-  pub grown_merged : (group : List ℕ) → Updates was.rows was.intent group rows None
-      → LeavesLeft files was group from f
+  pub grown_merged : (group : List ℕ) → Updates was.rows was.intent group rows None → LeavesLeft files was group from f
       → LeavesMerged (MayLeave (files.disk from)) was rows (MayLeave (files.disk f))
   grown_merged group updates leaves left may = elim (leaves left may) [
     | inl before ↦ inl before
@@ -356,8 +326,7 @@ no_texts : {D F : Type 0} (disk : DiskGhosts D) (file : FileGhosts F) (old new :
     → ((was : List ℕ) → (mbox_of file old).content ≡ Some was → LeavesAll (may_leave_in file new) was)
     → (target : Target) → DurableTexts file target [] (stores_of disk file old) new
 no_texts _ _ _ _ _ (AsFiles _) = tt
-no_texts disk file old new whole AsEntries = λ was is.
-    rw (append-nil was) (whole was (same_mbox disk file old ∙ is))
+no_texts disk file old new whole AsEntries = λ was is. rw (append-nil was) (whole was (same_mbox disk file old ∙ is))
 
 -- a safe mboxrd file
 only_in : {D F : Type 0} (file : FileGhosts F) (store : Store D F) → IsSafeStore file store → (bytes : List ℕ)
@@ -405,8 +374,7 @@ pub nothing_cut : {D F : Type 0} (disk : DiskGhosts D) (file : FileGhosts F) (ta
     → IsSafeStore file was → LeavesNoMore (may_leave_in file was) (may_leave_in file store) → IsSafeFile file f
     → Steady (file.stored f).content (none_open rows)
     → DurableCut file target task (scene a (stores_of disk file was) (file.stored f) rows lines) cut new store f
-nothing_cut disk file (AsFiles account) task a rows lines cut new was store f whole no_more safe steady =
-    inl (same_left file f safe steady)
+nothing_cut disk file (AsFiles account) task a rows lines cut new was store f whole no_more safe steady = inl (same_left file f safe steady)
 nothing_cut disk file AsEntries task a rows lines cut new was (InMaildir device) f whole no_more safe steady = tt
 nothing_cut disk file AsEntries task a rows lines cut new was (InMbox device) f whole no_more safe steady =
     λ trust bytes is left may now has seen there. inl (
@@ -434,8 +402,7 @@ pub dealt : {D F : Type 0} (files : FileGhosts F) (was : Store D F) (from : F) (
     (start : List ReportLine) (store : Store D F) (f : F)
     → start ≡ [] → Enters_with settings old (Ok items) mid → notes.total ≡ length items
     → (is : Carries settings target items now mid before.store before.file start result new after.store after.file
-    notes.lines notes.skipped)
-    × DurableCarries files was from _ _ _ _ _ _ _ _ _ _ _ _ _ _ is store f
+    notes.lines notes.skipped) × DurableCarries files was from _ _ _ _ _ _ _ _ _ _ _ _ _ _ is store f
     → (is : Proceeds settings target now old before result new after notes) × DurableProceeds files was from _ _ _ _ _ _ _ _ _ is store f
 dealt files was from settings target now old before result new after notes items mid _ store f none enters total carries =
     let from_nothing = rw none at carries in
@@ -455,8 +422,7 @@ pub left_session : {D F : Type 0} {files : FileGhosts F} {from : F} {settings : 
     × DurableProceeds files was from _ _ _ _ _ _ _ _ _ is store f
     → LeavesLink result mid link' → Reports (outcome_of result) notes.total notes.skipped notes.lines report
     → (session : SessionIn settings target now link before report link' after) × DurableSession files was from session store f
-left_session _
-    _ _ result mid notes same none proceeds leaves reports =
+left_session _ _ _ result mid notes same none proceeds leaves reports =
     let here = rw (same, none) at proceeds in
     (record { result = result; mid = mid; notes = notes; proceeds = here.0; leaves = leaves; reports = reports }, here.1)
 
@@ -484,8 +450,7 @@ none_left left taken = let none = is_none taken.gone left.files taken.files in t
 
 pub entries_session : {D F : Type 0} (disk : DiskGhosts D) (file : FileGhosts F) (store store' : Store D F)
     (digits : List ℕ) (Did : Target → Stores → Stores → Type 0) (A B C : Type 0) → kind_of store' ≡ kind_of store
-    → (is_sound disk file store' → A × is_sound disk file store × B × C
-    × AfterTakingIn (stores_of disk file store)
+    → (is_sound disk file store' → A × is_sound disk file store × B × C × AfterTakingIn (stores_of disk file store)
     (λ (left : Stores). Did (target_of store digits) left (stores_of disk file store')))
     → IsSoundMbox file store' → A × IsSoundMbox file store × B × C
     × Did AsEntries (in_mbox (mbox_of file store)) (in_mbox (mbox_of file store'))
@@ -520,11 +485,9 @@ pub carried : {D F : Type 0} (disk : DiskGhosts D) (files : FileGhosts F) {safe 
     {target : Target} {items : List Item} {now : ℕ} {place : Place} {store : Stores} {file : Stored}
     {lines : List ReportLine} {ready : Ready} {after : List Row}
     (was before : Store D F) {end : Store D F} (from mid_file : F) {f : F} {file' : Stored}
-    (mid_lines : List ReportLine) (steps : List Step) (held : List Bool) {skipped : Skips}
-    {r : Result (Unit {0}) Cut} {new : Scene}
+    (mid_lines : List ReportLine) (steps : List Step) (held : List Bool) {skipped : Skips} {r : Result (Unit {0}) Cut} {new : Scene}
     → mid_lines ≡ lines → (is : IsReady settings target items now store file ready after (stores_of disk files before)
-    file') → steps ≡ ready.steps.items → held ≡ ready.held.items
-    → skipped ≡ skips_of ready.steps.items
+    file') → steps ≡ ready.steps.items → held ≡ ready.held.items → skipped ≡ skips_of ready.steps.items
     → (AreTrusted files was from → UnlessQuiet files was from after file file' is.durable safe before mid_file)
     → (ids_ahead (tasks_planned steps items held ++ says quit ∷ []) ≡ [] → (f ≡ mid_file) × LeavesStore files before end)
     → DoesDurably files safe target (tasks_planned steps items held ++ says quit ∷ [])
@@ -563,8 +526,7 @@ carried {D} {F} disk files {safe} {settings} {target} {items} {now} {place} {sto
     quiet_or (inl (quiet, kept)) = inl (subst (λ (ss : List Step). All IsQuiet ss) is.steps quiet, kept)
     quiet_or (inr durable) = inr durable
 
-    of_result : (r : Result (Unit {0}) Cut)
-        → (c : Carried settings target items now place store file lines r new skipped)
+    of_result : (r : Result (Unit {0}) Cut) → (c : Carried settings target items now place store file lines r new skipped)
         × DurableCarried files was from c end f
         → (is : Carries settings target items now place store file lines r new.place new.store new.file new.lines
         skipped) × DurableCarries files was from _ _ _ _ _ _ _ _ _ _ _ _ _ _ is end f
@@ -595,8 +557,7 @@ previews_are settings rows rows' items held now steps rows_are steps_are =
 -- ---- an mboxrd file that was only looked at
 
 pub judged_good : (intent : Option Intent) (old : Stored) (items : List Item) (found : Found) (new : Stored)
-    → JudgesMbox intent items old (Ok found.stored) new
-    → found.held.items ≡ none_held items → LooksAtMbox intent old items (Ok found) new
+    → JudgesMbox intent items old (Ok found.stored) new → found.held.items ≡ none_held items → LooksAtMbox intent old items (Ok found) new
 judged_good intent old items _ _ (is, same) held = record {
   left = holding old (closed_file intent items is.0);
   asks = (is.0, is.1, is.2, refl, is.3, held);
@@ -605,8 +566,7 @@ judged_good intent old items _ _ (is, same) held = record {
 }
 
 pub judged_full : (intent : Option Intent) (old : Stored) (items : List Item) (whole : Bool) (new : Stored)
-    → JudgesMbox intent items old (Ok whole) new
-    → LooksAtMbox intent old items (Err NoMemory) new
+    → JudgesMbox intent items old (Ok whole) new → LooksAtMbox intent old items (Err NoMemory) new
 judged_full _ old _ _ _ (_, same) = record {
   left = old;
   asks = (refl, inl refl);
@@ -615,10 +575,8 @@ judged_full _ old _ _ _ (_, same) = record {
 }
 
 pub judged_bad : (intent : Option Intent) (old : Stored) (items : List Item) (fault : Fault) (new : Stored)
-    → JudgesMbox intent items old (Err fault) new
-    → LooksAtMbox intent old items (Err fault) new
-judged_bad _ _ _ (StoreRefused why.Missing) new is =
-    record { left = new; asks = is; same = cc; count = refl }
+    → JudgesMbox intent items old (Err fault) new → LooksAtMbox intent old items (Err fault) new
+judged_bad _ _ _ (StoreRefused why.Missing) new is = record { left = new; asks = is; same = cc; count = refl }
 judged_bad _ _ _ (StoreRefused why.Refused) new is = record {
   left = new;
   asks = (cc, inl (cc));
@@ -698,8 +656,7 @@ pub not_looked : (settings : Settings) (target : Target) (items : List Item) (no
 not_looked settings (AsFiles account) items now store file read loaded store' fault stood same looks = (
   record {
     left = store';
-    cause = not_found false (AsFiles account) items store store' file read loaded fault stood
-        looks;
+    cause = not_found false (AsFiles account) items store store' file read loaded fault stood looks;
     maildir = refl;
     count = refl;
   },
@@ -751,11 +708,9 @@ module _ (settings : Settings) (target : Target) (now : ℕ) (old : Place) (befo
   )
 
 pub left_preview : {settings : Settings} {target : Target} {now : ℕ} {link link' : Link} {before after : Keeping}
-    {preview : Preview} (id : Target) (reader : List ℕ) (result : Result (Unit {0}) Cut) (mid : Place)
-    → id ≡ target → reader ≡ []
+    {preview : Preview} (id : Target) (reader : List ℕ) (result : Result (Unit {0}) Cut) (mid : Place) → id ≡ target → reader ≡ []
     → PreviewsSession settings id now (at link reader) before result mid after (preview_told preview)
-    → LeavesLink result mid link' → preview.outcome ≡ outcome_of result
-    → Pretends settings target now link before preview link' after
+    → LeavesLink result mid link' → preview.outcome ≡ outcome_of result → Pretends settings target now link before preview link' after
 left_preview _ _ result mid same none previews leaves is =
     let there = rw (same, none) at previews in
     record { result = result; mid = mid; ends = there.0; leaves = leaves; outcome = is; untouched = there.1 }

@@ -8,20 +8,15 @@ use Rattle.rc_file.specs.declared.settings.Settings.{Settings}
 use Rattle.mail_store.specs.FileName.{sized_file, stem_of}
 use Rattle.mail_store.specs.FlatFile.{Stored}
 use Rattle.mail_store.specs.Maildir.{File, Maildir}
-use Rattle.fetch_session.specs.declared.fault.Cut.{Cut}
-use Rattle.fetch_session.specs.declared.fault.Fault.{Fault}
+use Rattle.fetch_session.specs.{declared.fault.Cut.Cut, declared.fault.Fault.Fault, declared.report.ReportLine.ReportLine}
 use Rattle.fetch_session.specs.declared.fault.Fault.TheVariants.{StoreRefused, SeenRefused, BadSeen, NoMemory}
 use Rattle.fetch_session.specs.declared.fault.Why.TheVariants.{Missing, Refused}
-use Rattle.fetch_session.specs.declared.report.ReportLine.{ReportLine}
-use Rattle.fetch_session.specs.declared.report.Skips.{Skips}
-use Rattle.fetch_session.specs.Laws.{SessionsKeepFiles}
+use Rattle.fetch_session.specs.{declared.report.Skips.Skips, Laws.SessionsKeepFiles, Readiness.UnreadyCause, Task.Task}
 use Rattle.fetch_session.specs.CarryingOut.{Carried, Carries}
-use Rattle.fetch_session.specs.Readiness.{UnreadyCause}
 use Rattle.fetch_session.specs.Scene.{Does, Scene, Stops}
 use Rattle.fetch_session.specs.Session.{Dealt, Keeping, Noted, Proceeds, keeps_files}
 use Rattle.fetch_session.specs.Store.{Gained, RefusesText}
 use Rattle.fetch_session.specs.Target.{AsFiles, Stores}
-use Rattle.fetch_session.specs.Task.{Task}
 
 -- some files came after the others, and none was taken
 abbrev Grew : Maildir → Maildir → Type 0
@@ -34,8 +29,7 @@ grew : (old new : Maildir) (files : List File) → Gained old new files → Grew
 grew _ _ files is = (files, is.came, is.taken)
 
 grew_on : (a b c : Maildir) → Grew a b → Grew b c → Grew a c
-grew_on a b c (xs, came, taken) (ys, come, took) =
-    (xs ++ ys, cc (append_assoc a.files xs ys), cc)
+grew_on a b c (xs, came, taken) (ys, come, took) = (xs ++ ys, cc (append_assoc a.files xs ys), cc)
 
 refused_grew : (old : Maildir) (stem text : List ℕ) (rest : Rest) (fault : Fault) (new : Maildir)
     → RefusesText old stem rest text fault new → Grew old new
@@ -80,8 +74,7 @@ module _ (account : List ℕ) where
         (grew_none _ _ (ap (λ (s : Stores). s.maildir) is.prepared.settles)) (does_grew _ is.mid new r is.does)
 
     carries_grew : (place : Place) (store : Stores) (file : Stored) (lines : List ReportLine)
-        (r : Result (Unit {0}) Cut) (place' : Place) (store' : Stores)
-        (file' : Stored) (lines' : List ReportLine) (skipped : Skips)
+        (r : Result (Unit {0}) Cut) (place' : Place) (store' : Stores) (file' : Stored) (lines' : List ReportLine) (skipped : Skips)
         → Carries settings (AsFiles account) items now place store file lines r place' store' file' lines' skipped
         → Grew store.maildir store'.maildir
     carries_grew place store file lines (Ok done) place' store' file' lines' skipped (rows, is) =

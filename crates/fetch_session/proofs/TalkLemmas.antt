@@ -2,7 +2,7 @@
 -- of it are refused.
 use Rattle.std.proofs.Common.{◌≡◌, Result, Ok, Err, ap, List, [], ◌∷◌, ◌++◌, refl, sym, ◌∙◌, append-nil, append_assoc}
 use Rattle.std.proofs.Common.{inl, inr, ℕ, Option, None, Some, ⊎_elim, ◌≤◌, ◌+◌, ◌*◌, length, arith, length-append}
-use Rattle.pop3_wire.specs.declared.wire.Wire.{Ghosts}
+use Rattle.pop3_wire.specs.{declared.wire.Wire.Ghosts, Line.ended, Bodies.Rest, declared.note.Asked.Asked}
 use Rattle.pop3_wire.specs.Link.{WhereSound, Link}
 use Rattle.pop3_wire.specs.Place.{Place, at}
 use Rattle.pop3_wire.specs.Reading.{WholeReply, GivesCount}
@@ -13,30 +13,21 @@ use Rattle.pop3_client.specs.Conversation.{Talked, Broke, Stopped, Completes, Ta
 use Rattle.pop3_client.specs.Conversation.{ConversationsArePaced, is_link_refusal, most_of}
 use Rattle.pop3_client.specs.declared.fault.ClientFault.{ClientFault}
 use Rattle.mail_terms.specs.Listing.{Item, UidRow}
-use Rattle.mail_terms.specs.declared.listing.ScanRow.{ScanRow}
+use Rattle.mail_terms.specs.{declared.listing.ScanRow.ScanRow, FailureCount.Tallies}
 use Rattle.pop3_client.specs.Listing.{Listed, GetsListing}
 use Rattle.fetch_session.specs.Opening.{SessionOpened, Enters, opening}
-use Rattle.pop3_wire.specs.Line.{ended}
-use Rattle.pop3_wire.specs.Bodies.{Rest}
 use Rattle.pop3_client.specs.Texts.{Fetching, TakesRest}
-use Rattle.fetch_session.specs.declared.fault.Fault.{Fault}
+use Rattle.fetch_session.specs.{declared.fault.Fault.Fault, declared.fault.Cut.Cut, declared.report.Outcome.Outcome}
 use Rattle.fetch_session.specs.Tail.{turns_of_tail, tail, Drops, TalksTailBy, turns_of_tail as tail_turns}
-use Rattle.mail_terms.specs.FailureCount.{Tallies}
 use Rattle.pop3_client.specs.declared.fault.ClientFault.TheVariants.{ReadFailed, WriteFailed, Refused as WasRefused}
-use Rattle.fetch_session.specs.declared.fault.Cut.{Cut}
-use Rattle.fetch_session.specs.declared.report.Outcome.{Outcome}
 use Rattle.fetch_session.specs.declared.report.Outcome.TheVariants.{Cut as WasCut}
-use Rattle.fetch_session.specs.declared.tail.Tail.TheVariants.{Nothing}
+use Rattle.fetch_session.specs.{declared.tail.Tail.TheVariants.Nothing, Mbox.TakesText, declared.fault.Fault.TheVariants.Refused}
 use Rattle.fetch_session.specs.Fault.{cut_of, fault_of}
 use Rattle.fetch_session.specs.Refusal.{RefusesNone, RefusesAtMostOne, RefusesBefore, RefusesTillCut, RefusesByOutcome}
 use Rattle.fetch_session.specs.Refusal.{session_limit, step_limit, opening_limit, tail_limit, GotAtMost, Took}
 use Rattle.fetch_session.specs.Refusal.{TookBefore, TookTillCut, TookWithTail}
-use Rattle.pop3_wire.specs.declared.note.Asked.{Asked}
 use Rattle.pop3_wire.specs.declared.note.Asked.TheVariants.{User as ByUser, Pass as ByPass, Quit as ByQuit}
-use Rattle.fetch_session.specs.Mbox.{TakesText}
-use Rattle.fetch_session.specs.declared.fault.Fault.TheVariants.{Refused}
-use Rattle.fetch_session.specs.declared.tail.Tail.{Tail}
-use Rattle.fetch_session.specs.Store.{StopsReading}
+use Rattle.fetch_session.specs.{declared.tail.Tail.Tail, Store.StopsReading}
 
 module _ {W : Type 0} (link : Ghosts W) where
   -- what a call did, leaving out what the link leads to
@@ -44,8 +35,7 @@ module _ {W : Type 0} (link : Ghosts W) where
   did_so did words sound = let all = did sound in (all.0, words all.2)
 
   pub did_both : {a b c : W} {P Q R : Type 0} → WhereSound link.sound link.leads_to a b P
-      → WhereSound link.sound link.leads_to b c Q → (P → Q → R)
-      → link.sound c → link.sound a × R
+      → WhereSound link.sound link.leads_to b c Q → (P → Q → R) → link.sound c → link.sound a × R
   did_both first second both sound =
       let then = second sound in
       let all = first then.0 in
@@ -85,13 +75,11 @@ module _ (joining : TurnsJoin) (name password : List ℕ) (a b c d : Place) (wel
   }
 
   pub listed_too : (counted : WholeReply) (count : ℕ) (result : Result (List Item) ClientFault)
-      → Talked (stat ∷ []) (counted ∷ []) b c → GivesCount counted count → GetsListing count c result d
-      → Enters name password a result d
+      → Talked (stat ∷ []) (counted ∷ []) b c → GivesCount counted count → GetsListing count c result d → Enters name password a result d
   listed_too counted count (Ok _) talked gives (uids, sizes, listed, joins) =
       (count, uids, sizes, all_opened _ _ _ _ talked gives listed, joins)
   listed_too counted _ (Err fault) talked _ (inl stopped) =
-      inl (stopped_behind joining _ _ _ a b d fault entered
-      (stopped_behind joining _ _ _ b c d fault talked stopped))
+      inl (stopped_behind joining _ _ _ a b d fault entered (stopped_behind joining _ _ _ b c d fault talked stopped))
   listed_too counted count (Err _) talked gives (inr (inl (is, (uids, sizes, listed, never)))) =
       inr (inl (is, (count, uids, sizes, all_opened _ _ _ _ talked gives listed, never)))
   listed_too counted count (Err _) talked gives (inr (inr (is, (uids, sizes, listed)))) =
@@ -121,18 +109,15 @@ rest_talks number start new (Err why) bad = stopped_first _ [] start new why (in
 
 -- nothing was said while the rest was read
 silent_rest : (number : ℕ) (start old new : Place) (rest : Rest) (text : List ℕ) (r : Result (Unit {0}) ClientFault)
-    → Fetching (retr number) start old rest text
-    → TakesRest (retr number) start r new → new.link.sent ≡ old.link.sent
-silent_rest number start _ _ _ _ (Ok _) now takes =
-    cc (append-nil (turn_bytes (retr number)))
+    → Fetching (retr number) start old rest text → TakesRest (retr number) start r new → new.link.sent ≡ old.link.sent
+silent_rest number start _ _ _ _ (Ok _) now takes = cc (append-nil (turn_bytes (retr number)))
 silent_rest _ _ _ _ _ _ (Err _) now bad = cc
 
 -- a place from which the same text would be under way, if all that came had come before it was asked for
 abbrev again : (number : ℕ) (start old : Place) (rest : Rest) (text : List ℕ) → Fetching (retr number) start old rest text → Place
 again _ start old _ _ now = at (record old.link { sent = start.link.sent }) (ended now.line ++ (now.under.used ++ old.waiting))
 
-fetching_again : (number : ℕ) (start old : Place) (rest : Rest) (text : List ℕ)
-    → (now : Fetching (retr number) start old rest text)
+fetching_again : (number : ℕ) (start old : Place) (rest : Rest) (text : List ℕ) → (now : Fetching (retr number) start old rest text)
     → Fetching (retr number) (again number start old rest text now) old rest text
 fetching_again _ _ old rest _ now = record {
   line = now.line;
@@ -161,14 +146,12 @@ fetching_again _ _ old rest _ now = record {
 }
 
 -- a turn before a conversation
-completes_then : TurnsJoin
-    → (turn : Turn) (turns : List Turn) (old mid new : Place) (reply : WholeReply)
+completes_then : TurnsJoin → (turn : Turn) (turns : List Turn) (old mid new : Place) (reply : WholeReply)
     (result : Result (Unit {0}) ClientFault) → Talked (turn ∷ []) (reply ∷ []) old mid
     → Talks turns mid result new → Talks (turn ∷ turns) old result new
 completes_then joining turn turns old mid new reply (Ok _) first then =
     (reply ∷ then.0, joining.on (turn ∷ []) turns (reply ∷ []) then.0 old mid new first then.1)
-completes_then joining turn turns old mid new reply (Err fault) first then = stopped_behind joining _ _
-    _ _ _ _ fault first then
+completes_then joining turn turns old mid new reply (Err fault) first then = stopped_behind joining _ _ _ _ _ _ fault first then
 
 module _ (joining : TurnsJoin) (paced : ConversationsArePaced) where
   got_under : (number : ℕ) (start old new : Place) (rest : Rest) (text : List ℕ) (r : Result (Unit {0}) ClientFault)
@@ -245,11 +228,9 @@ cut_by _ _ _ same = inl same
 
 -- a session that was cut and left
 pub left_alone : (cut : Cut) (a b c : Link) (outcome : Outcome) → outcome ≡ WasCut cut.fault → RefusesBefore a cut b
-    → RefusesAtMostOne b c → (cut.rest ≡ None → tail cut.fault ≡ Nothing → RefusesNone b c)
-    → RefusesByOutcome a outcome c
+    → RefusesAtMostOne b c → (cut.rest ≡ None → tail cut.fault ≡ Nothing → RefusesNone b c) → RefusesByOutcome a outcome c
 left_alone _ a b c _ is before left silent =
-    rw is
-    (elim before [
+    rw is (elim before [
       | inl same ↦ ⊎_elim (λ is. inl (cc)) (λ up. inr (cc)) left
       | inr (up, none, nothing) ↦ inr (silent none nothing ∙ up)
     ])
@@ -371,8 +352,7 @@ module _ (paced : ConversationsArePaced) where
     took_broke quit old new fault broke,
     omega (
       arith,
-      ap (λ (k : Tail). most_of (tail_turns k))
-          (quit_tail fault old new broke),
+      ap (λ (k : Tail). most_of (tail_turns k)) (quit_tail fault old new broke),
     ),
   )
 
@@ -387,13 +367,11 @@ module _ (paced : ConversationsArePaced) where
 
   -- what is left of a reply under way is dropped, and the tail said
   pub took_leaving : (limit : ℕ) (fault : Fault) (rest : Option Rest) (old mid last : Place)
-      → TookBefore limit old rest mid → TalksTailBy fault rest mid last
-      → Took (limit + most_of (tail_turns (tail fault))) old last
+      → TookBefore limit old rest mid → TalksTailBy fault rest mid last → Took (limit + most_of (tail_turns (tail fault))) old last
   took_leaving _ fault None _ mid last took left = took_on took (took_talks _ _ _ _ left.1)
   took_leaving _ fault (Some _) _ _ last so_far left =
       let said = left.1 so_far.number so_far.start so_far.text so_far.fetching in
-      let all : Took (most_of (retr so_far.number ∷ tail_turns (tail fault))) so_far.start last =
-      took_talks _ _ _ _ said.1 in
+      let all : Took (most_of (retr so_far.number ∷ tail_turns (tail fault))) so_far.start last = took_talks _ _ _ _ said.1 in
       took_less (took_on so_far.took all) (omega (arith, so_far.within))
 
   -- a text that was to be kept whole

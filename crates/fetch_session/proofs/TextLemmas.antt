@@ -2,50 +2,41 @@
 use Rattle.std.proofs.Common.{rules, ◌≡◌, inl, inr, ◌≤◌, ◌+◌, ℕ, List, [], ◌∷◌, ◌++◌, length, take, Option, None, Some}
 use Rattle.std.proofs.Common.{Result, Ok, Err, refl, sym, ap, subst, ◌∙◌, arith, length-append, ◌⊎◌, Bool, true}
 use Rattle.std.proofs.Common.{append_assoc, append-nil}
-use Rattle.std.proofs.lemmas.List.{length-take-le}
+use Rattle.std.proofs.{lemmas.List.length-take-le, lemmas.Option.none-some}
 use Rattle.std.specs.List.{AllZip}
 use Rattle.mail_store.specs.Maildir.{AllNamed, File, IsNamed, Maildir, MayBeNamed, draft, dropped, with_file}
 use Rattle.mail_store.specs.FileName.{sized, sized_file, stem_of}
 use Rattle.pop3_client.specs.declared.fault.ClientFault.{ClientFault}
-use Rattle.fetch_session.specs.declared.fault.Fault.{Fault}
-use Rattle.fetch_session.specs.declared.fault.Cut.{Cut}
+use Rattle.fetch_session.specs.{declared.fault.Fault.Fault, declared.fault.Cut.Cut, declared.report.ReportLine.ReportLine}
 use Rattle.fetch_session.specs.Fault.{cut_of, fault_of}
-use Rattle.pop3_wire.specs.Bodies.{Rest}
+use Rattle.pop3_wire.specs.{Bodies.Rest, Place.Place}
 use Rattle.fetch_session.specs.Store.{Gained, MayGain, begun_with, EndsFile, StopsStoring, StoresText, StopsReading, ReadsText, Appended}
-use Rattle.pop3_wire.specs.Place.{Place}
 use Rattle.fetch_record.specs.Record.{Row, none_open, marked, RecordState, Intent, Loaded}
 use Rattle.mail_store.specs.FlatFile.{Stored, holding, Measures}
 use Rattle.pop3_client.specs.Turns.{Turn, retr}
 use Rattle.pop3_client.specs.Conversation.{Talked, Broke}
-use Rattle.fetch_session.specs.declared.report.ReportLine.{ReportLine}
-use Rattle.fetch_session.specs.declared.report.ReportLine.TheVariants.{Delivered}
+use Rattle.fetch_session.specs.{declared.report.ReportLine.TheVariants.Delivered, declared.readiness.Found.Found}
 use Rattle.fetch_session.specs.Task.{Task, Done, IsAnswered, stores, turns_in, turns_of, texts_in, ids_in, replies_of}
 use Rattle.fetch_session.specs.Task.{report_lines, files_in}
 use Rattle.fetch_session.specs.Record.{Saves, record_state_in, intent_at, with_open}
 use Rattle.fetch_session.specs.Scene.{EntryNotSaved, NoEntry, scene, Stops, TakesTask}
 use Rattle.fetch_session.proofs.SceneLemmas.{brings_same}
 use Rattle.fetch_session.specs.Target.{Target, AsFiles, Stores, in_maildir, AsEntries, closed_file, in_mbox, is_stored, none_held}
-use Rattle.std.proofs.lemmas.Option.{none-some}
 use Rattle.pop3_wire.specs.Body.{lf_line, text_of, unstuffed}
-use Rattle.mail_terms.specs.Listing.{Item}
-use Rattle.mail_terms.specs.Text.{IsWhole}
-use Rattle.mail_store.specs.Mboxrd.{entry_of}
+use Rattle.mail_terms.specs.{Listing.Item, Text.IsWhole}
+use Rattle.mail_store.specs.{Mboxrd.entry_of, declared.fault.StoreFault.StoreFault, declared.fault.EntryFault.TheVariants.Nothing}
 use Rattle.mail_store.specs.MboxCalls.{RefusesLook, ChecksMbox, AppendsEntry}
-use Rattle.mail_store.specs.declared.fault.StoreFault.{StoreFault}
 use Rattle.mail_store.specs.declared.fault.StoreFault.TheVariants as refused
-use Rattle.mail_store.specs.declared.fault.EntryFault.TheVariants.{Nothing}
 use Rattle.mail_store.specs.declared.file.flat_file.Edges.{Edges}
 use Rattle.pop3_client.specs.Texts.{Fetched, body_text}
 use Rattle.fetch_session.specs.declared.fault.Fault.TheVariants.{SeenRefused, NoMemory}
-use Rattle.fetch_session.specs.declared.readiness.Found.{Found}
 use Rattle.fetch_session.specs.Mbox.{AppendsText, AsksMbox, TakesText, IsSettledAtMost, IsStoreFault, IsTakenBack}
 use Rattle.fetch_session.specs.Mbox.{MarksEntry, RefusesEntry, SettlesIntent, intent_of}
 
 -- ---- what storing a text leaves
 
 pub gained_file : (old new : Maildir) (f : File) → new ≡ with_file old f → Gained old new (f ∷ [])
-gained_file _ _ f is =
-    rw is (record { came = refl; taken = refl; there = refl; none_begun = λ _. refl; failures = omega arith })
+gained_file _ _ f is = rw is (record { came = refl; taken = refl; there = refl; none_begun = λ _. refl; failures = omega arith })
 
 pub not_grown : (old new : Maildir) (name : List ℕ) → old.begun ≡ None → new ≡ old → MayGain name old new
 not_grown _ _ _ none_begun is = rw is (record { none_begun = none_begun; came = inl refl })
@@ -95,10 +86,8 @@ longer n put text out is within = omega (arith, is, length-append text (take put
 
 -- the conversation broke
 pub text_broken : (target : Target) {task : Task} {turn : Turn} {a b : Place} {store : Stores} {file : Stored}
-    {rows : List Row} {lines : List ReportLine} (fault : ClientFault)
-    → turns_in task ≡ turn ∷ [] → Broke turn a b fault
-    → Stops target task (scene a store file rows lines) (cut_of (fault_of fault) None)
-    (scene b store file rows lines)
+    {rows : List Row} {lines : List ReportLine} (fault : ClientFault) → turns_in task ≡ turn ∷ [] → Broke turn a b fault
+    → Stops target task (scene a store file rows lines) (cut_of (fault_of fault) None) (scene b store file rows lines)
 text_broken _ {turn = turn} fault takes broke =
     inl (record {
       none = refl;
@@ -130,8 +119,7 @@ text_stops {n = n} text stem fault None named same broke =
       rows = refl;
       lines = refl;
     })
-text_stops {n = n} {uid} text stem fault (Some rest) named refuses reads =
-    inr (inl (search (rules, rw named at refuses)))
+text_stops {n = n} {uid} text stem fault (Some rest) named refuses reads = inr (inl (search (rules, rw named at refuses)))
 
 -- it was stored, and marked
 module _ {account : List ℕ} {n : ℕ} {uid : List ℕ} {a b : Place} {maildir maildir' : Maildir} {file file' : Stored}
@@ -215,8 +203,7 @@ same_content is = ap (λ (s : Stored). s.content) is
 
 -- an intent was ended: there was no file, or it is settled
 settled_is : (intent : Option Intent) (items : List Item) (old mid : Stored) (stored : Bool)
-    → SettlesIntent intent items old (Ok stored) mid
-    → ((old.content ≡ None) × (mid ≡ old)) ⊎ ((was : List ℕ) × (old.content ≡ Some was)
+    → SettlesIntent intent items old (Ok stored) mid → ((old.content ≡ None) × (mid ≡ old)) ⊎ ((was : List ℕ) × (old.content ≡ Some was)
     × (stored ≡ is_stored intent items was) × (mid ≡ holding old (closed_file intent items was)))
 settled_is None _ old _ _ (whole, same) =
     elim (either old.content) [
@@ -227,8 +214,7 @@ settled_is (Some _) _ _ _ _ (was, some, whole, now) = inr (was, some, whole, now
 
 pub asks_ok : (intent : Option Intent) (old mid new : Stored) (stored : Bool) (items : List Item) (found : Found)
     → SettlesIntent intent items old (Ok stored) mid → ChecksMbox {T = Unit {0}} mid (Ok tt) new → found.stored ≡ stored
-    → found.held.items ≡ none_held items
-    → AsksMbox intent old items (Ok found) new
+    → found.held.items ≡ none_held items → AsksMbox intent old items (Ok found) new
 asks_ok intent old mid new stored items found settles ((bytes, goes_on), same) stored_is flags =
     elim (settled_is intent items old mid stored settles) [
       | inl (none, is) ↦ none_some mid.content bytes (same_content is ∙ none) goes_on.0
@@ -253,20 +239,17 @@ failures_kept (Some _) _ _ _ _ is = cc
 
 -- the file was refused
 pub asks_refused : (intent : Option Intent) (old mid new : Stored) (stored : Bool) (items : List Item)
-    (why : StoreFault) (fault : Fault) → SettlesIntent intent items old (Ok stored) mid → RefusesLook mid why new
-    → IsStoreFault why fault
+    (why : StoreFault) (fault : Fault) → SettlesIntent intent items old (Ok stored) mid → RefusesLook mid why new → IsStoreFault why fault
     → AsksMbox intent old items (Err fault) new
 asks_refused intent old mid new stored items refused.Missing fault settles (none, same) is =
     rw is (elim (settled_is intent items old mid stored settles) [
       | inl (missing, is) ↦ (missing, same ∙ is)
-      | inr (was, some, whole, now) ↦ none_some mid.content (closed_file intent items was) none
-          (same_content now)
+      | inr (was, some, whole, now) ↦ none_some mid.content (closed_file intent items was) none (same_content now)
     ])
 asks_refused intent old mid new stored items refused.Refused fault settles same is =
     rw is (
       rw (same, failures_kept intent items old mid stored settles),
-      at_most intent items old mid new stored settles
-          (same_content same),
+      at_most intent items old mid new stored settles (same_content same),
     )
 asks_refused intent old mid new stored items refused.NotMbox fault settles ((bytes, is_mid, other), same) is =
     rw is (elim (settled_is intent items old mid stored settles) [
@@ -364,8 +347,7 @@ not_held {n} {uid} (none, inr (wants, (rest, text, fetching))) =
 module _ {n : ℕ} {uid : List ℕ} {a b : Place} {mbox mbox' file file' : Stored} {lines lines' : List ReportLine} where
   -- it wasn't appended
   pub text_refused : {rows rows' : List Row} (text : List ℕ) (fault : Fault) → Fetched (retr n) a text b
-      → RefusesEntry mbox file rows uid text fault mbox' file'
-      → rows' ≡ rows → lines' ≡ lines
+      → RefusesEntry mbox file rows uid text fault mbox' file' → rows' ≡ rows → lines' ≡ lines
       → (e : NoEntry (stores n uid) (scene a (in_mbox mbox) file rows lines)
       (scene b (in_mbox mbox') file' rows' lines') (cut_of fault None)) × (e.uid ≡ uid) × (body_text e.reply.body ≡ text)
   text_refused _ _ (reply, talked, is) refuses rows_are told = (
@@ -388,8 +370,7 @@ module _ {n : ℕ} {uid : List ℕ} {a b : Place} {mbox mbox' file file' : Store
   pub entry_not_saved : {rows' : List Row} (octets : ℕ) (text : List ℕ) (mid : Stored) (seen seen' : Loaded)
       (fault : Fault) → Fetched (retr n) a text b → octets ≡ length text
       → AppendsText mbox file seen uid text (Ok tt) mbox' mid seen' → seen'.rows ≡ seen.rows
-      → Saves mid (record_state_in seen') (none_open (marked seen'.rows uid)) (Err fault) file'
-      → lines' ≡ lines ++ Delivered n octets ∷ []
+      → Saves mid (record_state_in seen') (none_open (marked seen'.rows uid)) (Err fault) file' → lines' ≡ lines ++ Delivered n octets ∷ []
       → (u : EntryNotSaved (stores n uid) (scene a (in_mbox mbox) file seen.rows lines)
       (scene b (in_mbox mbox') file' rows' lines') (cut_of fault None)) × (u.uid ≡ uid) × (body_text u.reply.body ≡ text)
   entry_not_saved octets text mid seen seen' fault (reply, talked, is) long (was, goes_on, now, opened, saves) rows_are marks told =
@@ -407,8 +388,7 @@ module _ {n : ℕ} {uid : List ℕ} {a b : Place} {mbox mbox' file file' : Store
             goes_on.0,
             mid,
             saves,
-            subst (λ (h : RecordState). Saves mid h (none_open (marked h.rows uid))
-                (Err fault) file') held_is marks,
+            subst (λ (h : RecordState). Saves mid h (none_open (marked h.rows uid)) (Err fault) file') held_is marks,
           );
           lines = simp (told, long, is);
         },
@@ -419,10 +399,8 @@ module _ {n : ℕ} {uid : List ℕ} {a b : Place} {mbox mbox' file file' : Store
   -- it was appended and marked
   pub entry_stored : {rows' : List Row} (octets : ℕ) (text : List ℕ) (mid : Stored) (seen seen' : Loaded)
       → Fetched (retr n) a text b → octets ≡ length text
-      → AppendsText mbox file seen uid text (Ok tt) mbox' mid seen' → seen'.rows ≡ seen.rows
-      → rows' ≡ marked seen'.rows uid
-      → Saves mid (record_state_in seen') (none_open (marked seen'.rows uid)) (Ok tt) file'
-      → lines' ≡ lines ++ Delivered n octets ∷ []
+      → AppendsText mbox file seen uid text (Ok tt) mbox' mid seen' → seen'.rows ≡ seen.rows → rows' ≡ marked seen'.rows uid
+      → Saves mid (record_state_in seen') (none_open (marked seen'.rows uid)) (Ok tt) file' → lines' ≡ lines ++ Delivered n octets ∷ []
       → TakesTask AsEntries (stores n uid) (scene a (in_mbox mbox) file seen.rows lines) (Ok tt)
       (scene b (in_mbox mbox') file' rows' lines')
   entry_stored _ text _ _ _ (reply, talked, is) long (was, goes_on, now, opened, saves) rows_are mark marks told = (

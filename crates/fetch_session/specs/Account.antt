@@ -3,8 +3,7 @@ use Rattle.std.specs.Prelude.{◌≡◌, ℕ, List}
 use Rattle.std.specs.String.{string_bytes}
 use Rattle.rc_file.specs.declared.settings.Settings.{Settings}
 use Rattle.mail_store.specs.FileName.{account_text}
-use Rattle.fetch_session.specs.declared.account.Store.{Store}
-use Rattle.fetch_session.specs.Target.{kind_of}
+use Rattle.fetch_session.specs.{declared.account.Store.Store, Target.kind_of}
 
 -- the settings, the store and the record's file
 pub record Holding (D F : Type 0) : Type 0 where

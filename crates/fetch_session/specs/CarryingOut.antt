@@ -7,8 +7,7 @@ use Rattle.fetch_rules.specs.Plan.{IsQuiet, planned}
 use Rattle.rc_file.specs.declared.settings.Settings.{Settings}
 use Rattle.mail_store.specs.FlatFile.{Stored}
 use Rattle.pop3_client.specs.Turns.{quit}
-use Rattle.fetch_session.specs.declared.report.ReportLine.{ReportLine}
-use Rattle.fetch_session.specs.declared.fault.Cut.{Cut}
+use Rattle.fetch_session.specs.{declared.report.ReportLine.ReportLine, declared.fault.Cut.Cut}
 use Rattle.fetch_session.specs.Task.{Task, says, tasks_planned}
 use Rattle.fetch_session.specs.Readiness.{AreDurable, IsFileKept, SettlesStore, Unready, merged_in}
 use Rattle.fetch_session.specs.Record.{Keeps, Steady}

@@ -6,25 +6,19 @@ use Rattle.mail_terms.specs.declared.listing.ScanRow.{ScanRow}
 use Rattle.mail_store.specs.MboxCalls.{IsNoMbox}
 use Rattle.rc_file.specs.declared.settings.Settings.{Settings}
 use Rattle.fetch_record.specs.Record.{RecordState}
-use Rattle.pop3_wire.specs.Link.{Link}
+use Rattle.pop3_wire.specs.{Link.Link, Reading.WholeReply}
 use Rattle.pop3_wire.specs.Place.{Place, at}
-use Rattle.pop3_wire.specs.Reading.{WholeReply}
-use Rattle.pop3_client.specs.Conversation.{Talked}
-use Rattle.pop3_client.specs.Turns.{Turn}
-use Rattle.fetch_session.specs.declared.fault.Fault.{Fault}
+use Rattle.pop3_client.specs.{Conversation.Talked, Turns.Turn}
+use Rattle.fetch_session.specs.{declared.fault.Fault.Fault, declared.report.Report.Report, Fault.Breaks}
 use Rattle.fetch_session.specs.declared.fault.Fault.TheVariants.{ListingsDisagree, StoreRefused, SeenRefused}
 use Rattle.fetch_session.specs.declared.fault.Fault.TheVariants.{NoMemory, BadSeen}
 use Rattle.fetch_session.specs.declared.fault.Why.TheVariants.{Missing, Refused, NotMbox}
 use Rattle.fetch_session.specs.declared.report.Outcome.TheVariants.{Cut as WasCut}
-use Rattle.fetch_session.specs.declared.report.Report.{Report}
-use Rattle.fetch_session.specs.Fault.{Breaks}
 use Rattle.fetch_session.specs.Opening.{opening, SessionOpened}
-use Rattle.fetch_session.specs.CarryingOut.{tasks_ahead}
-use Rattle.fetch_session.specs.Readiness.{merged_in}
+use Rattle.fetch_session.specs.{CarryingOut.tasks_ahead, Readiness.merged_in, Task.turns_ahead}
 use Rattle.fetch_session.specs.Record.{Keeps, Misread}
 use Rattle.fetch_session.specs.Session.{Enters_with, Keeping, SessionIn}
 use Rattle.fetch_session.specs.Target.{Target, AsFiles, AsEntries, Stores}
-use Rattle.fetch_session.specs.Task.{turns_ahead}
 
 -- what was sent and what came went on from before
 pub record Extends (old new : Link) : Type 0 where

@@ -6,32 +6,24 @@ use Rattle.std.proofs.Common.{inl, inr}
 use Rattle.mail_store.specs.declared.maildir.disk.MaildirDisk.{Ghosts as DiskGhosts}
 use Rattle.mail_store.specs.declared.file.flat_file.FlatFile.{Ghosts as FileGhosts}
 use Rattle.mail_store.specs.Durable.{IsDurable as IsFileDurable, Trusted, MayLeave}
-use Rattle.mail_store.specs.FlatFile.{Stored}
+use Rattle.mail_store.specs.{FlatFile.Stored, Mboxrd.entry_of, Settling.MayBeLeft}
 use Rattle.mail_store.specs.Maildir.{File, IsDurableFile, Maildir}
-use Rattle.mail_store.specs.Mboxrd.{entry_of}
-use Rattle.mail_store.specs.Settling.{MayBeLeft}
 use Rattle.mail_store.specs.Power.{KeepsWhole, IsLeftWhole, LeavesCut, LeavesNoMore, LeavesAll}
 use Rattle.mail_terms.specs.Listing.{Item}
 use Rattle.pop3_client.specs.Texts.{body_text}
-use Rattle.pop3_wire.specs.Link.{Link}
+use Rattle.pop3_wire.specs.{Link.Link, Place.Place}
 use Rattle.pop3_wire.specs.declared.wire.Wire.{Ghosts as WireGhosts}
-use Rattle.pop3_wire.specs.Place.{Place}
 use Rattle.rc_file.specs.declared.settings.Settings.{Settings}
 use Rattle.fetch_record.specs.Record.{Row, RecordState, Intent, none_open, marked, marked_all}
 use Rattle.fetch_record.specs.RecordGrowth.{Grows}
-use Rattle.fetch_session.specs.declared.account.Store.{Store}
+use Rattle.fetch_session.specs.{declared.account.Store.Store, declared.fault.Cut.Cut, declared.fault.Fault.Fault}
 use Rattle.fetch_session.specs.declared.account.Store.TheVariants.{Maildir as InMaildir, Mboxrd as InMbox}
-use Rattle.fetch_session.specs.declared.fault.Cut.{Cut}
-use Rattle.fetch_session.specs.declared.fault.Fault.{Fault}
-use Rattle.fetch_session.specs.declared.readiness.Ready.{Ready}
-use Rattle.fetch_session.specs.declared.report.Report.{Report}
-use Rattle.fetch_session.specs.declared.report.ReportLine.{ReportLine}
-use Rattle.fetch_session.specs.declared.report.Skips.{Skips}
-use Rattle.fetch_session.specs.declared.work.Work.{Work}
+use Rattle.fetch_session.specs.{declared.readiness.Ready.Ready, declared.report.Report.Report}
+use Rattle.fetch_session.specs.{declared.report.ReportLine.ReportLine, declared.report.Skips.Skips}
+use Rattle.fetch_session.specs.{declared.work.Work.Work, Mbox.intent_of}
 use Rattle.fetch_session.specs.Account.{Holding, digits_of}
 use Rattle.fetch_session.specs.CarryingOut.{Carried, Carries, tasks_ahead}
 use Rattle.fetch_session.specs.Readiness.{IsFileKept, IsMergedAtMost, Readies, merged_in}
-use Rattle.fetch_session.specs.Mbox.{intent_of}
 use Rattle.fetch_session.specs.Record.{Keeps, Steady, record_state, with_open}
 use Rattle.fetch_session.specs.Scene.{EntryNotSaved, NoEntry, Scene, Does, WhereAllSound}
 use Rattle.fetch_session.specs.Session.{Keeping, Noted, Proceeds, SessionIn, keeping}

@@ -1,17 +1,13 @@
 -- A session's fault, and how a session is cut.
 use Rattle.std.specs.Prelude.{◌≡◌, ℕ, Option}
-use Rattle.pop3_wire.specs.Bodies.{Rest}
-use Rattle.pop3_wire.specs.Place.{Place}
-use Rattle.pop3_client.specs.Conversation.{Broke}
-use Rattle.pop3_client.specs.Turns.{Turn}
-use Rattle.pop3_client.specs.declared.fault.ClientFault.{ClientFault}
+use Rattle.pop3_wire.specs.{Bodies.Rest, Place.Place}
+use Rattle.pop3_client.specs.{Conversation.Broke, Turns.Turn, declared.fault.ClientFault.ClientFault}
 use Rattle.pop3_client.specs.declared.fault.ClientFault.TheVariants as talk
-use Rattle.fetch_session.specs.declared.fault.Fault.{Fault}
+use Rattle.fetch_session.specs.{declared.fault.Fault.Fault, declared.fault.Cut.Cut}
 use Rattle.fetch_session.specs.declared.fault.Fault.TheVariants.{ConnectionEnded, ReadFailed, WriteFailed, ReplyTooLong}
 use Rattle.fetch_session.specs.declared.fault.Fault.TheVariants.{BadReply, Refused, BadListing, ListingsDisagree}
 use Rattle.fetch_session.specs.declared.fault.Fault.TheVariants.{TooMany, TextTooLong, StoreRefused, SeenRefused}
 use Rattle.fetch_session.specs.declared.fault.Fault.TheVariants.{NoMemory, BadSeen}
-use Rattle.fetch_session.specs.declared.fault.Cut.{Cut}
 
 -- the number that is shown for a fault
 abbrev pub number_of : Fault → ℕ

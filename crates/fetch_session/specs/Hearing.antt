@@ -8,16 +8,11 @@ use Rattle.pop3_wire.specs.Link.{Link}
 use Rattle.pop3_wire.specs.Place.{Place, at}
 use Rattle.rc_file.specs.declared.settings.Settings.{Settings}
 use Rattle.fetch_record.specs.Record.{Row, RecordState}
-use Rattle.fetch_rules.specs.Plan.{planned}
-use Rattle.fetch_rules.specs.declared.plans.Step.{Step}
+use Rattle.fetch_rules.specs.{Plan.planned, declared.plans.Step.Step}
 use Rattle.fetch_session.specs.Account.{Holding, digits_of}
-use Rattle.fetch_session.specs.Readiness.{merged_in}
-use Rattle.fetch_session.specs.Record.{Keeps}
-use Rattle.fetch_session.specs.Report.{skips_planned}
-use Rattle.fetch_session.specs.Session.{Enters_with}
+use Rattle.fetch_session.specs.{Readiness.merged_in, Record.Keeps, Report.skips_planned, Session.Enters_with}
 use Rattle.fetch_session.specs.Target.{AfterTakingIn, is_sound, stores_of, target_of}
-use Rattle.fetch_session.specs.declared.account.Store.{Store}
-use Rattle.fetch_session.specs.declared.report.Report.{Report}
+use Rattle.fetch_session.specs.{declared.account.Store.Store, declared.report.Report.Report}
 use Rattle.fetch_session.specs.declared.report.Skips.{Skips}
 
 -- what a report says of messages that were passed over

@@ -6,22 +6,17 @@ use Rattle.fetch_record.specs.Record.{Row, Intent, Loaded, none_open, marked}
 use Rattle.mail_store.specs.FlatFile.{Stored, holding, file_refused, edges_of}
 use Rattle.mail_store.specs.Mboxrd.{MayGoOn, entry_of}
 use Rattle.mail_store.specs.MboxCalls.{EntryMayFollow, IsNoMbox, RefusesLook}
-use Rattle.mail_store.specs.declared.fault.StoreFault.{StoreFault}
+use Rattle.mail_store.specs.{declared.fault.StoreFault.StoreFault, declared.file.flat_file.Edges.Edges}
 use Rattle.mail_store.specs.declared.fault.StoreFault.TheVariants as refused
-use Rattle.pop3_wire.specs.Bodies.{Rest}
-use Rattle.pop3_wire.specs.Place.{Place}
+use Rattle.pop3_wire.specs.{Bodies.Rest, Place.Place}
 use Rattle.pop3_client.specs.Texts.{Fetching, Fetched}
 use Rattle.pop3_client.specs.Turns.{retr}
-use Rattle.fetch_session.specs.declared.fault.Cut.{Cut}
-use Rattle.fetch_session.specs.declared.fault.Fault.{Fault}
-use Rattle.fetch_session.specs.Fault.{Breaks}
+use Rattle.fetch_session.specs.{declared.fault.Cut.Cut, declared.fault.Fault.Fault, Fault.Breaks}
 use Rattle.fetch_session.specs.declared.fault.Fault.TheVariants.{StoreRefused, SeenRefused, NoMemory}
 use Rattle.fetch_session.specs.declared.fault.Why.TheVariants.{Missing, Refused, NotMbox}
-use Rattle.fetch_session.specs.declared.readiness.Found.{Found}
+use Rattle.fetch_session.specs.{declared.readiness.Found.Found, declared.report.ReportLine.ReportLine}
 use Rattle.fetch_session.specs.Record.{Saves, TakesBack, intent_at, with_open}
 use Rattle.fetch_session.specs.Target.{is_stored, closed_file, none_held, Kind, Files, Entries, Stores}
-use Rattle.mail_store.specs.declared.file.flat_file.Edges.{Edges}
-use Rattle.fetch_session.specs.declared.report.ReportLine.{ReportLine}
 use Rattle.fetch_session.specs.Report.{has_deletions}
 
 -- the fault of a session for a fault of its store

@@ -1,13 +1,11 @@
 -- What a run would do with each message of a listing.
 use Rattle.std.specs.Prelude.{ℕ, ◌+◌, ◌*◌, ◌==◌, ◌&&◌, ◌||◌, not, nat_lt, min, Bool, List, [], ◌∷◌, Option, Some, None}
 use Rattle.std.specs.Prelude.{if◌then◌else◌}
-use Rattle.mail_terms.specs.Listing.{Item}
-use Rattle.mail_terms.specs.Numeral.{greatest_size}
+use Rattle.mail_terms.specs.{Listing.Item, Numeral.greatest_size}
 use Rattle.rc_file.specs.declared.settings.Settings.{Settings}
 use Rattle.fetch_record.specs.Record.{Row, is_delivered}
-use Rattle.fetch_rules.specs.Due.{seconds_per_day}
+use Rattle.fetch_rules.specs.{Due.seconds_per_day, declared.plans.Step.Step}
 use Rattle.fetch_rules.specs.Plan.{fetches, seen_since}
-use Rattle.fetch_rules.specs.declared.plans.Step.{Step}
 use Rattle.fetch_session.specs.declared.message_preview.MessagePreview.{MessagePreview}
 
 -- whether the age of a message decides if it is deleted: it is delivered, or will be

@@ -4,20 +4,16 @@ use Rattle.std.specs.List.{AllByRecursion}
 use Rattle.mail_terms.specs.UniqueId.{IsLegalId}
 use Rattle.mail_store.specs.declared.file.flat_file.FlatFile.{Ghosts as FileGhosts}
 use Rattle.mail_store.specs.declared.maildir.disk.MaildirDisk.{Ghosts as DiskGhosts}
-use Rattle.mail_store.specs.FileName.{IsAccountText}
-use Rattle.mail_store.specs.Maildir.{AllNamed}
+use Rattle.mail_store.specs.{FileName.IsAccountText, Maildir.AllNamed}
 use Rattle.fetch_record.specs.Intents.{IsNoneOrOf}
 use Rattle.fetch_record.specs.Record.{Row, has_row, marked, none_open}
 use Rattle.pop3_client.specs.Client.{HasSameLink, link_of, place_of}
-use Rattle.pop3_client.specs.Conversation.{most_of}
-use Rattle.pop3_client.specs.declared.client.Client.{Client}
-use Rattle.fetch_session.specs.declared.fault.Fault.{Fault}
+use Rattle.pop3_client.specs.{Conversation.most_of, declared.client.Client.Client}
+use Rattle.fetch_session.specs.{declared.fault.Fault.Fault, declared.fault.Cut.Cut, declared.work.Ledger.Ledger}
 use Rattle.pop3_wire.specs.declared.wire.Wire.{Ghosts as WireGhosts}
 use Rattle.pop3_wire.specs.Place.{Place}
-use Rattle.fetch_session.specs.declared.fault.Cut.{Cut}
 use Rattle.fetch_session.specs.declared.step.Task.{Task as Planned}
 use Rattle.fetch_session.specs.declared.step.Task.TheVariants.{Store, Reread, Skip, Delete}
-use Rattle.fetch_session.specs.declared.work.Ledger.{Ledger}
 use Rattle.fetch_session.specs.declared.work.Work.{Work}
 use Rattle.fetch_session.specs.Durable.{AreLeft, DoesDurably, IsSafeFile, IsSafeWork, LeavesFile, LeavesStore}
 use Rattle.fetch_session.specs.Record.{Steady, record_state_in}

@@ -3,28 +3,20 @@ use Rattle.std.specs.Prelude.{◌≡◌, ◌⊎◌, ℕ, Bool, false, List, [], 
 use Rattle.mail_terms.specs.Listing.{Item}
 use Rattle.pop3_wire.specs.Link.{Link}
 use Rattle.pop3_wire.specs.Place.{Place, at}
-use Rattle.pop3_client.specs.Conversation.{Talks}
-use Rattle.pop3_client.specs.Turns.{quit}
+use Rattle.pop3_client.specs.{Conversation.Talks, Turns.quit, declared.fault.ClientFault.ClientFault}
 use Rattle.rc_file.specs.declared.settings.Settings.{Settings}
 use Rattle.fetch_record.specs.Record.{Row, Intent, RecordState}
 use Rattle.fetch_rules.specs.Plan.{planned}
 use Rattle.mail_store.specs.FlatFile.{Stored, file_refused}
-use Rattle.mail_store.specs.Held.{flags_of}
-use Rattle.mail_store.specs.Maildir.{Maildir}
-use Rattle.mail_store.specs.Mboxrd.{MayGoOn}
-use Rattle.fetch_session.specs.declared.fault.Cut.{Cut}
-use Rattle.pop3_client.specs.declared.fault.ClientFault.{ClientFault}
-use Rattle.fetch_session.specs.declared.fault.Fault.{Fault}
+use Rattle.mail_store.specs.{Held.flags_of, Maildir.Maildir, Mboxrd.MayGoOn}
+use Rattle.fetch_session.specs.{declared.fault.Cut.Cut, declared.fault.Fault.Fault, declared.readiness.Found.Found}
 use Rattle.fetch_session.specs.declared.fault.Fault.TheVariants.{NoMemory, StoreRefused}
 use Rattle.fetch_session.specs.declared.fault.Why.TheVariants.{Missing, NotMbox, Refused}
-use Rattle.fetch_session.specs.declared.readiness.Found.{Found}
 use Rattle.fetch_session.specs.declared.preview.Preview.{Preview}
-use Rattle.fetch_session.specs.declared.message_preview.MessagePreview.{MessagePreview}
+use Rattle.fetch_session.specs.{declared.message_preview.MessagePreview.MessagePreview, Mbox.AsksMbox}
 use Rattle.fetch_session.specs.Fault.{cut_of, fault_of}
-use Rattle.fetch_session.specs.Mbox.{AsksMbox}
-use Rattle.fetch_session.specs.MessagePreview.{message_previews}
+use Rattle.fetch_session.specs.{MessagePreview.message_previews, Record.Keeps}
 use Rattle.fetch_session.specs.Readiness.{CausesUnready, FindsRefused, SettlesStore, merged_in}
-use Rattle.fetch_session.specs.Record.{Keeps}
 use Rattle.fetch_session.specs.Session.{Keeping, Enters_with, LeavesLink, outcome_of}
 use Rattle.fetch_session.specs.Target.{Target, AsFiles, AsEntries, Stores, closed_file, held_flags, is_stored}
 

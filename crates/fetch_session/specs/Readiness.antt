@@ -8,22 +8,18 @@ use Rattle.fetch_record.specs.Record.{merged}
 use Rattle.fetch_record.specs.RecordFile.{file_of}
 use Rattle.fetch_rules.specs.Plan.{IsQuiet, planned}
 use Rattle.fetch_rules.specs.declared.plans.Step.{Step}
-use Rattle.fetch_session.specs.Task.{tasks_planned}
+use Rattle.fetch_session.specs.{Task.tasks_planned, declared.fault.Fault.Fault, declared.readiness.Found.Found}
 use Rattle.rc_file.specs.declared.settings.Settings.{Settings}
 use Rattle.mail_store.specs.FlatFile.{Stored, holding}
 use Rattle.mail_store.specs.Maildir.{AllNamed, Maildir}
-use Rattle.mail_store.specs.Mboxrd.{MayGoOn}
+use Rattle.mail_store.specs.{Mboxrd.MayGoOn, declared.fault.StoreFault.StoreFault, MboxCalls.ChecksMbox}
 use Rattle.mail_store.specs.Held.{FoundDurable, flags_asked}
-use Rattle.fetch_session.specs.declared.fault.Fault.{Fault}
 use Rattle.fetch_session.specs.declared.fault.Fault.TheVariants.{StoreRefused, SeenRefused, BadSeen, NoMemory}
 use Rattle.fetch_session.specs.declared.fault.Why.TheVariants.{Missing, Refused, NotMbox}
-use Rattle.mail_store.specs.declared.fault.StoreFault.{StoreFault}
 use Rattle.mail_store.specs.declared.fault.StoreFault.TheVariants as refused
-use Rattle.fetch_session.specs.declared.readiness.Found.{Found}
 use Rattle.fetch_session.specs.declared.readiness.Ready.{Ready}
 use Rattle.fetch_session.specs.Mbox.{AsksMbox, IsSettledAtMost}
 use Rattle.fetch_session.specs.Record.{Keeps, Steady, Misread, FileReadAs}
-use Rattle.mail_store.specs.MboxCalls.{ChecksMbox}
 use Rattle.fetch_session.specs.Target.{Kind, Files, Entries, Target, AsFiles, AsEntries, Stores, closed_file}
 use Rattle.fetch_session.specs.Target.{held_flags}
 use Rattle.fetch_session.specs.Target.{in_maildir, none_held, closed_rows_in}

@@ -3,13 +3,9 @@ use Rattle.std.specs.Prelude.{ℕ, ◌-◌, ◌==◌, List, [], ◌∷◌, ◌++
 use Rattle.std.specs.Prelude.{option_and_then, false, if◌then◌else◌, codes}
 use Rattle.std.specs.Fmt.{decimal}
 use Rattle.rc_file.specs.declared.settings.Settings.{Settings}
-use Rattle.fetch_rules.specs.declared.plans.Skip.{Skip}
-use Rattle.fetch_rules.specs.declared.plans.Step.{Step}
-use Rattle.fetch_session.specs.Report.{reason_of}
-use Rattle.fetch_session.specs.declared.report.Report.{Report}
-use Rattle.fetch_session.specs.declared.report.ReportLine.{ReportLine}
-use Rattle.fetch_session.specs.declared.report.ReportLine.TheVariants.{Skipped}
-use Rattle.fetch_session.specs.Telling.{skip_text}
+use Rattle.fetch_rules.specs.{declared.plans.Skip.Skip, declared.plans.Step.Step}
+use Rattle.fetch_session.specs.{Report.reason_of, declared.report.Report.Report, declared.report.ReportLine.ReportLine}
+use Rattle.fetch_session.specs.{declared.report.ReportLine.TheVariants.Skipped, Telling.skip_text}
 use Rattle.fetch_session.specs.Text.{heading, line_text, message_text, report_text, summary}
 
 -- why message `number` was passed over, if what was planned for it is known

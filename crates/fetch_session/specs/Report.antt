@@ -8,15 +8,12 @@ use Rattle.mail_terms.specs.Listing.{Item, message_limit}
 use Rattle.rc_file.specs.declared.settings.Settings.{Settings}
 use Rattle.fetch_record.specs.Record.{Row}
 use Rattle.fetch_rules.specs.Plan.{fetches, planned}
-use Rattle.fetch_rules.specs.declared.plans.Skip.{Skip}
+use Rattle.fetch_rules.specs.{declared.plans.Skip.Skip, declared.plans.Step.Step}
 use Rattle.fetch_rules.specs.declared.plans.Skip.TheVariants.{Delivered as DeliveredBefore, TooLarge, PastLimit}
 use Rattle.fetch_rules.specs.declared.plans.Skip.TheVariants.{SameId}
-use Rattle.fetch_rules.specs.declared.plans.Step.{Step}
 use Rattle.fetch_session.specs.declared.fault.Fault.TheVariants.{StoreRefused, SeenRefused, BadSeen}
-use Rattle.fetch_session.specs.declared.report.Skips.{Skips}
-use Rattle.fetch_session.specs.declared.report.Report.{Report}
-use Rattle.fetch_session.specs.declared.report.Outcome.{Outcome}
-use Rattle.fetch_session.specs.declared.report.Outcome.TheVariants.{Cut}
+use Rattle.fetch_session.specs.{declared.report.Skips.Skips, declared.report.Report.Report}
+use Rattle.fetch_session.specs.{declared.report.Outcome.Outcome, declared.report.Outcome.TheVariants.Cut}
 use Rattle.fetch_session.specs.declared.report.ReportLine.{ReportLine}
 use Rattle.fetch_session.specs.declared.report.ReportLine.TheVariants.{Delivered, Held, Deleted}
 

@@ -11,19 +11,15 @@ use Rattle.fetch_rules.specs.Wanted.{wanted}
 use Rattle.pop3_wire.specs.Link.{Link}
 use Rattle.pop3_wire.specs.Place.{Place, at}
 use Rattle.pop3_wire.specs.Reading.{WholeReply, reply_bytes}
-use Rattle.pop3_client.specs.Conversation.{Talked}
-use Rattle.pop3_client.specs.Texts.{body_text}
+use Rattle.pop3_client.specs.{Conversation.Talked, Texts.body_text}
 use Rattle.pop3_client.specs.Turns.{IsGood, Turn, asking, retr}
-use Rattle.fetch_session.specs.declared.fault.Fault.TheVariants.{NoMemory}
+use Rattle.fetch_session.specs.{declared.fault.Fault.TheVariants.NoMemory, declared.report.Report.Report}
 use Rattle.fetch_session.specs.declared.report.Outcome.TheVariants.{Ended, Cut as WasCut}
-use Rattle.fetch_session.specs.declared.report.Report.{Report}
 use Rattle.fetch_session.specs.Cuts.{ArePlanned, Extends}
-use Rattle.fetch_session.specs.Opening.{SessionOpened}
-use Rattle.fetch_session.specs.Readiness.{merged_in}
+use Rattle.fetch_session.specs.{Opening.SessionOpened, Readiness.merged_in, Task.file_from}
 use Rattle.fetch_session.specs.Record.{Keeps, FileReadAs}
 use Rattle.fetch_session.specs.Session.{Enters_with, Keeping, SessionIn}
 use Rattle.fetch_session.specs.Target.{Target, AsFiles, AsEntries, Stores, held_flags}
-use Rattle.fetch_session.specs.Task.{file_from}
 
 -- ---- nothing fails
 

@@ -5,20 +5,14 @@ use Rattle.pop3_wire.specs.Link.{Link}
 use Rattle.pop3_wire.specs.Place.{Place, at}
 use Rattle.mail_terms.specs.Listing.{Item}
 use Rattle.rc_file.specs.declared.settings.Settings.{Settings}
-use Rattle.mail_store.specs.Maildir.{Maildir}
-use Rattle.mail_store.specs.FlatFile.{Stored}
+use Rattle.mail_store.specs.{Maildir.Maildir, FlatFile.Stored}
 use Rattle.pop3_client.specs.declared.fault.ClientFault.{ClientFault}
-use Rattle.fetch_session.specs.declared.fault.Fault.TheVariants.{NoMemory}
-use Rattle.fetch_session.specs.declared.fault.Cut.{Cut}
-use Rattle.fetch_session.specs.declared.report.Outcome.{Outcome}
+use Rattle.fetch_session.specs.{declared.fault.Fault.TheVariants.NoMemory, declared.fault.Cut.Cut}
+use Rattle.fetch_session.specs.{declared.report.Outcome.Outcome, declared.report.Report.Report}
 use Rattle.fetch_session.specs.declared.report.Outcome.TheVariants.{Ended, Cut as WasCut}
-use Rattle.fetch_session.specs.declared.report.Report.{Report}
-use Rattle.fetch_session.specs.declared.report.ReportLine.{ReportLine}
-use Rattle.fetch_session.specs.declared.report.Skips.{Skips}
+use Rattle.fetch_session.specs.{declared.report.ReportLine.ReportLine, declared.report.Skips.Skips, Opening.Enters}
 use Rattle.fetch_session.specs.Fault.{cut_of, fault_of}
-use Rattle.fetch_session.specs.Opening.{Enters}
-use Rattle.fetch_session.specs.CarryingOut.{Carries}
-use Rattle.fetch_session.specs.Tail.{TalksTail}
+use Rattle.fetch_session.specs.{CarryingOut.Carries, Tail.TalksTail}
 use Rattle.fetch_session.specs.Report.{Reports, none_skipped}
 use Rattle.fetch_session.specs.Target.{Target, AsFiles, AsEntries, Stores, in_maildir, in_mbox}
 

@@ -5,8 +5,7 @@ use Rattle.fetch_record.specs.Record.{Row, Intent, RecordState}
 use Rattle.fetch_record.specs.Intents.{closed_rows}
 use Rattle.mail_store.specs.declared.maildir.disk.MaildirDisk.{Ghosts as DiskGhosts}
 use Rattle.mail_store.specs.declared.file.flat_file.FlatFile.{Ghosts as FileGhosts}
-use Rattle.mail_store.specs.FlatFile.{Stored}
-use Rattle.mail_store.specs.Held.{flags_of}
+use Rattle.mail_store.specs.{FlatFile.Stored, Held.flags_of}
 use Rattle.mail_store.specs.Maildir.{Maildir, WereTaken}
 use Rattle.mail_store.specs.Settling.{listed_size, stands_whole, settled_file}
 use Rattle.fetch_session.specs.declared.account.Store.{Store}

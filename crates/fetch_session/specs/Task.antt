@@ -1,10 +1,8 @@
 -- What a session has to do, task by task, and what each task brings once it is done.
 use Rattle.std.specs.Prelude.{◌≡◌, ◌≢◌, ℕ, Bool, true, false, List, [], ◌∷◌, ◌++◌, length, map}
 use Rattle.std.specs.List.{flat_map, AllByRecursion, AllZip}
-use Rattle.mail_terms.specs.UniqueId.{IsLegalId}
-use Rattle.mail_terms.specs.Listing.{Item}
-use Rattle.fetch_rules.specs.Plan.{fetches}
-use Rattle.fetch_rules.specs.declared.plans.Step.{Step}
+use Rattle.mail_terms.specs.{UniqueId.IsLegalId, Listing.Item}
+use Rattle.fetch_rules.specs.{Plan.fetches, declared.plans.Step.Step}
 use Rattle.mail_store.specs.Maildir.{Maildir, File}
 use Rattle.mail_store.specs.FileName.{mail_file, is_held}
 use Rattle.pop3_client.specs.Turns.{Turn, IsGood, retr, dele}

@@ -1,22 +1,18 @@
 -- The texts of faults and reports.
 use Rattle.std.specs.Prelude.{ℕ, List, [], ◌++◌, ◌==◌, flat_map, if◌then◌else◌, codes}
-use Rattle.std.specs.Fmt.{decimal}
-use Rattle.std.specs.String.{string_bytes}
+use Rattle.std.specs.{Fmt.decimal, String.string_bytes}
 use Rattle.rc_file.specs.declared.settings.Settings.{Settings}
 use Rattle.pop3_wire.specs.declared.note.Asked.{Asked}
 use Rattle.pop3_wire.specs.declared.note.Asked.TheVariants.{Greeting, User, Pass, Stat, Uidl, List as ListAsked}
 use Rattle.pop3_wire.specs.declared.note.Asked.TheVariants.{Retr, Dele, Rset, Quit}
-use Rattle.fetch_session.specs.declared.fault.Why.{Why}
+use Rattle.fetch_session.specs.{declared.fault.Why.Why, declared.fault.Fault.Fault, Fault.number_of}
 use Rattle.fetch_session.specs.declared.fault.Why.TheVariants as why
-use Rattle.fetch_session.specs.declared.fault.Fault.{Fault}
 use Rattle.fetch_session.specs.declared.fault.Fault.TheVariants.{ConnectionEnded, ReadFailed, WriteFailed}
 use Rattle.fetch_session.specs.declared.fault.Fault.TheVariants.{ReplyTooLong, BadReply, Refused, BadListing}
 use Rattle.fetch_session.specs.declared.fault.Fault.TheVariants.{ListingsDisagree, TooMany, TextTooLong, StoreRefused}
 use Rattle.fetch_session.specs.declared.fault.Fault.TheVariants.{SeenRefused, NoMemory, BadSeen}
-use Rattle.fetch_session.specs.Fault.{number_of}
-use Rattle.fetch_session.specs.declared.report.Outcome.{Outcome}
+use Rattle.fetch_session.specs.{declared.report.Outcome.Outcome, declared.report.Report.Report}
 use Rattle.fetch_session.specs.declared.report.Outcome.TheVariants.{Ended, Cut}
-use Rattle.fetch_session.specs.declared.report.Report.{Report}
 use Rattle.fetch_session.specs.declared.report.ReportLine.{ReportLine}
 use Rattle.fetch_session.specs.declared.report.ReportLine.TheVariants.{Delivered, Held, Skipped, Deleted}
 

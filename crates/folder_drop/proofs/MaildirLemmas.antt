@@ -6,18 +6,14 @@ use Rattle.std.specs.HashSet.{HashSet, contains, Updates}
 use Rattle.std.proofs.lemmas.Bool.{cases_lt, cond-true, cond_both, false≢true}
 use Rattle.std.proofs.lemmas.List.{get_or-map, length-map, length_push, map_push, take_more}
 use Rattle.std.proofs.lemmas.List.Elements.{All-push, Contains-get_or, Contains-push_cases}
-use Rattle.std.proofs.lemmas.List.Quantifiers.{all_pairs_push}
-use Rattle.std.proofs.lemmas.Slice.Eq.{bytes_eq-Decides}
-use Rattle.std.proofs.lemmas.Cmp.{nat_list_cmp_total}
-use Rattle.std.specs.Cmp.Lexicographic.{slice_cmp}
+use Rattle.std.proofs.{lemmas.List.Quantifiers.all_pairs_push, lemmas.Slice.Eq.bytes_eq-Decides, lemmas.Cmp.nat_list_cmp_total}
+use Rattle.std.specs.{Cmp.Lexicographic.slice_cmp, declared.cmp.Ordering.TheVariants.Less}
 use Rattle.std.specs.Ordering.{nat_cmp, is_lt, ordering_reverse}
-use Rattle.std.specs.declared.cmp.Ordering.TheVariants.{Less}
 use Rattle.hex.proofs.HexLemmas.{length-encode_with}
 use Rattle.hex.specs.Hex.{encode_lower, lower_digits}
 use Rattle.sha2.proofs.Facts256.{length-sha256}
 use Rattle.sha2.specs.Sha256.{sha256}
-use Rattle.mail_terms.specs.MaildirName.{base}
-use Rattle.mail_terms.specs.UniqueId.{is_legal_id}
+use Rattle.mail_terms.specs.{MaildirName.base, UniqueId.is_legal_id}
 use Rattle.pop3_server.specs.Maildrop.{ListedMessage, max_count, max_size}
 use Rattle.folder_drop.specs.declared.listed_file.ListedFile.{ListedFile}
 use Rattle.folder_drop.specs.Listing.{same_key, bases_of, AreListed, AreSeen, IsBefore, FollowsLast, MayBeListed}
@@ -43,10 +39,8 @@ long_unless name keeps = cond_both (is_legal_id name) name (encode_lower (sha256
 -- only one base has an id of another length
 same_base : (a b : List ℕ) → id_of a ≡ id_of b → length (id_of b) ≢ digest_length → a ≡ b
 same_base a b e other =
-    ⊎_elim
-    (λ is. ⊎_elim (λ is_too. sym is_too ∙ e ∙ is) (λ long. absurd (other (sym (ap length e) ∙ long))) (id_cases a))
-    (λ long. absurd (other long))
-    (id_cases b)
+    ⊎_elim (λ is. ⊎_elim (λ is_too. sym is_too ∙ e ∙ is) (λ long. absurd (other (sym (ap length e) ∙ long))) (id_cases a))
+    (λ long. absurd (other long)) (id_cases b)
 
 -- ---- the order of bases
 
@@ -68,10 +62,8 @@ behind_all : (files : List ListedFile) (name : List ℕ) → AllPairs IsBefore (
 behind_all files name pairs behind k d fits =
     let long = bases_long files in
     let last : IsBefore (get_or (bases_of files) (length files - 1) d) name = behind d (omega (arith, long, fits)) in
-    ⊎_elim
-    (λ (lt : k < length files - 1). nat_list_cmp_total.trans (get_or (bases_of files) k d)
-    (get_or (bases_of files) (length files - 1) d) name
-    (pairs k (length files - 1) d lt (omega (arith, long, fits))) last)
+    ⊎_elim (λ (lt : k < length files - 1). nat_list_cmp_total.trans (get_or (bases_of files) k d)
+    (get_or (bases_of files) (length files - 1) d) name (pairs k (length files - 1) d lt (omega (arith, long, fits))) last)
     (λ (e : k ≡ length files - 1). rw e last)
     (⊎_elim inl (λ (le : length files - 1 ≤ k). inr (omega (arith, long, fits, le))) (cases_lt k (length files - 1)))
 
@@ -138,8 +130,7 @@ seen_same seen ids id all other = λ q h long.
 
 -- the set with one more key has one more id
 pub seen_more : {Z S : Type 0} (old new : HashSet (Vec ℕ Z) S) (key : Vec ℕ Z) (ids : List (List ℕ)) (id : List ℕ)
-    → key.items ≡ id → Updates same_key old new key true
-    → AreSeen old ids → AreSeen new (ids ++ id ∷ [])
+    → key.items ≡ id → Updates same_key old new key true → AreSeen old ids → AreSeen new (ids ++ id ∷ [])
 seen_more old new key ids id is updates all = λ q h long. updates.0 q ∙ ⊎_elim
     (λ before. cond_both (same_key key q) true (contains same_key old q) (λ (b : Bool). b ≡ true) (λ _. refl) (λ _. all q before long))
     (λ now. cond-true (same_key key q) true (contains same_key old q) ((bytes_eq-Decides key.items q.items).1 (is

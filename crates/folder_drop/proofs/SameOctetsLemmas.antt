@@ -1,10 +1,8 @@
 -- What two readers show next tells whether they have the same octets left, or leaves it to the rest.
 use Rattle.std.proofs.Common.{◌≡◌, ◌≢◌, ◌≤◌, ◌++◌, ◌∷◌, ◌∙◌, ℕ, Bool, false, List, [], Option, Some, None, IfSome, take}
 use Rattle.std.proofs.Common.{drop, length, refl, ap, sym, take-take, rules}
-use Rattle.std.proofs.lemmas.Bool.{false≢true}
-use Rattle.std.proofs.lemmas.Option.{none-some}
-use Rattle.std.specs.Io.{StartsWith}
-use Rattle.std.specs.Io.KnownBytes.{Consumes}
+use Rattle.std.proofs.{lemmas.Bool.false≢true, lemmas.Option.none-some}
+use Rattle.std.specs.{Io.StartsWith, Io.KnownBytes.Consumes}
 use Rattle.folder_drop.specs.SameOctets.{TellsSame}
 
 append_same : (front xs ys : List ℕ) → front ++ xs ≡ front ++ ys → xs ≡ ys

@@ -1,16 +1,12 @@
 -- Files of messages with different ids: those of a listing, and those that were listed so far.
 use Rattle.std.specs.Prelude.{◌≡◌, ◌≤◌, ◌<◌, ◌-◌, ℕ, Bool, true, false, List, Option, Some, None, Vec, All, AllPairs}
 use Rattle.std.specs.Prelude.{bytes_eq, get_or, length, map}
-use Rattle.std.specs.List.{Contains}
+use Rattle.std.specs.{List.Contains, Cmp.Lexicographic.slice_cmp, Ordering.nat_cmp}
 use Rattle.std.specs.HashSet.{HashSet, contains}
-use Rattle.std.specs.Cmp.Lexicographic.{slice_cmp}
-use Rattle.std.specs.Ordering.{nat_cmp}
 use Rattle.std.specs.declared.cmp.Ordering.TheVariants.{Less}
-use Rattle.mail_terms.specs.Distinct.{AreDistinct}
-use Rattle.mail_terms.specs.MaildirName.{base}
+use Rattle.mail_terms.specs.{Distinct.AreDistinct, MaildirName.base}
 use Rattle.pop3_server.specs.Maildrop.{max_count, max_size}
-use Rattle.folder_drop.specs.declared.folders_look.FoldersLook.{FoldersLook}
-use Rattle.folder_drop.specs.declared.listed_file.ListedFile.{ListedFile}
+use Rattle.folder_drop.specs.{declared.folders_look.FoldersLook.FoldersLook, declared.listed_file.ListedFile.ListedFile}
 use Rattle.folder_drop.specs.MaildirNames.{digest_length, IsIdKey, id_of}
 use Rattle.folder_drop.specs.RealMaildir.{id_of_name, listed_names}
 

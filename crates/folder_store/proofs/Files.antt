@@ -2,8 +2,7 @@
 use Rattle.std.proofs.Common.{◌≡◌, ℕ, refl, arith, List, [], ◌∷◌, ◌++◌, take, drop, cond, sym, ap, subst, ◌∙◌, Bool}
 use Rattle.std.proofs.Common.{true, false, Option, Some, None, option_map, bytes_eq, if◌then◌else◌, Result, Ok, Err}
 use Rattle.std.proofs.Common.{inl, inr, ⊎_elim, append_assoc, append-nil, take-append-drop, ◌⊎◌}
-use Rattle.std.proofs.lemmas.Slice.Eq.{bytes_eq-Decides}
-use Rattle.std.proofs.lemmas.Option.{same_Some}
+use Rattle.std.proofs.{lemmas.Slice.Eq.bytes_eq-Decides, lemmas.Option.same_Some}
 use Rattle.std.proofs.lemmas.Bool.{cases_Bool, cond-true, cond-false, cond_both}
 use Rattle.mail_store.specs.declared.fault.StoreFault.{StoreFault}
 use Rattle.mail_store.specs.DiskCalls.{all_flushed, appended, cut, flushed, doubted, MayBeFlushed, FlushesBoth, Becomes}
@@ -75,8 +74,7 @@ appended_nothing b = ap (λ (zs : List ℕ). record b { content = zs }) (append-
 
 -- a later piece was refused, and the file has a front of it
 pub later_refused : (old mid new : Disk) (bytes done piece more : List ℕ) (fault : StoreFault) (all : List ℕ)
-    → bytes ≡ done ++ all → all ≡ piece ++ more
-    → Becomes (IsAppended done) old mid → AppendsDisk {T = Unit {0}} mid piece (Err fault) new
+    → bytes ≡ done ++ all → all ≡ piece ++ more → Becomes (IsAppended done) old mid → AppendsDisk {T = Unit {0}} mid piece (Err fault) new
     → AppendsDisk {T = Unit {0}} old bytes (Err fault) new
 later_refused old mid new bytes done piece more fault all parts split (b, c, at, is, e) (inl same) =
     let part : IsPartAppended done [] b c = record { so_far = c; is_flushed = inr is; is = inl (sym (appended_nothing c)) } in
@@ -92,8 +90,7 @@ later_refused old mid new bytes done piece more fault all parts split (b, c, at,
       y,
       at,
       (done ++ first, front, rest ++ more, rw (parts, split, which) (simp append_assoc), all_so_far),
-      k
-          ∙ ap (λ (d : Disk). record d { now = Some y }) e,
+      k ∙ ap (λ (d : Disk). record d { now = Some y }) e,
     )
 
 pub later_done : (old mid new : Disk) (done piece : List ℕ) → Becomes (IsAppended done) old mid
@@ -110,15 +107,13 @@ older_put name was older = cond-true (bytes_eq name name) (was ∷ older_at name
 
 -- the name leads to a file of these bytes, which was flushed
 abbrev PutAt : Directory → List ℕ → List ℕ → Directory → Type 0
-PutAt old name bytes new = disk_at new name
-    ≡ disk_of (Some (secured bytes)) (find name old.entries ∷ older_at name old.older)
+PutAt old name bytes new = disk_at new name ≡ disk_of (Some (secured bytes)) (find name old.entries ∷ older_at name old.older)
 
 put_at : (old new : Directory) (name bytes : List ℕ) (file : MadeFile) → file ≡ record { content = bytes; is_flushed = true }
     → new ≡ put_in old file name → PutAt old name bytes new
 put_at old new name bytes file filled e = rw (e, filled) (
     ap (λ (o : Option Blob). disk_of o (older_at name (record { name = name; was = find name old.entries } ∷ old.older)))
-    (find_placed name (secured bytes) old.entries)
-    ∙ ap (disk_of (Some (secured bytes))) (older_put name (find name old.entries) old.older))
+    (find_placed name (secured bytes) old.entries) ∙ ap (disk_of (Some (secured bytes))) (older_put name (find name old.entries) old.older))
 
 pub not_replaced : (old new : Directory) (name bytes : List ℕ) (file : MadeFile) (fault x : StoreFault)
     → file ≡ record { content = bytes; is_flushed = true } → PutsFile {T = Unit {0}} old file name (Err fault) new
@@ -149,8 +144,7 @@ in_parts xs front back n f b = rw (f, b) (sym (take-append-drop n xs))
 -- ---- a flush of a file and of the names
 
 disk_became : (f : Blob → Blob) (old new : Directory) (name : List ℕ) (b c : Blob) → find name old.entries ≡ Some b
-    → c ≡ f b → new ≡ with_blob old name c
-    → disk_at new name ≡ record (disk_at old name) { now = option_map f (find name old.entries) }
+    → c ≡ f b → new ≡ with_blob old name c → disk_at new name ≡ record (disk_at old name) { now = option_map f (find name old.entries) }
 disk_became f old new name b c at is e =
     disk_changed old new name c e ∙ ap (λ (o : Option Blob). record (disk_at old name) { now = o }) (ap Some is
     ∙ sym (ap (option_map f) at))

@@ -6,20 +6,18 @@ use Rattle.std.proofs.Common.{◌≢◌, suc, Some, append_assoc, append-nil, No
 use Rattle.mail_store.specs.Maildir.{AfterFlushing, AfterTaking, AllNamed, AreTheirs, Checks, Draft, File}
 use Rattle.mail_store.specs.Maildir.{Folders, IsWithout, Lists, Maildir, MayBeNamed, MayHave, bases_told}
 use Rattle.mail_store.specs.Maildir.{maildir_refused, draft, dropped, is_there, mail, names_of, with_file, ListsBoth}
-use Rattle.mail_store.specs.Held.{is_sought}
+use Rattle.mail_store.specs.{Held.is_sought, declared.maildir.disk.Folder.Folder, declared.fault.StoreFault.StoreFault}
 use Rattle.mail_store.specs.Loss.{Flushes, with_flushed, flushed_by}
 use Rattle.std.specs.List.{AllByRecursion, AllZip, filter}
 use Rattle.std.proofs.Math.Bool.{or-false, or-true}
 use Rattle.std.proofs.lemmas.Bool.{cases_Bool, cond_both, or_left, or_right}
 use Rattle.std.proofs.lemmas.List.Elements.{recursion_from_All, All-weaker, filter-append, filter_passes}
-use Rattle.mail_terms.specs.MaildirName.{base}
-use Rattle.mail_store.specs.declared.maildir.disk.Folder.{Folder}
+use Rattle.mail_terms.specs.{MaildirName.base, FailureCount.refuses}
 use Rattle.mail_store.specs.declared.maildir.disk.Folder.TheVariants.{New, Cur}
 use Rattle.folder_store.specs.MailFolders.{MailFile, Directories, files_at, is_left, is_taken, mail_at, MovesFile}
 use Rattle.folder_store.specs.MailFolders.{Moved, touches, touches_new, touches_cur, name_at, is_in, entries_in}
 use Rattle.folder_store.specs.MailFolders.{draft_begun, maildir_in}
-use Rattle.folder_store.specs.FileFolder.{MadeFile}
-use Rattle.folder_store.specs.declared.mail_folders.Sought.{Sought}
+use Rattle.folder_store.specs.{FileFolder.MadeFile, declared.mail_folders.Sought.Sought}
 use Rattle.folder_store.specs.declared.mail_folders.Sought.TheVariants.{All, Stems}
 use Rattle.folder_store.specs.MailCalls.{AreSought, BringsFiles, ChecksIn, FlushesFiles, FlushesNamesIn, IsUnknown}
 use Rattle.folder_store.specs.MailCalls.{Lacks, Leads, Learns, ListsIn, LooksAtBoth, MakesDraft, PutsDraft, PutsDurably}
@@ -29,15 +27,12 @@ use Rattle.folder_store.specs.MailCalls.{after_listing, named_by, names_flushed_
 use Rattle.std.proofs.lemmas.List.{map-append, get_or-map, length-map}
 use Rattle.std.proofs.lemmas.List.Sorted.{Contains-permutation, IsPermutation-append, IsPermutation-sym}
 use Rattle.std.proofs.lemmas.List.Sorted.{IsPermutation-map, IsPermutation-trans, IsPermutation-filter_both}
-use Rattle.std.proofs.lemmas.Simd.{map-map}
-use Rattle.mail_store.specs.declared.fault.StoreFault.{StoreFault}
+use Rattle.std.proofs.{lemmas.Simd.map-map, lemmas.Option.same_Some}
 use Rattle.mail_store.specs.declared.fault.StoreFault.TheVariants.{Missing, Refused}
-use Rattle.mail_terms.specs.FailureCount.{refuses}
 use Rattle.mail_store.specs.Fault.{IsDeviceFault, is_refusal}
 use Rattle.folder_store.proofs.MailMoves.{SomeIs, both_named, files_moved, files_reached, flush_keeps, leads_same}
 use Rattle.folder_store.proofs.MailMoves.{mapped_leads, moved_leads, moved_maildir, moved_rests, moved_same, rests_new}
 use Rattle.folder_store.proofs.MailMoves.{rests_on_at, same_rests_at, some_kept, some_map, there_some}
-use Rattle.std.proofs.lemmas.Option.{same_Some}
 use Rattle.mail_store.proofs.MaildirLemmas.{named_same, reached_same, reaches_same, without_more, without_on, sought_bases, stem_base}
 use Rattle.mail_terms.proofs.ErrLemmas.{is_err}
 
@@ -125,14 +120,12 @@ leads_after a b c first next = learns_on a b c first (leads_learns b c next)
 -- ---- no name was told
 
 gone_since : (m b : Directories) (folder : Folder) (fault : StoreFault)
-    → FlushesNamesIn {T = Unit {0}} folder (Err fault) m b → fault ≡ Missing
-    → is_there b.there folder ≡ false
+    → FlushesNamesIn {T = Unit {0}} folder (Err fault) m b → fault ≡ Missing → is_there b.there folder ≡ false
 gone_since m b folder fault (inl lacks) missing = rw lacks.0 (lacks.1 missing)
 gone_since m b folder fault (inr (refused, e)) missing = absurd cc
 
 pub one_unflushed : (a b c : Directories) (folder : Folder) (fault : StoreFault) → Learns a b
-    → Then (FlushesNamesIn {T = Unit {0}} folder (Err fault)) b c
-    → TellsOne {A = Global} {B = Global} a folder (Err fault) c
+    → Then (FlushesNamesIn {T = Unit {0}} folder (Err fault)) b c → TellsOne {A = Global} {B = Global} a folder (Err fault) c
 one_unflushed a b c folder fault led t =
     (leads_after a b c led (flushes_leads {T = Unit {0}} folder b c (Err fault) t), tt, gone_since t.0 c folder fault t.2)
 
@@ -200,8 +193,7 @@ told_moved sought names a b m told = record {
 
 -- all of it: the flushes, the lists, and `new` has rested since its own
 pub looked : {A B T : Type 0} (sought : Sought) (b0 b1 b2 b3 b4 b5 : Directories) (new cur : Vec (String A) B)
-    (done done' : T) (rests : Bool)
-    → Then (FlushesNamesIn New (Ok done)) b0 b1 → Then (FlushesNamesIn Cur (Ok done')) b1 b2
+    (done done' : T) (rests : Bool) → Then (FlushesNamesIn New (Ok done)) b0 b1 → Then (FlushesNamesIn Cur (Ok done')) b1 b2
     → Then (ListsIn New sought (Ok new)) b2 b3 → Then (ListsIn Cur sought (Ok cur)) b3 b4
     → Then (TellsRest New (Ok rests)) b4 b5 → IsTrue rests → ToldBoth sought (new.items ++ cur.items) b5
 looked sought b0 b1 b2 b3 b4 b5 new cur done done' rests (m1, v1, s1) (m2, v2, s2) (m3, v3, s3) (m4, v4, s4) (m5, v5, s5) rested_since =
@@ -270,16 +262,14 @@ some_named (s ∷ ss) name (inr is) =
     cond_both s.is_named (mail_at s ∷ filter (λ (f : File). f.is_named) (files_at ss)) (filter (λ (f : File). f.is_named) (files_at ss))
     (λ (fs : List File). Contains (names_of fs) name) (λ _. (suc c.0, omega (arith, c.1), c.2)) (λ _. c)
 
-theirs : {A : Type 0} (names : List (String A)) (files : List File)
-    → ((name : List ℕ) → Contains (bases_told names) name
+theirs : {A : Type 0} (names : List (String A)) (files : List File) → ((name : List ℕ) → Contains (bases_told names) name
     → Contains (names_of (filter (λ (f : File). f.is_named) files)) name) → AreTheirs files names
 unfolding AreTheirs
-theirs {A} names files each = λ k d inside.
-    each (base (string_bytes (get_or names k d))) (
-      k,
-      omega (arith, inside, length-map names (λ (name : String A). base (string_bytes name))),
-      get_or-map (λ (name : String A). base (string_bytes name)) names k d (base (string_bytes (get_or names k d))) inside,
-    )
+theirs {A} names files each = λ k d inside. each (base (string_bytes (get_or names k d))) (
+  k,
+  omega (arith, inside, length-map names (λ (name : String A). base (string_bytes name))),
+  get_or-map (λ (name : String A). base (string_bytes name)) names k d (base (string_bytes (get_or names k d))) inside,
+)
 
 pub told_one : {A B T : Type 0} (folder : Folder) (b0 b1 b2 : Directories) (names : Vec (String A) B) (done : T)
     → Then (ListsIn folder All (Ok names)) b0 b1 → Then (FlushesNamesIn folder (Ok done)) b1 b2 → TellsOne b0 folder (Ok names) b2
@@ -288,8 +278,7 @@ told_one {A} folder b0 b1 b2 names done (m1, v1, (there, (order, same, are), e1)
       (flushes_leads folder b1 b2 (Ok done) (m2, v2, e2)),
   (
     rw (e2, v2.there, e1, (listed_is folder m1).1) there,
-    theirs names.items (files_at b2.entries)
-        (λ name c. some_named b2.entries name (stay name c)),
+    theirs names.items (files_at b2.entries) (λ name c. some_named b2.entries name (stay name c)),
   ),
   tt,
 )
@@ -302,8 +291,7 @@ told_one {A} folder b0 b1 b2 names done (m1, v1, (there, (order, same, are), e1)
         (IsPermutation-sym after_listing (bases_told names.items) (told_part (entries_in folder m1.entries) names.items
         (subst (IsPermutation (map name_at (entries_in folder m1.entries))) (sym are) same))) c) in
         let still = some_kept {Will = Touch folder name} (filter is_left m1.entries) m2.entries
-        (rw (e1, (listed_is folder m1).0) at v2.moves) touched
-        (λ s t m is. (m.keeps.title ∙ is.0, still_touches folder s t m is.1)) in
+        (rw (e1, (listed_is folder m1).0) at v2.moves) touched (λ s t m is. (m.keeps.title ∙ is.0, still_touches folder s t m is.1)) in
         rw e2 (some_map _ (named_by folder) m2.entries still (λ s is. named_touch folder s name is.0 is.1))
 
 -- ---- what the Maildir of the folders is, once the call was counted
@@ -354,15 +342,13 @@ told_those a b folder begun n m (Ok names) (l, (there, theirs), _) device k =
     seen a b begun n l (rw (sym l.there) there, theirs, left_as a b begun m n n l k)
 told_those a b folder begun n m (Err Missing) (l, _, missing) device k =
     seen a b begun n l (rw (sym l.there) (missing refl), left_as a b begun m n n l k)
-told_those a b folder begun n m (Err Refused) (l, _, _) device k =
-    seen a b begun n l (left_as a b begun m (n + 1) n l k)
+told_those a b folder begun n m (Err Refused) (l, _, _) device k = seen a b begun n l (left_as a b begun m (n + 1) n l k)
 told_those a b folder begun n m (Err _) t device k = absurd (⊎_elim (λ e. cc) (λ e. cc) device)
 
 pub checked : {T : Type 0} (a b : Directories) (folder : Folder) (begun : Option Draft) (n m : ℕ)
     (r : Result T StoreFault) → Then (ChecksIn folder r) a b
     → IfErr r IsDeviceFault → IsCountAfter r n m → Checks (maildir_in a begun n) folder r (maildir_in b begun m)
-checked a b folder begun n m (Ok done) (mid, v, (e, there, _)) device k =
-    (rw (sym v.there) there, rw k (moved_maildir a mid b begun n v e))
+checked a b folder begun n m (Ok done) (mid, v, (e, there, _)) device k = (rw (sym v.there) there, rw k (moved_maildir a mid b begun n v e))
 checked a b folder begun n m (Err Missing) (mid, v, (e, _, missing)) device k =
     (rw (sym v.there) (missing refl), rw k (moved_maildir a mid b begun n v e))
 checked a b folder begun n m (Err Refused) (mid, v, (e, _, _)) device k = rw k (moved_maildir a mid b begun (n + 1) v e)
@@ -386,8 +372,7 @@ named_files : (ss : List MailFile) → AllZip MayBeNamed (files_at ss) (files_at
 named_files [] = tt
 named_files (s ∷ ss) = (
   ⊎_elim (λ (new : touches_new s ≡ true). inr (rw (new, or-true s.is_named) refl))
-      (λ (not : touches_new s ≡ false). inl (rw (not, or-false s.is_named) refl))
-      (cases_Bool (touches_new s)),
+      (λ (not : touches_new s ≡ false). inl (rw (not, or-false s.is_named) refl)) (cases_Bool (touches_new s)),
   named_files ss,
 )
 
@@ -444,13 +429,11 @@ module _ (b0 b1 b2 : Directories) (content name : List ℕ) (file : MadeFile)
         reached = subst (λ (fs : List File). AllZip MayBeNamed fs risen) (files_moved p.0.entries last.0 last.3
             ∙ before.files) (named_files last.0);
         files = ap (λ (es : List MailFile). files_at (map (named_by New) es)) last.2
-            ∙ ap files_at (map-append (named_by New) last.0 (t ∷ []))
-            ∙ map-append mail_at (map (named_by New) last.0) (named_by New t ∷ [])
+            ∙ ap files_at (map-append (named_by New) last.0 (t ∷ [])) ∙ map-append mail_at (map (named_by New) last.0) (named_by New t ∷ [])
             ∙ ap (λ (x : File). risen ++ x ∷ []) is;
       })
 
-  pub put_all : (b3 : Directories) (r : Result (Unit {0}) StoreFault) → Then (FlushesNamesIn New r) b2 b3
-      → PutsDurably b0 content name r b3
+  pub put_all : (b3 : Directories) (r : Result (Unit {0}) StoreFault) → Then (FlushesNamesIn New r) b2 b3 → PutsDurably b0 content name r b3
   unfolding put_unnamed
   put_all b3 (Ok done) (m, v, e) = put_named m b3 v e
   put_all b3 (Err fault) (m, v, inl lacks) = inr (λ unknown.
@@ -480,8 +463,7 @@ none_begun None P none = tt
 none_begun (Some x) P none = absurd cc
 
 pub begun_anew : {N : Type 0} (made : N → MadeFile) (a b : Directories) (begun : Option Draft) (title : String Global)
-    (file : N) (name : List ℕ) (n : ℕ) → string_bytes title ≡ name → Then (MakesDraft made (Ok file)) a b
-    → (a.there.tmp ≡ true)
+    (file : N) (name : List ℕ) (n : ℕ) → string_bytes title ≡ name → Then (MakesDraft made (Ok file)) a b → (a.there.tmp ≡ true)
     × (maildir_in b (Some (draft_begun made (title, file))) n ≡ record (maildir_in a begun n) { begun = Some (draft name []) })
 begun_anew made a b begun title file name n same (m, v, (there, empty, e)) =
     let h = same_rests_at a m b v e in

@@ -4,9 +4,8 @@ use Rattle.std.proofs.Common.{[], ◌∷◌, ◌++◌, map, Option, refl, ap, �
 use Rattle.std.specs.List.{AllByRecursion, AllZip}
 use Rattle.std.proofs.lemmas.Bool.{or_left}
 use Rattle.mail_terms.specs.MaildirName.{base}
-use Rattle.mail_store.specs.declared.maildir.disk.Folder.{Folder}
+use Rattle.mail_store.specs.{declared.maildir.disk.Folder.Folder, Loss.AreLeftAs}
 use Rattle.mail_store.specs.declared.maildir.disk.Folder.TheVariants.{New, Cur}
-use Rattle.mail_store.specs.Loss.{AreLeftAs}
 use Rattle.mail_store.specs.Maildir.{AreReached, Draft, File, IsAsDurable, AllNamed}
 use Rattle.folder_store.specs.MailFolders.{MailFile, Directories, KeepsFile, MovesFile, RestsFile, Moved}
 use Rattle.folder_store.specs.MailFolders.{mail_at, files_at, name_at, entries_in, touches_new, touches_cur, maildir_in}
@@ -43,8 +42,7 @@ some_map Will f (s ∷ ss) (inl is) each = inl (each s is)
 some_map Will f (s ∷ ss) (inr is) each = inr (some_map Will f ss is each)
 
 pub there_some : {A : Type 0} (g : MailFile → A) (x : A) (P : MailFile → Type 0) → (ss : List MailFile)
-    → AllByRecursion P ss → Contains (map g ss) x
-    → SomeIs (λ (s : MailFile). (g s ≡ x) × P s) ss
+    → AllByRecursion P ss → Contains (map g ss) x → SomeIs (λ (s : MailFile). (g s ≡ x) × P s) ss
 there_some g x P [] all c = absurd (omega (arith, c.1))
 there_some g x P (s ∷ ss) all (zero, below, is) = inl (is, all.0)
 there_some g x P (s ∷ ss) all (suc k, below, is) = inr (there_some g x P ss all.1 (k, omega (arith, below), is))
@@ -59,8 +57,7 @@ pub reaches_at : (s t : MailFile) → KeepsFile s t → IsAsDurable (mail_at s) 
 reaches_at s t k = record { name = k.title; content = k.content; named = k.named; flushed = k.flushed }
 
 pub files_reached : (a b : List MailFile) → AllZip KeepsFile a b → AreReached (files_at a) (files_at b)
-files_reached a b = each_by KeepsFile (λ a b. AreReached (files_at a) (files_at b)) tt
-    (λ s t ss ts k rest. (reaches_at s t k, rest)) a b
+files_reached a b = each_by KeepsFile (λ a b. AreReached (files_at a) (files_at b)) tt (λ s t ss ts k rest. (reaches_at s t k, rest)) a b
 
 pub files_moved : (a b : List MailFile) → AllZip MovesFile a b → files_at b ≡ files_at a
 files_moved a b = each_by MovesFile (λ a b. files_at b ≡ files_at a) refl
@@ -110,8 +107,7 @@ mapped_leads f keeps a m v = record {
 }
 
 -- the Maildir is as it was
-pub moved_maildir : (a m b : Directories) (begun : Option Draft) (n : ℕ) → Moved a m → b ≡ m
-    → maildir_in b begun n ≡ maildir_in a begun n
+pub moved_maildir : (a m b : Directories) (begun : Option Draft) (n : ℕ) → Moved a m → b ≡ m → maildir_in b begun n ≡ maildir_in a begun n
 moved_maildir a m b begun n v e = rw e (rw (v.there, v.taken, files_moved a.entries m.entries v.moves) refl)
 
 pub moved_rests : (a b : Directories) → Moved a b → SameFiles a b
@@ -123,8 +119,7 @@ same_rests_at a m b v e = rw e (moved_rests a m v)
 pub rests_on_at : (a b c : Directories) → SameFiles a b → SameFiles b c → SameFiles a c
 rests_on_at a b c first then = record {
   there = then.there ∙ first.there;
-  taken = then.taken
-      ∙ first.taken;
+  taken = then.taken ∙ first.taken;
   files = then.files ∙ first.files;
 }
 
@@ -169,8 +164,7 @@ rest b = record {
 }
 
 pub each_one : (Does : MailFile → MailFile → Type 0) → ((s : MailFile) → Does s s)
-    → (front back : List MailFile) (s t : MailFile) → Does s t
-    → AllZip Does (front ++ s ∷ back) (front ++ t ∷ back)
+    → (front back : List MailFile) (s t : MailFile) → Does s t → AllZip Does (front ++ s ∷ back) (front ++ t ∷ back)
 each_one Does same [] back s t m = (m, zip_same Does same back)
 each_one Does same (x ∷ front) back s t m = (same x, each_one Does same front back s t m)
 
@@ -189,8 +183,7 @@ moves_on : (s t u : MailFile) → MovesFile s t → MovesFile t u → MovesFile 
 moves_on s t u a b = record {
   keeps = keeps_on s t u a.keeps b.keeps;
   flushed = b.flushed ∙ a.flushed;
-  named = b.named
-      ∙ a.named;
+  named = b.named ∙ a.named;
   new = λ h. b.new (a.new h);
   cur = λ h. b.cur (a.cur h);
 }

@@ -1,8 +1,6 @@
 -- What a file in a folder of a file system is.
 use Rattle.std.specs.Prelude.{◌≡◌, ℕ, Bool, true, List, []}
-use Rattle.mail_store.specs.FlatFile.{Stored}
-use Rattle.mail_store.specs.Durable.{Disk}
-use Rattle.mail_store.specs.DiskCalls.{all_flushed}
+use Rattle.mail_store.specs.{FlatFile.Stored, Durable.Disk, DiskCalls.all_flushed}
 use Rattle.folder_store.specs.FileFolder.{Directory, content_at, unknown_directory}
 
 -- the file of this name

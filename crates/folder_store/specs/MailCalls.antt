@@ -4,15 +4,12 @@ use Rattle.std.specs.Prelude.{Result, Ok, Err, IfErr, IfOk, IfSome, OnOk, Vec, S
 use Rattle.std.specs.Prelude.{IsPermutation, Contains}
 use Rattle.std.specs.List.{AllByRecursion, AllZip, filter}
 use Rattle.mail_terms.specs.MaildirName.{base}
-use Rattle.mail_store.specs.declared.fault.StoreFault.{StoreFault}
+use Rattle.mail_store.specs.{declared.fault.StoreFault.StoreFault, declared.maildir.disk.Folder.Folder, FileName.stem}
 use Rattle.mail_store.specs.declared.fault.StoreFault.TheVariants.{Missing, Refused}
-use Rattle.mail_store.specs.declared.maildir.disk.Folder.{Folder}
 use Rattle.mail_store.specs.declared.maildir.disk.Folder.TheVariants.{New, Cur}
 use Rattle.mail_store.specs.Maildir.{AllNamed, AreTheirs, File, IsWithout, MayBeNamed, bases_told, is_there, mail}
 use Rattle.mail_store.specs.Maildir.{names_of}
-use Rattle.mail_store.specs.FileName.{stem}
-use Rattle.mail_store.specs.Held.{is_sought}
-use Rattle.mail_store.specs.Loss.{is_among}
+use Rattle.mail_store.specs.{Held.is_sought, Loss.is_among}
 use Rattle.folder_store.specs.declared.mail_folders.Sought.{Sought}
 use Rattle.folder_store.specs.declared.mail_folders.Sought.TheVariants.{All, Stems}
 use Rattle.folder_store.specs.FileFolder.{MadeFile, empty_made}

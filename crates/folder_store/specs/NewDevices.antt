@@ -3,13 +3,9 @@ use Rattle.std.specs.Prelude.{◌≡◌, ℕ, List, None}
 use Rattle.std.specs.List.{AllZip}
 use Rattle.mail_store.specs.declared.file.flat_file.FlatFile.{Ghosts as FileGhosts}
 use Rattle.mail_store.specs.declared.maildir.disk.MaildirDisk.{Ghosts as DiskGhosts}
-use Rattle.mail_store.specs.Durable.{IsDurable}
-use Rattle.mail_store.specs.Loss.{LosesPower}
-use Rattle.mail_store.specs.Maildir.{AllDurable}
-use Rattle.folder_store.specs.FileFolder.{Directory}
-use Rattle.folder_store.specs.PowerLoss.{Loses}
+use Rattle.mail_store.specs.{Durable.IsDurable, Loss.LosesPower, Maildir.AllDurable}
+use Rattle.folder_store.specs.{FileFolder.Directory, PowerLoss.Loses, MailPower.LosesMail}
 use Rattle.folder_store.specs.MailFolders.{Directories, MovesFile, maildir_in}
-use Rattle.folder_store.specs.MailPower.{LosesMail}
 
 -- ---- a Maildir
 

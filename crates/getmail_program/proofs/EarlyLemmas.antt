@@ -1,9 +1,7 @@
 -- What is written of a report before its session's end.
 use Rattle.std.proofs.Common.{◌≡◌, ◌≢◌, ℕ, List, [], ◌∷◌, Option, ◌++◌, false, refl, sym, subst, append-nil, inl, inr, ◌⊎◌, flat_map}
 use Rattle.rc_file.specs.declared.settings.Settings.{Settings}
-use Rattle.fetch_session.specs.Text.{heading}
-use Rattle.fetch_session.specs.Report.{is_deletion}
-use Rattle.fetch_session.specs.declared.report.ReportLine.{ReportLine}
+use Rattle.fetch_session.specs.{Text.heading, Report.is_deletion, declared.report.ReportLine.ReportLine}
 use Rattle.fetch_session.specs.declared.report.ReportLine.TheVariants.{Delivered, Held, Skipped, Deleted}
 use Rattle.getmail_program.specs.declared.teller.Teller.{Teller}
 use Rattle.getmail_program.specs.Teller.{EarlyLine, StaysClosed, TellsEarly, Wrote, WroteMore, WroteText, early_text, wrote_then}
@@ -11,14 +9,12 @@ use Rattle.getmail_program.specs.Teller.{EarlyLine, StaysClosed, TellsEarly, Wro
 -- a first line, and then lines; nothing was kept before
 early_after : {O : Type 0} (contents : O → Option (List ℕ)) (settings : Settings) (first : List ℕ) (a b c : Teller O)
     → (first ≡ []) ⊎ (first ≡ heading settings) → b.verbose ≡ settings.verbose → a.notes.now.written.items ≡ []
-    → Wrote contents first a b → WroteMore contents b c
-    → TellsEarly contents settings a.out.now c.notes.now.written.items c.out.now
+    → Wrote contents first a b → WroteMore contents b c → TellsEarly contents settings a.out.now c.notes.now.written.items c.out.now
 early_after contents settings first a b c is same none begun more =
     let whole = subst (λ (verbose : ℕ). Wrote contents (first ++ flat_map (early_text verbose) more.lines) a c) same
     (wrote_then contents first _ a b c begun more.wrote) in
     let text = subst (λ (start : List ℕ). c.notes.now.written.items
-    ≡ start ++ (first ++ flat_map (early_text settings.verbose) more.lines)) none
-    whole.kept in
+    ≡ start ++ (first ++ flat_map (early_text settings.verbose) more.lines)) none whole.kept in
     record { first = first; is_first = is; lines = more.lines; is_text = text; puts = rw (text) whole.puts }
 
 pub early : {O : Type 0} (contents : O → Option (List ℕ)) (settings : Settings) (a b c : Teller O) → b.verbose ≡ settings.verbose

@@ -1,11 +1,8 @@
 -- What one write after another has written.
 use Rattle.std.proofs.Common.{◌≡◌, ℕ, List, Option, ◌++◌, append_assoc, codes}
 use Rattle.rc_file.specs.declared.settings.Settings.{Settings}
-use Rattle.fetch_session.specs.Text.{fault_text}
-use Rattle.fetch_session.specs.declared.fault.Fault.{Fault}
-use Rattle.fetch_session.specs.declared.report.Outcome.{Outcome}
-use Rattle.getmail_setup.specs.declared.output.Output.{Output}
-use Rattle.getmail_setup.specs.declared.errors.Errors.{Errors}
+use Rattle.fetch_session.specs.{Text.fault_text, declared.fault.Fault.Fault, declared.report.Outcome.Outcome}
+use Rattle.getmail_setup.specs.{declared.output.Output.Output, declared.errors.Errors.Errors}
 use Rattle.getmail_setup.specs.Output.{Puts, number_text}
 pub use Rattle.getmail_setup.proofs.OutputLemmas.{puts_both}
 use Rattle.getmail_program.specs.Reasons.{reasons_said}
@@ -14,10 +11,8 @@ use Rattle.getmail_program.specs.Telling.{TellsCut, told_fault_line, outcome_lin
 -- a cut, what was written next, and what was written last
 pub said : {E : Type 0} (contents : E → Option (List ℕ)) (settings : Settings) (outcome : Outcome) (next : List ℕ)
     (old first : Errors E) (second : Output E) (more : List ℕ) (last : Output E)
-    (cut : TellsCut contents settings outcome old first) → Puts contents first.err next second
-    → Puts contents second more last
-    → Puts contents old.err (((outcome_line outcome ++ reasons_said settings old.says_why outcome cut.found)
-    ++ next) ++ more) last
+    (cut : TellsCut contents settings outcome old first) → Puts contents first.err next second → Puts contents second more last
+    → Puts contents old.err (((outcome_line outcome ++ reasons_said settings old.says_why outcome cut.found) ++ next) ++ more) last
 said contents settings outcome next old first second more last cut put left =
     puts_both contents old.err second last _ more (puts_both contents old.err first.err second _ _ cut.puts put) left
 

@@ -6,21 +6,15 @@ use Rattle.mail_store.specs.declared.maildir.disk.MaildirDisk.{Ghosts as DiskGho
 use Rattle.mail_store.specs.declared.file.flat_file.FlatFile.{Ghosts as FileGhosts}
 use Rattle.mail_store.specs.Maildir.{Maildir as InMaildir}
 use Rattle.fetch_rules.specs.Plan.{fetches}
-use Rattle.fetch_session.specs.declared.fault.Fault.{Fault}
-use Rattle.fetch_session.specs.declared.fault.Fault.TheVariants.{NoMemory}
+use Rattle.fetch_session.specs.{declared.fault.Fault.Fault, declared.fault.Fault.TheVariants.NoMemory}
 use Rattle.fetch_session.specs.declared.message_preview.MessagePreview.{MessagePreview}
-use Rattle.fetch_session.specs.declared.preview.Preview.{Preview}
+use Rattle.fetch_session.specs.{declared.preview.Preview.Preview, declared.account.Store.Store, Durable.RunsSession}
 use Rattle.fetch_session.specs.declared.report.Outcome.TheVariants.{Ended, Cut}
-use Rattle.rc_file.specs.declared.settings.Settings.{Settings}
+use Rattle.rc_file.specs.{declared.settings.Settings.Settings, declared.settings.Dest.Dest}
 use Rattle.fetch_session.specs.Account.{Holding, digits_of}
-use Rattle.fetch_session.specs.declared.account.Store.{Store}
-use Rattle.fetch_session.specs.Durable.{RunsSession}
 use Rattle.fetch_session.specs.Pretend.{Pretends, preview_told, told_nothing}
-use Rattle.fetch_session.specs.Refusal.{IsWithinLimits}
-use Rattle.fetch_session.specs.Session.{keeping}
-use Rattle.fetch_session.specs.Store.{StartsFile}
+use Rattle.fetch_session.specs.{Refusal.IsWithinLimits, Session.keeping, Store.StartsFile}
 use Rattle.fetch_session.specs.Target.{AfterTakingIn, Entries, Files, Kind, is_sound, stores_of, target_of}
-use Rattle.rc_file.specs.declared.settings.Dest.{Dest}
 use Rattle.rc_file.specs.declared.settings.Dest.TheVariants.{Maildir, Mboxrd}
 use Rattle.getmail_program.specs.declared.told.Told.{Told}
 use Rattle.getmail_program.specs.declared.told.Told.TheVariants.{Done, Ahead}

@@ -6,13 +6,9 @@ use Rattle.mail_store.specs.declared.maildir.disk.MaildirDisk.{Ghosts as DiskGho
 use Rattle.mail_store.specs.declared.file.flat_file.FlatFile.{Ghosts as FileGhosts}
 use Rattle.rc_file.specs.Flags.{is_contradiction, overridden}
 use Rattle.rc_file.specs.Settings.{Content, content_of, maildir}
-use Rattle.rc_file.specs.declared.flags.Flags.{Flags}
-use Rattle.rc_file.specs.declared.settings.Settings.{Settings}
-use Rattle.fetch_session.specs.Account.{Holding}
-use Rattle.fetch_session.specs.Durable.{RunsSession}
-use Rattle.fetch_session.specs.declared.account.Store.{Store}
-use Rattle.fetch_session.specs.declared.report.Outcome.{Outcome}
-use Rattle.fetch_session.specs.declared.report.Outcome.TheVariants.{Ended}
+use Rattle.rc_file.specs.{declared.flags.Flags.Flags, declared.settings.Settings.Settings}
+use Rattle.fetch_session.specs.{Account.Holding, Durable.RunsSession, declared.account.Store.Store}
+use Rattle.fetch_session.specs.{declared.report.Outcome.Outcome, declared.report.Outcome.TheVariants.Ended}
 use Rattle.fetch_session.specs.declared.report.Report.{Report}
 use Rattle.getmail_program.specs.Holding.{holding_of}
 

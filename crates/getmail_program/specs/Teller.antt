@@ -4,14 +4,11 @@ use Rattle.std.proofs.Common.{refl, sym, ap, ◌∙◌, append_assoc, append-nil
 use Rattle.std.proofs.KnownBytes.{Appends-nil, Appends-trans}
 use Rattle.std.proofs.lemmas.Grind.{flat_map-append}
 use Rattle.rc_file.specs.declared.settings.Settings.{Settings}
-use Rattle.fetch_session.specs.Reasons.{explained_line}
-use Rattle.fetch_session.specs.Text.{heading}
-use Rattle.fetch_session.specs.Report.{is_deletion}
+use Rattle.fetch_session.specs.{Reasons.explained_line, Text.heading, Report.is_deletion}
 use Rattle.fetch_rules.specs.declared.plans.Step.{Step}
 use Rattle.fetch_session.specs.declared.report.ReportLine.{ReportLine}
 use Rattle.getmail_program.specs.declared.teller.Teller.{Teller}
-use Rattle.getmail_setup.specs.declared.output.Output.{Output}
-use Rattle.getmail_setup.specs.Output.{Puts}
+use Rattle.getmail_setup.specs.{declared.output.Output.Output, Output.Puts}
 
 -- a line of a report, of a session with this many messages and this plan
 pub record EarlyLine : Type 0 where

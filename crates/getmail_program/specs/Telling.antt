@@ -3,24 +3,18 @@ use Rattle.std.specs.Prelude.{◌≡◌, ◌⊎◌, ℕ, Bool, true, false, ◌=
 use Rattle.std.specs.Prelude.{if◌then◌else◌}
 use Rattle.std.specs.Fmt.{decimal}
 use Rattle.rc_file.specs.declared.settings.Settings.{Settings}
-use Rattle.fetch_session.specs.declared.fault.Fault.{Fault}
-use Rattle.fetch_session.specs.declared.report.LeftOut.{LeftOut}
-use Rattle.fetch_session.specs.declared.report.Outcome.{Outcome}
+use Rattle.fetch_session.specs.{declared.fault.Fault.Fault, declared.report.LeftOut.LeftOut}
+use Rattle.fetch_session.specs.{declared.report.Outcome.Outcome, declared.report.Report.Report, Reasons.told_report}
 use Rattle.fetch_session.specs.declared.report.Outcome.TheVariants.{Ended, Cut}
 use Rattle.fetch_rules.specs.declared.plans.Step.{Step}
-use Rattle.fetch_session.specs.declared.report.Report.{Report}
-use Rattle.fetch_session.specs.Reasons.{told_report}
 use Rattle.fetch_session.specs.Telling.{preview_text}
 use Rattle.fetch_session.specs.Text.{fault_text, outcome_number}
-use Rattle.getmail_setup.specs.declared.output.Output.{Output}
-use Rattle.getmail_setup.specs.declared.output.OutputRefusal.{OutputRefusal}
+use Rattle.getmail_setup.specs.{declared.output.Output.Output, declared.output.OutputRefusal.OutputRefusal}
 use Rattle.getmail_setup.specs.declared.output.OutputRefusal.TheVariants.{NoMemory, Refused}
-use Rattle.getmail_program.specs.declared.ending.Fetched.{Fetched}
-use Rattle.getmail_program.specs.declared.findings.Findings.{Findings}
+use Rattle.getmail_program.specs.{declared.ending.Fetched.Fetched, declared.findings.Findings.Findings}
 use Rattle.getmail_program.specs.declared.told.Told.{Told}
 use Rattle.getmail_program.specs.declared.told.Told.TheVariants.{Done, Ahead}
-use Rattle.getmail_setup.specs.declared.errors.Errors.{Errors}
-use Rattle.getmail_setup.specs.Output.{Puts}
+use Rattle.getmail_setup.specs.{declared.errors.Errors.Errors, Output.Puts}
 use Rattle.getmail_program.specs.Reasons.{reason_line, reasons_said}
 
 -- ---- what a session says

@@ -1,8 +1,7 @@
 -- What one write after another has written.
 use Rattle.std.proofs.Common.{◌∙◌, ℕ, List, Option, ◌++◌}
 use Rattle.std.proofs.KnownBytes.{Appends-trans}
-use Rattle.getmail_setup.specs.declared.output.Output.{Output}
-use Rattle.getmail_setup.specs.Output.{Puts}
+use Rattle.getmail_setup.specs.{declared.output.Output.Output, Output.Puts}
 
 pub puts_both : {W : Type 0} (contents : W → Option (List ℕ)) (old mid new : Output W) (first second : List ℕ)
     → Puts contents old first mid → Puts contents mid second new → Puts contents old (first ++ second) new

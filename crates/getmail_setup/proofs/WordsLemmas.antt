@@ -1,9 +1,7 @@
 -- What clap's matches and errors of the command line are.
 use Rattle.std.proofs.Common.{◌≡◌, ◌∙◌, ℕ, List, true, ap, refl, subst}
-use Rattle.clap.specs.Kinds.{HasKind}
+use Rattle.clap.specs.{Kinds.HasKind, declared.error.Error.Error, declared.parser.matches.ArgMatches.ArgMatches}
 use Rattle.clap.specs.Words.{App, HasMatchesOf, fault_of, found_of, is_simple, is_simple_and_free, matches_of, rows_of}
-use Rattle.clap.specs.declared.error.Error.{Error}
-use Rattle.clap.specs.declared.parser.matches.ArgMatches.{ArgMatches}
 use Rattle.clap.proofs.OnLiterals.{clap_on_literals}
 use Rattle.getmail_setup.specs.CommandLine.{getmail}
 
@@ -18,8 +16,7 @@ getmail_is_free = refl
 -- the rows of a parse are the matches of the words
 pub rows_are : (app : App) (words : List (List ℕ)) (matches : ArgMatches) → app ≡ getmail → HasMatchesOf app words matches
     → rows_of (found_of matches) ≡ matches_of getmail words
-rows_are app words matches same has =
-    (has (ap is_simple same ∙ getmail_is_simple)).0 ∙ ap (λ (a : App). matches_of a words) same
+rows_are app words matches same has = (has (ap is_simple same ∙ getmail_is_simple)).0 ∙ ap (λ (a : App). matches_of a words) same
 
 -- an error of a parse has a kind of the words' fault
 pub has_kind : (app : App) (words : List (List ℕ)) (error : Error) → app ≡ getmail

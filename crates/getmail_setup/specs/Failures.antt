@@ -1,13 +1,8 @@
 -- The lines and the exit statuses of runs that end before their session.
 use Rattle.std.specs.Prelude.{◌≡◌, ◌⊎◌, ℕ, Bool, true, false, List, [], ◌++◌, Option, None, Some, codes}
-use Rattle.std.specs.Fmt.{decimal}
-use Rattle.std.specs.String.{string_bytes}
-use Rattle.rc_file.specs.RcText.{rc_text}
-use Rattle.rc_file.specs.declared.fault.RcFault.{RcFault}
-use Rattle.rc_file.specs.declared.settings.Settings.{Settings}
-use Rattle.getmail_setup.specs.Output.{Puts}
-use Rattle.getmail_setup.specs.Places.{peer_name}
-use Rattle.getmail_setup.specs.declared.errors.Errors.{Errors}
+use Rattle.std.specs.{Fmt.decimal, String.string_bytes}
+use Rattle.rc_file.specs.{RcText.rc_text, declared.fault.RcFault.RcFault, declared.settings.Settings.Settings}
+use Rattle.getmail_setup.specs.{Output.Puts, Places.peer_name, declared.errors.Errors.Errors}
 use Rattle.getmail_setup.specs.declared.failure.Failure.{Failure}
 use Rattle.getmail_setup.specs.declared.failure.Failure.TheVariants.{NoHome, CannotRead, Rc, OtherList, AtWork}
 use Rattle.getmail_setup.specs.declared.failure.Failure.TheVariants.{CannotConnect}

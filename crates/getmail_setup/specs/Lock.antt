@@ -1,7 +1,6 @@
 -- What becomes of the lock that keeps two runs of an account apart.
 use Rattle.std.specs.Prelude.{Bool, true, false, Result, Ok, Err}
-use Rattle.std.specs.declared.fs.File.{File}
-use Rattle.std.specs.declared.fs.locks.TryLockError.{TryLockError}
+use Rattle.std.specs.{declared.fs.File.File, declared.fs.locks.TryLockError.TryLockError}
 use Rattle.std.specs.declared.fs.locks.TryLockError.TheVariants.{Error, WouldBlock}
 use Rattle.getmail_setup.specs.declared.lock.Lock.{Lock}
 use Rattle.getmail_setup.specs.declared.lock.Lock.TheVariants.{Held, Elsewhere, Without}

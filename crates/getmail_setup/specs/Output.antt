@@ -1,7 +1,6 @@
 -- What a writer that remembers refusals has written.
 use Rattle.std.specs.Prelude.{◌≡◌, ◌≢◌, ℕ, List, [], Option, None, Some}
-use Rattle.std.specs.Fmt.{decimal}
-use Rattle.std.specs.Io.KnownBytes.{Appends}
+use Rattle.std.specs.{Fmt.decimal, Io.KnownBytes.Appends}
 use Rattle.getmail_setup.specs.declared.output.Output.{Output}
 
 -- unless something was refused by now, these octets were written, and nothing else; after a refusal nothing is written

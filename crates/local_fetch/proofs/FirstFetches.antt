@@ -7,7 +7,7 @@ use Rattle.mail_store.specs.declared.maildir.disk.MaildirDisk.{Ghosts as DiskGho
 use Rattle.mail_store.specs.declared.file.flat_file.FlatFile.{Ghosts as FileGhosts}
 use Rattle.mail_store.specs.FileName.{is_held, stem, stem_of}
 use Rattle.mail_store.specs.Maildir.{File, IsWithout, Maildir}
-use Rattle.pop3_wire.specs.World.{Message}
+use Rattle.pop3_wire.specs.{World.Message, declared.command.Command.Command, declared.command.Command.TheVariants.Dele}
 use Rattle.pop3_wire.specs.declared.wire.Wire.{Ghosts as WireGhosts}
 use Rattle.pop3_server.specs.declared.maildrop.Maildrop.{Ghosts as DropGhosts}
 use Rattle.pop3_server.specs.LoopLink.{Loop}
@@ -15,8 +15,6 @@ use Rattle.fetch_runs.specs.Accounts.{AccountMail, copies}
 use Rattle.fetch_runs.specs.Promises.{Call, DeletesOneOf, FetchesWanted, IsSafe, Mail, MboxStarts, state_with}
 use Rattle.fetch_runs.proofs.Core.{all_at_most}
 use Rattle.fetch_runs.proofs.Lists.{all_append, all_back, all_both, all_filter}
-use Rattle.pop3_wire.specs.declared.command.Command.{Command}
-use Rattle.pop3_wire.specs.declared.command.Command.TheVariants.{Dele}
 use Rattle.fetch_runs.specs.Calls.{Called, EmptyAccountsHold, with_left}
 use Rattle.local_fetch.specs.Fetches.{FetchesKeepPromises, FirstFetchesKeepMail, as_call, nothing_yet}
 use Rattle.local_fetch.specs.Fetches.{MboxFetchesKeepPromises, MboxFirstFetchesKeepMail}
@@ -39,8 +37,7 @@ no_copies front (f ∷ fs) none = elim (cases_Bool (bytes_eq front (stem f.name)
 
 -- none was taken away, so what is safe is held
 held : (mail : Mail) (maildir left : Maildir) (vanished : List (List ℕ)) (after : AccountMail) (id : List ℕ)
-    → maildir.files ≡ [] → left.files ≡ []
-    → IsSafe mail (state_with mail (with_left mail (nothing_yet maildir) left) vanished after) id
+    → maildir.files ≡ [] → left.files ≡ [] → IsSafe mail (state_with mail (with_left mail (nothing_yet maildir) left) vanished after) id
     → is_held mail.account after.maildir id ≡ true
 held mail maildir left vanished after id none none' safe = elim (cases_Bool (is_held mail.account after.maildir id)) [
   | inl is ↦ is
@@ -54,8 +51,7 @@ all_by by (id ∷ ids) more (p, ps) = (by id p, all_by by ids more ps)
 
 -- what a DELE that was sent asks for
 its_message : (messages : List Message) (Is : List ℕ → Type 0) (commands front behind : List Command) (number : ℕ)
-    → commands ≡ front ++ Dele number ∷ behind → AllByRecursion (DeletesOneOf messages Is) commands
-    → DeletesOneOf messages Is (Dele number)
+    → commands ≡ front ++ Dele number ∷ behind → AllByRecursion (DeletesOneOf messages Is) commands → DeletesOneOf messages Is (Dele number)
 its_message messages Is commands front behind number is all =
     (all_back (DeletesOneOf messages Is) front (Dele number ∷ behind) (rw is at all)).0
 
@@ -74,10 +70,8 @@ keep_mail link disk file drop empty law mail devices fetch no_file no_record acc
     let (shows, kept, then) = from_nothing link disk file drop empty law mail devices (Called fetch ∷ []) no_file no_record in
     let (vanished, removed, promised, (shows', kept')) = then account_is is in
     let left_none = none_left promised.taken.gone promised.left.files (rw no_file at promised.taken.files) in
-    let safe_held : (id : List ℕ)
-    → IsSafe mail (state_with mail (with_left mail (nothing_yet (disk.maildir devices.store)) promised.left)
-    vanished promised.after) id
-    → is_held mail.account promised.after.maildir id ≡ true =
+    let safe_held : (id : List ℕ) → IsSafe mail (state_with mail (with_left mail (nothing_yet (disk.maildir devices.store)) promised.left)
+    vanished promised.after) id → is_held mail.account promised.after.maildir id ≡ true =
     λ id safe. held mail (disk.maildir devices.store) promised.left vanished promised.after id no_file left_none safe in (
       vanished,
       removed,

@@ -3,13 +3,10 @@ use Rattle.std.proofs.Common.{◌≡◌, ◌≤◌, ◌<◌, ◌+◌, ◌∙◌,
 use Rattle.std.proofs.Common.{ap, ap₂, arith, codes, inl, inr, length, map, refl, subst, sym}
 use Rattle.std.specs.List.{AllByRecursion, AllZip, enumerate_from, flat_map}
 use Rattle.std.specs.String.{string_bytes}
-use Rattle.std.proofs.lemmas.Bool.{false≢true}
-use Rattle.std.proofs.lemmas.List.{append_cancel_left}
+use Rattle.std.proofs.{lemmas.Bool.false≢true, lemmas.List.append_cancel_left}
 use Rattle.mail_terms.specs.Listing.{Agree, Item, UidRow}
-use Rattle.mail_terms.specs.Numbering.{IsNumbering}
-use Rattle.mail_terms.specs.declared.listing.ScanRow.{ScanRow}
-use Rattle.rc_file.specs.Settings.{IsValid}
-use Rattle.rc_file.specs.declared.settings.Settings.{Settings}
+use Rattle.mail_terms.specs.{Numbering.IsNumbering, declared.listing.ScanRow.ScanRow}
+use Rattle.rc_file.specs.{Settings.IsValid, declared.settings.Settings.Settings}
 use Rattle.fetch_record.specs.Record.{Row}
 use Rattle.fetch_rules.specs.Plan.{fetches, step_of}
 use Rattle.fetch_rules.specs.declared.plans.Step.{Step}
@@ -17,28 +14,24 @@ use Rattle.mail_store.specs.Maildir.{Maildir, WereTaken}
 use Rattle.mail_store.specs.declared.maildir.disk.MaildirDisk.{Ghosts as DiskGhosts}
 use Rattle.mail_store.specs.declared.file.flat_file.FlatFile.{Ghosts as FileGhosts}
 use Rattle.pop3_wire.proofs.BodyLemmas.{IsLine-nil, one_reading}
-use Rattle.pop3_wire.specs.Fields.{number_and_size}
+use Rattle.pop3_wire.specs.{Fields.number_and_size, World.IsMessage, declared.reply.Status.TheVariants.Positive}
 use Rattle.pop3_wire.specs.Line.{IsLine, ended}
 use Rattle.pop3_wire.specs.Place.{Place, at}
 use Rattle.pop3_wire.specs.Reading.{GivesCount, HasListing, IsScanLine, IsUidLine, WholeReply, reply_bytes}
 use Rattle.pop3_wire.specs.Reply.{indicator, without_space}
-use Rattle.pop3_wire.specs.World.{IsMessage}
 use Rattle.pop3_wire.specs.declared.command.Command.TheVariants.{ListAll, Pass, Stat, UidlAll, User}
-use Rattle.pop3_wire.specs.declared.reply.Status.TheVariants.{Positive}
 use Rattle.pop3_wire.specs.declared.wire.Wire.{Ghosts as WireGhosts}
 use Rattle.pop3_client.specs.Turns.{IsGood, Turn, asking, greeting as hello, quit, turn_bytes}
 use Rattle.pop3_server.specs.declared.maildrop.Maildrop.{Ghosts as DropGhosts}
-use Rattle.pop3_server.specs.AnswersLines.{AnswersLines}
+use Rattle.pop3_server.specs.{AnswersLines.AnswersLines, declared.state.State.TheVariants.Authorization}
 use Rattle.pop3_server.specs.LoopLink.{Loop, Serves}
 use Rattle.pop3_server.specs.Maildrop.{DropMail, there}
 use Rattle.pop3_server.specs.ServerMachine.{Machine, greeting_line, is_open}
-use Rattle.pop3_server.specs.declared.state.State.TheVariants.{Authorization}
 use Rattle.fetch_session.proofs.ServedLemmas.{reads_all}
 use Rattle.fetch_session.specs.Cuts.{ArePlanned, Extends}
 use Rattle.fetch_session.specs.Opening.{SessionOpened, opening}
-use Rattle.fetch_session.specs.CarryingOut.{tasks_ahead}
+use Rattle.fetch_session.specs.{CarryingOut.tasks_ahead, Readiness.merged_in}
 use Rattle.fetch_session.specs.Served.{AreAnswered, GoodSessionsStoreAll, refused_in}
-use Rattle.fetch_session.specs.Readiness.{merged_in}
 use Rattle.fetch_session.specs.Session.{Keeping, SessionIn, keeping}
 use Rattle.fetch_session.specs.Target.{AsEntries, AsFiles, Stores, Target, held_flags, stores_of, with_maildir}
 use Rattle.fetch_session.specs.Task.{Task, deleting, fetching, says, tasks_in, tasks_planned, turns_ahead}
@@ -142,10 +135,8 @@ module _ {M : Type 0} (sound : M → Type 0) (mail : M → DropMail) (server : M
     all : AllZip (IsSaid n) turns replies
 
   said : (turns unsent tasks : List Turn) (more : List ℕ) → IsPlan server.user server.pass n (Opened 0) tasks
-      → AllByRecursion CanBeSaid tasks → turns ++ unsent ≡ opening name word ++ tasks
-      → wire.link.sent ≡ asking turns ++ more → Said turns
-  said [] unsent tasks more planned can split sent_is =
-      record { replies = []; rest = wire.link.got ++ wire.left; is = refl; all = tt }
+      → AllByRecursion CanBeSaid tasks → turns ++ unsent ≡ opening name word ++ tasks → wire.link.sent ≡ asking turns ++ more → Said turns
+  said [] unsent tasks more planned can split sent_is = record { replies = []; rest = wire.link.got ++ wire.left; is = refl; all = tt }
   said (turn ∷ turns) unsent tasks more planned can split sent_is =
       let split : turn ∷ (turns ++ unsent) ≡ None ∷ Some (User name) ∷ Some (Pass word) ∷ Some Stat ∷ Some UidlAll ∷ Some ListAll ∷ tasks =
       split in
@@ -161,8 +152,7 @@ module _ {M : Type 0} (sound : M → Type 0) (mail : M → DropMail) (server : M
       (all_append CanBeSaid (opening name word) tasks sendable can).1))
       serves.each (sym sent ∙ sent_is ∙ ap (λ (t : Turn). (turn_bytes t ++ asking turns) ++ more) first) run still in
       let (hail, hail_is, hailed) =
-      plain n hello greeting_line (codes " popd ready") refl refl (omega arith) (λ gives. absurd (false≢true gives)) refl
-      (λ line. tt) in
+      plain n hello greeting_line (codes " popd ready") refl refl (omega arith) (λ gives. absurd (false≢true gives)) refl (λ line. tt) in
       record {
         replies = hail ∷ reply.replies;
         rest = reply.rest;

@@ -3,27 +3,20 @@ use Rattle.std.proofs.Common.{◌≡◌, inl, inr, ℕ, suc, Some, List, [], ◌
 use Rattle.std.specs.String.{string_bytes}
 use Rattle.std.specs.List.{flat_map, AllByRecursion}
 use Rattle.std.proofs.lemmas.List.Folds.{flat_map-map}
-use Rattle.pop3_wire.specs.declared.command.Command.{Command}
-use Rattle.pop3_wire.specs.declared.command.Command.TheVariants.{Quit}
-use Rattle.pop3_wire.specs.Line.{ended}
+use Rattle.pop3_wire.specs.{declared.command.Command.Command, declared.command.Command.TheVariants.Quit, Line.ended, Link.Link}
 use Rattle.mail_terms.specs.FailureCount.{counted_up, greatest_count}
-use Rattle.pop3_wire.specs.Link.{Link}
 use Rattle.pop3_wire.specs.Commands.{line_of, can_be_sent}
 use Rattle.pop3_wire.specs.CommandLine.{HasNumbers}
 use Rattle.pop3_wire.specs.World.{Message, IsMessage}
 use Rattle.fetch_runs.specs.Sessions.{IsMarked, Served}
-use Rattle.rc_file.specs.Settings.{IsValid}
-use Rattle.rc_file.specs.declared.settings.Settings.{Settings}
-use Rattle.fetch_rules.specs.Plan.{planned}
-use Rattle.fetch_rules.specs.declared.plans.Step.{Step}
+use Rattle.rc_file.specs.{Settings.IsValid, declared.settings.Settings.Settings}
+use Rattle.fetch_rules.specs.{Plan.planned, declared.plans.Step.Step}
 use Rattle.mail_store.specs.declared.maildir.disk.MaildirDisk.{Ghosts as DiskGhosts}
 use Rattle.mail_store.specs.declared.file.flat_file.FlatFile.{Ghosts as FileGhosts}
-use Rattle.fetch_session.specs.declared.account.Store.{Store}
+use Rattle.fetch_session.specs.{declared.account.Store.Store, declared.report.Outcome.Outcome, Refusal.RefusesByOutcome}
 use Rattle.fetch_session.specs.declared.account.Store.TheVariants.{Maildir as InMaildir, Mboxrd as InMbox}
 use Rattle.fetch_session.specs.Target.{IsSoundMaildir, IsSoundMbox, is_sound}
-use Rattle.fetch_session.specs.declared.report.Outcome.{Outcome}
 use Rattle.fetch_session.specs.declared.report.Outcome.TheVariants.{Ended, Cut as WasCut}
-use Rattle.fetch_session.specs.Refusal.{RefusesByOutcome}
 use Rattle.fetch_session.specs.declared.report.Report.{Report}
 use Rattle.fetch_session.specs.Session.{AccountFiles, MboxAccountFiles, Session, MboxSession}
 use Rattle.fetch_runs.specs.Conversations.{SessionsAreConversations, FollowsPlan, MboxSessionsFollowPlans}
@@ -57,8 +50,7 @@ each_asked : (commands : List Command) → AllByRecursion IsOfSession commands �
 each_asked [] of_session numbers sendable = tt
 each_asked (c ∷ commands) of_session numbers sendable = (
   record { of_session = of_session.0; numbers = numbers.0; sendable = sendable.0 },
-  each_asked commands
-      of_session.1 numbers.1 sendable.1,
+  each_asked commands of_session.1 numbers.1 sendable.1,
 )
 
 -- ---- refused calls
@@ -123,8 +115,7 @@ module _ {M : Type 0} (sound : M → Type 0) (mail : M → DropMail) (honesty : 
 
   pub fetches : SessionsAreConversations
       → (settings : Settings) (account : List ℕ) (now : ℕ) (server : Machine M) (loop : Loop M) (before : AccountFiles)
-      (report : Report) (after : AccountFiles)
-      → IsUnused (loop_to server) → IsValid settings → Serves sound mail (loop_to server) loop
+      (report : Report) (after : AccountFiles) → IsUnused (loop_to server) → IsValid settings → Serves sound mail (loop_to server) loop
       → Session settings account now unused before report loop.link after → sound loop.machine.drop
       → AllByRecursion IsMessage (there (mail server.drop).slots) → IsServedByHonest mail server loop.machine loop.link
   fetches conversations settings account now server loop before report after is_new valid serves session =
@@ -135,8 +126,7 @@ module _ {M : Type 0} (sound : M → Type 0) (mail : M → DropMail) (honesty : 
 
   pub mbox_fetches : MboxSessionsFollowPlans
       → (settings : Settings) (now : ℕ) (server : Machine M) (loop : Loop M) (before : MboxAccountFiles)
-      (report : Report) (after : MboxAccountFiles)
-      → IsUnused (loop_to server) → IsValid settings → Serves sound mail (loop_to server) loop
+      (report : Report) (after : MboxAccountFiles) → IsUnused (loop_to server) → IsValid settings → Serves sound mail (loop_to server) loop
       → MboxSession settings now unused before report loop.link after → sound loop.machine.drop
       → AllByRecursion IsMessage (there (mail server.drop).slots) → IsServedByHonest mail server loop.machine loop.link
   mbox_fetches plans settings now server loop before report after is_new valid serves session =

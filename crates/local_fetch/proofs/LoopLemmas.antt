@@ -7,12 +7,10 @@ use Rattle.local_fetch.specs.LoopLaws.{same_refl, serves_same}
 use Rattle.std.proofs.lemmas.Bool.Decides.{nat_tests}
 use Rattle.std.proofs.Math.Seq.{take-add, take-append_seam, drop-append-add}
 use Rattle.pop3_wire.specs.Line.{crlf, IsLine}
-use Rattle.pop3_wire.specs.Link.{with_failures}
+use Rattle.pop3_wire.specs.{Link.with_failures, Place.HasLine}
 use Rattle.mail_terms.specs.FailureCount.{greatest_count, counted_up}
-use Rattle.pop3_wire.specs.Place.{HasLine}
-use Rattle.pop3_server.specs.Maildrop.{DropMail}
+use Rattle.pop3_server.specs.{Maildrop.DropMail, AnswersLines.AnswersLine}
 use Rattle.pop3_server.specs.ServerMachine.{Machine, greeting_line}
-use Rattle.pop3_server.specs.AnswersLines.{AnswersLine}
 use Rattle.pop3_server.specs.LoopLink.{Loop, Serves, AnswersWholeLines}
 
 -- a link by its own fields: how many octets sent are answered, and how many of the greeting and the answers
@@ -32,8 +30,7 @@ pub serves_one : {D : Type 0} {sound : D → Type 0} {mail : D
     → DropMail} {m n : Machine D} {sent answers kept_answers : List ℕ} {over down then_down : Bool} {failures : ℕ}
     (used octets given : ℕ) (more lost : List ℕ)
     → down ≡ false → kept_answers ≡ answers ++ more → HasLine (length (drop used sent)) (drop used sent) octets
-    → AnswersLine sound mail m (take octets (drop used sent)) (more ++ lost) n
-    → (then_down ≡ false → lost ≡ [])
+    → AnswersLine sound mail m (take octets (drop used sent)) (more ++ lost) n → (then_down ≡ false → lost ≡ [])
     → Serves sound mail (kept m sent used answers given over down failures)
     (kept n sent (used + (octets + 2)) kept_answers given over then_down failures)
 serves_one {sound = sound} {mail} {m} {n} {sent} {kept_answers = kept_answers} used octets given more lost up is has turn none =
@@ -85,8 +82,7 @@ nothing_sent sound mail w = simp append-nil (serves_same sound mail w)
 
 -- the line that was found is the first that waits
 pub line_found : (seen sent line rest : List ℕ) (used : ℕ) → seen ≡ sent → IsLine line
-    → take (length seen - used) (drop used seen) ≡ line ++ (crlf ++ rest)
-    → HasLine (length (drop used sent)) (drop used sent) (length line)
+    → take (length seen - used) (drop used seen) ≡ line ++ (crlf ++ rest) → HasLine (length (drop used sent)) (drop used sent) (length line)
 line_found seen sent line rest used same is cut = rw (rw (take_rest, same) at cut) (record {
   line = rw take-append_seam is;
   within = omega (arith, length-append line (crlf ++ rest));

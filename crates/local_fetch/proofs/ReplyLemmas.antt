@@ -3,12 +3,9 @@ use Rattle.std.proofs.Common.{◌≡◌, ◌≤◌, ◌<◌, ◌+◌, ◌-◌, �
 use Rattle.std.proofs.Common.{append-nil, append_assoc, ap, ap₂, arith, codes, decimal, length, length-append, map, refl, subst, sym}
 use Rattle.std.specs.List.{AllByRecursion, AllZip, flat_map}
 use Rattle.std.specs.Prelude.{slice_index_or}
-use Rattle.std.proofs.lemmas.Bool.{false≢true}
-use Rattle.std.proofs.lemmas.Fmt.{length-decimal-le}
-use Rattle.std.proofs.lemmas.List.Folds.{list_all-append}
+use Rattle.std.proofs.{lemmas.Bool.false≢true, lemmas.Fmt.length-decimal-le, lemmas.List.Folds.list_all-append}
 use Rattle.mail_terms.specs.Listing.{UidRow, message_limit}
-use Rattle.mail_terms.specs.Numbering.{IsNumbering}
-use Rattle.mail_terms.specs.declared.listing.ScanRow.{ScanRow}
+use Rattle.mail_terms.specs.{Numbering.IsNumbering, declared.listing.ScanRow.ScanRow}
 use Rattle.pop3_wire.proofs.BodyLemmas.{stuffed_is_body}
 use Rattle.pop3_wire.proofs.RowsLemmas.{first_lines_are_read, no_lf_decimal, scan_rows_are_read, uid_rows_are_read}
 use Rattle.pop3_wire.specs.Body.{IsContent, dot}
@@ -16,15 +13,12 @@ use Rattle.pop3_wire.specs.Fields.{number_and_id, number_and_size}
 use Rattle.pop3_wire.specs.Line.{HoldsNoLf, crlf, ended}
 use Rattle.pop3_wire.specs.Reading.{GivesCount, IsScanLine, IsUidLine, WholeReply, gives_body, reply_bytes}
 use Rattle.pop3_wire.specs.Reply.{IsFirstLine, without_space}
-use Rattle.pop3_wire.specs.Rows.{scan_row}
-use Rattle.pop3_wire.specs.World.{Message}
+use Rattle.pop3_wire.specs.{Rows.scan_row, World.Message, declared.reply.Status.TheVariants.Positive}
 use Rattle.pop3_wire.specs.declared.command.Command.TheVariants.{ListAll, Stat, UidlAll}
-use Rattle.pop3_wire.specs.declared.reply.Status.TheVariants.{Positive}
 use Rattle.pop3_client.specs.Turns.{Fits, IsGood, IsListingRow, IsShort, LinesFit, Turn, gives_count, list, retr, stat, uidl}
 use Rattle.pop3_server.proofs.HonestLemmas.{IsServed}
-use Rattle.pop3_server.specs.Maildrop.{max_size}
+use Rattle.pop3_server.specs.{Maildrop.max_size, declared.rows.MessageRow.MessageRow}
 use Rattle.pop3_server.specs.ServerMachine.{lines_from, listed, octets_line, message_row, said, scan_line, text_body, uid_line}
-use Rattle.pop3_server.specs.declared.rows.MessageRow.{MessageRow}
 use Rattle.local_fetch.specs.Good.{IsWithin}
 use Rattle.mail_terms.proofs.ListingLemmas.{short_id}
 
@@ -49,8 +43,7 @@ IsGoodAnswer n turn answer = (reply : WholeReply) × (answer ≡ reply_bytes rep
 
 -- one line that says yes
 pub plain : (n : ℕ) (turn : Turn) (answer after : List ℕ) → answer ≡ said (codes "+OK" ++ after) → HoldsNoLf after → length after ≤ 2000
-    → Fits turn (without_space after) → gives_body turn ≡ false
-    → (IsFirstLine (codes "+OK" ++ after) Positive (without_space after)
+    → Fits turn (without_space after) → gives_body turn ≡ false → (IsFirstLine (codes "+OK" ++ after) Positive (without_space after)
     → Tells n turn (record { first = codes "+OK" ++ after; body = None })) → IsGoodAnswer n turn answer
 plain n turn answer after is none short fits no_body tells =
     let first = first_lines_are_read Positive after none in (
@@ -91,13 +84,11 @@ stated n answer count total is same few fits =
     let short : length (32 ∷ scan_row count total) ≤ 2000 =
     omega (arith, row_length count (decimal total) (omega (arith, same, few)) (size_length total fits)) in
     let read = (scan_rows_are_read count total (omega (arith, same, few)) (omega (arith, fits))).1 in
-    plain n stat answer (32 ∷ scan_row count total) is none short (λ gives. (count, total, read, omega (arith, same, few))) refl
-    (λ first. (
+    plain n stat answer (32 ∷ scan_row count total) is none short (λ gives. (count, total, read, omega (arith, same, few))) refl (λ first. (
       without_space (32 ∷ scan_row count total),
       total,
       first,
-      subst
-          (λ (k : ℕ). number_and_size (scan_row count total) ≡ Ok (k, total)) same read,
+      subst (λ (k : ℕ). number_and_size (scan_row count total) ≡ Ok (k, total)) same read,
     ))
 
 -- ---- listings
@@ -121,19 +112,17 @@ numbering ms = record {
   complete = λ number some few. (
     number - 1,
     omega (arith, some, few, numbers_count 1 ms),
-    omega
-        (arith, some, numbers_at 1 ms (number - 1) number (omega (arith, some, few))),
+    omega (arith, some, numbers_at 1 ms (number - 1) number (omega (arith, some, few))),
   );
-  distinct = λ i j d less within same.
-      absurd (omega (
-        arith,
-        less,
-        within,
-        same,
-        numbers_count 1 ms,
-        numbers_at 1 ms i d (omega (arith, less, within, numbers_count 1 ms)),
-        numbers_at 1 ms j d (omega (arith, within, numbers_count 1 ms)),
-      ));
+  distinct = λ i j d less within same. absurd (omega (
+    arith,
+    less,
+    within,
+    same,
+    numbers_count 1 ms,
+    numbers_at 1 ms i d (omega (arith, less, within, numbers_count 1 ms)),
+    numbers_at 1 ms j d (omega (arith, within, numbers_count 1 ms)),
+  ));
   within = λ i d inside.
       let here = numbers_at 1 ms i d (omega (arith, inside, numbers_count 1 ms)) in
       (omega (arith, here), omega (arith, here, inside, numbers_count 1 ms));
@@ -190,8 +179,7 @@ module _ {R : Type 0} (turn : Turn) (IsThisRow : List ℕ → R → Type 0) (num
   listing_good : IsGoodLine → (answer : List ℕ) (ms : List Message) → AllByRecursion IsServed ms → length ms ≤ 100000
       → answer ≡ listed line (map message_row ms) → gives_count turn ≡ false
       → ((lines : List (List ℕ)) → (length lines ≤ message_limit) × AllByRecursion IsShort lines × AllByRecursion (IsListingRow turn) lines
-      → LinesFit turn lines)
-      → ((reply : WholeReply) → AreNumbered IsThisRow number (length ms) reply → Tells (length ms) turn reply)
+      → LinesFit turn lines) → ((reply : WholeReply) → AreNumbered IsThisRow number (length ms) reply → Tells (length ms) turn reply)
       → IsGoodAnswer (length ms) turn answer
   listing_good good answer ms all few is no_count fit tells =
       let rows = rows_good good 1 ms (omega (arith, few)) all in
@@ -248,8 +236,7 @@ sizes_listed answer ms all few is =
 -- ---- a text
 
 pub given : (n number : ℕ) (m : Message) (answer text : List ℕ) → answer ≡ said (octets_line (message_row m)) ++ text_body None text
-    → text_body None text ≡ text_body None m.text → m.size ≤ max_size → IsWithin m
-    → IsGoodAnswer n (retr number) answer
+    → text_body None text ≡ text_body None m.text → m.size ≤ max_size → IsWithin m → IsGoodAnswer n (retr number) answer
 given n number m answer text is same small within =
     let body = stuffed_is_body m.text in
     let after = 32 ∷ (decimal m.size ++ codes " octets") in

@@ -4,28 +4,21 @@ use Rattle.std.proofs.Common.{Some, append_assoc, ap, ap₂, arith, codes, decim
 use Rattle.std.proofs.Common.{map, if◌then◌else◌, inl, inr, refl, slice_get, sym, Ok}
 use Rattle.std.specs.List.{AllByRecursion, AllZip, flat_map}
 use Rattle.std.proofs.lemmas.Bool.{cond-false, false≢true}
-use Rattle.std.proofs.lemmas.Bool.Decides.{eqb_tells}
-use Rattle.std.proofs.lemmas.Cmp.{nat_list_eq_equiv}
-use Rattle.std.proofs.lemmas.Fmt.{length-decimal-le}
-use Rattle.std.proofs.lemmas.List.{length-map}
+use Rattle.std.proofs.{lemmas.Bool.Decides.eqb_tells, lemmas.Cmp.nat_list_eq_equiv, lemmas.Fmt.length-decimal-le, lemmas.List.length-map}
 use Rattle.std.proofs.lemmas.List.Folds.{list_all-append}
 use Rattle.pop3_wire.proofs.BodyLemmas.{one_line}
 use Rattle.pop3_wire.proofs.RowsLemmas.{is_line, no_lf_decimal, round_trip}
-use Rattle.pop3_wire.specs.Commands.{line_of}
-use Rattle.pop3_wire.specs.Honest.{no_marks}
+use Rattle.pop3_wire.specs.{Commands.line_of, Honest.no_marks, declared.command.Command.Command}
 use Rattle.pop3_wire.specs.Line.{HoldsNoLf, IsLine, crlf, ended}
 use Rattle.pop3_wire.specs.Reading.{WholeReply, reply_bytes}
 use Rattle.pop3_wire.specs.World.{IsMessage, Message}
-use Rattle.pop3_wire.specs.declared.command.Command.{Command}
 use Rattle.pop3_wire.specs.declared.command.Command.TheVariants.{Dele, ListAll, Pass, Quit, Retr, Stat, UidlAll, User}
 use Rattle.pop3_client.specs.Turns.{Turn, asking, dele, pass as pass_turn, quit, user as user_turn}
-use Rattle.pop3_server.specs.AnswersLines.{AnswersLines}
+use Rattle.pop3_server.specs.{AnswersLines.AnswersLines, declared.rows.MessageRow.MessageRow, declared.state.State.State}
 use Rattle.pop3_server.specs.Maildrop.{DropMail, there}
 use Rattle.pop3_server.specs.ServerMachine.{DoesAction, Empties, Machine, action_of, is_open}
 use Rattle.pop3_server.specs.ServerMachine.{left_count, left_total, listed, mark_at, message_row, row_numbered, said, scan_line, uid_line}
 use Rattle.pop3_server.specs.ServerMachine.{unless_marked}
-use Rattle.pop3_server.specs.declared.rows.MessageRow.{MessageRow}
-use Rattle.pop3_server.specs.declared.state.State.{State}
 use Rattle.pop3_server.specs.declared.state.State.TheVariants.{Authorization, Transaction}
 use Rattle.pop3_server.proofs.HonestLemmas.{AreServed, IsServed, are_served, did_sound, fresh_count, fresh_rows, left_of, run_sound}
 use Rattle.pop3_server.proofs.RemovalLemmas.{some_refused}
@@ -183,8 +176,7 @@ module _ {D : Type 0} (sound : D → Type 0) (mail : D → DropMail) (name word 
       → (mail next.drop).failures ≡ (mail old.drop).failures → GoesOn stage c answer next
   step Fresh (User u) old next answer (state, are) may user pass does s still =
       let does = rw state at does in (
-        plain n (user_turn u) answer (codes " send PASS") does.0 refl (omega arith) (λ gives. absurd (false≢true gives)) refl
-            (λ first. tt),
+        plain n (user_turn u) answer (codes " send PASS") does.0 refl (omega arith) (λ gives. absurd (false≢true gives)) refl (λ first. tt),
         (does.1 ∙ ap (λ (v : List ℕ). Authorization (Some v)) may, rw does.2 are),
       )
   step Named (Pass p) old next answer (state, are) may user pass does s still =

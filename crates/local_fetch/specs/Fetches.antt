@@ -7,24 +7,17 @@ use Rattle.mail_store.specs.declared.maildir.disk.MaildirDisk.{Ghosts as DiskGho
 use Rattle.mail_store.specs.declared.file.flat_file.FlatFile.{Ghosts as FileGhosts}
 use Rattle.mail_store.specs.FileName.{is_held, stem_of}
 use Rattle.mail_store.specs.Maildir.{Maildir}
-use Rattle.pop3_wire.specs.World.{Message}
-use Rattle.pop3_wire.specs.Honest.{HasSent}
-use Rattle.pop3_wire.specs.declared.command.Command.{Command}
+use Rattle.pop3_wire.specs.{World.Message, Honest.HasSent, declared.command.Command.Command}
 use Rattle.pop3_wire.specs.declared.command.Command.TheVariants.{Dele}
 use Rattle.mail_terms.specs.UniqueId.{has_id}
-use Rattle.fetch_record.specs.Record.{Row}
-use Rattle.fetch_record.specs.RecordMeaning.{FileStandsFor}
+use Rattle.fetch_record.specs.{Record.Row, RecordMeaning.FileStandsFor}
 use Rattle.pop3_wire.specs.declared.wire.Wire.{Ghosts as WireGhosts}
 use Rattle.pop3_server.specs.declared.maildrop.Maildrop.{Ghosts as DropGhosts}
-use Rattle.pop3_server.specs.Maildrop.{there}
-use Rattle.pop3_server.specs.ServerMachine.{Machine}
-use Rattle.pop3_server.specs.LoopLink.{Loop}
+use Rattle.pop3_server.specs.{Maildrop.there, ServerMachine.Machine, LoopLink.Loop}
 use Rattle.rc_file.specs.declared.settings.Settings.{Settings}
-use Rattle.fetch_session.specs.declared.account.Store.{Store}
+use Rattle.fetch_session.specs.{declared.account.Store.Store, declared.report.Outcome.TheVariants.Ended}
 use Rattle.fetch_session.specs.declared.account.Store.TheVariants.{Maildir as InMaildir, Mboxrd as InMbox}
-use Rattle.fetch_session.specs.declared.report.Outcome.TheVariants.{Ended}
-use Rattle.fetch_session.specs.declared.report.Report.{Report}
-use Rattle.fetch_session.specs.Account.{digits_of}
+use Rattle.fetch_session.specs.{declared.report.Report.Report, Account.digits_of}
 use Rattle.fetch_session.specs.Target.{is_sound, mail_in}
 use Rattle.fetch_runs.specs.Accounts.{AccountMail, copies, message_ids}
 use Rattle.fetch_runs.specs.Promises.{Call, Devices, IsBetween, IsMaildrop, Invariant, Mail, State, state_with}

@@ -1,7 +1,6 @@
 -- A call of `fetch_local` in which nothing fails: the session ends, and has stored what it wants.
 use Rattle.std.specs.Prelude.{◌≡◌, ◌≢◌, ◌≤◌, ℕ, false, length}
-use Rattle.std.specs.List.{AllByRecursion}
-use Rattle.std.specs.String.{string_bytes}
+use Rattle.std.specs.{List.AllByRecursion, String.string_bytes}
 use Rattle.mail_terms.specs.Text.{lines_of_text}
 use Rattle.mail_store.specs.declared.maildir.disk.MaildirDisk.{Ghosts as DiskGhosts}
 use Rattle.mail_store.specs.declared.file.flat_file.FlatFile.{Ghosts as FileGhosts}
@@ -10,14 +9,10 @@ use Rattle.pop3_wire.specs.World.{Message, IsMessage}
 use Rattle.pop3_wire.specs.declared.wire.Wire.{Ghosts as WireGhosts}
 use Rattle.pop3_client.specs.Turns.{text_limit}
 use Rattle.pop3_server.specs.declared.maildrop.Maildrop.{Ghosts as DropGhosts}
-use Rattle.pop3_server.specs.HonestLoop.{IsUnused}
-use Rattle.pop3_server.specs.LoopLink.{Loop}
-use Rattle.pop3_server.specs.Maildrop.{there}
-use Rattle.pop3_server.specs.ServerMachine.{Machine}
+use Rattle.pop3_server.specs.{HonestLoop.IsUnused, LoopLink.Loop, Maildrop.there, ServerMachine.Machine}
 use Rattle.fetch_record.specs.Record.{Loaded}
-use Rattle.fetch_session.specs.declared.fault.Fault.TheVariants.{NoMemory}
+use Rattle.fetch_session.specs.{declared.fault.Fault.TheVariants.NoMemory, declared.report.Report.Report}
 use Rattle.fetch_session.specs.declared.report.Outcome.TheVariants.{Ended, Cut as WasCut}
-use Rattle.fetch_session.specs.declared.report.Report.{Report}
 use Rattle.fetch_session.specs.Account.{Holding, digits_of}
 use Rattle.fetch_session.specs.Record.{FileReadAs}
 use Rattle.fetch_session.specs.Served.{IsUsable, StoresAll, refused_in}

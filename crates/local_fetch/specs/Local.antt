@@ -1,22 +1,17 @@
 -- One session over a server in memory.
 use Rattle.std.specs.Prelude.{◌≡◌, ◌⊎◌, ℕ, true, false, List, [], ◌∷◌, ◌++◌}
 use Rattle.std.specs.List.{AllByRecursion}
-use Rattle.pop3_wire.specs.declared.command.Command.{Command}
-use Rattle.pop3_wire.specs.declared.command.Command.TheVariants.{Quit}
-use Rattle.pop3_wire.specs.Link.{Link}
+use Rattle.pop3_wire.specs.{declared.command.Command.Command, declared.command.Command.TheVariants.Quit, Link.Link}
 use Rattle.pop3_wire.specs.World.{Message, IsMessage}
 use Rattle.pop3_wire.specs.declared.wire.Wire.{Ghosts as WireGhosts}
-use Rattle.fetch_runs.specs.Sessions.{Served}
+use Rattle.fetch_runs.specs.{Sessions.Served, Calls.WasMade}
 use Rattle.mail_store.specs.declared.maildir.disk.MaildirDisk.{Ghosts as DiskGhosts}
 use Rattle.mail_store.specs.declared.file.flat_file.FlatFile.{Ghosts as FileGhosts}
 use Rattle.pop3_server.specs.declared.maildrop.Maildrop.{Ghosts as DropGhosts}
 use Rattle.pop3_server.specs.Maildrop.{DropMail, there}
 use Rattle.pop3_server.specs.ServerMachine.{Machine, greeting_line}
 use Rattle.pop3_server.specs.LoopLink.{Loop}
-use Rattle.fetch_session.specs.Account.{Holding}
-use Rattle.fetch_session.specs.declared.report.Report.{Report}
-use Rattle.fetch_session.specs.Target.{is_sound}
-use Rattle.fetch_runs.specs.Calls.{WasMade}
+use Rattle.fetch_session.specs.{Account.Holding, declared.report.Report.Report, Target.is_sound}
 
 -- a link that wasn't used yet
 abbrev pub unused : Link

@@ -2,11 +2,9 @@
 use Rattle.std.specs.List.{flat_map}
 use Rattle.std.proofs.Common.{refl, sym, ◌∙◌, append_assoc, inl, inr, ◌≡◌, true, false, [], ◌++◌}
 use Rattle.std.proofs.Common.{append-nil, true≢false}
-use Rattle.std.proofs.lemmas.Grind.{flat_map-append}
-use Rattle.std.proofs.lemmas.Bool.{cases_Bool}
+use Rattle.std.proofs.{lemmas.Grind.flat_map-append, lemmas.Bool.cases_Bool}
 use Rattle.pop3_wire.specs.Line.{ended}
-use Rattle.pop3_server.specs.Maildrop.{DropMail}
-use Rattle.pop3_server.specs.ServerMachine.{Machine}
+use Rattle.pop3_server.specs.{Maildrop.DropMail, ServerMachine.Machine}
 use Rattle.pop3_server.specs.AnswersLines.{AnswersLines, SameServer}
 use Rattle.pop3_server.specs.RunLaws.{runs_on, lines_on}
 use Rattle.pop3_server.specs.LoopLink.{Loop, Serves, AnswersWholeLines, TellsAnswers}

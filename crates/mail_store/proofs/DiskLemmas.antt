@@ -3,11 +3,9 @@ use Rattle.std.proofs.Common.{◌≡◌, ℕ, ◌+◌, ◌<◌, zero, suc, lengt
 use Rattle.std.proofs.Common.{ap, subst, ◌∙◌, Option, Some, None, option_map, Result, Ok, Err, inl, inr, ⊎_elim}
 use Rattle.std.proofs.Common.{append_assoc, append-nil, take-append-drop, ◌⊎◌, ◌-◌, ◌≤◌, min, length-append}
 use Rattle.std.proofs.Common.{slice_index, true, false, ◌==◌, ◌%◌, ◌/◌, OnOk, if◌then◌else◌, true≢false}
-use Rattle.std.proofs.Math.Logic.{⊎_map}
-use Rattle.std.proofs.lemmas.Option.{same_Some}
+use Rattle.std.proofs.{Math.Logic.⊎_map, lemmas.Option.same_Some, lemmas.Grind.same_number_lists}
 use Rattle.std.proofs.lemmas.Bool.{cases_Bool, cases_lt, eq-eqb}
 use Rattle.std.proofs.lemmas.List.{take-append-le, take-take, length-take, get_or-take, get_or_append_left, get_or-append-add}
-use Rattle.std.proofs.lemmas.Grind.{same_number_lists}
 use Rattle.std.proofs.Math.Seq.{take-append-add, take-append_seam, take-length}
 use Rattle.std.specs.List.{list_all}
 use Rattle.mail_terms.specs.FailureCount.{is_refused}
@@ -251,8 +249,7 @@ failed_no_more _ _ NoMemory t = may_no_more _ _ t
 pub all_trust : (old new : Disk) → new ≡ all_flushed old → Trusted old.now → IsDurable new
 all_trust old _ e trust = rw e (record { named = refl; flushed = flushed_now old.now trust })
 
-pub durable_flush : {T : Type 0} (old new : Disk) (result : Result T StoreFault) → FlushesDisk old result new
-    → DurableFlush old result new
+pub durable_flush : {T : Type 0} (old new : Disk) (result : Result T StoreFault) → FlushesDisk old result new → DurableFlush old result new
 durable_flush old _ (Ok _) e = record { no_more = all_no_more _ _ e; durable = all_trust old _ e }
 durable_flush _ _ (Err _) t = record { no_more = failed_no_more _ _ _ t; durable = λ _. tt }
 
@@ -527,8 +524,7 @@ cut_durable _ _ len (Ok _) (b, c, at, is, e) named = λ trust.
 
 -- of a durable file its bytes are left, and what may be left of those that were appended
 pub cut_back : {T : Type 0} (old mid new : Disk) (was bytes : List ℕ) (r : Result T StoreFault)
-    → IsDurable old → seen_on old ≡ Some was → AppendsDisk {T = Unit {0}} old bytes (Err Refused) mid
-    → CutsDisk mid (length was) r new
+    → IsDurable old → seen_on old ≡ Some was → AppendsDisk {T = Unit {0}} old bytes (Err Refused) mid → CutsDisk mid (length was) r new
     → LeavesPart (Some was) bytes (MayLeave new) × OnOk r (Trusted new.now → IsDurable new)
 cut_back old mid new was bytes r on has appends cuts = (
   λ some same left may. subst (λ (xs : List ℕ). LeavesBehind xs bytes left) (same_Some was some same)
@@ -549,8 +545,7 @@ cut_back old mid new was bytes r on has appends cuts = (
         let same : b ≡ c = same_blob b c (sym there ∙ at) in
         let (ys, content, flushed, uncut) = part_of was bytes first front rest c parts part in
         ⊎_elim (λ e. pieces_behind was bytes first front rest c left parts part
-        (subst (λ (o : Option (List ℕ)). IsLeftOf (Some c) o) (sym e) (inl refl)))
-        (nothing left)
+        (subst (λ (o : Option (List ℕ)). IsLeftOf (Some c) o) (sym e) (inl refl))) (nothing left)
         (left_back c (length was) was ys left flushed (omega (arith, uncut))
         (ap (take (length was)) content ∙ take-append_seam was (first ++ front))
         (subst (λ (x : Blob). IsLeftOf (Some (cut x (length was))) left) same (no_more (cut b (length was)) d is left now)))
@@ -586,8 +581,7 @@ durable_replace _ new bytes (Ok _) e = record {
   durable = rw e (record { named = refl; flushed = refl });
 }
 durable_replace _ _ _ (Err _) (inl e) = record { leaves = λ left may. inl (same_leaves e left may); durable = tt }
-durable_replace _ _ _ (Err _) (inr (inl e)) =
-    record { leaves = λ _. of_new _ _ _ e _ (⊎_elim (may_now _ _) (may_once _ _)); durable = tt }
+durable_replace _ _ _ (Err _) (inr (inl e)) = record { leaves = λ _. of_new _ _ _ e _ (⊎_elim (may_now _ _) (may_once _ _)); durable = tt }
 durable_replace _ _ _ (Err _) (inr (inr e)) = record { leaves = λ left. of_new _ _ [] e left (λ was. absurd was); durable = tt }
 
 -- ---- what calls see

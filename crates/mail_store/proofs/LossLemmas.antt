@@ -109,8 +109,7 @@ flushed_others (g ∷ front) _ f all = (all.0, flushed_others front _ f all.1)
 
 pub flushed_part : (gone files left : List File) → AllFlushed files → IsWithout files gone left → AllFlushed left
 flushed_part [] _ _ all are = flushed_reached _ _ all are
-flushed_part (f ∷ gone) _ _ all (_, _, are, is) =
-    flushed_part gone _ _ (flushed_others _ _ f (flushed_reached _ _ all are)) is
+flushed_part (f ∷ gone) _ _ all (_, _, are, is) = flushed_part gone _ _ (flushed_others _ _ f (flushed_reached _ _ all are)) is
 
 pub flushed_delivers : {T : Type 0} (old new : Maildir) (name text : List ℕ) (r : Result T StoreFault) → Delivers old (mail name text) r new
     → AllFlushed old.files → AllFlushed new.files

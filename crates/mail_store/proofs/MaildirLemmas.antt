@@ -11,11 +11,8 @@ use Rattle.std.proofs.lemmas.List.{length-take, append_assoc, length-map, get_or
 use Rattle.std.proofs.lemmas.List.Elements.{All-nil, All-cons, All-append, All-from_recursion, Contains-get_or}
 use Rattle.std.proofs.lemmas.List.Sums.{AllPass-from_list_all, fails_before_first, position_or_len_is, prefix_len-le-length}
 use Rattle.std.proofs.lemmas.List.Folds.{prefix_len-append, list_any-append, list_any_at, Any-from_list_any}
-use Rattle.std.proofs.lemmas.Bool.Decides.{nat_tests}
-use Rattle.std.proofs.lemmas.Simd.{map-map}
+use Rattle.std.proofs.{lemmas.Bool.Decides.nat_tests, lemmas.Simd.map-map, lemmas.Cmp.nat_list_eq_equiv, lemmas.Map.Views.any-filter_same}
 use Rattle.std.proofs.lemmas.List.Sorted.{IsPermutation-refl, list_any-IsPermutation}
-use Rattle.std.proofs.lemmas.Cmp.{nat_list_eq_equiv}
-use Rattle.std.proofs.lemmas.Map.Views.{any-filter_same}
 use Rattle.std.proofs.Math.Bool.{or-false, or-true}
 use Rattle.std.proofs.lemmas.Slice.Eq.{bytes_eq-Decides}
 use Rattle.hex.specs.Hex.{encode_lower, encode_with, lower_digits, IsBytes, decode_of}
@@ -109,8 +106,7 @@ pub stem_stem_of : (account uid : List ℕ) → IsAccountText account → stem (
 stem_stem_of account uid h =
     cc (
       all_before is_colon (stem_of account uid) (λ k d lt. (stem_is_plain account uid h k d lt).0),
-      all_before is_comma
-          (stem_of account uid) (λ k d lt. (stem_is_plain account uid h k d lt).1),
+      all_before is_comma (stem_of account uid) (λ k d lt. (stem_is_plain account uid h k d lt).1),
     )
 
 -- a decimal has only digits
@@ -148,10 +144,8 @@ stem_name_of account uid size h =
     cc (
       base_name_of account uid size h,
       append_assoc (stem_of account uid) (codes ",S=") (decimal size),
-      before_first-cut is_comma
-          (stem_of account uid) (83 ∷ 61 ∷ decimal size) 44 refl,
-      all_before is_comma (stem_of account uid) (λ k d lt.
-          (stem_is_plain account uid h k d lt).1),
+      before_first-cut is_comma (stem_of account uid) (83 ∷ 61 ∷ decimal size) 44 refl,
+      all_before is_comma (stem_of account uid) (λ k d lt. (stem_is_plain account uid h k d lt).1),
     )
 
 -- a colon and what follows it are no part of the base
@@ -337,8 +331,7 @@ told_sought stems files kept is = (
 pub flags_among : {A B : Type 0} (account : List ℕ) (maildir : Maildir) (stems : List (String A)) (items : List Item)
     (flags : List Bool) (found : List ℕ → Bool) (names : List (String B))
     → ((q : List ℕ) → found q ≡ any_name account q names) → AreAmong stems (names_of maildir.files) (bases_told names)
-    → HasStems account items flags flags (length items) stems
-    → sought_among found items flags ≡ flags_sought account maildir items flags
+    → HasStems account items flags flags (length items) stems → sought_among found items flags ≡ flags_sought account maildir items flags
 flags_among account maildir stems [] flags found names texts told has = refl
 flags_among account maildir stems (item ∷ items) [] found names texts told has = refl
 flags_among account maildir stems (item ∷ items) (false ∷ flags) found names texts told has =
@@ -347,15 +340,13 @@ flags_among account maildir stems (item ∷ items) (false ∷ flags) found names
 flags_among {A} {B} account maildir stems (item ∷ items) (true ∷ flags) found names texts (order, same, told) has =
     rw (
       held (has 0 (omega arith) item (λ d. refl) (λ d. refl) (λ d. refl)),
-      flags_among account maildir stems items
-          flags found names texts (order, same, told) (λ k below. has (suc k) (omega (arith, below))),
+      flags_among account maildir stems items flags found names texts (order, same, told) (λ k below. has (suc k) (omega (arith, below))),
     ) refl
   where
     held : is_among stems (stem_of account item.uid) ≡ true → found (encode_lower item.uid) ≡ is_held account maildir item.uid
     held among =
         let ids = names_id account item.uid in
-        let of_one : (name : List ℕ) → ids name ≡ true
-        → is_sought stems name ≡ true =
+        let of_one : (name : List ℕ) → ids name ≡ true → is_sought stems name ≡ true =
         λ name is. rw (← (bytes_eq-Decides (stem_of account item.uid) (stem name)).0 is, among) refl in
         let any = list_any-IsPermutation ids (names_of maildir.files) order same
         ∙ sym (any-filter_same ids (is_sought stems) true of_one order) ∙ ap (list_any ids) (sym told) in
@@ -388,8 +379,7 @@ length-sought found (_ ∷ items) (_ ∷ flags) same = cc (length-sought found i
 
 -- an id is held if a file has its name
 pub held_where_there : (account uid : List ℕ) (size : ℕ) (maildir : Maildir) → IsAccountText account
-    → IsThere maildir (name_of account uid size)
-    → is_held account maildir uid ≡ true
+    → IsThere maildir (name_of account uid size) → is_held account maildir uid ≡ true
 held_where_there account uid size maildir a c =
     let same = (bytes_eq-Decides (stem_of account uid) _).1 (sym (stem_base (name_of account uid size)
     ∙ stem_name_of account uid size a)) in

@@ -10,9 +10,7 @@ use Rattle.std.proofs.lemmas.List.{get_or-take, get_or_default, length-take, len
 use Rattle.std.proofs.lemmas.List.{append-nil, drop_at, length-append, take_at, append_cancel_right, flat_map_more}
 use Rattle.std.proofs.lemmas.List.{map-append}
 use Rattle.std.proofs.lemmas.List.Elements.{recursion_from_All, All-from_recursion, All-map}
-use Rattle.std.proofs.lemmas.List.Sums.{sum_by-append}
-use Rattle.std.proofs.lemmas.List.Concat.{flat_map-append}
-use Rattle.std.proofs.lemmas.Slice.Eq.{starts_is}
+use Rattle.std.proofs.{lemmas.List.Sums.sum_by-append, lemmas.List.Concat.flat_map-append, lemmas.Slice.Eq.starts_is}
 use Rattle.std.proofs.lemmas.List.Folds.{flat_map-map}
 use Rattle.mail_terms.specs.Text.{IsWhole, HasNoLf}
 use Rattle.mail_store.specs.FlatFile.{edges_of, piece_at}

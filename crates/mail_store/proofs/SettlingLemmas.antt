@@ -2,7 +2,7 @@
 use Rattle.std.proofs.Common.{◌≡◌, inl, inr, ℕ, ◌+◌, List, [], ◌∷◌, ◌++◌, length, take, Option, Some, None, is_some}
 use Rattle.std.proofs.Common.{take-append-drop, refl, sym, ap, ◌∙◌, append_assoc, append-nil, false, ◌&&◌, drop}
 use Rattle.std.proofs.Common.{arith, length-append, ◌⊎◌, suc, ◌-◌, ◌≤◌, ◌%◌, true, subst, not, nat_eq, ◌==◌}
-use Rattle.std.proofs.lemmas.Option.{same_Some}
+use Rattle.std.proofs.{lemmas.Option.same_Some, Math.Logic.⊎_map, lemmas.List.Elements.All-from_recursion}
 use Rattle.std.proofs.Math.Seq.{take-append_seam, drop-append_seam}
 use Rattle.std.specs.List.{list_all, starts_with, AllByRecursion}
 use Rattle.std.proofs.lemmas.Bool.{and_cases, and_parts, and_right, eqb-true, ne_eqb, not-false, true≢false, false≢true}
@@ -10,11 +10,8 @@ use Rattle.std.proofs.lemmas.Bool.{not_from_false, cases_Bool, cases_lt, or_righ
 use Rattle.std.proofs.lemmas.Bool.{eq-eqb}
 use Rattle.std.proofs.lemmas.Bool.Decides.{eqb_tells, Decides-eqb}
 use Rattle.std.proofs.Math.Bool.{and-false, or-true}
-use Rattle.std.proofs.Math.Logic.{⊎_map}
 use Rattle.std.proofs.lemmas.List.{nil_from_length, same_from_push}
-use Rattle.std.proofs.lemmas.List.Elements.{All-from_recursion}
-use Rattle.std.proofs.lemmas.List.Sums.{list_all-from_AllPass}
-use Rattle.std.proofs.lemmas.Slice.Eq.{ends_is}
+use Rattle.std.proofs.{lemmas.List.Sums.list_all-from_AllPass, lemmas.Slice.Eq.ends_is}
 use Rattle.memchr.specs.Find.{FindsNeedle, OccursAt}
 use Rattle.memchr.proofs.lemmas.MatchLemmas.{OccursAt-from_part, OccursAt-split}
 use Rattle.mail_terms.specs.Text.{HasNoLf, IsWhole}

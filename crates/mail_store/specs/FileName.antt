@@ -4,8 +4,7 @@ use Rattle.std.specs.Prelude.{◌||◌, bytes_eq, codes, decimal, String, string
 use Rattle.std.specs.List.{AllPass, before_first, list_any}
 use Rattle.hex.specs.Hex.{encode_lower}
 use Rattle.sha2.specs.Sha256.{sha256}
-use Rattle.mail_terms.specs.MaildirName.{base}
-use Rattle.mail_terms.specs.UniqueId.{IsLegalId}
+use Rattle.mail_terms.specs.{MaildirName.base, UniqueId.IsLegalId}
 use Rattle.mail_store.specs.Maildir.{Maildir, File, mail}
 
 -- the text by which accounts are told apart: the digest of server, NUL, port, NUL, user name, in small hexadecimal

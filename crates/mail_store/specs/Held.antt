@@ -3,17 +3,14 @@ use Rattle.std.specs.Prelude.{◌≡◌, ℕ, List, map, Bool, true, false, Resu
 use Rattle.std.specs.Prelude.{OnOk, [], ◌∷◌, ◌++◌, ◌&&◌, bytes_eq, String, string_bytes, Contains, HoldsAt, ◌<◌}
 use Rattle.std.specs.Prelude.{IsPermutation, if◌then◌else◌}
 use Rattle.std.specs.List.{filter, list_any}
-use Rattle.std.specs.Borrow.{Bor}
+use Rattle.std.specs.{Borrow.Bor, Ordering.nat_cmp, Cmp.Lexicographic.slice_cmp}
 use Rattle.std.specs.BTreeSet.{BTreeSet, contains_by}
-use Rattle.std.specs.Ordering.{nat_cmp}
-use Rattle.std.specs.Cmp.Lexicographic.{slice_cmp}
 use Rattle.hex.specs.Hex.{encode_lower}
 use Rattle.mail_terms.specs.Listing.{Item}
-use Rattle.mail_store.specs.declared.fault.StoreFault.{StoreFault}
+use Rattle.mail_store.specs.{declared.fault.StoreFault.StoreFault, Loss.is_among}
 use Rattle.mail_store.specs.declared.fault.StoreFault.TheVariants.{Missing, Refused, NotMbox, NoMemory}
 use Rattle.mail_store.specs.Maildir.{AllNamed, File, IsDurableFile, Maildir, maildir_refused, ListsBoth}
 use Rattle.mail_store.specs.FileName.{is_held, names_id, stem, stem_of}
-use Rattle.mail_store.specs.Loss.{is_among}
 
 -- whether the id of each item is held, in order
 abbrev pub flags_of : List ℕ → Maildir → List Item → List Bool

@@ -2,9 +2,8 @@
 use Rattle.std.specs.Prelude.{◌≡◌, ◌⊎◌, ◌||◌, ℕ, List, [], ◌∷◌, map, bytes_eq, Bool, true, false, None, Result, Ok, Err}
 use Rattle.std.specs.Prelude.{String, string_bytes}
 use Rattle.std.specs.List.{list_any}
-use Rattle.mail_store.specs.declared.fault.StoreFault.{StoreFault}
+use Rattle.mail_store.specs.{declared.fault.StoreFault.StoreFault, FileName.stem}
 use Rattle.mail_store.specs.Maildir.{File, IsDurableFile, Maildir, maildir_refused, with_files}
-use Rattle.mail_store.specs.FileName.{stem}
 
 -- whether one of these texts is this one
 abbrev pub is_among : {A : Type 0} → List (String A) → List ℕ → Bool

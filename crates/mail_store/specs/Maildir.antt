@@ -4,9 +4,8 @@ use Rattle.std.specs.Prelude.{◌≡◌, ℕ, ◌+◌, List, [], ◌∷◌, ◌+
 use Rattle.std.specs.Prelude.{Result, Ok, Err, ◌⊎◌, Vec, String, string_bytes, IsPermutation, Contains, All}
 use Rattle.std.specs.List.{AllByRecursion, AllZip, filter}
 use Rattle.mail_terms.specs.MaildirName.{base}
-use Rattle.mail_store.specs.declared.fault.StoreFault.{StoreFault}
+use Rattle.mail_store.specs.{declared.fault.StoreFault.StoreFault, declared.maildir.disk.Folder.Folder}
 use Rattle.mail_store.specs.declared.fault.StoreFault.TheVariants.{Missing, Refused, NotMbox, NoMemory}
-use Rattle.mail_store.specs.declared.maildir.disk.Folder.{Folder}
 use Rattle.mail_store.specs.declared.maildir.disk.Folder.TheVariants.{New, Cur}
 
 -- a file of `new` or `cur`: its name, which is only the part before its first colon, and its bytes; and whether

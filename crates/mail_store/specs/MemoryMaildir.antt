@@ -1,7 +1,6 @@
 -- What is known of a Maildir in memory, and what its calls do: nobody else is at work.
 use Rattle.std.specs.Prelude.{◌≡◌, ℕ, List, [], ◌∷◌, ◌++◌, Option, Some, None, Result, Ok, Err}
-use Rattle.mail_store.specs.declared.fault.StoreFault.{StoreFault}
-use Rattle.mail_store.specs.declared.maildir.disk.Folder.{Folder}
+use Rattle.mail_store.specs.{declared.fault.StoreFault.StoreFault, declared.maildir.disk.Folder.Folder}
 use Rattle.mail_store.specs.declared.maildir.disk.Folder.TheVariants.{New, Cur}
 use Rattle.mail_store.specs.Maildir.{Draft, File, Maildir, draft, file, mail, with_file}
 

@@ -5,11 +5,9 @@ use Rattle.std.specs.Prelude.{◌++◌}
 use Rattle.std.specs.Prelude.{length, take, drop, Option, Some, None, Result, Ok, Err, nat_eq, nat_lt, nat_le}
 use Rattle.std.specs.Prelude.{bytes_eq, if◌then◌else◌}
 use Rattle.std.specs.List.{ends_with, list_all}
-use Rattle.mail_terms.specs.Listing.{Item}
-use Rattle.mail_terms.specs.Text.{IsWhole}
-use Rattle.mail_store.specs.declared.fault.StoreFault.{StoreFault}
+use Rattle.mail_terms.specs.{Listing.Item, Text.IsWhole}
+use Rattle.mail_store.specs.{declared.fault.StoreFault.StoreFault, declared.mboxrd.settling.Behind.Behind}
 use Rattle.mail_store.specs.declared.fault.StoreFault.TheVariants.{Missing, Refused, NotMbox, NoMemory}
-use Rattle.mail_store.specs.declared.mboxrd.settling.Behind.{Behind}
 use Rattle.mail_store.specs.declared.mboxrd.settling.Behind.TheVariants.{Others, Whole, Torn}
 use Rattle.mail_store.specs.FlatFile.{Stored, FailsAs, holding, file_refused}
 use Rattle.mail_store.specs.Mboxrd.{MayGoOn, lines_of, begins_entry, separator, entry_of, text_in, wire_size}

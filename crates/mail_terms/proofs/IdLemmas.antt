@@ -4,12 +4,8 @@ use Rattle.std.proofs.Common.{is_eq, length, map, nat_cmp, nat_le, refl, sym, tr
 use Rattle.mail_terms.specs.Listing.{Item}
 use Rattle.mail_terms.specs.UniqueId.{IsLegalId, has_id, is_id_byte}
 use Rattle.std.proofs.lemmas.Bool.{and_parts, cases_lt, false_from_ne_true, leb-true}
-use Rattle.std.proofs.lemmas.Cmp.{nat_list_eq_equiv}
-use Rattle.std.proofs.lemmas.List.{get_or_past}
-use Rattle.std.proofs.lemmas.List.Sums.{AllPass-from_list_all}
-use Rattle.std.proofs.lemmas.Map.Text.{is_eq-slice_cmp}
-use Rattle.std.proofs.lemmas.Slice.Eq.{bytes_eq-Decides}
-use Rattle.std.proofs.lemmas.Str.{IsUtf8-from_ascii}
+use Rattle.std.proofs.{lemmas.Cmp.nat_list_eq_equiv, lemmas.List.get_or_past, lemmas.List.Sums.AllPass-from_list_all}
+use Rattle.std.proofs.{lemmas.Map.Text.is_eq-slice_cmp, lemmas.Slice.Eq.bytes_eq-Decides, lemmas.Str.IsUtf8-from_ascii}
 use Rattle.std.specs.Cmp.Lexicographic.{slice_cmp}
 use Rattle.std.specs.List.{list_all, list_any}
 
@@ -30,11 +26,10 @@ id_characters id legal = λ k d inside.
     (leb-true 0x21 _ parts.0, leb-true _ 0x7E parts.1)
 
 pub utf8_id : (id : List ℕ) → IsLegalId id → IsUtf8 id
-utf8_id id legal = IsUtf8-from_ascii id (λ k.
-    elim (cases_lt k (length id)) [
-      | inl inside ↦ let within = id_characters id legal k 0 inside in omega (arith, within.1)
-      | inr past ↦ let e = get_or_past id k 0 past in omega (arith, e)
-    ])
+utf8_id id legal = IsUtf8-from_ascii id (λ k. elim (cases_lt k (length id)) [
+  | inl inside ↦ let within = id_characters id legal k 0 inside in omega (arith, within.1)
+  | inr past ↦ let e = get_or_past id k 0 past in omega (arith, e)
+])
 
 abbrev pub has_key : List (Bor (List ℕ)) → List ℕ → Bool
 has_key keys uid = list_any (λ other. is_eq (slice_cmp nat_cmp uid other.now)) keys

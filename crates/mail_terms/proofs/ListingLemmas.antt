@@ -2,15 +2,11 @@
 use Rattle.std.proofs.Common.{◌≡◌, ℕ, suc, ◌<◌, ◌≤◌, ◌+◌, ◌-◌, List, [], ◌∷◌, ◌++◌, length, get_or, map, take, drop}
 use Rattle.std.proofs.Common.{All, refl, sym, subst, ◌∙◌, ap, arith, rules, length-append, length-drop, take_all}
 use Rattle.std.proofs.lemmas.List.{get_or-map, get_or_default, length-map, map-append, drop-append-le, take-append-le}
-use Rattle.std.proofs.Math.Seq.{drop-append_seam}
-use Rattle.std.proofs.lemmas.Simd.{map-map}
+use Rattle.std.proofs.{Math.Seq.drop-append_seam, lemmas.Simd.map-map}
 use Rattle.std.proofs.lemmas.List.Elements.{All-map, All-push}
-use Rattle.mail_terms.specs.declared.listing.Span.{Span}
-use Rattle.mail_terms.specs.declared.listing.UidPlace.{UidPlace}
-use Rattle.mail_terms.specs.declared.listing.ItemPlace.{ItemPlace}
-use Rattle.mail_terms.specs.declared.listing.ScanRow.{ScanRow}
+use Rattle.mail_terms.specs.{declared.listing.Span.Span, declared.listing.UidPlace.UidPlace, declared.listing.ItemPlace.ItemPlace}
+use Rattle.mail_terms.specs.{declared.listing.ScanRow.ScanRow, UniqueId.IsLegalId}
 use Rattle.mail_terms.specs.Numbering.{IsNumbering, IsOrderOf}
-use Rattle.mail_terms.specs.UniqueId.{IsLegalId}
 use Rattle.mail_terms.specs.Listing.{Item, UidRow, Joins, message_limit}
 use Rattle.mail_terms.specs.IdPlaces.{id_at, row_at, item_at, IsIdAt, HoldRows, AreAt}
 
@@ -107,8 +103,7 @@ module _ (ids : List ℕ) (n : ℕ) (uids : List UidPlace) (sizes : List ScanRow
         rw (
           get_or-map (row_at ids) uids k no_row row within,
           get_or-map (item_at ids) items ((get_or uids k no_row).number - 1) no_item item below,
-        )
-        (ap (id_at ids) (rows.spans _ no_item no_row below ∙ ap (λ (j : ℕ). (get_or uids j no_row).span) there.1));
+        ) (ap (id_at ids) (rows.spans _ no_item no_row below ∙ ap (λ (j : ℕ). (get_or uids j no_row).span) there.1));
     octets = λ k row inside item.
         let there = place_of_row (λ (r : ScanRow). r.number) n sizes size_places size_numbers size_order k row inside in
         let below : (get_or sizes k row).number - 1 < length items = omega (arith, there.0, count, uid_order.count) in
@@ -118,8 +113,7 @@ module _ (ids : List ℕ) (n : ℕ) (uids : List UidPlace) (sizes : List ScanRow
 
   pub items_have_ids : All (λ row. IsIdAt ids row.span) uids → All (λ item. IsIdAt ids item.span) items
   items_have_ids are k item inside =
-      subst (IsIdAt ids) (sym (rows.spans k item no_row inside))
-      (are _ no_row (omega (
+      subst (IsIdAt ids) (sym (rows.spans k item no_row inside)) (are _ no_row (omega (
         arith,
         uid_order.within k (omega (arith, count, uid_order.count)),
         length-map uids (λ (row : UidPlace). row.number),

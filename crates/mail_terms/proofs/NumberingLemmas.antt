@@ -26,12 +26,10 @@ has_places_free n xs i slots None has low high free is =
     record {
       room = length-set slots own (Some i) ∙ has.room;
       within = below_more _ i has.within (low, high);
-      found = below_more _ i
-          (λ place before. elim (cases_eq (get_or xs place 0 - 1) own) [
-            | inl same ↦ absurd (none-some place (free ∙ ap (λ k. get_or slots k None) (sym same) ∙ has.found place before))
-            | inr other ↦ get_or-set_other slots own (get_or xs place 0 - 1) (Some i) None other ∙ has.found place before
-          ])
-          set_here;
+      found = below_more _ i (λ place before. elim (cases_eq (get_or xs place 0 - 1) own) [
+        | inl same ↦ absurd (none-some place (free ∙ ap (λ k. get_or slots k None) (sym same) ∙ has.found place before))
+        | inr other ↦ get_or-set_other slots own (get_or xs place 0 - 1) (Some i) None other ∙ has.found place before
+      ]) set_here;
       back = λ slot place held. elim (cases_eq slot own) [
         | inl same ↦
             let here = same_Some i place (sym set_here ∙ ap (λ k. get_or (set slots own (Some i)) k None) (sym same) ∙ held) in

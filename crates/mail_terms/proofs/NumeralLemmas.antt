@@ -1,12 +1,10 @@
 -- The value of the digits that were read so far, and the numeral of a number.
 use Rattle.std.proofs.Common.{◌≡◌, ℕ, ◌+◌, ◌*◌, ◌-◌, ◌<◌, ◌≤◌, ◌==◌, List, [], ◌∷◌, length, take, get_or, Bool, true, false}
 use Rattle.std.proofs.Common.{◌&&◌, ◌^◌, ◌≢◌, Some, None, ap, decimal, nat_le, refl, sym, ◌∙◌, arith, if◌then◌else◌, take_all}
-use Rattle.std.proofs.Math.Bool.{and-false}
+use Rattle.std.proofs.{Math.Bool.and-false, lemmas.Bool.Decides.nat_tests, lemmas.List.Folds.list_all_more}
 use Rattle.std.proofs.lemmas.Bool.{and_from, le-leb, lt-leb, lt-ltb}
-use Rattle.std.proofs.lemmas.Bool.Decides.{nat_tests}
 use Rattle.std.proofs.lemmas.Fmt.{decimal_is_IsNumeral, digits_decimal, length-decimal-le}
 use Rattle.std.proofs.lemmas.List.Elements.{All-from_get_or, recursion_from_All}
-use Rattle.std.proofs.lemmas.List.Folds.{list_all_more}
 use Rattle.std.proofs.lemmas.Int.Digits.{digits_value_more}
 use Rattle.std.proofs.lemmas.Str.Parse.{IsNumeralModel, digits_value-take-le, not_in_digits, numerals_by_value, tells_all_ascii_digits}
 use Rattle.std.proofs.lemmas.Str.Parse.{tells_digits}
@@ -50,8 +48,7 @@ no_value text i value inside read digit large =
 
 -- all digits were read
 pub whole_value : (text : List ℕ) (i value : ℕ) → (length text == 0) ≡ false → length text ≤ 20 → length text ≤ i
-    → HasDigits (take i text) value
-    → Some value ≡ numeral_value text
+    → HasDigits (take i text) value → Some value ≡ numeral_value text
 whole_value text i value some short whole read =
     let all = take_all i text whole in
     let digits : list_all is_ascii_digit text ≡ true = ap (list_all is_ascii_digit) (sym all) ∙ read.digits in
@@ -60,8 +57,7 @@ whole_value text i value some short whole read =
       lt-ltb 0 (length text) (grind (arith, nat_tests)),
       le-leb (length text) 20 short,
       digits,
-      le-leb
-          (digits_value 10 text) 18446744073709551615 (omega (arith, read.fits, is)),
+      le-leb (digits_value 10 text) 18446744073709551615 (omega (arith, read.fits, is)),
     ) (ap (λ (n : ℕ). Some n) is)
 
 -- ---- each number of 64 bits is read from the numeral without leading zeros that writes it
@@ -76,8 +72,7 @@ by_test = numerals_by_value (λ (ds : List ℕ). all_ascii_digits ds ≡ true) t
 pub numeral_value-decimal : (number : ℕ) → number < 2 ^ 64 → numeral_value (decimal number) ≡ Some number
 numeral_value-decimal number fits =
     let numeral = decimal_is_IsNumeral number fits in
-    let test : is_numeral (decimal number) ≡ true = and_from _ _
-    (and_from _ _ (lt-ltb 0 (length (decimal number)) numeral.0.0)
+    let test : is_numeral (decimal number) ≡ true = and_from _ _ (and_from _ _ (lt-ltb 0 (length (decimal number)) numeral.0.0)
     (le-leb (length (decimal number)) 20 (length-decimal-le 20 number (omega arith) (omega (arith, fits)) fits)))
     (digits_same (decimal number) ∙ digits_decimal by_test number fits) in
     rw (test, ap (λ (n : ℕ). nat_le n greatest_size) numeral.1 ∙ le-leb number greatest_size (omega (arith, fits)))

@@ -3,9 +3,7 @@
 use Rattle.std.specs.Prelude.{◌≡◌, ℕ, ◌-◌, Bool, not, ◌&&◌, List, length, map, take}
 use Rattle.std.specs.Prelude.{drop, zip, bytes_eq, All, HoldsAt}
 use Rattle.std.specs.List.{list_any, enumerate_from}
-use Rattle.mail_terms.specs.Distinct.{AreDistinct}
-use Rattle.mail_terms.specs.Numbering.{IsNumbering}
-use Rattle.mail_terms.specs.declared.listing.ScanRow.{ScanRow}
+use Rattle.mail_terms.specs.{Distinct.AreDistinct, Numbering.IsNumbering, declared.listing.ScanRow.ScanRow}
 
 -- how many messages a listing may hold
 abbrev pub message_limit : ℕ

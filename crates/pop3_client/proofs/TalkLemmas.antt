@@ -1,20 +1,15 @@
 -- How the parts of a turn make a turn, and turns make a conversation, and what holds of every conversation.
-use Rattle.pop3_wire.specs.Link.{Link}
+use Rattle.pop3_wire.specs.{Link.Link, Reply.IsFirstLine, declared.reply.Status.Status, Commands.line_of, declared.note.Asked.Asked}
 use Rattle.std.proofs.Common.{Some, Option, true, ◌≡◌, inl, inr, ◌<◌, ◌≤◌, ◌+◌, ◌*◌, ℕ, false, List, [], ◌∷◌, ◌++◌}
 use Rattle.std.proofs.Common.{length, take, drop, None, Result, Ok, Err, refl, sym, ap, subst, ◌∙◌, arith, append_assoc}
 use Rattle.std.proofs.Common.{length-append, codes, append-nil, take_all, length-take, ◌≢◌, ◌⊎◌, IfOk, IfErr, rules}
 use Rattle.std.specs.List.{flat_map, AllZip, AllByRecursion}
 use Rattle.pop3_wire.specs.Line.{crlf, IsLine, ended}
-use Rattle.pop3_wire.specs.Reply.{IsFirstLine}
 use Rattle.pop3_wire.specs.Reading.{WholeReply, reply_bytes, body_bytes, gives_body, IsUidLine, IsScanLine}
 use Rattle.pop3_wire.specs.Bodies.{Drew, Rest, LeavesRest}
-use Rattle.pop3_wire.specs.declared.reply.Status.{Status}
-use Rattle.std.proofs.lemmas.Bool.{false≢true}
-use Rattle.std.proofs.lemmas.Grind.{flat_map-append}
+use Rattle.std.proofs.{lemmas.Bool.false≢true, lemmas.Grind.flat_map-append, lemmas.List.append_cancel_left}
 use Rattle.pop3_wire.specs.declared.reply.Status.TheVariants.{Positive, Negative}
-use Rattle.pop3_wire.specs.Commands.{line_of}
 use Rattle.pop3_wire.specs.Place.{Place, at, GoesOn, Gains, HasLine, HasNoLine}
-use Rattle.pop3_wire.specs.declared.note.Asked.{Asked}
 use Rattle.pop3_client.specs.declared.fault.ClientFault.{ClientFault}
 use Rattle.pop3_client.specs.declared.fault.ClientFault.TheVariants.{ConnectionEnded, ReplyTooLong, ReadFailed}
 use Rattle.pop3_client.specs.declared.fault.ClientFault.TheVariants.{BadReply, Refused, TooMany, BadListing}
@@ -31,7 +26,6 @@ use Rattle.mail_terms.specs.Listing.{Item, Agree, Joins, message_limit, UidRow}
 use Rattle.mail_terms.specs.declared.listing.ScanRow.{ScanRow}
 use Rattle.pop3_wire.specs.Body.{dot, Body}
 use Rattle.pop3_client.specs.Listing.{Listed, GetsListing, ListsRows, RowsCause, NotTaken, TakesRows}
-use Rattle.std.proofs.lemmas.List.{append_cancel_left}
 use Rattle.pop3_wire.specs.declared.unstuffer.Spot.TheVariants.{Done}
 use Rattle.pop3_client.specs.Texts.{Fetched, Fetching}
 use Rattle.pop3_wire.proofs.BodiesLemmas.{drew_on}
@@ -83,8 +77,7 @@ pub line_at : {n : ℕ} {bytes : List ℕ} → HasLine line_limit bytes n → Is
     × (bytes ≡ ended (take n bytes) ++ drop (n + 2) bytes)
 line_at {n} {bytes} has = (
   omega (arith, has.within, length-take n bytes),
-  has.whole
-      ∙ sym (append_assoc (take n bytes) crlf (drop (n + 2) bytes)),
+  has.whole ∙ sym (append_assoc (take n bytes) crlf (drop (n + 2) bytes)),
 )
 
 -- a turn was sent whole, and its first line taken
@@ -113,8 +106,7 @@ drew_of gains = record { got = gains.got; sent = gains.sent }
 
 -- nothing was used
 heard_unused : {fault : ClientFault} {turn : Turn} {old new : Place} {gained : List ℕ} → Gains old new gained
-    → Cause fault turn old.link new.link (old.waiting ++ gained)
-    → TakesRefusal fault [] → Heard turn old (Err fault) new
+    → Cause fault turn old.link new.link (old.waiting ++ gained) → TakesRefusal fault [] → Heard turn old (Err fault) new
 heard_unused {gained = gained} gains cause takes =
     record {
       gained = gained;
@@ -130,8 +122,7 @@ heard_unused {gained = gained} gains cause takes =
 
 -- no line came
 pub heard_none : (fault : ClientFault) {turn : Turn} {old new : Place} {gained : List ℕ} → Gains old new gained
-    → NoLineCause fault old.link new.link new.waiting
-    → Heard turn old (Err fault) new
+    → NoLineCause fault old.link new.link new.waiting → Heard turn old (Err fault) new
 heard_none ConnectionEnded gains why = let here = rw gains.waiting at why in heard_unused gains (here.0, inl here.1) tt
 heard_none ReadFailed gains why = let here = rw gains.waiting at why in heard_unused gains (here.0, inl here.1) tt
 heard_none ReplyTooLong gains why = heard_unused gains (inl (rw gains.waiting at why)) tt
@@ -148,8 +139,7 @@ module _ {old mid : Place} {gained : List ℕ} {n : ℕ} (gains : Gains old mid 
         sym gains.waiting ∙ (line_at has).1;
   }
 
-  pub heard_refused : (turn : Turn) (to : Asked) (rest : List ℕ) → Names to turn
-      → IsFirstLine (take n mid.waiting) Negative rest
+  pub heard_refused : (turn : Turn) (to : Asked) (rest : List ℕ) → Names to turn → IsFirstLine (take n mid.waiting) Negative rest
       → Heard turn old (Err (Refused to)) (at mid.link (drop (n + 2) mid.waiting))
   heard_refused turn to rest names first = record {
     gained = gained;
@@ -168,8 +158,7 @@ module _ {old mid : Place} {gained : List ℕ} {n : ℕ} (gains : Gains old mid 
     take n mid.waiting,
     first_came,
     none Negative,
-    λ rest first. absurd
-        (none Positive rest first),
+    λ rest first. absurd (none Positive rest first),
   ) tt
 
   -- STAT's line isn't good
@@ -403,8 +392,7 @@ paced turns old new (Err fault) at =
           (simp (cut.1.split, append_assoc)) cut.1.sent
           (cut.1.got ∙ sym (append-nil at.mid.link.got)) (append-nil at.mid.waiting ∙ sym cut.1.waiting) (omega arith)
       | inr (inl bad) ↦ front (turn_bytes at.next) (asking at.later) bad.gained bad.used
-          ([], sym (append-nil (turn_bytes at.next))) refl bad.sent bad.got bad.heard
-          (omega (arith, bad.within))
+          ([], sym (append-nil (turn_bytes at.next))) refl bad.sent bad.got bad.heard (omega (arith, bad.within))
       | inr (inr none) ↦ front [] (asking (at.next ∷ at.later)) [] [] (turn_bytes at.next, refl) refl
           (rw (none.2, append-nil)) (rw (none.2, append-nil))
           (append-nil at.mid.waiting ∙ sym (ap (λ (p : Place). p.waiting) none.2)) (omega arith)
@@ -473,8 +461,7 @@ module _ {R : Type 0} {turn : Turn} {StandsFor : List ℕ → R
   -- a row waits
   module _ {n : ℕ} (has : HasLine line_limit here.waiting n) (other : take n here.waiting ≢ dot) where
     -- it was taken
-    pub took_row : {row : R} → IsListingRow turn (take n here.waiting) → StandsFor (take n here.waiting) row
-        → length rows < message_limit
+    pub took_row : {row : R} → IsListingRow turn (take n here.waiting) → StandsFor (take n here.waiting) row → length rows < message_limit
         → TookRows turn StandsFor old (at here.link (drop (n + 2) here.waiting)) (rows ++ row ∷ [])
     took_row {row} good read few =
         let line = take n here.waiting in record {
@@ -580,19 +567,16 @@ lists_of turn IsThisRow line old mid new (Err fault) begun listing takes =
     let used = flat_map ended takes.used in
     let cause = cause_of_rows fault turn mid.link new.link (ended line ++ after) after (ended line ++ used)
     (begins_of after begun) listing takes.cause in
-    inr (inl (not_answered_behind fault used begun takes.drew cause.0 takes.has.whole
-    (omega (
+    inr (inl (not_answered_behind fault used begun takes.drew cause.0 takes.has.whole (omega (
       arith,
       takes.has.few,
       lines_within takes.used takes.has.short,
-      by_listing
-          (λ (t : Turn). most t ≡ line_limit + line_limit * (message_limit + 1)) refl refl turn listing,
+      by_listing (λ (t : Turn). most t ≡ line_limit + line_limit * (message_limit + 1)) refl refl turn listing,
     )) cause.1))
 
 -- both listings were completed
 pub listed : (old mid new : Place) (uids : List UidRow) (sizes : List ScanRow)
-    → ListsRows uidl IsUidLine old (Ok uids) mid → ListsRows list IsScanLine mid (Ok sizes) new
-    → Listed old new uids sizes
+    → ListsRows uidl IsUidLine old (Ok uids) mid → ListsRows list IsScanLine mid (Ok sizes) new → Listed old new uids sizes
 listed old mid new uids sizes first second = record {
   first = first.0;
   second = second.0;
@@ -603,8 +587,7 @@ listed old mid new uids sizes first second = record {
 
 -- and joined, or not
 pub lists_joined : (count : ℕ) (old new : Place) (uids : List UidRow) (sizes : List ScanRow)
-    (result : Result (List Item) ClientFault) → Listed old new uids sizes
-    → IfOk result (Joins count uids sizes)
+    (result : Result (List Item) ClientFault) → Listed old new uids sizes → IfOk result (Joins count uids sizes)
     → IfErr result (λ fault. ((fault ≡ ListingsDisagree) × (Agree count uids sizes → ⊥)) ⊎ (fault ≡ NoMemory))
     → GetsListing count old result new
 lists_joined count old new uids sizes (Ok items) all ok err = (uids, sizes, all, ok)
@@ -619,16 +602,14 @@ fetched {new = new} {text = text} now done =
     let is : Body now.under.used text = rw done at now.under.reached in (
       record { first = now.line; body = Some is.lines },
       talked_reply (Some is.lines) now.opened now.under.drew now.under.goes_on (now.under.heard
-          ∙ ap (λ (b : List ℕ). b ++ new.waiting) is.whole)
-          (is.content, omega (arith, now.under.sizes, ap length is.whole)),
+          ∙ ap (λ (b : List ℕ). b ++ new.waiting) is.whole) (is.content, omega (arith, now.under.sizes, ap length is.whole)),
       is.read,
     )
 
 -- the turn broke while its text was being taken
 module _ {number : ℕ} {start mid : Place} {line : List ℕ} (begun : Opened (retr number) line start mid) where
   pub broke_text : {new : Place} {gained : List ℕ} (fault : ClientFault) (leaves : LeavesRest text_limit mid new)
-      → Drew mid.link new.link gained
-      → (BeginsPositive (ended line ++ (mid.waiting ++ gained)) (mid.waiting ++ gained)
+      → Drew mid.link new.link gained → (BeginsPositive (ended line ++ (mid.waiting ++ gained)) (mid.waiting ++ gained)
       → Cause fault (retr number) mid.link new.link (ended line ++ (mid.waiting ++ gained)))
       → TakesRefusal fault (ended line ++ leaves.used) → NotAnswered (retr number) start new fault
   broke_text {new} {gained} fault leaves drew cause takes =

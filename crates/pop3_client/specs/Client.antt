@@ -3,8 +3,7 @@ use Rattle.std.specs.Prelude.{◌≡◌, Result}
 use Rattle.pop3_wire.specs.declared.wire.Wire.{Ghosts}
 use Rattle.pop3_wire.specs.Link.{Link, CountsRefusal, WhereSound}
 use Rattle.pop3_wire.specs.Place.{Place, at}
-use Rattle.pop3_client.specs.declared.client.Client.{Client}
-use Rattle.pop3_client.specs.declared.fault.ClientFault.{ClientFault}
+use Rattle.pop3_client.specs.{declared.client.Client.Client, declared.fault.ClientFault.ClientFault}
 use Rattle.pop3_client.specs.Conversation.{is_link_refusal}
 
 -- the link, and the octets of it that wait to be used

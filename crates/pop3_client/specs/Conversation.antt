@@ -4,12 +4,10 @@ use Rattle.std.specs.Prelude.{◌≡◌, ◌⊎◌, ◌+◌, ◌<◌, ◌≤◌,
 use Rattle.std.specs.Prelude.{◌∷◌, ◌++◌, length, take, None, Some, Result, Ok, Err, IsOk}
 use Rattle.std.specs.List.{flat_map, AllZip}
 use Rattle.pop3_wire.specs.Line.{IsLine, ended}
-use Rattle.pop3_wire.specs.Reply.{IsFirstLine}
+use Rattle.pop3_wire.specs.{Reply.IsFirstLine, Fields.number_and_size, Link.Link}
 use Rattle.pop3_wire.specs.Reading.{WholeReply, GivesCount, reply_bytes}
 use Rattle.pop3_wire.specs.declared.reply.Status.TheVariants.{Positive, Negative}
 use Rattle.pop3_wire.specs.declared.command.Command.TheVariants.{Retr, Dele}
-use Rattle.pop3_wire.specs.Fields.{number_and_size}
-use Rattle.pop3_wire.specs.Link.{Link}
 use Rattle.pop3_wire.specs.Place.{Place, GoesOn, Gains, HasLine}
 use Rattle.pop3_client.specs.declared.fault.ClientFault.{ClientFault}
 use Rattle.pop3_client.specs.declared.fault.ClientFault.TheVariants.{ConnectionEnded, ReadFailed, WriteFailed}

@@ -3,9 +3,8 @@ use Rattle.std.specs.Prelude.{◌≡◌, ◌⊎◌, ◌<◌, ℕ, true, List, []
 use Rattle.std.specs.List.{AllByRecursion, AllZip}
 use Rattle.pop3_wire.specs.Body.{IsContent, body_of}
 use Rattle.pop3_wire.specs.Reading.{WholeReply, IsUidLine, IsScanLine, HasListing}
-use Rattle.pop3_wire.specs.Link.{Link}
+use Rattle.pop3_wire.specs.{Link.Link, Bodies.Drew}
 use Rattle.pop3_wire.specs.Place.{Place, GoesOn}
-use Rattle.pop3_wire.specs.Bodies.{Drew}
 use Rattle.mail_terms.specs.Listing.{Item, Agree, Joins, message_limit, UidRow}
 use Rattle.mail_terms.specs.declared.listing.ScanRow.{ScanRow}
 use Rattle.pop3_client.specs.declared.fault.ClientFault.{ClientFault}

@@ -1,11 +1,8 @@
 -- The text of a message, piece by piece.
 use Rattle.std.specs.Prelude.{◌≡◌, ◌≢◌, ◌≤◌, ◌<◌, ◌↔◌, ◌+◌, ℕ, List, [], ◌∷◌, ◌++◌, length, take, Option, None, Some}
 use Rattle.std.specs.Prelude.{Result, Ok, Err, IsTrue}
-use Rattle.pop3_wire.specs.Body.{text_of}
-use Rattle.pop3_wire.specs.Place.{Place}
-use Rattle.pop3_wire.specs.Reading.{WholeReply}
+use Rattle.pop3_wire.specs.{Body.text_of, Place.Place, Reading.WholeReply, declared.body_reader.Piece.Piece}
 use Rattle.pop3_wire.specs.Bodies.{Rest, UnderWay}
-use Rattle.pop3_wire.specs.declared.body_reader.Piece.{Piece}
 use Rattle.pop3_wire.specs.declared.unstuffer.Spot.TheVariants.{Done}
 use Rattle.pop3_client.specs.declared.fault.ClientFault.{ClientFault}
 use Rattle.pop3_client.specs.Turns.{Turn, text_limit}

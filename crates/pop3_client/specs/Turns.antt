@@ -5,15 +5,12 @@ use Rattle.std.specs.Prelude.{IsOk}
 use Rattle.std.specs.List.{flat_map, AllByRecursion}
 use Rattle.pop3_wire.specs.Line.{IsLine, ended}
 use Rattle.pop3_wire.specs.Body.{IsContent, unstuffed, body_of}
-use Rattle.pop3_wire.specs.Reply.{IsFirstLine}
+use Rattle.pop3_wire.specs.{Reply.IsFirstLine, declared.reply.Status.TheVariants.Positive, Commands.line_of}
 use Rattle.pop3_wire.specs.Reading.{WholeReply, gives_body}
-use Rattle.pop3_wire.specs.declared.reply.Status.TheVariants.{Positive}
 use Rattle.pop3_wire.specs.Fields.{number_and_size, number_and_id}
-use Rattle.pop3_wire.specs.Commands.{line_of}
-use Rattle.pop3_wire.specs.declared.command.Command.{Command}
+use Rattle.pop3_wire.specs.{declared.command.Command.Command, declared.note.Asked.Asked}
 use Rattle.pop3_wire.specs.declared.command.Command.TheVariants.{User, Pass, Stat, UidlAll, ListAll, Retr, Dele, Rset}
 use Rattle.pop3_wire.specs.declared.command.Command.TheVariants.{Quit}
-use Rattle.pop3_wire.specs.declared.note.Asked.{Asked}
 use Rattle.pop3_wire.specs.declared.note.Asked.TheVariants.{Greeting as ByGreeting, User as ByUser, Pass as ByPass}
 use Rattle.pop3_wire.specs.declared.note.Asked.TheVariants.{Stat as ByStat, Uidl as ByUidl, Retr as ByRetr}
 use Rattle.pop3_wire.specs.declared.note.Asked.TheVariants.{Dele as ByDele}

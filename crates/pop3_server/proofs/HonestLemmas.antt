@@ -7,19 +7,16 @@ use Rattle.std.specs.List.{flat_map, All, AllByRecursion, AllZip, count_by, enum
 use Rattle.std.proofs.lemmas.Bool.{cond-true, cond-false, false≢true}
 use Rattle.std.proofs.lemmas.List.{length-map, append-nil, length-set}
 use Rattle.std.proofs.lemmas.List.Folds.{list_all-append, flat_map-map}
-use Rattle.std.proofs.lemmas.Bool.Decides.{eqb_tells}
-use Rattle.std.proofs.lemmas.List.Elements.{recursion_from_All}
+use Rattle.std.proofs.{lemmas.Bool.Decides.eqb_tells, lemmas.List.Elements.recursion_from_All, lemmas.List.Sorted.IsPermutation-refl}
 use Rattle.std.proofs.lemmas.List.Sums.{sum_by-cons, count_by-le-length}
-use Rattle.std.proofs.lemmas.List.Sorted.{IsPermutation-refl}
-use Rattle.pop3_wire.specs.declared.command.Command.{Command}
+use Rattle.pop3_wire.specs.{declared.command.Command.Command, Rows.scan_row, CommandLine.HasNumbers, Stuffed.stuffed_lines}
 use Rattle.pop3_wire.specs.declared.reply.Status.TheVariants.{Positive, Negative}
 use Rattle.pop3_wire.specs.Line.{crlf, ended, HoldsNoLf, IsLine}
 use Rattle.pop3_wire.specs.Body.{dot, IsContent, unstuffed}
 use Rattle.pop3_wire.specs.Fields.{number_and_size, number_and_id}
 use Rattle.pop3_wire.specs.World.{Message, IsMessage}
 use Rattle.pop3_wire.specs.Honest.{SaysAnything, IsScanRow, IsUidRow, ListsAll, Reply, no_marks, Honest, Grants, Replies}
-use Rattle.pop3_wire.specs.Rows.{scan_row}
-use Rattle.pop3_server.specs.declared.rows.MessageRow.{MessageRow}
+use Rattle.pop3_server.specs.{declared.rows.MessageRow.MessageRow, declared.state.State.State, AnswersLines.AnswersLines}
 use Rattle.pop3_server.proofs.RemovalLemmas.{few_left, none_gone, left_by_quit}
 use Rattle.pop3_server.proofs.RowLemmas.{row_with, rows_with}
 use Rattle.pop3_server.specs.Maildrop.{max_count, max_size, DropMail, there}
@@ -31,12 +28,8 @@ use Rattle.pop3_server.specs.ServerMachine.{in_transaction, greeting_line}
 use Rattle.pop3_server.specs.HonestServer.{AreLeftByQuit, IsClosedByQuit, IsOfSession, IsAsked, command_lines, ConversesHonestly, Gone}
 use Rattle.pop3_wire.specs.declared.command.Command.TheVariants.{User, Pass, Stat, UidlAll, ListAll, Retr, Dele, Rset, Noop, Quit}
 use Rattle.pop3_wire.specs.Commands.{line_of, can_be_sent}
-use Rattle.pop3_wire.specs.CommandLine.{HasNumbers}
 use Rattle.mail_terms.specs.Text.{lines_of_text, IsWhole, whole_text}
-use Rattle.pop3_wire.specs.Stuffed.{stuffed_lines}
-use Rattle.pop3_server.specs.declared.state.State.{State}
 use Rattle.pop3_server.specs.declared.state.State.TheVariants.{Authorization, Transaction, Closed}
-use Rattle.pop3_server.specs.AnswersLines.{AnswersLines}
 use Rattle.pop3_server.proofs.SlotLemmas.{there_map}
 use Rattle.pop3_server.specs.HonestLoop.{GivesHonest}
 use Rattle.pop3_wire.proofs.RowsLemmas.{first_lines_are_read, is_line, no_lf_decimal, round_trip, scan_fields}
@@ -97,8 +90,7 @@ found_at (m ∷ ms) (true ∷ bs) zero all = inl refl
 found_at (m ∷ ms) (false ∷ bs) zero all = inr (m, refl, refl, refl, all.0)
 found_at (m ∷ ms) (b ∷ bs) (suc i) all = found_at ms bs i all.1
 
-pub found : (ms : List Message) (bs : List Bool) (k : ℕ) → AllByRecursion IsServed ms
-    → (row_numbered (rows_with ms bs) k ≡ None)
+pub found : (ms : List Message) (bs : List Bool) (k : ℕ) → AllByRecursion IsServed ms → (row_numbered (rows_with ms bs) k ≡ None)
     ⊎ ((m : Message) × (row_numbered (rows_with ms bs) k ≡ Some (row_with m false)) × (slice_get ms (k - 1) ≡ Some m)
     × (slice_get (map Some ms) (k - 1) ≡ Some (Some m)) × IsServed m)
 found ms bs k all = elim (eqb_tells k 0) [
@@ -120,11 +112,9 @@ left_of (m ∷ ms) (b ∷ bs) all e =
       arith,
       all.0.within,
       left_of ms bs all.1 (omega arith),
-      sum_by-cons (λ row. cond (is_unmarked row) 1 0)
-          (row_with m b) (rows_with ms bs),
+      sum_by-cons (λ row. cond (is_unmarked row) 1 0) (row_with m b) (rows_with ms bs),
       sum_by-cons (λ b. cond (not b) 1 0) b bs,
-      sum_by-cons left_size
-          (row_with m b) (rows_with ms bs),
+      sum_by-cons left_size (row_with m b) (rows_with ms bs),
     )
 
 -- ---- first lines
@@ -159,8 +149,7 @@ fresh_count [] = refl
 fresh_count (m ∷ ms) = sum_by-cons (λ b. cond (not b) 1 0) false (no_marks ms) ∙ ap (λ (n : ℕ). 1 + n) (fresh_count ms) ∙ omega arith
 
 rows_content : (line : ℕ → MessageRow → List ℕ) (IsRow : ℕ × Message → List ℕ → Type 0) → GoodRows line IsRow
-    → (k : ℕ) (ms : List Message) (bs : List Bool)
-    → k + length ms ≤ 4294967296 → AllByRecursion IsServed ms
+    → (k : ℕ) (ms : List Message) (bs : List Bool) → k + length ms ≤ 4294967296 → AllByRecursion IsServed ms
     → (lines : List (List ℕ)) × (lines_from line k (rows_with ms bs) ≡ flat_map ended lines)
     × AllByRecursion IsContent lines × AllZip IsRow (unmarked_from k ms bs) (map unstuffed lines)
 rows_content line IsRow good k [] bs few all = ([], refl, tt, tt)
@@ -261,8 +250,7 @@ module _ {D : Type 0} (sound : D → Type 0) (mail : D
   says_yes : {marks : List Bool} {c : Command} {state : State} (after_marks : List Bool) (after : List ℕ)
       → (answer ≡ said (codes "+OK" ++ after)) × (next ≡ state) × (new ≡ old)
       → HoldsNoLf after → (SaysAnything Positive answer → Grants ms marks c answer after_marks)
-      → IsStateWith ms state (mail old) after_marks
-      → (is_open state ≡ true) ⊎ (c ≡ Quit) → Replied ms marks c answer next (mail new)
+      → IsStateWith ms state (mail old) after_marks → (is_open state ≡ true) ⊎ (c ≡ Quit) → Replied ms marks c answer next (mail new)
   says_yes after_marks after does none grants stands closes =
       replies after_marks does.1 (ap mail does.2) (inr (grants (granted answer after does.0 none))) stands closes
 
@@ -285,8 +273,7 @@ module _ {D : Type 0} (sound : D → Type 0) (mail : D
       (ap (map Some) same, length-map ms _, same_rows ∙ fresh_rows ms, are_served ms rows messages limits same_rows) (inl refl)
 
   in_auth : (user pass : List ℕ) (kept : Option (List ℕ)) (c : Command) → there (mail old).slots ≡ ms
-      → DoesAction sound mail (in_authorization user pass kept c) old answer next new
-      → Replied ms (no_marks ms) c answer next (mail new)
+      → DoesAction sound mail (in_authorization user pass kept c) old answer next new → Replied ms (no_marks ms) c answer next (mail new)
   in_auth user pass kept (User name) same does = says_yes (no_marks ms) (codes " send PASS") does refl
       (λ says. (says, refl)) (same, refl) (inl refl)
   in_auth user pass None (Pass word) same does = says_no (codes " USER first") does refl (same, refl) refl
@@ -346,8 +333,7 @@ module _ {D : Type 0} (sound : D → Type 0) (mail : D
           refl,
         )) stands (inl refl)
 
-    in_trans : (c : Command) → IsOfSession c
-        → DoesAction sound mail (in_transaction (rows_with ms marks) c) old answer next new
+    in_trans : (c : Command) → IsOfSession c → DoesAction sound mail (in_transaction (rows_with ms marks) c) old answer next new
         → Replied ms marks c answer next (mail new)
     in_trans (User name) asked does = says_no (codes " not now") does refl stands refl
     in_trans (Pass word) asked does = says_no (codes " not now") does refl stands refl
@@ -370,8 +356,7 @@ module _ {D : Type 0} (sound : D → Type 0) (mail : D
     in_trans Rset asked does =
         says_yes (map (λ _. false) marks) [] does refl (λ says. (says, refl)) (
           stands.0,
-          length-map marks _
-              ∙ stands.1,
+          length-map marks _ ∙ stands.1,
           cleared_rows ms marks,
           stands.3,
         ) (inl refl)
@@ -428,8 +413,7 @@ module _ {D : Type 0} (sound : D → Type 0) (mail : D → DropMail) where
 
   all_replied : (ms : List Message) (marks : List Bool) (commands : List Command) (old new : Machine D) (answers : List ℕ)
       → AllByRecursion IsMessage ms → AllByRecursion IsAsked commands
-      → AnswersLines sound mail old (command_lines commands) answers new → sound new.drop
-      → IsStateWith ms old.state (mail old.drop) marks
+      → AnswersLines sound mail old (command_lines commands) answers new → sound new.drop → IsStateWith ms old.state (mail old.drop) marks
       → (last : List Bool) × Replies ms marks commands answers last × IsStateWith ms new.state (mail new.drop) last
       × (is_open old.state ≡ true → IsClosedByQuit new.state commands)
   all_replied ms marks [] old new answers messages asked run s stands =
@@ -550,8 +534,7 @@ replies_on ms marks mid last (c ∷ a) b x y (one, more, next, is, reply, rest) 
   one,
   more ++ y,
   next,
-  ap (λ (l : List ℕ). l ++ y) is
-      ∙ append_assoc one more y,
+  ap (λ (l : List ℕ). l ++ y) is ∙ append_assoc one more y,
   reply,
   replies_on ms next mid last a b more y rest second,
 )
@@ -577,8 +560,7 @@ gives_honest sound mail old new commands part fresh serves asked line sent s ser
     rw (serves.answers, fresh.answers) at (serves.told (rw (fresh.got, fresh.left, fresh.answers))) in (
       replied.0,
       honest_from sound mail ms replied.0 (cut.first ++ cut.later) part ((serves.more ++ serves.lost) ++ nos cut.later)
-          new.link.got (new.left ++ (serves.lost ++ nos cut.later)) new.link.sent
-          asked_all line (rw cut.all at sent)
+          new.link.got (new.left ++ (serves.lost ++ nos cut.later)) new.link.sent asked_all line (rw cut.all at sent)
           (replies_on ms (no_marks ms) replied.0 replied.0 cut.first cut.later (serves.more ++ serves.lost)
           (nos cut.later) replied.1 (refused_all ms replied.0 cut.later))
           (shuffle greeting_line serves.more serves.lost (nos cut.later) new.link.got new.left told),

@@ -1,27 +1,19 @@
 -- Only QUIT closes a server.
 use Rattle.std.proofs.Common.{◌≡◌, ℕ, Bool, true, false, List, [], ◌∷◌, ◌++◌, Option, Some, None, Result, Ok, Err, refl}
 use Rattle.std.proofs.Common.{sym, ap, ◌∙◌, inl, inr, append_assoc, not, cond, bytes_eq, ◌&&◌}
-use Rattle.std.proofs.lemmas.Bool.{false≢true}
-use Rattle.std.proofs.lemmas.Grind.{flat_map-append}
+use Rattle.std.proofs.{lemmas.Bool.false≢true, lemmas.Grind.flat_map-append}
 use Rattle.std.specs.List.{flat_map, AllByRecursion}
-use Rattle.pop3_wire.specs.declared.command.Command.{Command}
+use Rattle.pop3_wire.specs.{declared.command.Command.Command, declared.fault.WireFault.WireFault, CommandLine.command_of}
 use Rattle.pop3_wire.specs.declared.command.Command.TheVariants.{User, Pass, Stat, UidlAll, UidlOne, ListAll, ListOne}
 use Rattle.pop3_wire.specs.declared.command.Command.TheVariants.{Retr, Dele, Rset, Noop, Top, Quit}
-use Rattle.pop3_wire.specs.declared.fault.WireFault.{WireFault}
 use Rattle.pop3_wire.specs.Line.{IsLine, ended}
-use Rattle.pop3_wire.specs.CommandLine.{command_of}
-use Rattle.pop3_server.specs.declared.fault.ServerFault.{ServerFault}
+use Rattle.pop3_server.specs.{declared.fault.ServerFault.ServerFault, declared.rows.MessageRow.MessageRow, declared.state.State.State}
 use Rattle.pop3_server.specs.declared.fault.ServerFault.TheVariants.{ReadFailed, WriteFailed, MaildropFailed, NoMemory}
-use Rattle.pop3_server.specs.declared.rows.MessageRow.{MessageRow}
-use Rattle.pop3_server.specs.declared.state.State.{State}
 use Rattle.pop3_server.specs.declared.state.State.TheVariants.{Authorization, Transaction, Closed}
-use Rattle.pop3_server.specs.declared.text_part.TextBody.{TextBody}
-use Rattle.pop3_server.specs.Maildrop.{DropMail}
+use Rattle.pop3_server.specs.{declared.text_part.TextBody.TextBody, Maildrop.DropMail, Serving.WentOut, Quitting.OnlyQuitCloses}
 use Rattle.pop3_server.specs.ServerMachine.{Action, Say, Open, Give, Leave, DoesAction, Machine, action_of, dele_action}
 use Rattle.pop3_server.specs.ServerMachine.{give, in_authorization, in_transaction, is_open, row_numbered}
 use Rattle.pop3_server.specs.AnswersLines.{AnswersLines, MakesAnswer}
-use Rattle.pop3_server.specs.Serving.{WentOut}
-use Rattle.pop3_server.specs.Quitting.{OnlyQuitCloses}
 
 -- the action may lead to the end
 abbrev closes : Action → Bool
@@ -93,8 +85,7 @@ module _ {D : Type 0} (sound : D → Type 0) (mail : D → DropMail) where
   line_is_quit old new line made None makes closed =
       by_quit old.user old.pass old.state (command_of line) makes.was_open
       (led _ old.drop made new.state new.drop makes.answers.does closed)
-  line_is_quit old new line made (Some text) makes closed =
-      absurd (false≢true (sym closed ∙ ap is_open (makes.state) ∙ makes.was_open))
+  line_is_quit old new line made (Some text) makes closed = absurd (false≢true (sym closed ∙ ap is_open (makes.state) ∙ makes.was_open))
 
   -- QUIT is among these lines
   abbrev pub HasQuit : List (List ℕ) → Type 0
@@ -106,16 +97,14 @@ module _ {D : Type 0} (sound : D → Type 0) (mail : D → DropMail) where
 
   -- one of the lines that were answered did
   lines_have_quit : (old new : Machine D) (lines : List (List ℕ)) (answers : List ℕ)
-      → AnswersLines sound mail old lines answers new → is_open old.state ≡ true
-      → is_open new.state ≡ false → HasQuit lines
+      → AnswersLines sound mail old lines answers new → is_open old.state ≡ true → is_open new.state ≡ false → HasQuit lines
   lines_have_quit old new [] answers (none, same) opened closed = absurd (false≢true (sym closed ∙ rw same opened))
   lines_have_quit old new (line ∷ lines) answers (first, rest, next, is, turn, run) opened closed = by_bool (is_open next.state) refl
       (λ shut. ([], line, lines, refl, line_is_quit old next line first None turn shut))
       (λ still. later line lines (lines_have_quit next new lines rest run still closed))
 
   went_out : (old new : Machine D) (lines : List (List ℕ)) (rest sent : List ℕ) (result : Result (Unit {0}) ServerFault)
-      → WentOut sound mail old lines rest sent result new
-      → is_open old.state ≡ true → is_open new.state ≡ false → HasQuit lines
+      → WentOut sound mail old lines rest sent result new → is_open old.state ≡ true → is_open new.state ≡ false → HasQuit lines
   went_out old new lines rest sent (Ok done) went opened closed = lines_have_quit old new lines went.0.0 went.0.1 opened closed
   went_out old new lines rest sent (Err ReadFailed) went opened closed = lines_have_quit old new lines went.0 went.1 opened closed
   went_out old new lines rest sent (Err WriteFailed) (inl part) opened closed = absurd (false≢true (sym closed ∙ rw part.3 opened))

@@ -2,14 +2,12 @@
 use Rattle.std.proofs.Common.{◌≡◌, ◌⊎◌, ℕ, zero, suc, ◌+◌, ◌<◌, ◌≤◌, Bool, true, false, List, [], ◌∷◌, ◌++◌, map}
 use Rattle.std.proofs.Common.{Option, Some, None, slice_get, slice_set, refl, sym, ◌∙◌, ap, inl, inr, arith}
 use Rattle.std.proofs.Common.{if◌then◌else◌, length, append_assoc, length-append}
-use Rattle.std.proofs.lemmas.Bool.{false≢true}
-use Rattle.std.proofs.lemmas.List.{set_at}
+use Rattle.std.proofs.{lemmas.Bool.false≢true, lemmas.List.set_at}
 use Rattle.pop3_wire.specs.World.{Message}
-use Rattle.pop3_server.specs.declared.rows.MessageRow.{MessageRow}
+use Rattle.pop3_server.specs.{declared.rows.MessageRow.MessageRow, HonestServer.AreLeftByQuit}
 use Rattle.pop3_server.specs.Maildrop.{DropMail, HasPlace, there}
 use Rattle.pop3_server.specs.ServerMachine.{Tries, Empties, none, stays, goes}
 use Rattle.pop3_server.specs.Removal.{holds_message, left_marked}
-use Rattle.pop3_server.specs.HonestServer.{AreLeftByQuit}
 use Rattle.pop3_server.proofs.RowLemmas.{rows_with}
 
 slot_removed : (slots : List (Option Message)) (i : ℕ) → holds_message (slice_get (slice_set slots i None) i) ≡ false
@@ -121,5 +119,4 @@ emptied (m ∷ ms) (b ∷ bs) pre (goes i row rows old mid done all new marked t
 
 pub left_by_quit : (ms : List Message) (marks : List Bool) (old new : DropMail) (all : Bool) → length marks ≡ length ms
     → old.slots ≡ map Some ms → Empties 0 (rows_with ms marks) old all new → AreLeftByQuit ms marks (there new.slots)
-left_by_quit ms marks old new all same slots empties =
-    let left = emptied ms marks [] empties refl same slots in rw left.1 left.2
+left_by_quit ms marks old new all same slots empties = let left = emptied ms marks [] empties refl same slots in rw left.1 left.2

@@ -1,29 +1,22 @@
 -- How far a server that serves a link has come, and why it ends.
-use Rattle.pop3_wire.specs.Link.{Link}
+use Rattle.pop3_wire.specs.{Link.Link, Bodies.Drew, declared.fault.WireFault.TheVariants.BadCommand, CommandLine.command_of}
 use Rattle.std.proofs.Common.{Bool, true, ◌⊎◌, Ok, ◌≡◌, ◌<◌, ◌≤◌, ◌+◌, ℕ, zero, suc, List, [], ◌∷◌, ◌++◌, length, take}
 use Rattle.std.proofs.Common.{drop, refl, sym, ap, subst, ◌∙◌, arith, append_assoc, length-append, length-take-le}
 use Rattle.std.proofs.Common.{take-append-drop, take_all, append-nil, length-drop, inl, inr, false, Option, Some}
 use Rattle.std.proofs.Common.{Result, Err, codes}
 use Rattle.std.proofs.lemmas.List.{nil_from_length, take-append-le}
-use Rattle.std.proofs.Math.Seq.{take-add}
+use Rattle.std.proofs.{Math.Seq.take-add, lemmas.Grind.flat_map-append}
 use Rattle.pop3_wire.specs.Line.{crlf, IsLine, ended}
 use Rattle.pop3_wire.specs.Place.{HasLine, HasNoLine}
-use Rattle.pop3_server.specs.Got.{Waiting}
+use Rattle.pop3_server.specs.{Got.Waiting, declared.fault.ServerFault.ServerFault, declared.text_part.TextBody.TextBody, Maildrop.DropMail}
 use Rattle.pop3_server.specs.Serving.{Hears, Queues, LastSent, SendsAnswer, ServedLines, WentOut}
 use Rattle.pop3_server.specs.declared.intake.NextLine.TheVariants.{LongLine, End, Line}
-use Rattle.pop3_wire.specs.Bodies.{Drew}
 use Rattle.std.specs.List.{flat_map, AllByRecursion}
 use Rattle.std.proofs.lemmas.Bool.{cond-true, lt-ltb}
-use Rattle.pop3_wire.specs.declared.fault.WireFault.TheVariants.{BadCommand}
-use Rattle.pop3_wire.specs.CommandLine.{command_of}
-use Rattle.pop3_server.specs.declared.fault.ServerFault.{ServerFault}
 use Rattle.pop3_server.specs.declared.fault.ServerFault.TheVariants.{ReadFailed, WriteFailed, MaildropFailed, NoMemory}
-use Rattle.pop3_server.specs.declared.text_part.TextBody.{TextBody}
-use Rattle.pop3_server.specs.Maildrop.{DropMail}
 use Rattle.pop3_server.specs.ServerMachine.{Machine, greeting_line, said, is_open}
 use Rattle.pop3_server.specs.RunLaws.{lines_on, runs_on}
 use Rattle.pop3_server.specs.AnswersLines.{AnswersLines, AnswersLine, MakesAnswer}
-use Rattle.std.proofs.lemmas.Grind.{flat_map-append}
 use Rattle.pop3_wire.proofs.BodyLemmas.{IsLine-front, IsLine-back}
 
 -- ---- octets that are dropped in pieces and make one line
@@ -251,8 +244,7 @@ module _ {D : Type 0} (sound : D → Type 0) (mail : D → DropMail) (old : Mach
   served_unmade server same = served [] (came_none before.got) (sym (append-nil before.sent)) (inl (refl, refl, same)) (λ e. cc)
 
   pub served_ungreeted : (server : Machine D) (link : Link) (hello front rest : List ℕ) → server ≡ old
-      → hello ≡ greeting_line → hello ≡ front ++ rest
-      → link ≡ record before { sent = before.sent ++ front; failures = before.failures + 1 }
+      → hello ≡ greeting_line → hello ≡ front ++ rest → link ≡ record before { sent = before.sent ++ front; failures = before.failures + 1 }
       → ServedLines sound mail old before (Err WriteFailed) server link
   served_ungreeted server link hello front rest same is part sends =
       rw sends (served front (came_none before.got) refl (inl (rest, sym is ∙ part, refl, same)) (λ e. cc))
@@ -289,8 +281,7 @@ module _ {D : Type 0} {sound : D → Type 0} {mail : D
 
     -- this much of its answer was sent before a fault
     served_last : {next : Machine D} {fault : ServerFault} (front : List ℕ) (count : ℕ)
-        → WentOut sound mail old (p.lines ++ line ∷ []) after.octets
-        ((greeting_line ++ p.answers) ++ front) (Err fault) next
+        → WentOut sound mail old (p.lines ++ line ∷ []) after.octets ((greeting_line ++ p.answers) ++ front) (Err fault) next
         → ServedLines sound mail old before (Err fault) next (record taken { sent = taken.sent ++ front; failures = count })
     served_last front count answered = served sound mail old before ((greeting_line ++ p.answers) ++ front) came
         (simp (more.took.sent, p.sent, append_assoc)) answered (λ e. cc)
@@ -312,8 +303,7 @@ module _ {D : Type 0} {sound : D → Type 0} {mail : D
 
     -- its answer met a fault
     pub served_stopped : (next : Machine D) (sent : Link) (fault : ServerFault)
-        → SendsAnswer sound mail server line taken (Err fault) next sent
-        → ServedLines sound mail old before (Err fault) next sent
+        → SendsAnswer sound mail server line taken (Err fault) next sent → ServedLines sound mail old before (Err fault) next sent
     served_stopped next sent ReadFailed went = absurd went
     served_stopped next sent WriteFailed (front, unsent, text, makes, sends) =
         rw sends (served_last front (taken.failures + 1) (inr (unsent, text, last_sent front unsent text makes)))
@@ -329,8 +319,7 @@ long_command line long = cond-true _ _ _ (lt-ltb 510 (length line) long)
 
 -- a line that is too long is no command, and changes nothing
 pub long_turn : {D : Type 0} (sound : D → Type 0) (mail : D → DropMail) (server : Machine D) (line : List ℕ)
-    → is_open server.state ≡ true → 510 < length line
-    → AnswersLine sound mail server line (said (codes "-ERR bad command")) server
+    → is_open server.state ≡ true → 510 < length line → AnswersLine sound mail server line (said (codes "-ERR bad command")) server
 long_turn sound mail server line opened long = record {
   was_open = opened;
   user = refl;

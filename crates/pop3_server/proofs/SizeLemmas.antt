@@ -5,9 +5,8 @@ use Rattle.std.specs.List.{flat_map, sum_by, onto_first}
 use Rattle.std.proofs.lemmas.List.Sums.{sum_by-cons, sum_by-append}
 use Rattle.pop3_wire.specs.Line.{ended}
 use Rattle.mail_terms.specs.Text.{lines_of_text, HasNoLf}
-use Rattle.pop3_server.specs.declared.size.SizeCount.{SizeCount}
+use Rattle.pop3_server.specs.{declared.size.SizeCount.SizeCount, TextPiece.is_open_after}
 use Rattle.std.proofs.lemmas.Bool.Decides.{eqb_tells}
-use Rattle.pop3_server.specs.TextPiece.{is_open_after}
 use Rattle.pop3_server.proofs.TextPieceLemmas.{open_append, open_rest}
 use Rattle.pop3_server.specs.Size.{size_of, weight, ends_open, capped, CountsText}
 
@@ -22,8 +21,7 @@ size_more false false byte other [] = omega arith
 size_more false false byte other (line ∷ lines) = omega arith
 
 size_one : (at_end : Bool) (byte : ℕ)
-    → length (flat_map ended (if at_end then [] ∷ [] else onto_first byte [])) ≡ (if at_end then 2 else 1) +
-    (if not at_end then 2 else 0)
+    → length (flat_map ended (if at_end then [] ∷ [] else onto_first byte [])) ≡ (if at_end then 2 else 1) + (if not at_end then 2 else 0)
 size_one true byte = refl
 size_one false byte = refl
 
@@ -47,8 +45,7 @@ line_weights piece line after none is =
 
 -- a piece was counted: what was counted before it, its lines, and the rest of it
 pub CountsText-more : (count next : SizeCount) (text piece rest : List ℕ) (octets : ℕ) (in_line : Bool) → HasNoLf rest
-    → CountsText count text
-    → capped (octets + sum_by weight rest) ≡ capped (count.octets + sum_by weight piece)
+    → CountsText count text → capped (octets + sum_by weight rest) ≡ capped (count.octets + sum_by weight piece)
     → is_open_after in_line rest ≡ is_open_after count.in_line piece
     → next.octets ≡ capped (octets + length rest) → next.in_line ≡ (not (length rest == 0) || in_line) → CountsText next (text ++ piece)
 CountsText-more count next text piece rest octets in_line none h counted open_now more last = record {

@@ -4,9 +4,7 @@ use Rattle.std.proofs.Common.{refl, sym, ap, ap₂, ◌∙◌, append_assoc, inr
 use Rattle.std.proofs.Common.{take-append-drop, take-add}
 use Rattle.std.proofs.lemmas.List.{append-nil, append_cancel_left}
 use Rattle.pop3_wire.specs.World.{Message}
-use Rattle.pop3_server.specs.declared.rows.MessageRow.{MessageRow}
-use Rattle.pop3_server.specs.declared.state.State.{State}
-use Rattle.pop3_server.specs.declared.state.State.TheVariants.{Transaction}
+use Rattle.pop3_server.specs.{declared.rows.MessageRow.MessageRow, declared.state.State.State, declared.state.State.TheVariants.Transaction}
 use Rattle.pop3_server.specs.declared.text_part.TextBody.{TextBody}
 use Rattle.pop3_server.specs.Maildrop.{GivesPart, HasPlace, DropMail, there}
 use Rattle.pop3_server.specs.ServerMachine.{Answers, Action, Give, Tied, text_body}
@@ -84,8 +82,7 @@ module _ {D : Type 0} (sound : D → Type 0) (mail : D → DropMail) where
 
   -- one more part was read
   pub begins_on : (asked : Action) (old b c : D) (x y : TextBody) (next : State) (n : ℕ)
-      (sent earlier reply piece octets : List ℕ) → n ≤ length piece
-      → y.place ≡ x.place → y.start ≡ x.start + n
+      (sent earlier reply piece octets : List ℕ) → n ≤ length piece → y.place ≡ x.place → y.start ≡ x.start + n
       → ((rest : List ℕ) → belonging x.top (take n piece ++ rest) ≡ octets ++ belonging y.top rest)
       → y.stuffer.in_line ≡ is_open_after x.stuffer.in_line octets → OnlyReads sound mail false b c
       → (sound c → sound b × GivesPart (mail b) x.place x.start (Ok n) piece (mail c))
@@ -102,8 +99,7 @@ module _ {D : Type 0} (sound : D → Type 0) (mail : D → DropMail) where
     goes_on = λ more. rw (
       append_assoc begins.read,
       begins.goes_on (take n piece ++ more),
-      still_on x y (take n piece)
-          octets belong opened more,
+      still_on x y (take n piece) octets belong opened more,
       is,
     ) (simp append_assoc);
     reads = reads_on false old b c begins.reads reads;
@@ -115,8 +111,7 @@ module _ {D : Type 0} (sound : D → Type 0) (mail : D → DropMail) where
 
   -- all of it was made: of what follows in the text, nothing belongs to its body
   pub begins_end : (asked : Action) (old b c : D) (x : TextBody) (next : State) (sent earlier octets : List ℕ)
-      → OnlyReads sound mail false b c
-      → (sound c → (message : Message) × (slice_get (mail b).slots x.place ≡ Some (Some message))
+      → OnlyReads sound mail false b c → (sound c → (message : Message) × (slice_get (mail b).slots x.place ≡ Some (Some message))
       × (still x (drop x.start message.text) ≡ sent_end x.stuffer.in_line))
       → octets ≡ earlier ++ sent_end x.stuffer.in_line → BeginsAnswer sound mail asked old (sent ++ earlier) x next b
       → Answers sound mail asked old (sent ++ octets) next c
@@ -143,8 +138,7 @@ module _ {D : Type 0} (sound : D → Type 0) (mail : D → DropMail) where
                 (
                   begun.0,
                   begun.1,
-                  append_cancel_left begins.line (text_body begins.top begins.read)
-                      (text_body begins.top begun.0.text)
+                  append_cancel_left begins.line (text_body begins.top begins.read) (text_body begins.top begun.0.text)
                       (sym (rw (whole, rw same at over.2) at (begins.goes_on (drop x.start begun.0.text)) ∙ ends)),
                 ),
               ),

@@ -1,9 +1,7 @@
 -- The body of a text, by several parts of the text.
 use Rattle.std.proofs.Common.{◌≡◌, ℕ, Bool, true, false, List, [], ◌++◌, Option, Some, None, refl, ap, ◌∙◌, append_assoc}
 use Rattle.pop3_wire.specs.Stuffed.{stuffed_lines}
-use Rattle.pop3_server.specs.declared.text_part.TextBody.{TextBody}
-use Rattle.pop3_server.specs.declared.text_top.Top.{Top}
-use Rattle.pop3_server.specs.ServerMachine.{text_body}
+use Rattle.pop3_server.specs.{declared.text_part.TextBody.TextBody, declared.text_top.Top.Top, ServerMachine.text_body}
 use Rattle.pop3_server.specs.TextBody.{belonging, ended_body, still}
 use Rattle.pop3_server.specs.TextPiece.{is_open_after, sent_end, sent_piece, top_begun, top_octets}
 use Rattle.pop3_server.proofs.TextPieceLemmas.{open_append, sent_append, sent_whole}

@@ -69,8 +69,7 @@ abbrev lines_left : Bool → List (List ℕ) → List ℕ
 lines_left true lines = go_on lines
 lines_left false lines = flat_map sent_line lines
 
-closed : (in_line : Bool) (text : List ℕ)
-    → sent_piece in_line text ++ (if is_open_after in_line text then crlf else [])
+closed : (in_line : Bool) (text : List ℕ) → sent_piece in_line text ++ (if is_open_after in_line text then crlf else [])
     ≡ lines_left in_line (lines_of_text text)
 closed true [] = refl
 closed false [] = refl
@@ -80,8 +79,7 @@ closed false (byte ∷ text) =
       arith,
       closed false text,
       closed true text,
-      sent_first byte
-          (lines_of_text text),
+      sent_first byte (lines_of_text text),
       append_assoc {A = ℕ},
     ))
 

@@ -5,8 +5,7 @@ use Rattle.std.specs.List.{onto_first}
 use Rattle.std.proofs.lemmas.Bool.{or_right}
 use Rattle.std.proofs.lemmas.Bool.Decides.{eqb_tells, nat_tests}
 use Rattle.mail_terms.specs.Text.{lines_of_text, HasNoLf}
-use Rattle.pop3_server.specs.ServerMachine.{top_from}
-use Rattle.pop3_server.specs.TextPiece.{top_octets}
+use Rattle.pop3_server.specs.{ServerMachine.top_from, TextPiece.top_octets}
 
 -- ---- its lines are the top of the text's lines
 
@@ -50,16 +49,14 @@ lines_of_top true true n (byte ∷ text) =
       arith,
       lines_of_top true false n text,
       lines_of_top true true n text,
-      first_at true true n
-          byte (lines_of_text text),
+      first_at true true n byte (lines_of_text text),
     )
 lines_of_top true false n (byte ∷ text) =
     grind (
       arith,
       lines_of_top false false n text,
       lines_of_top true true n text,
-      first_at true false n
-          byte (lines_of_text text),
+      first_at true false n byte (lines_of_text text),
     )
 lines_of_top false in_line zero (byte ∷ text) = sym (top_from-none (lines_of_text (byte ∷ text)))
 lines_of_top false in_line (suc n) (byte ∷ text) =
@@ -67,8 +64,7 @@ lines_of_top false in_line (suc n) (byte ∷ text) =
       arith,
       lines_of_top false false n text,
       lines_of_top false true (suc n) text,
-      first_at false in_line
-          (suc n) byte (lines_of_text text),
+      first_at false in_line (suc n) byte (lines_of_text text),
     )
 
 -- ---- what it takes

@@ -1,8 +1,7 @@
 -- A server's answers to lines, in order.
 use Rattle.std.specs.Prelude.{IfSome, ◌≡◌, ℕ, true, List, [], ◌∷◌, ◌++◌, Option, None}
 use Rattle.pop3_wire.specs.CommandLine.{command_of}
-use Rattle.pop3_server.specs.declared.text_part.TextBody.{TextBody}
-use Rattle.pop3_server.specs.Maildrop.{DropMail}
+use Rattle.pop3_server.specs.{declared.text_part.TextBody.TextBody, Maildrop.DropMail}
 use Rattle.pop3_server.specs.ServerMachine.{Machine, Unanswered, action_of, is_open}
 use Rattle.pop3_server.specs.TextAnswer.{AnswersOrBegins, OnlyReads}
 

@@ -1,10 +1,8 @@
 -- The events of a session, for a log.
 use Rattle.std.specs.Prelude.{ℕ, zero, suc, ◌-◌, length, Option, Some, None}
-use Rattle.pop3_server.specs.declared.journal.Event.{Event}
+use Rattle.pop3_server.specs.{declared.journal.Event.Event, declared.state.State.State, ServerMachine.left_count}
 use Rattle.pop3_server.specs.declared.journal.Event.TheVariants.{LoggedIn, Refused, Unavailable, Left}
-use Rattle.pop3_server.specs.declared.state.State.{State}
 use Rattle.pop3_server.specs.declared.state.State.TheVariants.{Authorization, Transaction, Closed}
-use Rattle.pop3_server.specs.ServerMachine.{left_count}
 
 -- the event between one state and the next, if the maildrop refused this number of calls in between
 abbrev pub event_of : State → State → ℕ → Option Event

@@ -1,13 +1,10 @@
 -- What a link to a new server gives is honest, even if its last answers are lost.
 use Rattle.std.specs.Prelude.{◌≡◌, ℕ, Bool, List, [], ◌++◌, None}
 use Rattle.std.specs.List.{flat_map, AllByRecursion}
-use Rattle.pop3_wire.specs.declared.command.Command.{Command}
+use Rattle.pop3_wire.specs.{declared.command.Command.Command, World.IsMessage, Honest.Honest}
 use Rattle.pop3_wire.specs.Line.{IsLine, ended}
-use Rattle.pop3_wire.specs.World.{IsMessage}
-use Rattle.pop3_wire.specs.Honest.{Honest}
-use Rattle.pop3_server.specs.declared.state.State.TheVariants.{Authorization}
+use Rattle.pop3_server.specs.{declared.state.State.TheVariants.Authorization, ServerMachine.greeting_line}
 use Rattle.pop3_server.specs.Maildrop.{DropMail, there}
-use Rattle.pop3_server.specs.ServerMachine.{greeting_line}
 use Rattle.pop3_server.specs.HonestServer.{IsAsked, Gone, IsClosedByQuit, command_lines}
 use Rattle.pop3_server.specs.LoopLink.{Loop, Serves}
 

@@ -2,9 +2,7 @@
 use Rattle.std.specs.Prelude.{◌≡◌, ℕ, ◌+◌, ◌<◌, ◌≤◌, Bool, true, false, ◌&&◌, List, [], ◌∷◌, Option, Some, slice_get}
 use Rattle.std.specs.Prelude.{if◌then◌else◌}
 use Rattle.pop3_wire.specs.World.{Message}
-use Rattle.pop3_server.specs.declared.rows.MessageRow.{MessageRow}
-use Rattle.pop3_server.specs.Maildrop.{DropMail}
-use Rattle.pop3_server.specs.ServerMachine.{Empties}
+use Rattle.pop3_server.specs.{declared.rows.MessageRow.MessageRow, Maildrop.DropMail, ServerMachine.Empties}
 
 -- whether a place holds a message
 abbrev pub holds_message : Option (Option Message) → Bool

@@ -2,9 +2,7 @@
 use Rattle.std.specs.List.{AllByRecursion}
 use Rattle.std.proofs.Common.{append_assoc, ℕ, List, [], ◌∷◌, ◌++◌}
 use Rattle.pop3_wire.specs.Line.{IsLine}
-use Rattle.pop3_server.specs.Maildrop.{DropMail}
-use Rattle.pop3_server.specs.ServerMachine.{Machine}
-use Rattle.pop3_server.specs.AnswersLines.{AnswersLines}
+use Rattle.pop3_server.specs.{Maildrop.DropMail, ServerMachine.Machine, AnswersLines.AnswersLines}
 
 pub runs_on : {D : Type 0} (sound : D → Type 0) (mail : D → DropMail) (a b c : Machine D) (lines others : List (List ℕ))
     (x y : List ℕ)

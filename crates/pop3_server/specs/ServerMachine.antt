@@ -2,19 +2,14 @@
 use Rattle.std.specs.Prelude.{◌≡◌, ◌⊎◌, ◌≤◌, ◌==◌, ℕ, zero, suc, ◌+◌, ◌-◌, Bool, true, false, not, ◌&&◌}
 use Rattle.std.specs.Prelude.{List, [], ◌∷◌, ◌++◌, map, length, Option, Some, None, Result, Ok, Err}
 use Rattle.std.specs.Prelude.{slice_get, codes, bytes_eq, if◌then◌else◌, All, count_by, sum_by, decimal}
-use Rattle.pop3_wire.specs.declared.command.Command.{Command}
+use Rattle.pop3_wire.specs.{declared.command.Command.Command, declared.fault.WireFault.WireFault, Body.dot}
 use Rattle.pop3_wire.specs.declared.command.Command.TheVariants.{User, Pass, Stat, UidlAll, UidlOne, ListAll}
 use Rattle.pop3_wire.specs.declared.command.Command.TheVariants.{ListOne, Retr, Dele, Rset, Noop, Top, Quit}
-use Rattle.pop3_wire.specs.declared.fault.WireFault.{WireFault}
 use Rattle.pop3_wire.specs.Line.{crlf, ended}
-use Rattle.pop3_wire.specs.Body.{dot}
 use Rattle.pop3_wire.specs.Rows.{scan_row, uid_row}
-use Rattle.mail_terms.specs.Text.{lines_of_text}
-use Rattle.pop3_wire.specs.Stuffed.{stuffed_lines}
-use Rattle.mail_terms.specs.FailureCount.{counted_up}
-use Rattle.pop3_wire.specs.World.{Message}
-use Rattle.pop3_server.specs.declared.rows.MessageRow.{MessageRow}
-use Rattle.pop3_server.specs.declared.state.State.{State}
+use Rattle.mail_terms.specs.{Text.lines_of_text, FailureCount.counted_up}
+use Rattle.pop3_wire.specs.{Stuffed.stuffed_lines, World.Message}
+use Rattle.pop3_server.specs.{declared.rows.MessageRow.MessageRow, declared.state.State.State}
 use Rattle.pop3_server.specs.declared.state.State.TheVariants.{Authorization, Transaction, Closed}
 use Rattle.pop3_server.specs.Maildrop.{ListedMessage, DropMail, there, listed_message, HasPlace, refusing, asked}
 use Rattle.pop3_server.specs.Maildrop.{removed, max_count}

@@ -3,18 +3,13 @@ use Rattle.std.specs.Prelude.{◌≡◌, ◌⊎◌, ◌≤◌, ◌<◌, ◌+◌,
 use Rattle.std.specs.Prelude.{[], ◌∷◌, ◌++◌, length, Option, Some, Result, Ok, Err}
 use Rattle.std.specs.List.{flat_map, AllByRecursion}
 use Rattle.pop3_wire.specs.Line.{IsLine, ended}
-use Rattle.pop3_wire.specs.Bodies.{Drew}
-use Rattle.pop3_wire.specs.Link.{Link}
-use Rattle.pop3_wire.specs.Place.{HasLine}
-use Rattle.pop3_server.specs.declared.fault.ServerFault.{ServerFault}
+use Rattle.pop3_wire.specs.{Bodies.Drew, Link.Link, Place.HasLine}
+use Rattle.pop3_server.specs.{declared.fault.ServerFault.ServerFault, declared.intake.NextLine.NextLine}
 use Rattle.pop3_server.specs.declared.fault.ServerFault.TheVariants.{ReadFailed, WriteFailed, MaildropFailed, NoMemory}
-use Rattle.pop3_server.specs.declared.intake.NextLine.{NextLine}
 use Rattle.pop3_server.specs.declared.intake.NextLine.TheVariants.{Line, LongLine, End}
-use Rattle.pop3_server.specs.Maildrop.{DropMail}
+use Rattle.pop3_server.specs.{Maildrop.DropMail, Got.Waiting, declared.text_part.TextBody.TextBody}
 use Rattle.pop3_server.specs.ServerMachine.{Machine, greeting_line, is_open}
 use Rattle.pop3_server.specs.AnswersLines.{AnswersLines, AnswersLine, MakesAnswer, RefusesPart, SameServer}
-use Rattle.pop3_server.specs.Got.{Waiting}
-use Rattle.pop3_server.specs.declared.text_part.TextBody.{TextBody}
 
 -- how long a line may be, its CR LF included, and how many octets are read from one connection
 abbrev pub max_line : ℕ

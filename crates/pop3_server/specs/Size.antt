@@ -2,8 +2,7 @@
 use Rattle.std.specs.Prelude.{◌≡◌, ◌==◌, ℕ, Bool, false, ◌-◌, ◌^◌, min, List, length, if◌then◌else◌, flat_map, sum_by}
 use Rattle.pop3_wire.specs.Line.{ended}
 use Rattle.mail_terms.specs.Text.{lines_of_text}
-use Rattle.pop3_server.specs.TextPiece.{is_open_after}
-use Rattle.pop3_server.specs.declared.size.SizeCount.{SizeCount}
+use Rattle.pop3_server.specs.{TextPiece.is_open_after, declared.size.SizeCount.SizeCount}
 
 -- the octets of a text's lines, each with the CR LF that ends it on the wire
 abbrev pub size_of : List ℕ → ℕ

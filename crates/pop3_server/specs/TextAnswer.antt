@@ -3,10 +3,8 @@ use Rattle.std.specs.Prelude.{◌≡◌, ◌<◌, ◌-◌, ◌^◌, ℕ, Bool, t
 use Rattle.std.specs.Prelude.{slice_get, take}
 use Rattle.mail_terms.specs.FailureCount.{Tallies}
 use Rattle.pop3_wire.specs.World.{Message}
-use Rattle.pop3_server.specs.declared.rows.MessageRow.{MessageRow}
-use Rattle.pop3_server.specs.declared.state.State.{State}
-use Rattle.pop3_server.specs.declared.state.State.TheVariants.{Transaction}
-use Rattle.pop3_server.specs.declared.text_part.TextBody.{TextBody}
+use Rattle.pop3_server.specs.{declared.rows.MessageRow.MessageRow, declared.state.State.State}
+use Rattle.pop3_server.specs.{declared.state.State.TheVariants.Transaction, declared.text_part.TextBody.TextBody}
 use Rattle.pop3_server.specs.Maildrop.{DropMail, refusing}
 use Rattle.pop3_server.specs.ServerMachine.{Answers, Action, Give, Known, text_body}
 use Rattle.pop3_server.specs.TextBody.{still}

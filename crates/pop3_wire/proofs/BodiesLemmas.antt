@@ -1,13 +1,10 @@
 -- Taking a body from a link, piece by piece.
 use Rattle.std.proofs.Common.{◌≡◌, ◌≢◌, ◌<◌, ◌≤◌, ◌+◌, ◌-◌, ℕ, List, [], ◌++◌, length, take, drop, refl, sym, ap, ◌∙◌}
 use Rattle.std.proofs.Common.{arith, append_assoc, take-append-drop, length-append, length-take-le, append-nil, take_at}
-use Rattle.pop3_wire.specs.Body.{HasNoBody}
-use Rattle.pop3_wire.specs.Link.{Link}
+use Rattle.pop3_wire.specs.{Body.HasNoBody, Link.Link, declared.body_reader.BodyFault.BodyFault, declared.unstuffer.Spot.Spot}
 use Rattle.pop3_wire.specs.Place.{Place, at, GoesOn}
 use Rattle.pop3_wire.specs.Bodies.{Drew, DrawsNothing, BodyCause, LeavesRest, Rest, rest_of, UnderWay}
-use Rattle.pop3_wire.specs.declared.body_reader.BodyFault.{BodyFault}
 use Rattle.pop3_wire.specs.declared.body_reader.BodyFault.TheVariants.{Ended, Failed, TooLong}
-use Rattle.pop3_wire.specs.declared.unstuffer.Spot.{Spot}
 use Rattle.pop3_wire.specs.declared.unstuffer.Spot.TheVariants.{Start, Done}
 use Rattle.pop3_wire.specs.Unstuffing.{Reaches}
 use Rattle.pop3_wire.proofs.BodyLemmas.{reached_no_body, partly_none}
@@ -31,8 +28,7 @@ module _ {limit : ℕ} {old : Place} {link : Link} {waits : List ℕ} {body : Re
     (now : UnderWay limit old (at link waits) body text) where
   -- one more piece was drawn, and some of what waited was used
   pub under_way_on : (link' : Link) (more waits1 waits2 : List ℕ) (n : ℕ) (spot' : Spot) (put : List ℕ)
-      → waits1 ≡ waits ++ more → Drew link link' more → GoesOn link link'
-      → n ≤ body.left → n ≤ length waits1 → waits2 ≡ drop n waits1
+      → waits1 ≡ waits ++ more → Drew link link' more → GoesOn link link' → n ≤ body.left → n ≤ length waits1 → waits2 ≡ drop n waits1
       → ((bytes known : List ℕ) → Reaches body.spot bytes known → Reaches spot' (bytes ++ take n waits1) (known ++ put))
       → UnderWay limit old (at link' waits2) (rest_of spot' (body.left - n)) (text ++ put)
   under_way_on link' more waits1 waits2 n spot' put drawn drew onward small fits rest reaches = record {
@@ -45,8 +41,7 @@ module _ {limit : ℕ} {old : Place} {link : Link} {waits : List ℕ} {body : Re
       append_assoc now.used (take n waits1) (drop n waits1),
       take-append-drop,
       drawn,
-      ← append_assoc
-          old.waiting now.gained more,
+      ← append_assoc old.waiting now.gained more,
       now.heard,
     ) (append_assoc now.used waits more);
     drew = drew_on now.drew drew;
@@ -65,8 +60,7 @@ module _ {limit : ℕ} {old : Place} {link : Link} {waits : List ℕ} {body : Re
           used = now.used;
           got = drew.0.got;
           within = omega arith;
-          heard = now.heard
-              ∙ ap (λ (l : List ℕ). now.used ++ l) (none ∙ sym none');
+          heard = now.heard ∙ ap (λ (l : List ℕ). now.used ++ l) (none ∙ sym none');
         },
         (now.gained, drew.0, drew.1),
       )
@@ -102,8 +96,7 @@ module _ {limit : ℕ} {old : Place} {link : Link} {waits : List ℕ} {body : Re
           now.drew,
           (
             rw front (reached_no_body body.spot now.used text now.reached other),
-            omega
-                (arith, ap length now.heard, length-append now.used waits),
+            omega (arith, ap length now.heard, length-append now.used waits),
             now.goes_on,
           ),
         ),

@@ -4,7 +4,7 @@ use Rattle.std.proofs.Common.{◌∷◌, ◌++◌, length, take, drop, refl, sym
 use Rattle.std.proofs.Common.{take-append-drop, length-append, length-take-le, eqb-true, ◌≢◌, append-nil, get_or}
 use Rattle.std.proofs.Common.{ne_eqb, take-add, flat_map, map, true, false, Option, None, Some}
 use Rattle.std.proofs.Math.Seq.{drop-append_seam, take-suc}
-use Rattle.std.proofs.Math.Logic.{⊎_elim}
+use Rattle.std.proofs.{Math.Logic.⊎_elim, lemmas.Grind.flat_map-append, lemmas.List.Folds.flat_map-map}
 use Rattle.memchr.specs.Find.{OccursAt, Nowhere, NoneBefore, Passes, is_byte}
 use Rattle.memchr.proofs.lemmas.MatchLemmas.{OccursAt-split, OccursAt-from_part}
 use Rattle.pop3_wire.specs.Line.{crlf, IsLine, OneLine, ended}
@@ -12,16 +12,12 @@ use Rattle.std.proofs.lemmas.List.{take_at, flat_map_more, append-nil, same_from
 use Rattle.std.specs.List.{flat_map, AllByRecursion, onto_first, AllZip}
 use Rattle.pop3_wire.specs.Body.{dot, IsContent, lf_line, body_of, text_of, Body, HasNoBody, unstuffed}
 use Rattle.pop3_wire.specs.Stuffed.{OneBody, stuffed, stuffed_lines, StuffedIsBody, StuffedIsRead}
-use Rattle.pop3_wire.specs.declared.unstuffer.Spot.{Spot}
+use Rattle.pop3_wire.specs.{declared.unstuffer.Spot.Spot, Reply.IsFirstLine, declared.command.Command.Command}
 use Rattle.pop3_wire.specs.declared.unstuffer.Spot.TheVariants.{Middle, Cr, Done}
 use Rattle.pop3_wire.specs.Unstuffing.{Partly, NoCr, InLine, AtCr, Reaches}
-use Rattle.std.proofs.lemmas.Grind.{flat_map-append}
 use Rattle.std.proofs.lemmas.Bool.Decides.{eqb_tells, nat_tests}
-use Rattle.std.proofs.lemmas.List.Folds.{flat_map-map}
 use Rattle.mail_terms.specs.Text.{lines_of_text, whole_text, HasNoLf}
-use Rattle.pop3_wire.specs.Reply.{IsFirstLine}
 use Rattle.pop3_wire.specs.declared.reply.Status.TheVariants.{Positive, Negative}
-use Rattle.pop3_wire.specs.declared.command.Command.{Command}
 use Rattle.pop3_wire.specs.Reading.{WholeReply, body_bytes, reply_bytes, gives_body, IsBodyIf, IsReplyTo}
 
 -- a list is empty, or has a last element
@@ -64,14 +60,12 @@ line_found bytes k first occurs = (whole, split)
         sym (take-append-drop k bytes) ∙ ap (λ l. l ++ drop k bytes) e ∙ append_assoc front (crlf ++ rest) (drop k bytes) in
         let earlier : OccursAt bytes crlf (length front) = subst (λ (b : List ℕ). OccursAt b crlf (length front))
         (sym again) (occurs_at_split front (rest ++ drop k bytes)) in
-        first.before (length front) (omega arith)
-        (omega (
+        first.before (length front) (omega arith) (omega (
           arith,
           occurs.fits,
           length-take-le k bytes (omega (arith, occurs.fits)),
           ap length e,
-          length-append
-              front (crlf ++ rest),
+          length-append front (crlf ++ rest),
         )) earlier
 
 -- ---- by the place of the first LF
@@ -86,8 +80,7 @@ lf_follows bytes k occurs = ap is_lf (occurs.reads 1 (omega arith))
 -- without LF there is no pair
 pub IsLine-without_lf : (bytes : List ℕ) → Nowhere (Passes is_lf bytes) 0 (length bytes) → IsLine bytes
 IsLine-without_lf bytes none =
-    IsLine-nowhere bytes (λ k low high occurs. none (k + 1) (omega arith) (omega (arith, occurs.fits))
-    (lf_follows bytes k occurs))
+    IsLine-nowhere bytes (λ k low high occurs. none (k + 1) (omega arith) (omega (arith, occurs.fits)) (lf_follows bytes k occurs))
 
 -- the first LF ends a line if CR stands before it
 pub line_by_lf : (bytes : List ℕ) (k : ℕ) → NoneBefore (Passes is_lf bytes) 0 (length bytes) k → Passes is_lf bytes k → 0 < k
@@ -155,8 +148,7 @@ pub first_lines : (lines : List (List ℕ)) (rest : List ℕ) (others : List (Li
     × (rest ≡ flat_map ended later ++ (ended dot ++ more))
 first_lines [] rest others more content content' e = (others, content', refl, e)
 first_lines (line ∷ lines) rest [] more content content' e =
-    absurd (content.0.1 (first_line_same line dot content.0.0 IsLine-dot
-    (sym (ended_first line (flat_map ended lines) rest) ∙ e)).0)
+    absurd (content.0.1 (first_line_same line dot content.0.0 IsLine-dot (sym (ended_first line (flat_map ended lines) rest) ∙ e)).0)
 first_lines (line ∷ lines) rest (other ∷ others) more content content' e =
     let same = first_line_same line other content.0.0 content'.0.0 (sym (ended_first line (flat_map ended lines) rest)
     ∙ e ∙ ended_first other (flat_map ended others) (ended dot ++ more)) in
@@ -187,8 +179,7 @@ same_lines lines others x y content content' e =
         → ended dot ++ x ≡ flat_map ended later ++ (ended dot ++ y) → (lines ≡ others) × (x ≡ y)
     none [] are is rest = (sym (is ∙ append-nil lines), cc)
     none (l ∷ later) are is rest =
-        absurd (are.0.1 (sym (first_line_same dot l IsLine-dot are.0.0 (rest
-        ∙ ended_first l (flat_map ended later) (ended dot ++ y))).0))
+        absurd (are.0.1 (sym (first_line_same dot l IsLine-dot are.0.0 (rest ∙ ended_first l (flat_map ended later) (ended dot ++ y))).0))
 
 pub one_body : OneBody
 one_body a b s t x y left right e =
@@ -222,8 +213,7 @@ reads_end bytes rest line after text reads cut is =
         lines = reads.lines;
         content = reads.content;
         whole =
-            ap (take (length bytes - length after)) whole
-            ∙ take_at (body_of reads.lines) after _ sizes;
+            ap (take (length bytes - length after)) whole ∙ take_at (body_of reads.lines) after _ sizes;
         read = reads.read;
       },
     )
@@ -319,8 +309,7 @@ cr_lf {bytes} h =
       line = IsLine-nil;
       whole = more.whole;
       read = ap (λ (t : List ℕ). t ++ 10 ∷ []) h.partly.read
-          ∙ append_assoc (text_of h.partly.lines) (unstuffed h.part) (10 ∷ []) ∙ more.read
-          ∙ sym (append-nil (text_of more.lines));
+          ∙ append_assoc (text_of h.partly.lines) (unstuffed h.part) (10 ∷ []) ∙ more.read ∙ sym (append-nil (text_of more.lines));
     }
 
 cr_shown : (part : List ℕ) → unstuffed (part ++ 13 ∷ []) ≡ unstuffed part ++ 13 ∷ []
@@ -338,8 +327,7 @@ cr_other byte no_lf no_cr h =
 
 -- a piece that begins with the end of a line
 pub middle_two : {bytes text : List ℕ} (piece : List ℕ) → 2 ≤ length piece → get_or piece 0 0 ≡ 13
-    → get_or piece 1 0 ≡ 10 → InLine bytes text
-    → Partly (bytes ++ take 2 piece) (text ++ 10 ∷ []) [] []
+    → get_or piece 1 0 ≡ 10 → InLine bytes text → Partly (bytes ++ take 2 piece) (text ++ 10 ∷ []) [] []
 middle_two {bytes} {text} (a ∷ b ∷ rest) long first second h =
     rw (first, second) (rw (append_assoc bytes (13 ∷ []) (10 ∷ []), append-nil text) at (cr_lf (middle_cr h)))
 middle_two piece long first second h = absurd (omega arith)
@@ -349,8 +337,7 @@ partly_none = record { lines = []; content = tt; line = IsLine-nil; whole = refl
 
 partly_no_body : {bytes text part shown : List ℕ} → Partly bytes text part shown → HasNoBody bytes
 partly_no_body {bytes} {part} h =
-    no_body bytes part (text_of h.lines) (record { lines = h.lines; content = h.content; whole = h.whole; read = refl })
-    h.line
+    no_body bytes part (text_of h.lines) (record { lines = h.lines; content = h.content; whole = h.whole; read = refl }) h.line
 
 -- before the end no prefix of the octets read is a body
 pub reached_no_body : (spot : Spot) (bytes text : List ℕ) → Reaches spot bytes text → spot ≢ Done → HasNoBody bytes
@@ -371,16 +358,13 @@ middle_run piece (suc n) fits none bytes text h =
     rw (
       take-suc piece n 0 (omega arith),
       ← append_assoc bytes (take n piece) (get_or piece n 0 ∷ []),
-      ← append_assoc
-          text (take n piece) (get_or piece n 0 ∷ []),
-    )
-    (middle_other (get_or piece n 0) (none n (omega arith))
+      ← append_assoc text (take n piece) (get_or piece n 0 ∷ []),
+    ) (middle_other (get_or piece n 0) (none n (omega arith))
     (middle_run piece n (omega arith) (λ k small. none k (omega arith)) bytes text h))
 
 -- more octets of a piece were read
 pub turn_on : (spot next : Spot) (bytes text piece : List ℕ) (used more : ℕ) (out out' : List ℕ)
-    → Reaches spot (bytes ++ take used piece) (text ++ out)
-    → ((b t : List ℕ) → Reaches spot b (t ++ out)
+    → Reaches spot (bytes ++ take used piece) (text ++ out) → ((b t : List ℕ) → Reaches spot b (t ++ out)
     → Reaches next (b ++ take more (take (length piece - used) (drop used piece))) (t ++ out'))
     → Reaches next (bytes ++ take (used + more) piece) (text ++ out')
 turn_on spot next bytes text piece used more out out' so_far reaches =
@@ -538,8 +522,7 @@ one_reply asked reply other x y is is' e =
     (λ bad. ⊎_elim (λ bad'. one_body_if false reply.body other.body x y bad.1 bad'.1 firsts.1)
     (λ good'. absurd (two_statuses (sym firsts.0) good'.0.1 bad.0.1)) is'.status)
     (λ good. ⊎_elim (λ bad'. absurd (two_statuses firsts.0 good.0.1 bad'.0.1))
-    (λ good'. one_body_if (gives_body asked) reply.body other.body x y good.1 good'.1 firsts.1) is'.status)
-    is.status in
+    (λ good'. one_body_if (gives_body asked) reply.body other.body x y good.1 good'.1 firsts.1) is'.status) is.status in
     ((λ i. record { first = firsts.0 i; body = bodies.0 i }), bodies.1)
 
 pub one_reading : (asked : List (Option Command)) (replies others : List WholeReply) (rest more : List ℕ)

@@ -2,11 +2,8 @@
 use Rattle.std.proofs.Common.{◌≡◌, inl, inr, ◌≤◌, ◌<◌, ◌+◌, ◌-◌, ℕ, List, ◌++◌, length, take, drop, min, max, refl, sym}
 use Rattle.std.proofs.Common.{ap, ◌∙◌, arith, append_assoc, take-append-drop, length-append, length-take-le}
 use Rattle.std.proofs.Common.{length-take}
-use Rattle.std.proofs.Math.Logic.{⊎_elim}
-use Rattle.std.proofs.lemmas.Bool.{cases_lt}
+use Rattle.std.proofs.{Math.Logic.⊎_elim, lemmas.Bool.cases_lt, Math.Seq.take-append-add, lemmas.Slice.take-put_mid}
 use Rattle.std.proofs.lemmas.List.{take-take, take_all, take_min, drop-append-le, drop-take, drop-drop, take_at, drop_at}
-use Rattle.std.proofs.Math.Seq.{take-append-add}
-use Rattle.std.proofs.lemmas.Slice.{take-put_mid}
 use borrow.Rule.Slice.PartMut.{put_mid}
 use Rattle.pop3_wire.specs.Line.{crlf, IsLine}
 use Rattle.pop3_wire.specs.Place.{HasLine, HasNoLine}
@@ -18,8 +15,7 @@ no_line_zero w = record { none = IsLine-nil }
 no_line_less : (m n : ℕ) (w : List ℕ) → m ≤ n → HasNoLine n w → HasNoLine m w
 no_line_less m n w small known =
     record {
-      none = IsLine-front (take m w) (drop m (take n w))
-          (rw (← take-take m n w small, take-append-drop) known.none);
+      none = IsLine-front (take m w) (drop m (take n w)) (rw (← take-take m n w small, take-append-drop) known.none);
     }
 
 pub no_line_skip : (n s : ℕ) (w : List ℕ) → HasNoLine s w → HasNoLine (s - n) (drop n w)
@@ -27,8 +23,7 @@ no_line_skip n s w known = ⊎_elim (λ (past : s < n). let zero : s - n ≡ 0 =
     in rw zero (no_line_zero (drop n w))) (λ (small : n ≤ s).
     let sum : n + (s - n) ≡ s = omega arith in
     record {
-      none = rw (← drop-take n (s - n) w, sum) (IsLine-back (take n (take s w)) (drop n (take s w))
-          (rw take-append-drop known.none));
+      none = rw (← drop-take n (s - n) w, sum) (IsLine-back (take n (take s w)) (drop n (take s w)) (rw take-append-drop known.none));
     }) (cases_lt s n)
 
 -- if neither the first s octets nor those from the last of them on hold a line end, there is none
@@ -49,17 +44,14 @@ front_known s m n w small known =
     ⊎_elim (λ (less : s < m). record {
       none =
           rw (take-take s m w (omega arith)) (no_line_less s n w small known).none;
-    })
-    (λ (more : m ≤ s). record {
-      none = rw (take_all s (take m w) (omega (arith, length-take m w)))
-          (no_line_less m n w (omega arith) known).none;
+    }) (λ (more : m ≤ s). record {
+      none = rw (take_all s (take m w) (omega (arith, length-take m w))) (no_line_less m n w (omega arith) known).none;
     }) (cases_lt s m)
 
 -- the search found a line's end
 pub line_end_found : (w : List ℕ) (limit searched until from : ℕ) (line after : List ℕ)
     → until ≡ min limit (length w) → from ≡ min searched until - 1 → HasNoLine searched w
-    → IsLine line → take (until - from) (drop from w) ≡ line ++ (crlf ++ after)
-    → HasLine limit w (from + length line)
+    → IsLine line → take (until - from) (drop from w) ≡ line ++ (crlf ++ after) → HasLine limit w (from + length line)
 line_end_found w limit searched until from line after is_until is_from known is_line window = record {
   line = seam (take (from + length line) w) (min searched until)
       (front_known (min searched until) (from + length line) searched w (omega arith) known)
@@ -82,8 +74,7 @@ line_end_found w limit searched until from line after is_until is_from known is_
 
 -- if the search found none, the octets that it went over hold none
 pub line_end_none : (w : List ℕ) (limit searched until from : ℕ)
-    → until ≡ min limit (length w) → from ≡ min searched until - 1 → HasNoLine searched w
-    → IsLine (take (until - from) (drop from w))
+    → until ≡ min limit (length w) → from ≡ min searched until - 1 → HasNoLine searched w → IsLine (take (until - from) (drop from w))
     → HasNoLine until w
 line_end_none w limit searched until from is_until is_from known window =
     let sum : from + (until - from) ≡ until = omega arith in

@@ -1,6 +1,5 @@
 -- What follows from one call of a link, and from calls one after another.
-use Rattle.pop3_wire.specs.declared.wire.Wire.{Ghosts}
-use Rattle.pop3_wire.specs.Link.{WhereSound}
+use Rattle.pop3_wire.specs.{declared.wire.Wire.Ghosts, Link.WhereSound}
 
 module _ {W : Type 0} (link : Ghosts W) where
   -- what follows from what a call did
@@ -19,7 +18,6 @@ module _ {W : Type 0} (link : Ghosts W) where
   -- three calls
   pub and_then_two : {a b c d : W} {P Q R S : Type 0} → ((u v w : W) → link.leads_to u v → link.leads_to v w → link.leads_to u w)
       → WhereSound link.sound link.leads_to a b P → WhereSound link.sound link.leads_to b c Q
-      → WhereSound link.sound link.leads_to c d R → (P → Q → R → S)
-      → WhereSound link.sound link.leads_to a d S
+      → WhereSound link.sound link.leads_to c d R → (P → Q → R → S) → WhereSound link.sound link.leads_to a d S
   and_then_two {Q = Q} {R = R} on first second third all =
       and_then on first (and_then {R = Q × R} on second third (λ q r. (q, r))) (λ p both. all p both.0 both.1)

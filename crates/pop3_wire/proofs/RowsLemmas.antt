@@ -5,17 +5,16 @@ use Rattle.std.proofs.Common.{nat_le, ◌&&◌, ◌==◌, Bool, IsTrue, cond, ta
 use Rattle.std.proofs.Common.{length-drop, ◌-◌, ◌*◌, ◌^◌, rules, length-append, append_assoc, not, codes, decimal}
 use Rattle.std.proofs.Common.{ne_eqb, ◌⊎◌}
 use Rattle.std.specs.List.{filter, prefix_len, list_all, before_first, suffix_len, All, AllByRecursion, slice_split, count_by}
-use Rattle.std.specs.Char.{is_ascii_digit}
-use Rattle.std.specs.Str.Parse.{digits_value}
+use Rattle.std.specs.{Char.is_ascii_digit, Str.Parse.digits_value}
 use Rattle.std.proofs.lemmas.Bool.{and_parts, and_from, cond-true, cond-false, leb-true, le-leb, ltb-true, not-true, le-ltb, eqb-false}
-use Rattle.std.proofs.lemmas.Bool.Decides.{nat_tests}
+use Rattle.std.proofs.{lemmas.Bool.Decides.nat_tests, lemmas.List.Folds.list_all-append}
 use Rattle.std.proofs.lemmas.List.Sums.{AllPass-from_list_all, list_all-from_AllPass, take_while-cons, prefix_len_stops, suffix_len_is}
 use Rattle.std.proofs.lemmas.List.{get_or-drop, get_or-append_right, take_all, nil_from_length}
 use Rattle.pop3_wire.specs.Fields.{◌>>=◌, is_space, is_in_field, past, number, next_field, message_number}
 use Rattle.pop3_wire.specs.Fields.{number_and_size, legal_id, nothing_more, number_and_id}
 use Rattle.mail_terms.specs.Numeral.{is_numeral, greatest_number, greatest_size}
 use Rattle.mail_terms.specs.UniqueId.{is_id_byte, is_legal_id, IsLegalId}
-use Rattle.pop3_wire.specs.declared.fault.WireFault.{WireFault}
+use Rattle.pop3_wire.specs.{declared.fault.WireFault.WireFault, declared.command.Command.Command}
 use Rattle.std.proofs.Math.Logic.{⊎_elim, ⊎_map}
 use Rattle.pop3_wire.specs.Rows.{AreSpaces, StandsForNumber, HasNumber, HasScanForm, HasUidForm, NumbersAreRead}
 use Rattle.pop3_wire.specs.Rows.{IsSentAsIs, ScanRowsAreRead, UidRowsAreRead}
@@ -28,14 +27,12 @@ use Rattle.pop3_wire.specs.Commands.{line_of, can_be_sent, octets_of}
 use Rattle.pop3_wire.specs.CommandLine.{keyword_of, trimmed, arguments, after_keyword, text_argument, argument_number}
 use Rattle.pop3_wire.specs.CommandLine.{no_argument, one_number, number_or_none, two_numbers, command_by, command_of}
 use Rattle.pop3_wire.specs.CommandLine.{ReadAsWritten, HasNumbers, CommandsAreLines}
-use Rattle.std.proofs.lemmas.List.Folds.{list_all-append}
 use Rattle.pop3_wire.specs.Line.{IsLine, is_no_lf, ended}
 use Rattle.pop3_wire.specs.declared.reply.Status.TheVariants.{Positive, Negative}
 use Rattle.pop3_wire.specs.Honest.{FirstLinesAreRead, fields, HasFields, UidRowsHaveFields, ScanRowsHaveFields, HasSent}
 use Rattle.pop3_wire.specs.Honest.{OneListOfCommands, FrontsAreAsked}
 use Rattle.mail_terms.specs.Text.{HasNoLf}
 use Rattle.pop3_wire.proofs.BodyLemmas.{no_pair, first_line_same}
-use Rattle.pop3_wire.specs.declared.command.Command.{Command}
 
 -- ---- the prefix of bytes that pass a test, and what follows
 
@@ -110,8 +107,7 @@ has_number line n rest next e there =
         absurd (grind (
           arith,
           nat_tests,
-          behind_fails is_in_field field byte more (ends
-              ∙ same),
+          behind_fails is_in_field field byte more (ends ∙ same),
           behind_fails is_space rest byte more begins,
         ))
 
@@ -149,8 +145,7 @@ more_ok id bytes whole e = let (none, same) = cond_ok (length (past is_space byt
 
 -- what the steps of `read_uid` have read
 pub small_and_legal : (line rest field bytes id whole : List ℕ) (n : ℕ) → message_number line ≡ Ok (n, rest)
-    → legal_id field ≡ Ok id → nothing_more id bytes ≡ Ok whole
-    → (n ≤ greatest_number) × IsLegalId whole
+    → legal_id field ≡ Ok id → nothing_more id bytes ≡ Ok whole → (n ≤ greatest_number) × IsLegalId whole
 small_and_legal line rest field bytes id whole n first second third =
     let (next, read, e) = bind_ok (next_field line) _ (n, rest) first in
     let (m, counted, last) = bind_ok (number greatest_number (take_while is_in_field next)) _ (n, rest) e in
@@ -194,8 +189,7 @@ no_spaces : (word : List ℕ) → list_all is_in_field word ≡ true → All (λ
 no_spaces word all = λ k other inside. not-true _ (AllPass-from_list_all is_in_field word all k other inside)
 
 some_kept : (byte : ℕ) (word : List ℕ) (parts : List (List ℕ))
-    → filter (λ field. nat_lt 0 (length field)) ((byte ∷ word) ∷ parts) ≡ (byte ∷ word) ∷ filter
-    (λ field. nat_lt 0 (length field)) parts
+    → filter (λ field. nat_lt 0 (length field)) ((byte ∷ word) ∷ parts) ≡ (byte ∷ word) ∷ filter (λ field. nat_lt 0 (length field)) parts
 some_kept byte word parts = let some : nat_lt 0 (length (byte ∷ word)) ≡ true = grind (arith, nat_tests) in cond-true _ _ _ some
 
 word_first : (word rest : List ℕ) → word ≢ [] → list_all is_in_field word ≡ true → Stops is_in_field rest
@@ -221,12 +215,10 @@ next_fields line (byte ∷ more) e =
       arith,
       nat_tests,
       take_while-cons is_in_field byte more,
-      behind_fails is_space line
-          byte more is,
+      behind_fails is_space line byte more is,
       none,
     )) in
-    ap fields (split_at is_space line)
-    ∙ spaces_first (take_while is_space line) (past is_space line) (front_passes is_space line)
+    ap fields (split_at is_space line) ∙ spaces_first (take_while is_space line) (past is_space line) (front_passes is_space line)
     ∙ ap fields (is ∙ split_at is_in_field field)
     ∙ word_first (take_while is_in_field field) (past is_in_field field) some (front_passes is_in_field field)
     (behind_fails is_in_field field)
@@ -237,10 +229,8 @@ number_fields line rest n e =
     let (m, counted, last) = bind_ok (number greatest_number (take_while is_in_field field)) _ (n, rest) first in
     let (same, ends) = pair_ok m n (past is_in_field field) rest last in (
       take_while is_in_field field,
-      next_fields line field read
-          ∙ ap (λ (l : List ℕ). take_while is_in_field field ∷ fields l) ends,
-      sym
-          (number_ok greatest_number _ m counted).value ∙ same,
+      next_fields line field read ∙ ap (λ (l : List ℕ). take_while is_in_field field ∷ fields l) ends,
+      sym (number_ok greatest_number _ m counted).value ∙ same,
     )
 
 -- the digits that a field begins with are those that the rest of the line begins with
@@ -337,8 +327,7 @@ begins (byte ∷ front) rest some all = (
   byte,
   front ++ rest,
   refl,
-  grind
-      (arith, nat_tests, (and_parts (is_in_field byte) (list_all is_in_field front) all).0),
+  grind (arith, nat_tests, (and_parts (is_in_field byte) (list_all is_in_field front) all).0),
 )
 
 spaces_end_field : (spaces rest : List ℕ) → AreSpaces spaces → spaces ≢ [] → Stops is_in_field (spaces ++ rest)
@@ -358,20 +347,16 @@ message_read line n rest form =
     let digits = digits_of form.digits form.counted.numeral in
     let field : list_all is_in_field form.digits ≡ true = digits_in_field form.digits digits.1 in
     let ends : Stops is_in_field (form.gap ++ rest) = spaces_end_field form.gap rest form.apart form.some in
-    ap message_number form.whole
-    ∙ rw (next_read form.indent (form.digits ++ (form.gap ++ rest)) form.before
-    (begins form.digits (form.gap ++ rest) digits.0 field))
-    (rw (
+    ap message_number form.whole ∙ rw (next_read form.indent (form.digits ++ (form.gap ++ rest)) form.before
+    (begins form.digits (form.gap ++ rest) digits.0 field)) (rw (
       front_taken is_in_field form.digits (form.gap ++ rest) field ends,
-      number_read greatest_number form.digits
-          n form.counted,
+      number_read greatest_number form.digits n form.counted,
       front_passed is_in_field form.digits (form.gap ++ rest) field ends,
     ))
 
 -- a line's number and the next field, however the line goes on
 field_read : {B : Type 0} (line : List ℕ) (n : ℕ) (front behind : List ℕ) → HasNumber line n (front ++ behind)
-    → nat_lt 0 (length front) ≡ true → list_all is_in_field front ≡ true
-    → (f : ℕ × List ℕ → List ℕ → Result B WireFault) → (rest : List ℕ)
+    → nat_lt 0 (length front) ≡ true → list_all is_in_field front ≡ true → (f : ℕ × List ℕ → List ℕ → Result B WireFault) → (rest : List ℕ)
     × ((message_number line >>= (λ first. next_field first.1 >>= f first)) ≡ f (n, rest) (front ++ behind))
 field_read line n front behind form some field f = (
   form.gap ++ (front ++ behind),
@@ -392,14 +377,11 @@ uid_form_read line n uid form =
     let field : list_all is_in_field uid ≡ true = all_pass is_id_byte is_in_field (λ byte e. grind (arith, nat_tests)) uid bytes.1 in
     let ends : Stops is_in_field form.behind = λ byte more e. spaces_end_field form.behind [] form.over
     (λ none. cc) byte more (append-nil form.behind ∙ e) in
-    (field_read line n uid form.behind form.front bytes.0 field _).1
-    ∙ rw (
+    (field_read line n uid form.behind form.front bytes.0 field _).1 ∙ rw (
       front_taken is_in_field uid form.behind field ends,
       form.legal,
-      front_passed is_in_field uid form.behind field
-          ends,
-      ap (past is_space) (sym (append-nil form.behind))
-          ∙ front_passed is_space form.behind [] form.over (λ byte more e. absurd (cc)),
+      front_passed is_in_field uid form.behind field ends,
+      ap (past is_space) (sym (append-nil form.behind)) ∙ front_passed is_space form.behind [] form.over (λ byte more e. absurd (cc)),
     )
 
 -- ---- the line that asks for a command is read as that command
@@ -491,12 +473,10 @@ numbered_twice front n k word short few less line is =
       arith,
       ap length is,
       length-append front (32 ∷ (decimal n ++ 32 ∷ decimal k)),
-      length-append
-          (decimal n) (32 ∷ decimal k),
+      length-append (decimal n) (32 ∷ decimal k),
       few_digits n few,
       few_digits k less,
-    ))
-    ∙ ap (command_by (keyword_of (before_first is_space line)) (after_keyword line))
+    )) ∙ ap (command_by (keyword_of (before_first is_space line)) (after_keyword line))
     (ap arguments is ∙ arguments_two front (decimal n) (decimal k) (word_by front word) (number_word n few)
     (number_word k less) (decimal_nonempty k (omega arith)))
 
@@ -532,8 +512,7 @@ numbers_are_read limit n within fits =
         arith,
         nat_tests,
         decimal_nonempty n (omega arith),
-        length-decimal-le 20 n (omega arith)
-            (omega arith) (omega arith),
+        length-decimal-le 20 n (omega arith) (omega arith) (omega arith),
         digits_of_decimal n (omega arith),
       );
       value = sym (decimal_is_IsNumeral n (omega arith)).1;
@@ -595,16 +574,14 @@ scan_rows_are_read number size few fits = rw (append_assoc (decimal number) (32 
 pub uid_rows_are_read : UidRowsAreRead
 uid_rows_are_read number uid few legal = rw (append_assoc (decimal number) (32 ∷ []) uid) (
   digit_content number (32 ∷ uid) (omega arith)
-      (no_lf_append (32 ∷ []) uid refl (all_pass is_id_byte is_no_lf (λ d e. grind (arith, nat_tests)) uid
-      (bytes_of uid legal).1)),
-  uid_form_read _ number uid
-      (record {
-        behind = [];
-        front = numbered number uid (uid ++ []) few (sym (append-nil uid));
-        legal = legal;
-        over =
-            refl;
-      }),
+      (no_lf_append (32 ∷ []) uid refl (all_pass is_id_byte is_no_lf (λ d e. grind (arith, nat_tests)) uid (bytes_of uid legal).1)),
+  uid_form_read _ number uid (record {
+    behind = [];
+    front = numbered number uid (uid ++ []) few (sym (append-nil uid));
+    legal = legal;
+    over =
+        refl;
+  }),
 )
 
 pub first_lines_are_read : FirstLinesAreRead
@@ -687,8 +664,7 @@ fronts_are_asked (c ∷ cs) front rest sendable numbers e = ⊎_elim (λ (m, is,
       whole = is ∙ ap (λ (l : List ℕ). ended (line_of c) ++ l) asked.whole
           ∙ sym (append_assoc (ended (line_of c)) (octets_of whole) asked.part);
     } in
-    (c ∷ whole, later, cc, first, next))
-    (λ (x, m, is). (
+    (c ∷ whole, later, cc, first, next)) (λ (x, m, is). (
       [],
       c ∷ cs,
       refl,

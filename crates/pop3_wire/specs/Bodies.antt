@@ -1,13 +1,9 @@
 -- Taking one body from a link.
 use Rattle.std.specs.Prelude.{◌≡◌, ◌+◌, ◌<◌, ◌≤◌, ℕ, Bool, true, false, List, [], ◌++◌, length, take, Result, Ok, Err}
 use Rattle.std.specs.Prelude.{Vec}
-use Rattle.pop3_wire.specs.Body.{HasNoBody}
-use Rattle.pop3_wire.specs.Link.{Link}
+use Rattle.pop3_wire.specs.{Body.HasNoBody, Link.Link, Unstuffing.Reaches, declared.body_reader.Piece.Piece}
 use Rattle.pop3_wire.specs.Place.{Place, GoesOn}
-use Rattle.pop3_wire.specs.Unstuffing.{Reaches}
-use Rattle.pop3_wire.specs.declared.body_reader.Piece.{Piece}
-use Rattle.pop3_wire.specs.declared.unstuffer.Spot.{Spot}
-use Rattle.pop3_wire.specs.declared.body_reader.BodyFault.{BodyFault}
+use Rattle.pop3_wire.specs.{declared.unstuffer.Spot.Spot, declared.body_reader.BodyFault.BodyFault}
 use Rattle.pop3_wire.specs.declared.body_reader.BodyFault.TheVariants.{Ended, Failed, TooLong}
 
 -- nothing was sent, and these octets were got

@@ -2,20 +2,16 @@
 use Rattle.std.specs.Prelude.{◌≡◌, ◌<◌, ◌^◌, true, ℕ, List, [], ◌∷◌, ◌-◌, if◌then◌else◌, nat_lt}
 use Rattle.std.specs.Prelude.{nat_le, length, take, drop, codes, Option, Some, None, Result, Ok, Err}
 use Rattle.std.specs.List.{before_first, after_first, slice_split, suffix_len}
-use Rattle.std.specs.Option.{option_map_or}
-use Rattle.std.specs.Str.{str_eq_ignore_ascii_case}
-use Rattle.pop3_wire.specs.declared.fault.WireFault.{WireFault}
+use Rattle.std.specs.{Option.option_map_or, Str.str_eq_ignore_ascii_case}
+use Rattle.pop3_wire.specs.{declared.fault.WireFault.WireFault, declared.command.Command.Command}
 use Rattle.pop3_wire.specs.declared.fault.WireFault.TheVariants.{BadNumber, BadCommand, BadArgument}
-use Rattle.pop3_wire.specs.declared.command.Command.{Command}
 use Rattle.pop3_wire.specs.declared.command.Command.TheVariants.{User, Pass, Stat, UidlAll, UidlOne, ListAll}
 use Rattle.pop3_wire.specs.declared.command.Command.TheVariants.{ListOne, Retr, Dele, Rset, Noop, Top, Quit}
-use Rattle.pop3_wire.specs.declared.keyword.Keyword.{Keyword}
+use Rattle.pop3_wire.specs.{declared.keyword.Keyword.Keyword, Line.IsLine}
 use Rattle.pop3_wire.specs.declared.keyword.Keyword.TheVariants as keyword
-use Rattle.mail_terms.specs.Credential.{is_credential}
-use Rattle.pop3_wire.specs.Line.{IsLine}
+use Rattle.mail_terms.specs.{Credential.is_credential, Numeral.greatest_number}
 use Rattle.pop3_wire.specs.Commands.{can_be_sent, line_of}
 use Rattle.pop3_wire.specs.Fields.{◌>>=◌, is_space, number}
-use Rattle.mail_terms.specs.Numeral.{greatest_number}
 
 -- the keyword that a word is, in upper or lower case or both
 unfoldable pub keyword_of : List ℕ → Option Keyword

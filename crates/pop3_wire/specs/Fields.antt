@@ -1,9 +1,7 @@
 -- Fields and numerals of reply lines (RFC 1939, sections 5 and 7). Spaces separate the fields.
 use Rattle.std.specs.Prelude.{◌==◌, ◌&&◌, not, nat_le, ℕ, Bool, List, length, drop, take_while, if◌then◌else◌, Result}
 use Rattle.std.specs.Prelude.{Ok, Err}
-use Rattle.std.specs.List.{prefix_len}
-use Rattle.std.specs.Char.{is_ascii_digit}
-use Rattle.std.specs.Str.Parse.{digits_value}
+use Rattle.std.specs.{List.prefix_len, Char.is_ascii_digit, Str.Parse.digits_value}
 use Rattle.mail_terms.specs.Numeral.{is_numeral, greatest_number, greatest_size}
 use Rattle.mail_terms.specs.UniqueId.{is_legal_id}
 use Rattle.pop3_wire.specs.declared.fault.WireFault.{WireFault}

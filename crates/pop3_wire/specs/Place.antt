@@ -2,8 +2,7 @@
 use Rattle.std.specs.Prelude.{◌≡◌, ◌+◌, ◌<◌, ◌≤◌, ◌==◌, ◌||◌, ℕ, Bool, true, false, List, ◌++◌, length, take, drop}
 use Rattle.std.specs.Prelude.{Result, Ok, Err}
 use Rattle.pop3_wire.specs.Line.{crlf, IsLine}
-use Rattle.pop3_wire.specs.Link.{Link}
-use Rattle.pop3_wire.specs.declared.line_reader.LineFault.{LineFault}
+use Rattle.pop3_wire.specs.{Link.Link, declared.line_reader.LineFault.LineFault}
 use Rattle.pop3_wire.specs.declared.line_reader.LineFault.TheVariants.{Ended, Failed, TooLong}
 
 -- a link, and those of its octets that wait to be used

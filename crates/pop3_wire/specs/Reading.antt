@@ -5,11 +5,9 @@ use Rattle.std.specs.List.{flat_map, AllByRecursion, AllZip}
 use Rattle.pop3_wire.specs.Line.{IsLine, ended}
 use Rattle.pop3_wire.specs.Body.{IsContent, body_of, unstuffed}
 use Rattle.pop3_wire.specs.Fields.{number_and_size, number_and_id}
-use Rattle.pop3_wire.specs.Reply.{IsFirstLine}
-use Rattle.mail_terms.specs.Listing.{UidRow}
-use Rattle.mail_terms.specs.declared.listing.ScanRow.{ScanRow}
+use Rattle.pop3_wire.specs.{Reply.IsFirstLine, declared.command.Command.Command}
+use Rattle.mail_terms.specs.{Listing.UidRow, declared.listing.ScanRow.ScanRow}
 use Rattle.pop3_wire.specs.declared.reply.Status.TheVariants.{Positive, Negative}
-use Rattle.pop3_wire.specs.declared.command.Command.{Command}
 use Rattle.pop3_wire.specs.declared.command.Command.TheVariants.{UidlAll, ListAll, Retr, Top}
 
 -- a whole reply: its first line, and the lines of its body if it has one

@@ -1,8 +1,6 @@
 -- The forms of a row of LIST, of STAT's rest, and of a row of UIDL (RFC 1939, sections 5 and 7).
 use Rattle.std.specs.Prelude.{◌≡◌, ◌≢◌, ◌≤◌, ◌↔◌, false, ℕ, List, [], ◌∷◌, ◌++◌, codes, IsTrue, Ok, decimal}
-use Rattle.std.specs.List.{list_all}
-use Rattle.std.specs.Char.{is_ascii_digit}
-use Rattle.std.specs.Str.Parse.{digits_value}
+use Rattle.std.specs.{List.list_all, Char.is_ascii_digit, Str.Parse.digits_value}
 use Rattle.mail_terms.specs.Numeral.{is_numeral, greatest_number, greatest_size}
 use Rattle.mail_terms.specs.UniqueId.{IsLegalId}
 use Rattle.pop3_wire.specs.Body.{IsContent, unstuffed}

@@ -3,9 +3,8 @@ use Rattle.std.specs.Prelude.{◌≡◌, ◌≢◌, ℕ, List, [], ◌∷◌, �
 use Rattle.std.specs.List.{flat_map, AllByRecursion}
 use Rattle.pop3_wire.specs.Line.{IsLine, ended}
 use Rattle.pop3_wire.specs.Body.{dot, IsContent, unstuffed, text_of, Body}
-use Rattle.pop3_wire.specs.declared.unstuffer.Spot.{Spot}
+use Rattle.pop3_wire.specs.{declared.unstuffer.Spot.Spot, declared.unstuffer.Given.Given}
 use Rattle.pop3_wire.specs.declared.unstuffer.Spot.TheVariants.{Start, Dot, DotCr, Middle, Cr, Done}
-use Rattle.pop3_wire.specs.declared.unstuffer.Given.{Given}
 use Rattle.pop3_wire.specs.declared.unstuffer.Given.TheVariants.{Nothing, One, CrAnd}
 
 -- the bytes are whole lines of a body and then a part of one; the text is that of the lines, and then what is

@@ -1,10 +1,8 @@
 -- What clap's matches of the command line are.
 use Rattle.std.proofs.Common.{◌≡◌, ◌∙◌, ℕ, List, Option, None, Some, Result, Ok, Err, true, ap, refl, unwrap_or}
 use Rattle.std.specs.Str.Parse.{ParsesUnsigned}
-use Rattle.clap.specs.Kinds.{HasKind}
+use Rattle.clap.specs.{Kinds.HasKind, declared.error.Error.Error, declared.parser.matches.ArgMatches.ArgMatches}
 use Rattle.clap.specs.Words.{App, HasMatchesOf, ReadsOne, fault_of, found_of, is_simple, is_simple_and_free, matches_of, rows_of}
-use Rattle.clap.specs.declared.error.Error.{Error}
-use Rattle.clap.specs.declared.parser.matches.ArgMatches.{ArgMatches}
 use Rattle.clap.proofs.OnLiterals.{clap_on_literals}
 use Rattle.popd_program.specs.CommandLine.{Numbers, popd}
 

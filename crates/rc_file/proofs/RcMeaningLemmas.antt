@@ -7,12 +7,10 @@ use Rattle.std.specs.List.{list_any, filter}
 use Rattle.rc_file.specs.FileRows.{RcRow, rows_of, section_row, key_row, bad_row}
 use Rattle.rc_file.specs.RcMeaning.{first_bad, missing_section, settings_in, warnings_in, rc_meaning, Warned, firsts}
 use Rattle.rc_file.specs.RcMeaning.{has_no_effect, is_same, warned}
-use Rattle.rc_file.specs.RcText.{without_value}
+use Rattle.rc_file.specs.{RcText.without_value, KeyReading.key_fault, declared.row.ReadRow.ReadRow}
 use Rattle.rc_file.specs.RowReading.{rows_in, row_of}
-use Rattle.rc_file.specs.KeyReading.{key_fault}
 use Rattle.rc_file.specs.WarningSearch.{Name, TellsWarning, name_eq}
 use Rattle.rc_file.specs.declared.key.Section.TheVariants.{Retriever, Destination}
-use Rattle.rc_file.specs.declared.row.ReadRow.{ReadRow}
 use Rattle.rc_file.proofs.RowLemmas.{continued-nil, first_bad-read}
 
 -- what a whole file means
@@ -22,8 +20,7 @@ good_rows read = rw (continued-nil, append-nil) at (first_bad-read read [] [])
 
 -- where nothing is faulty, the settings and the warnings are meant
 pub all_meant : (bytes : List ℕ) (read : List ReadRow) → length bytes ≤ 65536 → rows_of bytes ≡ rows_in read
-    → None ≡ missing_section (rows_in read) Retriever → None ≡ missing_section (rows_in read) Destination
-    → key_fault (rows_in read) ≡ None
+    → None ≡ missing_section (rows_in read) Retriever → None ≡ missing_section (rows_in read) Destination → key_fault (rows_in read) ≡ None
     → rc_meaning bytes ≡ Ok (settings_in (rows_in read), warnings_in (rows_in read))
 unfolding rc_meaning key_fault
 all_meant bytes read within same there there' sound =
@@ -75,12 +72,10 @@ kept_or_not false row other rows others same rest = rest
 told_same : (rows : List RcRow) → map warned (filter has_no_effect (map without_value rows)) ≡ map warned (filter has_no_effect rows)
 told_same [] = refl
 told_same (section_row line name ∷ rows) = kept_or_not (has_no_effect (section_row line name)) (section_row line name)
-    (section_row line name) (filter has_no_effect (map without_value rows))
-    (filter has_no_effect rows) refl (told_same rows)
+    (section_row line name) (filter has_no_effect (map without_value rows)) (filter has_no_effect rows) refl (told_same rows)
 told_same (key_row line section key value ∷ rows) =
     kept_or_not (has_no_effect (key_row line section key value)) (key_row line section key [])
-    (key_row line section key value) (filter has_no_effect (map without_value rows))
-    (filter has_no_effect rows) refl (told_same rows)
+    (key_row line section key value) (filter has_no_effect (map without_value rows)) (filter has_no_effect rows) refl (told_same rows)
 told_same (bad_row line ∷ rows) = kept_or_not (has_no_effect (bad_row line)) (bad_row line) (bad_row line)
     (filter has_no_effect (map without_value rows)) (filter has_no_effect rows) refl (told_same rows)
 

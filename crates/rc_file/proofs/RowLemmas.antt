@@ -1,20 +1,15 @@
 -- Reading a file line by line gives its rows.
 use Rattle.std.proofs.Common.{◌≡◌, ℕ, ◌+◌, suc, Result, Ok, Err, List, [], ◌∷◌, ◌++◌, length, take, get_or, set, map}
 use Rattle.std.proofs.Common.{true, false, Option, Some, None, ap, ◌∙◌, refl, inl, inr, arith}
-use Rattle.std.proofs.lemmas.Grind.{common_steps}
-use Rattle.std.proofs.Math.Seq.{split_at}
+use Rattle.std.proofs.{lemmas.Grind.common_steps, Math.Seq.split_at, lemmas.Bool.false≢true}
 use Rattle.std.proofs.lemmas.List.{drop_all, take-set, append-nil, append_assoc, map-append, nil_from_length}
 use Rattle.std.specs.Char.{to_ascii_lowercase}
-use Rattle.std.proofs.lemmas.Bool.{false≢true}
 use Rattle.rc_file.specs.LineRules.{RcLine, more, key}
 use Rattle.rc_file.specs.FileRows.{RcRow, section_row, key_row, bad_row}
-use Rattle.rc_file.specs.RcMeaning.{first_bad}
+use Rattle.rc_file.specs.{RcMeaning.first_bad, declared.fault.RcFault.RcFault, declared.fault.RcFault.TheVariants.BadLine}
 use Rattle.rc_file.specs.RowReading.{row_of, entry_row, rows_in, continued_row, continued, section_in, last_section}
 use Rattle.rc_file.specs.RowReading.{is_key_row, ends_in_key, file_rows, AddsText, TakesLine}
-use Rattle.rc_file.specs.declared.fault.RcFault.{RcFault}
-use Rattle.rc_file.specs.declared.fault.RcFault.TheVariants.{BadLine}
-use Rattle.rc_file.specs.declared.row.ReadRow.{ReadRow}
-use Rattle.rc_file.specs.declared.row.Entry.{Entry}
+use Rattle.rc_file.specs.{declared.row.ReadRow.ReadRow, declared.row.Entry.Entry}
 
 -- the last of some rows
 
@@ -86,8 +81,7 @@ split_last : (read : List ReadRow) (k : ℕ) (row : ReadRow) → row ≡ get_or 
 split_last read k row same at_end = grind (arith, common_steps, split_at read k row (omega arith), drop_all (suc k) read (omega arith))
 
 set_last : (read : List ReadRow) (k : ℕ) (row : ReadRow) → suc k ≡ length read → set read k row ≡ take k read ++ (row ∷ [])
-set_last read k row at_end =
-    split_last (set read k row) k row (grind (arith, common_steps)) (grind (arith, common_steps)) ∙ simp take-set
+set_last read k row at_end = split_last (set read k row) k row (grind (arith, common_steps)) (grind (arith, common_steps)) ∙ simp take-set
 
 pub rows_in-push : (old new : List ReadRow) (row : ReadRow) → new ≡ old ++ (row ∷ []) → rows_in new ≡ rows_in old ++ (row_of row ∷ [])
 rows_in-push old new row e = ap rows_in e ∙ map-append row_of old (row ∷ [])
@@ -106,17 +100,13 @@ last_section-read read k row same at_end =
 pub more_taken : (read : List ReadRow) (k : ℕ) (row new : ReadRow) (n : ℕ) (text : List ℕ) (result : Result (Unit {0}) RcFault)
     → row ≡ get_or read k row → suc k ≡ length read → AddsText (row_of row) n text result (row_of new)
     → TakesLine read n (more text) result (set read k new)
-more_taken read k row new n text (Ok done) same at_end h = λ lines.
-    rw (
-      rows_in-push (take k read) (set read k new) new (set_last read k new at_end),
-      rows_in-push (take k read) read
-          row (split_last read k row same at_end),
-      h.1,
-    )
-    (file_rows-more (rows_in (take k read)) (row_of row) n text lines h.0)
+more_taken read k row new n text (Ok done) same at_end h = λ lines. rw (
+  rows_in-push (take k read) (set read k new) new (set_last read k new at_end),
+  rows_in-push (take k read) read row (split_last read k row same at_end),
+  h.1,
+) (file_rows-more (rows_in (take k read)) (row_of row) n text lines h.0)
 more_taken read k row new n text (Err fault) same at_end (inl full) = λ lines. inl full
-more_taken read k row new n text (Err fault) same at_end (inr h) = λ lines.
-    inr (rw h.1 (first_bad-more read n text lines
+more_taken read k row new n text (Err fault) same at_end (inr h) = λ lines. inr (rw h.1 (first_bad-more read n text lines
     (rw (rows_in-push (take k read) read row (split_last read k row same at_end))
     (ends_in_key-last (rows_in (take k read)) (row_of row) ∙ h.0))))
 

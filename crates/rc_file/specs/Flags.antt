@@ -1,7 +1,6 @@
 -- What the flags of a command line change.
 use Rattle.std.specs.Prelude.{ℕ, ◌+◌, Bool, true, false, ◌&&◌, ◌||◌, ◌==◌, nat_lt, min, if◌then◌else◌}
-use Rattle.rc_file.specs.Settings.{Content}
-use Rattle.rc_file.specs.declared.flags.Flags.{Flags}
+use Rattle.rc_file.specs.{Settings.Content, declared.flags.Flags.Flags}
 
 -- two flags ask for opposite things
 abbrev pub is_contradiction : Flags → Bool

@@ -1,12 +1,9 @@
 -- What the readers of keys, and of all settings, return.
 use Rattle.std.specs.Prelude.{◌≡◌, ℕ, List, map, Option, Some, None, Result, Ok, Err}
 use Rattle.std.specs.Borrow.{Bor}
-use Rattle.rc_file.specs.Answer.{IsFaultMeant}
-use Rattle.rc_file.specs.FileRows.{RcRow}
-use Rattle.rc_file.specs.KeyTable.{all_keys}
+use Rattle.rc_file.specs.{Answer.IsFaultMeant, FileRows.RcRow, KeyTable.all_keys, declared.fault.RcFault.RcFault}
 use Rattle.rc_file.specs.RcMeaning.{fault_at, first_fault, settings_in}
 use Rattle.rc_file.specs.Settings.{content_of, IsValid}
-use Rattle.rc_file.specs.declared.fault.RcFault.{RcFault}
 use Rattle.rc_file.specs.declared.settings.Settings.{Settings}
 
 -- the value if there is no fault, else the fault

@@ -1,14 +1,10 @@
 -- The keys that have an effect, as a table, and the forms of their values.
 use Rattle.std.specs.Prelude.{ℕ, Bool, ◌&&◌, ◌||◌, List, [], ◌∷◌, map, nat_le, if◌then◌else◌, Option, Some, None, codes}
 use Rattle.std.specs.Prelude.{bytes_eq}
-use Rattle.std.specs.Char.{to_ascii_lowercase}
-use Rattle.std.specs.List.{list_any}
-use Rattle.std.specs.Str.Parse.{digits_value}
-use Rattle.mail_terms.specs.Credential.{is_credential}
-use Rattle.mail_terms.specs.Numeral.{is_numeral}
+use Rattle.std.specs.{Char.to_ascii_lowercase, List.list_any, Str.Parse.digits_value}
+use Rattle.mail_terms.specs.{Credential.is_credential, Numeral.is_numeral}
 use Rattle.rc_file.specs.Settings.{is_server, is_destination, destination_at}
-use Rattle.rc_file.specs.declared.settings.TheConstants.{DELETE_AFTER_LIMIT}
-use Rattle.rc_file.specs.declared.key.Key.{Key}
+use Rattle.rc_file.specs.{declared.settings.TheConstants.DELETE_AFTER_LIMIT, declared.key.Key.Key}
 use Rattle.rc_file.specs.declared.key.Key.TheVariants.{RetrieverKind, UseApop, Server, Port, Username, Password}
 use Rattle.rc_file.specs.declared.key.Key.TheVariants.{DestinationKind}
 use Rattle.rc_file.specs.declared.key.Key.TheVariants.{Path, ReadAll, Delete, DeleteAfter, MaxSize, MaxCount, Verbose}

@@ -6,10 +6,8 @@ use Rattle.std.specs.Str.Parse.{digits_value}
 use Rattle.rc_file.specs.KeyTable.{rule, value_fault, is_yes, retriever_section, destination_section, all_keys}
 use Rattle.rc_file.specs.FileRows.{RcRow, section_row, key_row, bad_row, rows_of}
 use Rattle.rc_file.specs.Settings.{Content, Destination, destination_at}
-use Rattle.rc_file.specs.declared.file.TheConstants.{RC_LIMIT}
-use Rattle.rc_file.specs.declared.key.Section.{Section}
+use Rattle.rc_file.specs.{declared.file.TheConstants.RC_LIMIT, declared.key.Section.Section, declared.key.Key.Key}
 use Rattle.rc_file.specs.declared.key.Section.TheVariants.{Retriever, Destination as DestinationSection}
-use Rattle.rc_file.specs.declared.key.Key.{Key}
 use Rattle.rc_file.specs.declared.key.Key.TheVariants.{Server, Port, Username, Password, DestinationKind, Path}
 use Rattle.rc_file.specs.declared.key.Key.TheVariants.{ReadAll, Delete, DeleteAfter, MaxSize, MaxCount, Verbose}
 use Rattle.rc_file.specs.declared.fault.RcFault.{RcFault}

@@ -2,14 +2,10 @@
 use Rattle.std.specs.Prelude.{◌≡◌, ◌⊎◌, ℕ, ◌+◌, Bool, true, false, List, [], ◌∷◌, ◌++◌}
 use Rattle.std.specs.Prelude.{map, Option, Some, None, Result, Ok, Err, Vec, string_bytes}
 use Rattle.std.specs.declared.alloc.Global.{Global}
-use Rattle.rc_file.specs.Answer.{IsFaultMeant}
-use Rattle.rc_file.specs.LineRules.{RcLine}
+use Rattle.rc_file.specs.{Answer.IsFaultMeant, LineRules.RcLine, RcMeaning.first_bad, declared.fault.RcFault.RcFault}
 use Rattle.rc_file.specs.FileRows.{RcRow, section_row, key_row, bad_row, added, rows_from}
-use Rattle.rc_file.specs.RcMeaning.{first_bad}
-use Rattle.rc_file.specs.declared.fault.RcFault.{RcFault}
 use Rattle.rc_file.specs.declared.fault.RcFault.TheVariants.{BadLine, NoMemory}
-use Rattle.rc_file.specs.declared.row.ReadRow.{ReadRow}
-use Rattle.rc_file.specs.declared.row.Entry.{Entry}
+use Rattle.rc_file.specs.{declared.row.ReadRow.ReadRow, declared.row.Entry.Entry}
 
 abbrev pub entry_row : ℕ → List ℕ → Option Entry → RcRow
 entry_row line name None = section_row line name

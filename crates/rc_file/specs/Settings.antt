@@ -3,8 +3,7 @@ use Rattle.std.specs.Prelude.{ℕ, ◌≤◌, Bool, not, ◌&&◌, List, length,
 use Rattle.std.specs.Prelude.{codes, string_bytes}
 use Rattle.std.specs.List.{list_all, starts_with, ends_with}
 use Rattle.mail_terms.specs.Credential.{is_credential}
-use Rattle.rc_file.specs.declared.settings.TheConstants.{DELETE_AFTER_LIMIT}
-use Rattle.rc_file.specs.declared.settings.Settings.{Settings}
+use Rattle.rc_file.specs.{declared.settings.TheConstants.DELETE_AFTER_LIMIT, declared.settings.Settings.Settings}
 use Rattle.rc_file.specs.declared.settings.Dest.{Dest}
 use Rattle.rc_file.specs.declared.settings.Dest.TheVariants.{Maildir, Mboxrd}
 

@@ -1,9 +1,7 @@
 -- The program's warnings as values, and how warnings are found.
 use Rattle.std.specs.Prelude.{◌≡◌, ℕ, Bool, ◌&&◌, List, ◌∷◌, ◌++◌, bytes_eq, string_bytes}
-use Rattle.std.specs.Borrow.{Bor}
+use Rattle.std.specs.{Borrow.Bor, List.list_any, declared.hash.BuildHasherDefault.BuildHasherDefault}
 use Rattle.std.specs.HashSet.{HashSet, contains}
-use Rattle.std.specs.List.{list_any}
-use Rattle.std.specs.declared.hash.BuildHasherDefault.{BuildHasherDefault}
 use Rattle.std.specs.declared.hash.FoldHasher.{FoldHasher}
 use Rattle.rc_file.specs.RcMeaning.{Warned, firsts}
 use Rattle.rc_file.specs.declared.warning.Warning.{Warning}

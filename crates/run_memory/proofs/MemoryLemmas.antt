@@ -4,14 +4,11 @@ use Rattle.std.proofs.Common.{append_assoc, arith, bytes_eq, decimal, drop, fals
 use Rattle.std.proofs.Common.{length-append, nat_lt, refl, remove, subst, suc, take, true, ℕ, ◌++◌, ◌+◌}
 use Rattle.std.proofs.Common.{◌<◌, ◌==◌, ◌^◌, ◌∙◌, ◌∷◌, ◌≡◌, ◌≢◌, ◌≤◌, option_map, if◌then◌else◌}
 use Rattle.mail_terms.specs.Text.{lines_of_text}
-use Rattle.std.proofs.Math.Seq.{take-append_seam}
+use Rattle.std.proofs.{Math.Seq.take-append_seam, lemmas.Fmt.length-decimal-le, lemmas.List.length-drop, lemmas.List.Edits.length-remove}
 use Rattle.std.proofs.lemmas.Bool.{cases_lt, le-ltb, lt-ltb}
 use Rattle.std.proofs.lemmas.Bool.Decides.{eqb_tells, nat_tests}
-use Rattle.std.proofs.lemmas.Fmt.{length-decimal-le}
 use Rattle.std.proofs.lemmas.List.Concat.{flat_map-cons, length-flat_map}
 use Rattle.std.proofs.lemmas.List.Elements.{All-append, All-drop, All-push, All-take, recursion_from_All}
-use Rattle.std.proofs.lemmas.List.{length-drop}
-use Rattle.std.proofs.lemmas.List.Edits.{length-remove}
 use Rattle.std.proofs.lemmas.List.Sums.{list_all-from_AllPass, sum_by-le}
 use Rattle.std.specs.List.{AllByRecursion, after_first, before_first, position_or_len}
 use Rattle.std.specs.Option.{option_map_or}
@@ -20,10 +17,8 @@ use Rattle.run_memory.specs.Lines.{AreNumbers, IsReadableFault, counts_of, known
 use Rattle.run_memory.specs.Lines.{line_in, notice_line, numbers_text}
 use Rattle.run_memory.specs.Memory.{IsKept, IsReadBack, Told, end, with_lf, nothing, room, memory_text}
 use Rattle.run_memory.specs.Memory.{told_after, told_in, with_line}
-use Rattle.run_memory.specs.declared.line.KnownFault.{KnownFault}
-use Rattle.run_memory.specs.declared.line.Line.{Line}
+use Rattle.run_memory.specs.{declared.line.KnownFault.KnownFault, declared.line.Line.Line, declared.times.Counts.Counts}
 use Rattle.run_memory.specs.declared.line.Line.TheVariants.{Left, Fault, Notice}
-use Rattle.run_memory.specs.declared.times.Counts.{Counts}
 use Rattle.mail_terms.proofs.NumeralLemmas.{HasNo, HasNo-decimal, numeral_value-decimal}
 
 -- ---- a line that is read
@@ -38,8 +33,7 @@ pub line_ends : (told : Told) (text line rest : List ℕ) → lines_of_text text
 line_ends told text line rest cut is = rw (cut, is) refl
 
 pub line_odd : (told : Told) (text line rest : List ℕ) → lines_of_text text ≡ line ∷ lines_of_text rest
-    → bytes_eq line end ≡ false → line_in line ≡ None
-    → told_after told (lines_of_text text) ≡ nothing
+    → bytes_eq line end ≡ false → line_in line ≡ None → told_after told (lines_of_text text) ≡ nothing
 line_odd told text line rest cut other is = rw (cut, other, is) refl
 
 pub text_over : (told : Told) (text : List ℕ) → (length text == 0) ≡ true → told_after told (lines_of_text text) ≡ nothing
@@ -144,8 +138,7 @@ fault_fields f is =
       cut_rest 32 f.key numbers none,
       cut_front 32 f.key numbers none,
       key_read f.key is.key,
-      numbers_read
-          f.times.since f.times.told f.times.runs is.times,
+      numbers_read f.times.since f.times.told f.times.runs is.times,
     ) refl
 
 fault_read : (f : KnownFault) → IsReadableFault f → line_in (known_fault_line f) ≡ Some (Fault f)
@@ -183,8 +176,7 @@ HasNo-left left are = (
         (λ same. omega (arith, same)),
         (
           (λ same. omega (arith, same)),
-          HasNo-numbers left.too_large
-              left.past_limit left.repeated are,
+          HasNo-numbers left.too_large left.past_limit left.repeated are,
         ),
       ),
     ),
@@ -234,8 +226,7 @@ faults_read told (f ∷ faults) rest known few =
     (append_assoc told.faults (f ∷ []) faults)
 
 notices_read : (told : Told) (keys : List (List ℕ)) (rest : List ℕ) → AllByRecursion IsFaultKey keys
-    → length told.notices + length keys ≤ 1000
-    → told_after told (lines_of_text (flat_map (λ key. with_lf (notice_line key)) keys ++ rest))
+    → length told.notices + length keys ≤ 1000 → told_after told (lines_of_text (flat_map (λ key. with_lf (notice_line key)) keys ++ rest))
     ≡ told_after (record told { notices = told.notices ++ keys }) (lines_of_text rest)
 notices_read told [] rest are few = rw (append-nil told.notices) refl
 notices_read told (key ∷ keys) rest are few =
@@ -262,8 +253,7 @@ told_again told kept =
     ap (λ (text : List ℕ). told_after nothing (lines_of_text text)) shape
     ∙ ap (λ (lines : List (List ℕ)). told_after nothing lines) (first_line (left_line told.left) more (HasNo-left told.left kept.left))
     ∙ ap (λ (o : Option Line). option_map_or (λ said. told_after (with_line nothing said) (lines_of_text more)) o
-    nothing) (left_read told.left kept.left)
-    ∙ faults_read (record nothing { left = told.left }) told.faults notices
+    nothing) (left_read told.left kept.left) ∙ faults_read (record nothing { left = told.left }) told.faults notices
     (recursion_from_All IsReadableFault told.faults kept.faults) few_faults
     ∙ notices_read (record told { notices = [] }) told.notices end (recursion_from_All IsFaultKey told.notices kept.notices) few_notices
 
@@ -358,8 +348,7 @@ notice_kept faults left notices items key (Err e) ok err is kept = rw err (recor
 })
 
 pub removed_kept : (faults items : List KnownFault) (left : Counts) (notices : List (List ℕ)) (place : ℕ)
-    → place < length faults → items ≡ remove faults place
-    → IsKept (record { faults = faults; left = left; notices = notices })
+    → place < length faults → items ≡ remove faults place → IsKept (record { faults = faults; left = left; notices = notices })
     → IsKept (record { faults = items; left = left; notices = notices })
 removed_kept faults items left notices place inside is kept = rw is (record {
   faults = All-append IsReadableFault (take place faults) (drop (suc place) faults)

@@ -3,10 +3,8 @@ use Rattle.std.specs.Prelude.{◌≡◌, ◌<◌, ◌^◌, ℕ, List, [], ◌∷
 use Rattle.std.specs.Prelude.{option_map, if◌then◌else◌}
 use Rattle.std.specs.List.{before_first, after_first}
 use Rattle.run_memory.specs.Fields.{◌>>=◌, IsFaultKey, is_separator, key_in, numbers_in}
-use Rattle.run_memory.specs.declared.line.KnownFault.{KnownFault}
-use Rattle.run_memory.specs.declared.line.Line.{Line}
+use Rattle.run_memory.specs.{declared.line.KnownFault.KnownFault, declared.line.Line.Line, declared.times.Counts.Counts}
 use Rattle.run_memory.specs.declared.line.Line.TheVariants.{Left, Fault, Notice}
-use Rattle.run_memory.specs.declared.times.Counts.{Counts}
 use Rattle.run_memory.specs.declared.times.Times.{Times}
 
 -- three numbers, as a line has them

@@ -4,10 +4,8 @@ use Rattle.std.specs.Prelude.{remove, codes, All}
 use Rattle.std.specs.Prelude.{bytes_eq, if◌then◌else◌}
 use Rattle.std.specs.Option.{option_map_or}
 use Rattle.mail_terms.specs.Text.{lines_of_text}
-use Rattle.run_memory.specs.Fields.{IsFaultKey}
+use Rattle.run_memory.specs.{Fields.IsFaultKey, declared.line.KnownFault.KnownFault, declared.line.Line.Line}
 use Rattle.run_memory.specs.Lines.{AreNumbers, IsReadableFault, known_fault_line, left_line, line_in, notice_line}
-use Rattle.run_memory.specs.declared.line.KnownFault.{KnownFault}
-use Rattle.run_memory.specs.declared.line.Line.{Line}
 use Rattle.run_memory.specs.declared.line.Line.TheVariants.{Left, Fault, Notice}
 use Rattle.run_memory.specs.declared.times.Counts.{Counts}
 

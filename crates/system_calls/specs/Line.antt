@@ -2,8 +2,7 @@
 use Rattle.std.specs.Prelude.{◌≡◌, ◌↔◌, ◌==◌, ◌&&◌, ◌||◌, ℕ, Bool, false, not, nat_le}
 use Rattle.std.specs.Prelude.{nat_lt, List, [], ◌∷◌, ◌++◌, IsTrue, Option, codes, if◌then◌else◌}
 use Rattle.std.specs.List.{flat_map, list_any}
-use Rattle.std.specs.Str.{IsUtf8}
-use Rattle.std.specs.Io.KnownBytes.{Appends}
+use Rattle.std.specs.{Str.IsUtf8, Io.KnownBytes.Appends}
 use Rattle.hex.specs.Hex.{encode_lower}
 
 -- UTF-8 with no character from U+0080 to U+00BF

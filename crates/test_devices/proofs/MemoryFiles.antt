@@ -4,11 +4,9 @@ use Rattle.std.proofs.Common.{sym, ap, ◌∙◌, arith, false, Option, Some, No
 use Rattle.std.proofs.Common.{HoldsAt, bytes_eq, inl, inr, ⊎_elim, String, Global, string_bytes, ◌-◌, ◌≤◌, take, drop}
 use Rattle.std.proofs.Common.{map, subst, true, option_map, append_assoc, append-nil, length-append, length-take}
 use Rattle.std.proofs.Common.{take-append-drop, take-take, get_or-take, slice_index, true≢false}
-use Rattle.std.proofs.lemmas.Slice.Eq.{bytes_eq-Decides}
+use Rattle.std.proofs.{lemmas.Slice.Eq.bytes_eq-Decides, lemmas.Option.none-some, lemmas.List.Quantifiers.all_pairs_push}
 use Rattle.std.proofs.lemmas.Bool.{cases_Bool, cases_lt, cond_both, false_from_ne_true}
-use Rattle.std.proofs.lemmas.Option.{none-some}
 use Rattle.std.proofs.lemmas.List.{map-append, get_or_default, get_or_append_left, get_or-append_right}
-use Rattle.std.proofs.lemmas.List.Quantifiers.{all_pairs_push}
 use Rattle.std.proofs.lemmas.List.Recursion.{found_at as found_first}
 use Rattle.mail_terms.specs.Distinct.{AreDistinct}
 use Rattle.test_devices.specs.declared.memory_folder.MemoryBlob.{MemoryBlob}
@@ -16,8 +14,7 @@ use Rattle.mail_store.specs.declared.fault.StoreFault.{StoreFault}
 use Rattle.mail_store.specs.Durable.{Blob, IsLeft, IsLeftOf, secured}
 use Rattle.folder_store.specs.FileFolder.{Directory, DirEntry, names_in, find, placed, AltersInPart, with_blob, Older, entry}
 use Rattle.test_devices.specs.MemoryFolder.{blob_of, folder_entry, folder_entries, older_of, IsZeroed, MayBeOf, Survive}
-use Rattle.std.proofs.lemmas.List.Elements.{Contains-get_or}
-use Rattle.std.proofs.lemmas.List.Kept.{AllPairs-cons}
+use Rattle.std.proofs.{lemmas.List.Elements.Contains-get_or, lemmas.List.Kept.AllPairs-cons}
 use Rattle.folder_store.specs.PowerLoss.{WasOnce, Loses, left_under}
 use Rattle.folder_store.proofs.Files.{may_now, may_once, find_here, find_later}
 use Rattle.mail_store.proofs.DurableLemmas.{flushed_all, seen_all}
@@ -39,8 +36,7 @@ none_of name (e ∷ es) free = cond_both (bytes_eq name e.name) (Some e.blob) (f
     (λ _. none_of name es (λ c. free (suc c.0, omega (arith, c.1), c.2)))
 
 not_ahead : (name first : List ℕ) (names : List (List ℕ)) → (Contains names name → ⊥) → bytes_eq name first ≡ false
-    → (k : ℕ) → k < length (first ∷ names)
-    → get_or (first ∷ names) k name ≡ name → ⊥
+    → (k : ℕ) → k < length (first ∷ names) → get_or (first ∷ names) k name ≡ name → ⊥
 not_ahead name first names free apart zero inside is = true≢false (sym ((bytes_eq-Decides name first).1 (sym is)) ∙ apart)
 not_ahead name first names free apart (suc k) inside is = free (k, omega (arith, inside), is)
 
@@ -66,8 +62,7 @@ names_placed name b (e ∷ es) = elim (cases_Bool (bytes_eq name e.name)) [
 ]
 
 placed_distinct : (name : List ℕ) (b : Blob) (es : List DirEntry) → AreDistinct (names_in es) → AreDistinct (names_in (placed name b es))
-placed_distinct name b es h = ⊎_elim (λ same. rw same h)
-    (λ more. rw more.0 (all_pairs_push (λ a b. a ≢ b) (names_in es) name h
+placed_distinct name b es h = ⊎_elim (λ same. rw same h) (λ more. rw more.0 (all_pairs_push (λ a b. a ≢ b) (names_in es) name h
     (λ k d inside same. more.1 (k, inside, get_or_default (names_in es) k name d inside ∙ same)))) (names_placed name b es)
 
 apart_of : (a b : List ℕ) → (b ≡ a → ⊥) → bytes_eq a b ≡ false
@@ -112,8 +107,7 @@ place_distinct (Err e) old new name b ok err h = rw err h
 
 -- the file that a look into the folder found
 pub found_in : (name : List ℕ) (o : Option Blob) (seen files : List Pair) (was now : Directory) → o ≡ find name (folder_entries seen)
-    → seen ≡ files → was ≡ now
-    → was.entries ≡ folder_entries files → find name now.entries ≡ o
+    → seen ≡ files → was ≡ now → was.entries ≡ folder_entries files → find name now.entries ≡ o
 found_in name o seen files was now found e view same =
     ap (λ (d : Directory). find name d.entries) (sym view) ∙ ap (find name) (same ∙ ap folder_entries (sym e)) ∙ sym found
 
@@ -134,8 +128,7 @@ zeros_push (z ∷ zeros) h zero = h zero
 zeros_push (z ∷ zeros) h (suc k) = zeros_push zeros (λ j. h (suc j)) k
 
 pub zeroed_next : (content bytes new : List ℕ) (len : ℕ) → IsZeroed content len bytes → length bytes < length content
-    → new ≡ bytes ++ 0 ∷ []
-    → IsZeroed content len new
+    → new ≡ bytes ++ 0 ∷ [] → IsZeroed content len new
 zeroed_next content bytes new len (zeros, is, all, le) room e = (
   zeros ++ 0 ∷ [],
   e ∙ ap (λ (xs : List ℕ). xs ++ 0 ∷ []) is ∙ append_assoc (take len content) zeros (0 ∷ []),
@@ -152,13 +145,11 @@ zeroed_left b n left enough (zeros, is, all, le) = subst (λ (xs : List ℕ). Is
       ∙ ap (λ (xs : List ℕ). xs ++ drop b.uncut (take n b.content)) (take-take b.uncut n b.content enough))
       ∙ append_assoc (take b.uncut b.content) (drop b.uncut (take n b.content)) zeros;
   most = inl short;
-  each = λ i from inside. ⊎_elim
-      (λ before. inl (
-        omega (arith, inside, short),
-        get_or_append_left (take n b.content) zeros 0 i before
-            ∙ get_or-take n b.content i 0 (omega (arith, before, length-take n b.content)),
-      ))
-      (λ after. inr (inr (omega (arith, inside, short), λ j later within page. zero_at j (omega (arith, after, later)))))
+  each = λ i from inside. ⊎_elim (λ before. inl (
+    omega (arith, inside, short),
+    get_or_append_left (take n b.content) zeros 0 i before
+        ∙ get_or-take n b.content i 0 (omega (arith, before, length-take n b.content)),
+  )) (λ after. inr (inr (omega (arith, inside, short), λ j later within page. zero_at j (omega (arith, after, later)))))
       (cases_lt i (length (take n b.content)));
 })))
   where
@@ -189,8 +180,7 @@ was_once (o ∷ older) name (suc i) inside at d left h = inr (was_once older nam
 
 -- the next file, as it is left
 pub survives_next : (older : List Older) (es left : List DirEntry) (e : DirEntry) (text : Option (List ℕ))
-    → Survive older es left → MayBeOf older e text
-    → Survive older (es ++ e ∷ []) (left ++ left_under e.name text)
+    → Survive older es left → MayBeOf older e text → Survive older (es ++ e ∷ []) (left ++ left_under e.name text)
 survives_next older [] left e None is may = inl (may, append-nil left ∙ is)
 survives_next older [] left e (Some bytes) is may =
     inr (bytes, [], ap (λ (xs : List DirEntry). xs ++ entry e.name (secured bytes) ∷ []) is, may, refl)
@@ -271,8 +261,7 @@ memory_in files older = record { entries = folder_entries files; older = map old
 
 -- the folder of what is left
 pub memory_loses : (files left : List Pair) (was now : List Before) → AreDistinct (names_in (folder_entries files))
-    → Survive (map older_of was) (folder_entries files) (folder_entries left) → now ≡ []
-    → Loses (memory_in files was) (memory_in left now)
+    → Survive (map older_of was) (folder_entries files) (folder_entries left) → now ≡ [] → Loses (memory_in files was) (memory_in left now)
 memory_loses files left was now distinct h e =
     let found : (name : List ℕ) → Stays (map older_of was) (folder_entries files) (folder_entries left) name = λ name.
     survives_find (map older_of was) (folder_entries files) (folder_entries left) name distinct h in rw e (record {

@@ -3,13 +3,10 @@ use Rattle.std.proofs.Common.{◌≡◌, ◌↔◌, ◌&&◌, ◌||◌, IsTrue, 
 use Rattle.std.proofs.Common.{not, List, [], ◌∷◌, ◌++◌, length, map, get_or, set, Contains, Option, Some, None}
 use Rattle.std.proofs.Common.{if◌then◌else◌, refl, sym, ap, ◌∙◌, arith, String, Global, string_bytes, append-nil}
 use Rattle.std.proofs.Common.{true≢false, filter}
-use Rattle.std.proofs.lemmas.Bool.{not-false}
+use Rattle.std.proofs.{lemmas.Bool.not-false, lemmas.List.Folds.list_any_at, lemmas.Map.Views.Contains-from_any}
 use Rattle.std.specs.List.{list_any}
-use Rattle.std.proofs.lemmas.List.Folds.{list_any_at}
-use Rattle.std.proofs.lemmas.Map.Views.{Contains-from_any}
 use Rattle.std.proofs.lemmas.Slice.Eq.{bytes_eq-Decides}
-use Rattle.mail_store.specs.Loss.{is_among}
-use Rattle.mail_store.specs.declared.maildir.disk.Folder.{Folder}
+use Rattle.mail_store.specs.{Loss.is_among, declared.maildir.disk.Folder.Folder}
 use Rattle.mail_store.specs.declared.maildir.disk.Folder.TheVariants.{New, Cur}
 use Rattle.mail_store.specs.Maildir.{File, all_there}
 use Rattle.test_devices.specs.declared.memory_folders.StoredMail.{StoredMail}

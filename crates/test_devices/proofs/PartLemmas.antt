@@ -1,10 +1,8 @@
 -- Files that readers took, behind a fuse too, and bytes that may be left.
 use Rattle.std.proofs.Common.{◌≡◌, ◌+◌, ◌<◌, ℕ, List, [], refl, ap, arith, Result, Ok, Err, Vec, String}
 use Rattle.mail_terms.specs.FailureCount.{Tallies, counted_up, greatest_count, refuses}
-use Rattle.mail_store.specs.declared.fault.StoreFault.{StoreFault}
+use Rattle.mail_store.specs.{declared.fault.StoreFault.StoreFault, declared.maildir.disk.Folder.Folder, Fault.is_refusal}
 use Rattle.mail_store.specs.declared.fault.StoreFault.TheVariants.{Missing, Refused}
-use Rattle.mail_store.specs.declared.maildir.disk.Folder.{Folder}
-use Rattle.mail_store.specs.Fault.{is_refusal}
 use Rattle.mail_store.specs.Maildir.{AfterTaking, Lists, Maildir, WereTaken, ListsBoth}
 
 -- ---- names that a device told, and its fuse, which has a count of its own
@@ -45,8 +43,7 @@ module _ (n m : ℕ) (below : n < greatest_count) where
         (record left { failures = n }, taken_behind old left taken, lists left folder r count does)
 
     pub fused_lists_both : (Told : List (List ℕ) → List (List ℕ) → Type 0) (r : Result (Vec (String A) B) StoreFault)
-        → Tallies (refuses is_refusal r) n m
-        → AfterTaking old (λ left. ListsBoth Told left r new)
+        → Tallies (refuses is_refusal r) n m → AfterTaking old (λ left. ListsBoth Told left r new)
         → AfterTaking (record old { failures = n }) (λ left. ListsBoth Told left r (record new { failures = m }))
     fused_lists_both Told r count (left, taken, does) =
         (record left { failures = n }, taken_behind old left taken, lists_both Told left r count does)

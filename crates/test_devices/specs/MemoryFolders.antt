@@ -1,8 +1,7 @@
 -- The folders of a Maildir in memory.
 use Rattle.std.specs.Prelude.{◌≡◌, ℕ, Bool, true, false, List, [], ◌∷◌, Option, Some, None, string_bytes}
 use Rattle.test_devices.specs.declared.memory_folders.StoredMail.{StoredMail}
-use Rattle.folder_store.specs.MailFolders.{MailFile}
-use Rattle.folder_store.specs.MailPower.{IsMailLeftAs}
+use Rattle.folder_store.specs.{MailFolders.MailFile, MailPower.IsMailLeftAs}
 
 -- a file
 abbrev pub stored_file : StoredMail → MailFile

@@ -1,8 +1,7 @@
 -- A device behind a fuse: how many calls still pass, what is behind it, and what a call does.
 use Rattle.std.specs.Prelude.{◌≡◌, ℕ, ◌-◌, ◌/◌, ◌<◌, ◌==◌, if◌then◌else◌, List, length, take, Bool, true, false, Result}
 use Rattle.std.specs.Prelude.{Err}
-use Rattle.mail_store.specs.declared.fault.StoreFault.{StoreFault}
-use Rattle.mail_store.specs.declared.fault.StoreFault.TheVariants.{Refused}
+use Rattle.mail_store.specs.{declared.fault.StoreFault.StoreFault, declared.fault.StoreFault.TheVariants.Refused}
 use Rattle.test_devices.specs.declared.fused.Fused.{Fused}
 use Rattle.mail_terms.specs.FailureCount.{Tallies, refuses, greatest_count}
 use Rattle.mail_store.specs.Fault.{is_refusal}

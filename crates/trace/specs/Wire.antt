@@ -7,8 +7,7 @@ use Rattle.pop3_wire.specs.declared.note.Note.TheVariants.{Command, Reply, Refus
 use Rattle.trace.specs.Command.{most_shown, shown_command}
 use Rattle.system_calls.specs.Line.{HasTraceLine}
 use Rattle.trace.specs.Masking.{IsShown, is_login}
-use Rattle.trace.specs.declared.wire.Trace.{Trace}
-use Rattle.trace.specs.declared.wire.TracedWire.{TracedWire}
+use Rattle.trace.specs.{declared.wire.Trace.Trace, declared.wire.TracedWire.TracedWire}
 
 -- a line was written, if there is a writer
 abbrev pub AddsTraceLine : {E : Type 0} → (E → Option (List ℕ)) → Option E → Option E → List ℕ → List ℕ → Type 0

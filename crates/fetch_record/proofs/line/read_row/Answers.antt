@@ -9,8 +9,7 @@ returns-in_err-uid-clause-none c = rw c.from_residual.ensures
 pub returns-in_err-first_seen-clause-none : goal.returns-in_err-first_seen-clause-none
 returns-in_err-first_seen-clause-none c = rw c.from_residual-in_err-first_seen.ensures (λ row behind is line.
     c.in_err-first_seen.ensures.none row.first_seen _ is.fits
-    (behind_id _ _ _ row.uid _ c.in_ok-uid.ensures.legal is.legal c.in_ok-uid.ensures.found (line
-    ∙ line_split row behind)))
+    (behind_id _ _ _ row.uid _ c.in_ok-uid.ensures.legal is.legal c.in_ok-uid.ensures.found (line ∙ line_split row behind)))
 
 pub returns-in_err-delivered-clause-none : goal.returns-in_err-delivered-clause-none
 returns-in_err-delivered-clause-none c = rw c.from_residual-in_err-delivered.ensures (λ row behind is line.

@@ -11,6 +11,5 @@ pub loop-i-preserved : goal.loop-i-preserved
 loop-i-preserved c =
     let one_on : c.loop-i.i ≡ c.loop-i.i - 1 + 1 = omega arith in
     HasLasts-more c.args.listing.now (c.loop-i.i - 1) c.loop-i.ids c.insert.new.self c.loop-i.flags.items
-    c.uid.result.now c.in_ok-flags-2.field-0
-    (rw one_on at c.loop-i.invariant) (omega arith)
+    c.uid.result.now c.in_ok-flags-2.field-0 (rw one_on at c.loop-i.invariant) (omega arith)
     (c.uid.ensures.value nobody) c.in_ok-flags-2.ensures.added c.in_ok-flags-2.ensures.ids

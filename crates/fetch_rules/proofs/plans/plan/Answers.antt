@@ -1,11 +1,9 @@
 use Rattle.std.proofs.Common.{◌≡◌, ℕ, ◌+◌, Bool, true, false, ◌&&◌, ◌∙◌, ap, inl, inr, arith, refl, cond, get_or, Option, Some, None, not}
 use Rattle.std.specs.Prelude.{is_none, is_some}
-use Rattle.fetch_rules.specs.declared.plans.Skip.{Skip}
+use Rattle.fetch_rules.specs.{declared.plans.Skip.Skip, Wanted.skip_for, Due.may_delete}
 use mir.Val.{bool_byte}
 use Rattle.std.proofs.lemmas.Bool.{cases_Bool}
 use Rattle.mail_terms.specs.Listing.{Item, is_first, is_last}
-use Rattle.fetch_rules.specs.Wanted.{skip_for}
-use Rattle.fetch_rules.specs.Due.{may_delete}
 use Rattle.fetch_rules.specs.Plan.{seen_since, is_deleted}
 use Rattle.fetch_rules.proofs.PlanLemmas.{never_due, HasPlanned-more, HasPlanned-all, retrieved-planned, flags_count, flag_at}
 use Rattle.fetch_rules.proofs.plans.plan.Goals as goal
@@ -24,8 +22,7 @@ pub index-first-requires : goal.index-first-requires
 index-first-requires g c =
     omega (
       arith,
-      flags_count (is_first c.args.listing.now) c.args.listing.now c.in_ok-firsts.firsts.items
-          c.in_ok-firsts.ensures,
+      flags_count (is_first c.args.listing.now) c.args.listing.now c.in_ok-firsts.firsts.items c.in_ok-firsts.ensures,
     )
 
 pub index-requires : goal.index-requires
@@ -43,16 +40,13 @@ alone : (g : _) (c : goal.After-from-fetched g) (item : Item) → may_delete c.a
 alone g c item asked = rw (
   first g c item,
   flag_at (is_last c.args.listing.now) c.args.listing.now
-      c.in_ok-lasts.lasts.items c.loop-i.i c.index.result.now (c.in_ok-lasts.ensures.flags asked) (omega arith)
-      c.index.ensures item,
+      c.in_ok-lasts.lasts.items c.loop-i.i c.index.result.now (c.in_ok-lasts.ensures.flags asked) (omega arith) c.index.ensures item,
 ) refl
 
-skip : (g : _) (c : goal.After-from-fetched g) (item : Item)
-    → c.skip_for-skip.result ≡ skip_for c.args.settings.now c.args.seen.now.rows
+skip : (g : _) (c : goal.After-from-fetched g) (item : Item) → c.skip_for-skip.result ≡ skip_for c.args.settings.now c.args.seen.now.rows
     (is_first c.args.listing.now (c.loop-i.i + 1, get_or c.args.listing.now c.loop-i.i item)) c.is_full-full.result
     (get_or c.args.listing.now c.loop-i.i item)
-skip g c item = c.skip_for-skip.ensures item
-    ∙ ap (λ (b : Bool). skip_for c.args.settings.now c.args.seen.now.rows b c.is_full-full.result
+skip g c item = c.skip_for-skip.ensures item ∙ ap (λ (b : Bool). skip_for c.args.settings.now c.args.seen.now.rows b c.is_full-full.result
     (get_or c.args.listing.now c.loop-i.i item)) (first g c item)
 
 deleted : (g : _) (c : goal.After-from-fetched g) (item : Item)
@@ -66,8 +60,7 @@ deleted g c item = c.is_done_with-delete.ensures item ∙ elim (cases_Bool (may_
 
 pub loop-i-preserved : goal.loop-i-preserved
 loop-i-preserved g c =
-    rw c.in_ok-push.ensures.items
-    (HasPlanned-more _ _ _ _ _ _ _ c.is_full-full.result c.skip_for-skip.result c.is_done_with-delete.result _
+    rw c.in_ok-push.ensures.items (HasPlanned-more _ _ _ _ _ _ _ c.is_full-full.result c.skip_for-skip.result c.is_done_with-delete.result _
     c.loop-i.invariant (omega arith) c.is_full-full.ensures (skip g c)
     (λ item. deleted g c item ∙ ap (λ (b : Bool). is_deleted c.args.settings.now c.args.seen.now.rows c.args.listing.now
     c.args.now b (c.loop-i.i + 1, get_or c.args.listing.now c.loop-i.i item))

@@ -1,13 +1,9 @@
 use Rattle.std.proofs.Common.{inl, inr, ◌≡◌, List, ℕ, length, refl, ap, ◌∙◌, sym, subst, Option, None, Some}
 use Rattle.std.specs.Prelude.{IfErr}
-use Rattle.std.proofs.lemmas.Option.{same_Some}
+use Rattle.std.proofs.{lemmas.Option.same_Some, lemmas.Result.err_from_is_err_and}
 use Rattle.fetch_record.specs.Record.{Intent, RecordState, Row, none_open}
-use Rattle.mail_store.specs.declared.file.flat_file.Edges.{Edges}
-use Rattle.std.proofs.lemmas.Result.{err_from_is_err_and}
+use Rattle.mail_store.specs.{declared.file.flat_file.Edges.Edges, FlatFile.Stored, Mboxrd.entry_of, MboxCalls.IsStillDurable}
 use Rattle.mail_store.specs.Durable.{Trusted, MayLeave}
-use Rattle.mail_store.specs.FlatFile.{Stored}
-use Rattle.mail_store.specs.Mboxrd.{entry_of}
-use Rattle.mail_store.specs.MboxCalls.{IsStillDurable}
 use Rattle.mail_store.specs.Power.{KeepsWhole, LeavesPart}
 use Rattle.mail_store.proofs.DurableLemmas.{durable_is_left}
 use Rattle.fetch_session.specs.Durable.{IsGrownAtMost, IsSafeFile, LeavesFile}
@@ -32,13 +28,11 @@ abbrev opened : (g : _) → After-entry_len-len g → RecordState
 opened g c = with_open c.args.ledger.now.seen.rows (intent g c)
 
 same_intent : (g : _) (c : After-entry_len-len g) → g.F.FlatFile.sound c.edges.new.self → (bytes : List ℕ)
-    → (g.F.FlatFile.stored c.args.mbox.now).content ≡ Some bytes
-    → intent g c ≡ intent_of bytes c.args.uid.now c.args.text.items
+    → (g.F.FlatFile.stored c.args.mbox.now).content ≡ Some bytes → intent g c ≡ intent_of bytes c.args.uid.now c.args.text.items
 same_intent g c m bytes has =
     let measures = (c.in_ok-edges.ensures.measures m).1.0 in
     ap (λ (n : ℕ). intent_at c.args.uid.now n c.entry_len-len.result) (ap (λ (e : Edges). e.size) measures.2
-    ∙ ap length (same_Some measures.0 bytes (sym measures.1 ∙ has)))
-    ∙ ap (intent_at c.args.uid.now (length bytes)) (long g c)
+    ∙ ap length (same_Some measures.0 bytes (sym measures.1 ∙ has))) ∙ ap (intent_at c.args.uid.now (length bytes)) (long g c)
 
 pub returns-in_err-edges-clause-appends : goal.returns-in_err-edges-clause-appends
 returns-in_err-edges-clause-appends g c = λ m f.
@@ -52,8 +46,7 @@ returns-in_err-size-clause-appends g c = λ m f.
     let saves = c.in_err-size.ensures.saves f in (
       measures.0,
       saves.0,
-      rw (err_is c.from_residual-in_err-size.ensures.1)
-          (not_intended _ _ _ _ _ _ c.args.text.items _ _ c.in_err-size.field-0.0 measures.1
+      rw (err_is c.from_residual-in_err-size.ensures.1) (not_intended _ _ _ _ _ _ c.args.text.items _ _ c.in_err-size.field-0.0 measures.1
           (long g (goal.at.returns-in_err-size-clause-appends g c).After-entry_len-len) saves.1),
     )
 
@@ -77,8 +70,7 @@ returns-in-Err-Front-clause-appends g c = λ m f.
     let intends = saved g here.In_ok-size (long g here.After-entry_len-len) appends.0 f in (
       measures.0,
       (c.in_ok-size.ensures.saves f).0,
-      rw c.from.ensures
-          (inr (intends, rw (c.in-Err-Front.field-0-is, measures.1.1) at appends.1)),
+      rw c.from.ensures (inr (intends, rw (c.in-Err-Front.field-0-is, measures.1.1) at appends.1)),
     )
 
 pub returns-in-Err-Nothing-clause-appends : goal.returns-in-Err-Nothing-clause-appends
@@ -96,8 +88,7 @@ returns-in-Err-Nothing-clause-appends g c = λ m f.
         g.F.FlatFile.stored c.intend.new.file,
         rw (measures.1.0.2, size) at saves.1,
         closes.1 (with_open _ _) (c.in_ok-size.ensures.steady closes.0).1.1,
-      )
-          (rw c.in-Err-Nothing.field-0-is at appends.1) c.from-in-Err-Nothing.ensures,
+      ) (rw c.in-Err-Nothing.field-0-is at appends.1) c.from-in-Err-Nothing.ensures,
     )
 
 pub returns-in-Ok-clause-appends : goal.returns-in-Ok-clause-appends
@@ -114,8 +105,7 @@ returns-in-Ok-clause-appends g c = λ m f.
         measures.1.0.0,
         rw bytes_are at here.1,
         rw bytes_are at here.2,
-        rw (measures.1.0.2, size) at
-            c.in_ok-size.ensures.opened,
+        rw (measures.1.0.2, size) at c.in_ok-size.ensures.opened,
         rw (measures.1.0.2, size) at saves.1,
       ),
     )
@@ -132,21 +122,19 @@ returns-in_err-edges-clause-ledger g c =
     })
 
 pub returns-in_err-size-clause-ledger : goal.returns-in_err-size-clause-ledger
-returns-in_err-size-clause-ledger g c = rw (err_is c.from_residual-in_err-size.ensures.1)
-    (record {
-      lines = refl;
-      rows = c.intend.ensures.rows;
-      opened = tt;
-      steady =
-          λ f. ((c.intend.ensures.steady f).0, tt);
-      durable = λ f safe. (
-        tt,
-        λ others. grown_left g.F.FlatFile c.intend.new.file c.args.ledger.now.seen.rows others
-            c.args.ledger.now.seen.rows None
-            (Some (intent g (goal.at.returns-in_err-size-clause-ledger g c).After-entry_len-len)) (inl refl)
-            ((c.intend.ensures.keeps f).1 safe),
-      );
-    })
+returns-in_err-size-clause-ledger g c = rw (err_is c.from_residual-in_err-size.ensures.1) (record {
+  lines = refl;
+  rows = c.intend.ensures.rows;
+  opened = tt;
+  steady =
+      λ f. ((c.intend.ensures.steady f).0, tt);
+  durable = λ f safe. (
+    tt,
+    λ others. grown_left g.F.FlatFile c.intend.new.file c.args.ledger.now.seen.rows others c.args.ledger.now.seen.rows None
+        (Some (intent g (goal.at.returns-in_err-size-clause-ledger g c).After-entry_len-len)) (inl refl)
+        ((c.intend.ensures.keeps f).1 safe),
+  );
+})
 
 pub returns-in-Err-Front-clause-ledger : goal.returns-in-Err-Front-clause-ledger
 returns-in-Err-Front-clause-ledger g c = record {
@@ -157,16 +145,14 @@ returns-in-Err-Front-clause-ledger g c = record {
       λ f. ((c.in_ok-size.ensures.steady f).0, tt);
   durable = λ f safe. (
     tt,
-    λ others. grown_left g.F.FlatFile c.intend.new.file c.args.ledger.now.seen.rows others
-        c.args.ledger.now.seen.rows None
+    λ others. grown_left g.F.FlatFile c.intend.new.file c.args.ledger.now.seen.rows others c.args.ledger.now.seen.rows None
         (Some (intent g (goal.at.returns-in-Err-Front-clause-ledger g c).After-entry_len-len)) (inl refl)
         ((c.intend.ensures.keeps f).1 safe),
   );
 }
 
 -- the intent was closed, or that was refused
-taken_back : (g : _) (c : After-take_back g) → g.F.FlatFile.sound c.take_back.new.file
-    → IsSafeFile g.F.FlatFile c.args.ledger.now.file
+taken_back : (g : _) (c : After-take_back g) → g.F.FlatFile.sound c.take_back.new.file → IsSafeFile g.F.FlatFile c.args.ledger.now.file
     → LeavesFile g.F.FlatFile c.take_back.new.file (IsGrownAtMost (none_open c.args.ledger.now.seen.rows)
     (with_open c.args.ledger.now.seen.rows (intent_at c.args.uid.now c.in_ok-edges.edges.size c.entry_len-len.result)))
 taken_back g c f safe =
@@ -174,8 +160,7 @@ taken_back g c f safe =
     let rows = c.args.ledger.now.seen.rows in
     cut_back g.F.FlatFile c.intend.new.file c.take_back.new.file rows c.in_ok-size.size
     (c.in_ok-size.ensures.steady before).1.1 (c.take_back.ensures.leaves f (c.in_ok-size.ensures.durable before safe))
-    (with_open rows (intent_at c.args.uid.now c.in_ok-edges.edges.size c.entry_len-len.result))
-    ((c.intend.ensures.keeps before).1 safe)
+    (with_open rows (intent_at c.args.uid.now c.in_ok-edges.edges.size c.entry_len-len.result)) ((c.intend.ensures.keeps before).1 safe)
 
 pub returns-in-Err-Nothing-clause-ledger : goal.returns-in-Err-Nothing-clause-ledger
 returns-in-Err-Nothing-clause-ledger g c = record {
@@ -202,8 +187,7 @@ returns-in-Ok-clause-ledger g c = record {
   durable = λ f safe. (
     c.in_ok-size.ensures.durable f safe,
     λ others. grown_left g.F.FlatFile c.intend.new.file c.args.ledger.now.seen.rows others c.args.ledger.now.seen.rows None
-        (Some (intent g (goal.at.returns-in-Ok-clause-ledger g c).After-entry_len-len)) (inl refl)
-        ((c.intend.ensures.keeps f).1 safe),
+        (Some (intent g (goal.at.returns-in-Ok-clause-ledger g c).After-entry_len-len)) (inl refl) ((c.intend.ensures.keeps f).1 safe),
   );
 }
 
@@ -289,14 +273,12 @@ returns-in_err-edges-clause-durable g c =
 -- the intent with the bytes that the mboxrd file had
 grown_from : {a b : Intent} {rows : List Row} {left : Option (List ℕ)} → a ≡ b
     → IsGrownAtMost (none_open rows) (with_open rows a) left → IsGrownAtMost (none_open rows) (with_open rows b) left
-grown_from {rows = rows} {left} same grown =
-    subst (λ (i : Intent). IsGrownAtMost (none_open rows) (with_open rows i) left) same grown
+grown_from {rows = rows} {left} same grown = subst (λ (i : Intent). IsGrownAtMost (none_open rows) (with_open rows i) left) same grown
 
 pub returns-in_err-size-clause-durable : goal.returns-in_err-size-clause-durable
 returns-in_err-size-clause-durable g c =
     let here = goal.at.returns-in_err-size-clause-durable g c in
-    rw (err_is c.from_residual-in_err-size.ensures.1)
-    (λ m f trust safe. (
+    rw (err_is c.from_residual-in_err-size.ensures.1) (λ m f trust safe. (
       tt,
       λ whole firm bytes has left may now is seen there. inl (
         grown_from (same_intent g here.After-entry_len-len m bytes has) ((c.intend.ensures.keeps f).1 safe now is seen there),
@@ -342,8 +324,7 @@ returns-in-Err-Nothing-clause-durable g c = λ m f trust safe. (
       inl (
         grown_from (same_intent g here.After-entry_len-len appends.0 bytes has)
             (taken_back g here.After-take_back f safe now is seen there),
-        durable_is_left (g.F.FlatFile.disk c.append_entry.new.file) left (still firm) may
-            ∙ g.met.F.FlatFile.shown c.append_entry.new.file
+        durable_is_left (g.F.FlatFile.disk c.append_entry.new.file) left (still firm) may ∙ g.met.F.FlatFile.shown c.append_entry.new.file
             ∙ entry_none (g.F.FlatFile.stored c.edges.new.self) (g.F.FlatFile.stored c.append_entry.new.file) c.args.text.items
             c.in-Err-Nothing.fault (rw c.in-Err-Nothing.field-0-is at appends.1) ∙ same ∙ has,
       ),

@@ -12,8 +12,7 @@ returns-in_err-piece-clause-holds g c =
 
 pub returns-in_err-extend_from_slice-clause-holds : goal.returns-in_err-extend_from_slice-clause-holds
 returns-in_err-extend_from_slice-clause-holds g c = rw (err_is c.from_residual-in_err-extend_from_slice.ensures.1)
-    (and_then g.W.Wire g.met.W.Wire.leads_on c.pieces.invariant.1 c.in_ok-piece.ensures.takes
-    (λ before took number start now. (
+    (and_then g.W.Wire g.met.W.Wire.leads_on c.pieces.invariant.1 c.in_ok-piece.ensures.takes (λ before took number start now. (
       refl,
       inr (
         refl,

@@ -1,9 +1,7 @@
 use Rattle.std.proofs.Common.{◌≡◌, ◌≢◌, ℕ, []}
-use Rattle.pop3_wire.specs.Place.{Place}
+use Rattle.pop3_wire.specs.{Place.Place, declared.unstuffer.Spot.TheVariants.Done}
 use Rattle.pop3_client.specs.Client.{HasSameLink, place_of}
-use Rattle.pop3_wire.specs.declared.unstuffer.Spot.TheVariants.{Done}
-use Rattle.pop3_client.specs.Turns.{retr}
-use Rattle.pop3_client.specs.Texts.{Fetching}
+use Rattle.pop3_client.specs.{Turns.retr, Texts.Fetching}
 use Rattle.fetch_session.proofs.appending.read_text.Given as goal
 
 abbrev pub invariant-pieces : goal.invariant-pieces
@@ -12,8 +10,7 @@ invariant-pieces g l =
     × (g.W.Wire.sound l.client.wire.now → g.W.Wire.sound l.fn.client.wire.now × g.W.Wire.leads_to l.fn.client.wire.now l.client.wire.now
     × ((number : ℕ) (start : Place) → Fetching (retr number) start (place_of g.W.Wire l.fn.client) l.fn.body []
     → Fetching (retr number) start (place_of g.W.Wire l.client) l.rest l.text.items))
-    × ((g.W.Wire.history l.client.wire.now).failures ≡ (g.W.Wire.history l.fn.client.wire.now).failures)
-    × HasSameLink l.fn.client l.client
+    × ((g.W.Wire.history l.client.wire.now).failures ≡ (g.W.Wire.history l.fn.client.wire.now).failures) × HasSameLink l.fn.client l.client
 
 abbrev pub decreases-pieces : goal.decreases-pieces
 decreases-pieces g l = l.rest.left

@@ -5,21 +5,14 @@ use Rattle.pop3_wire.specs.Link.{WhereSound}
 use Rattle.pop3_client.specs.Client.{link_of, place_of}
 use Rattle.pop3_client.specs.Texts.{Fetched}
 use Rattle.pop3_client.specs.Turns.{most, retr}
-use Rattle.fetch_session.specs.Target.{AsEntries}
-use Rattle.fetch_session.specs.Refusal.{TookTillCut}
-use Rattle.fetch_session.specs.declared.report.ReportLine.{ReportLine}
-use Rattle.fetch_session.specs.declared.report.ReportLine.TheVariants.{Delivered}
+use Rattle.fetch_session.specs.{Target.AsEntries, Refusal.TookTillCut, declared.report.ReportLine.ReportLine}
+use Rattle.fetch_session.specs.{declared.report.ReportLine.TheVariants.Delivered, Parts.KeepsLink, Report.AddsLines, Task.stores}
 use Rattle.fetch_session.proofs.TextLemmas.{text_broken, body_whole, entry_not_saved, entry_stored, not_held, text_refused}
 use Rattle.pop3_wire.proofs.LinkLemmas.{and_then, in_words}
 use Rattle.fetch_session.proofs.TalkLemmas.{took_talked, takes_held, before_cut, err_is, did_both, did_so}
 use Rattle.fetch_session.proofs.PartLemmas.{link_broke, link_then_cut, marked_ledger, same_ledger}
-use Rattle.fetch_session.specs.Parts.{KeepsLink}
 use Rattle.fetch_session.specs.Durable.{IsEntryLeft, IsSafeFile, LeavesBoth}
-use Rattle.fetch_session.specs.Report.{AddsLines}
-use Rattle.fetch_session.specs.Task.{stores}
-use Rattle.mail_store.specs.Durable.{Trusted}
-use Rattle.mail_store.specs.FlatFile.{Stored}
-use Rattle.mail_store.specs.Mboxrd.{entry_of}
+use Rattle.mail_store.specs.{Durable.Trusted, FlatFile.Stored, Mboxrd.entry_of}
 use Rattle.std.proofs.lemmas.Option.{same_Some}
 use Rattle.fetch_session.proofs.SessionLemmas.{none_left_of}
 use Rattle.fetch_session.proofs.SceneLemmas.{both_sound, link_alone}
@@ -32,8 +25,7 @@ long g c = let same = ap length c.deref.ensures.value in omega (arith, c.len-len
 -- the line of the text is noted
 told : (g : _) (c : After-note g)
     → c.note.new.lines.items ≡ c.args.ledger.now.lines.items ++ Delivered c.args.number c.len-length.result ∷ []
-told g c = c.note.ensures.items
-    ∙ ap (λ (v : Vec ReportLine _). v.items ++ Delivered c.args.number c.len-length.result ∷ [])
+told g c = c.note.ensures.items ∙ ap (λ (v : Vec ReportLine _). v.items ++ Delivered c.args.number c.len-length.result ∷ [])
     c.append_text.ensures.ledger.lines
 
 noted : (g : _) (c : After-note g) → AddsLines c.args.ledger.now.lines 1 c.note.new.lines
@@ -77,8 +69,7 @@ returns-in_err-text g c = rw (err_is c.from_residual-in_err-text.ensures.1) (rec
   link = record {
     same = c.read_text.ensures.link ∙ c.open.ensures.link;
     counted = before_cut (link_of g.W.Wire c.args.client.now) (link_of g.W.Wire c.open.new.self)
-        (link_of g.W.Wire c.read_text.new.client) c.in_err-text.field-0.0 c.in_ok-body.ensures.counted
-        c.in_err-text.ensures.counted;
+        (link_of g.W.Wire c.read_text.new.client) c.in_err-text.field-0.0 c.in_ok-body.ensures.counted c.in_err-text.ensures.counted;
     took = did_both g.W.Wire c.in_ok-body.ensures.opens c.in_err-text.ensures.holds
         (λ opened held. takes_held c.conversations_are_paced.ensures c.args.number _ c.in_err-text.field-0.0 _
         (held c.args.number _ opened));
@@ -154,10 +145,8 @@ returns g c =
     record {
       link = took g here.In_ok-text;
       ledger = marked_ledger (Ok tt) c.marked_keeps_rows.ensures kept.ledger.rows (noted g here.After-note)
-          (λ f. (kept.ledger.steady (marks.saves f).0).0)
-          (marks.rows, record { closed = marks.closed; steady = λ f. (marks.steady f).1 })
-          (λ f safe. (c.remember.ensures.keeps f).1
-          (c.in_ok-append_text.ensures.ledger.durable (marks.saves f).0 safe).0);
+          (λ f. (kept.ledger.steady (marks.saves f).0).0) (marks.rows, record { closed = marks.closed; steady = λ f. (marks.steady f).1 })
+          (λ f safe. (c.remember.ensures.keeps f).1 (c.in_ok-append_text.ensures.ledger.durable (marks.saves f).0 safe).0);
       before = kept.before;
       takes = both_sound (read g here.In_ok-text) (λ m f. c.in_ok-append_text.ensures.appends m (marks.saves f).0) (λ text f appends.
           entry_stored c.len-length.result c.in_ok-text.text.items (g.F.FlatFile.stored c.append_text.new.ledger.file)
@@ -208,8 +197,7 @@ returns-in_err-remember g c =
             let (u, its, text) = entry_not_saved c.len-length.result c.in_ok-text.text.items
             (g.F.FlatFile.stored c.append_text.new.ledger.file) c.args.ledger.now.seen c.append_text.new.ledger.seen
             c.in_err-remember.field-0.0 (read g here.In_ok-text w).2 (long g here.After-len-length)
-            (c.in_ok-append_text.ensures.appends m (marks.saves f).0).2 kept.ledger.rows (marks.saves f).1
-            (told g here.After-note) in
+            (c.in_ok-append_text.ensures.appends m (marks.saves f).0).2 kept.ledger.rows (marks.saves f).1 (told g here.After-note) in
             inr (inr (u, rw (its, text) (marked_left g here.After-remember m f trust safe firm bytes has left may now is seen there))),
       );
     })

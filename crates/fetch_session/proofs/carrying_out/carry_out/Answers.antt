@@ -5,17 +5,13 @@ use Rattle.mail_terms.specs.UniqueId.{IsLegalId}
 use Rattle.fetch_record.specs.Record.{has_row}
 use Rattle.fetch_rules.specs.Plan.{IsQuiet, planned}
 use Rattle.fetch_rules.specs.declared.plans.Step.{Step}
-use Rattle.pop3_client.specs.Turns.{quit}
+use Rattle.pop3_client.specs.{Turns.quit, declared.client.Client.Client}
 use Rattle.fetch_session.proofs.TalkLemmas.{err_is}
 use Rattle.fetch_session.specs.Target.{AfterTakingIn, is_sound, stores_of, target_of}
 use Rattle.fetch_session.specs.Hearing.{AreMerged, HearsOne, IsPlanned}
 use Rattle.fetch_session.proofs.HearingLemmas.{heard_as, heard_then}
-use Rattle.fetch_session.specs.Durable.{DurableCarries}
-use Rattle.fetch_session.specs.CarryingOut.{Carries}
-use Rattle.fetch_session.specs.declared.fault.Cut.{Cut}
-use Rattle.fetch_session.specs.declared.account.Store.{Store}
+use Rattle.fetch_session.specs.{Durable.DurableCarries, CarryingOut.Carries, declared.fault.Cut.Cut, declared.account.Store.Store}
 use Rattle.fetch_session.specs.declared.work.Work.{Work}
-use Rattle.pop3_client.specs.declared.client.Client.{Client}
 use Rattle.fetch_session.specs.Task.{Task, says, tasks_planned}
 use Rattle.fetch_session.specs.Report.{AddsLines, HasRoom, skips_of}
 use Rattle.fetch_session.specs.Refusal.{TookTillCut, step_limit}
@@ -57,10 +53,8 @@ returns-in_err-ready-clause-carries g c = rw (err_is c.from_residual.ensures.1) 
     ))
 
 -- all is ready for the planned steps
-ready_to_do : (g : _) (c : After-deref-3 g)
-    → IsReadyFor g.D.MaildirDisk g.F.FlatFile c.args.terms.account.now
-    (tasks_planned c.deref-2.result.now c.args.listing.now c.deref-3.result.now)
-    c.prepare.new.work
+ready_to_do : (g : _) (c : After-deref-3 g) → IsReadyFor g.D.MaildirDisk g.F.FlatFile c.args.terms.account.now
+    (tasks_planned c.deref-2.result.now c.args.listing.now c.deref-3.result.now) c.prepare.new.work
 ready_to_do g c =
     let account = c.args.terms.account.now in
     let items = c.args.listing.now in
@@ -78,17 +72,14 @@ ready_to_do g c =
       };
       legal = planned_all IsLegalId steps items held c.requires.legal;
       rows = planned_all (λ (uid : List ℕ). has_row rows uid ≡ true) steps items held c.in_ok-ready.ensures.plans.rows;
-      free = λ kept.
-          rw (
-            c.deref-2.ensures.value,
-            c.deref-3.ensures.value,
-            c.in_ok-ready.ensures.held kept,
-            c.in_ok-ready.ensures.plans.steps,
-            ← c.prepare.ensures.store.kind,
-            flags_same g.D.MaildirDisk g.F.FlatFile
-                c.prepare.new.work.store account items,
-          )
-          (fresh_firsts account (stores_of g.D.MaildirDisk g.F.FlatFile c.prepare.new.work.store).maildir []
+      free = λ kept. rw (
+        c.deref-2.ensures.value,
+        c.deref-3.ensures.value,
+        c.in_ok-ready.ensures.held kept,
+        c.in_ok-ready.ensures.plans.steps,
+        ← c.prepare.ensures.store.kind,
+        flags_same g.D.MaildirDisk g.F.FlatFile c.prepare.new.work.store account items,
+      ) (fresh_firsts account (stores_of g.D.MaildirDisk g.F.FlatFile c.prepare.new.work.store).maildir []
           (planned c.args.terms.settings.now rows items c.args.terms.now) items
           (c.only_firsts_are_fetched.ensures c.args.terms.settings.now rows items c.args.terms.now) c.requires.legal);
       named = λ kept. named_ahead steps items held (subst (λ (ss : List Step). All IsQuiet ss
@@ -113,8 +104,7 @@ tasks_on g c = tasks_planned c.deref-2.result.now c.args.listing.now c.deref-3.r
 carries : (g : _) (c : After-deref-3 g) (r : Result (Unit {0}) Cut) {client : Client g.row.W.Denot}
     {work : Work g.row.D.Denot g.row.F.Denot _ _}
     → RunsTasks g.W.Wire g.D.MaildirDisk g.F.FlatFile c.args.terms.account.now (tasks_on g c) c.args.client.now
-    c.prepare.new.work r client work
-    → WhereWorkSound g.W.Wire g.D.MaildirDisk g.F.FlatFile c.args.client.now c.args.work.now client work
+    c.prepare.new.work r client work → WhereWorkSound g.W.Wire g.D.MaildirDisk g.F.FlatFile c.args.client.now c.args.work.now client work
     (λ old new. AfterTakingIn old.store (λ left.
     (is : Carries c.args.terms.settings.now (target_of c.args.work.now.store c.args.terms.account.now) c.args.listing.now c.args.terms.now
     old.place left old.file old.lines r new.place new.store new.file new.lines c.skips_of.result)
@@ -129,15 +119,13 @@ carries g c r (keeps, does) = λ w d f.
     carried g.D.MaildirDisk g.F.FlatFile was.store before.store was.ledger.file before.ledger.file
     before.ledger.lines.items c.deref-2.result.now c.deref-3.result.now
     (ap (λ lines. lines.items) c.prepare.ensures.store.lines) is.readies c.deref-2.ensures.value c.deref-3.ensures.value
-    (c.skips_of.ensures ∙ ap skips_of c.deref.ensures.value)
-    is.durable (λ none. ((keeps.idle none).0, (keeps.idle none).1 d))
+    (c.skips_of.ensures ∙ ap skips_of c.deref.ensures.value) is.durable (λ none. ((keeps.idle none).0, (keeps.idle none).1 d))
     (in_kind before.store was.store c.args.terms.account.now c.prepare.ensures.store.kind done.4 (λ safe. safe)))
 
 -- ---- what calls leave as it was
 
 -- all steps were done
-did : (g : _) (c : In_ok-do_steps g)
-    → KeepsLink g.W.Wire (TookTillCut (length c.args.listing.now * step_limit)) c.args.client.now
+did : (g : _) (c : In_ok-do_steps g) → KeepsLink g.W.Wire (TookTillCut (length c.args.listing.now * step_limit)) c.args.client.now
     (Ok tt) c.do_steps.new.client
 did g c = link_less (length c.args.listing.now * step_limit)
     (most_planned c.deref-2.result.now c.args.listing.now c.deref-3.result.now).0 c.in_ok-do_steps.ensures.runs.0.talk
@@ -166,8 +154,7 @@ told g c store file back =
     let items = c.args.listing.now in
     let now = c.args.terms.now in
     let rows = c.prepare.new.work.ledger.seen.rows in
-    heard_then g.L.Listener.hears g.met.L.Listener.hears_on _ _ _ _
-    (heard_as g.L.Listener.hears _ _ _ _ (λ plan is. record {
+    heard_then g.L.Listener.hears g.met.L.Listener.hears_on _ _ _ _ (heard_as g.L.Listener.hears _ _ _ _ (λ plan is. record {
       items = items;
       rows = rows;
       known = (

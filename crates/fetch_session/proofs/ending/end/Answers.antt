@@ -1,6 +1,5 @@
 use Rattle.std.proofs.Common.{[], ◌∷◌, Ok, refl, sym, append-nil, arith}
-use Rattle.pop3_client.specs.Client.{link_of}
-use Rattle.pop3_client.specs.Turns.{quit}
+use Rattle.pop3_client.specs.{Client.link_of, Turns.quit}
 use Rattle.pop3_wire.proofs.LinkLemmas.{in_words}
 use Rattle.fetch_session.proofs.TalkLemmas.{err_is, did_so, quit_broke, took_completing, took_less, cut_by}
 use Rattle.fetch_session.specs.Task.{says}
@@ -51,8 +50,7 @@ returns g c =
       };
       store = quitting_store is;
       runs = λ account. runs_quitting is account
-          (record { same = c.quit.ensures.link; counted = c.in_ok-quit.ensures.counted; took = took })
-          c.in_ok-told.ensures.safe
+          (record { same = c.quit.ensures.link; counted = c.in_ok-quit.ensures.counted; took = took }) c.in_ok-told.ensures.safe
           (λ d. in_words g.W.Wire c.in_ok-quit.ensures.completes
           (λ said. rw (look_told (kind_of work.store) _ _ _ c.in_ok-told.told (c.in_ok-told.ensures.looks d).1).1
           (taken_idle (target_of work.store account) (record { task = says quit; replies = said.0 ∷ [] })
@@ -76,8 +74,7 @@ returns-in_err-quit g c =
       store = quitting_store is;
       runs = λ account. runs_quitting is account
           (link_broke c.conversations_are_paced.ensures quit c.in_err-quit.field-0.0 c.quit.ensures.link
-          c.in_err-quit.ensures.counted broken) (λ d safe. tt)
-          (λ d. in_words g.W.Wire broken
+          c.in_err-quit.ensures.counted broken) (λ d safe. tt) (λ d. in_words g.W.Wire broken
           (λ broke. rw (look_told (kind_of work.store) _ _ _ c.in_ok-told.told (c.in_ok-told.ensures.looks d).1).1
           (text_broken (target_of work.store account) c.in_err-quit.field-0.0 refl broke)));
     })

@@ -1,11 +1,8 @@
 use Rattle.std.proofs.Common.{ℕ, List, Ok, Err, refl, ap, ◌∙◌}
 use Rattle.pop3_client.specs.Client.{place_of}
-use Rattle.fetch_session.specs.Session.{noted}
-use Rattle.fetch_session.specs.Target.{target_of}
+use Rattle.fetch_session.specs.{Session.noted, Target.target_of}
 use Rattle.fetch_session.proofs.TalkLemmas.{ended_within, left_alone, took_leaving, took_less}
-use Rattle.fetch_session.proofs.ReadyLemmas.{followed}
-use Rattle.fetch_session.proofs.SessionLemmas.{left_session}
-use Rattle.fetch_session.proofs.HearingLemmas.{heard_as}
+use Rattle.fetch_session.proofs.{ReadyLemmas.followed, SessionLemmas.left_session, HearingLemmas.heard_as}
 use Rattle.fetch_session.proofs.one_session.session_over.Goals as goal
 
 pub returns-in-Err-clause-session : goal.returns-in-Err-clause-session
@@ -15,8 +12,7 @@ returns-in-Err-clause-session g c = λ w d f.
     let done = c.proceed.new in
     let inside = c.account.inside in
     rw (← c.account.view_is) (followed went went.0 (g.met.W.Wire.leads_on _ _ _ went.3 says.1) (λ left is.
-    left_session inside.work.store _ _ (Err c.in-Err.cut) _
-    (noted done.counts.total done.counts.skipped done.work.ledger.lines.items)
+    left_session inside.work.store _ _ (Err c.in-Err.cut) _ (noted done.counts.total done.counts.skipped done.work.ledger.lines.items)
     (ap (λ (digits : List ℕ). target_of inside.work.store digits) c.account.invariant.1)
     c.requires is (place_of g.W.Wire c.leave.new.client, says.2, refl) (rw c.replace-lines.ensures.value at c.report_of.ensures)))
 
@@ -25,8 +21,7 @@ returns-clause-session g c = λ w d f.
     let went = c.in_default.ensures.proceeds w d f in
     let done = c.proceed.new in
     let inside = c.account.inside in
-    rw (← c.account.view_is) (followed went went.0 went.3 (λ left is.
-    left_session inside.work.store _ _ (Ok tt) _
+    rw (← c.account.view_is) (followed went went.0 went.3 (λ left is. left_session inside.work.store _ _ (Ok tt) _
     (noted done.counts.total done.counts.skipped done.work.ledger.lines.items)
     (ap (λ (digits : List ℕ). target_of inside.work.store digits) c.account.invariant.1)
     c.requires is refl (rw c.replace-lines-2.ensures.value at c.report_of-2.ensures)))
@@ -35,8 +30,7 @@ pub returns-in-Err-clause-bounded : goal.returns-in-Err-clause-bounded
 returns-in-Err-clause-bounded g c = λ w.
     let says = c.leave.ensures.leaves w in
     let (before, took, small) = rw c.requires at (c.in-Err.ensures.link.took says.0).1 in
-    rw c.report_of.ensures.total_is
-    (ended_within c.proceed.new.counts.total _ _
+    rw c.report_of.ensures.total_is (ended_within c.proceed.new.counts.total _ _
     (took_less (took_leaving c.conversations_are_paced.ensures before c.in-Err.cut.fault c.in-Err.cut.rest _ _ _
     took says.2) small) (rw c.waiting.ensures.value at c.waiting.ensures.short))
 
@@ -50,8 +44,7 @@ pub returns-in-Err-clause-counted : goal.returns-in-Err-clause-counted
 returns-in-Err-clause-counted g c =
     left_alone c.in-Err.cut (g.W.Wire.history c.args.client.now.wire.now)
     (g.W.Wire.history c.proceed.new.client.wire.now) (g.W.Wire.history c.leave.new.client.wire.now)
-    c.report_of.result.outcome c.report_of.ensures.outcome_is c.in-Err.ensures.link.counted
-    c.leave.ensures.counted c.leave.ensures.silent
+    c.report_of.result.outcome c.report_of.ensures.outcome_is c.in-Err.ensures.link.counted c.leave.ensures.counted c.leave.ensures.silent
 
 pub returns-in-Err-clause-heard : goal.returns-in-Err-clause-heard
 returns-in-Err-clause-heard g c = rw (← c.account.view_is) (heard_as g.L.Listener.hears _ _ _ _ (λ plan is. record {

@@ -3,8 +3,7 @@ use Rattle.std.proofs.lemmas.Result.{IfOk-weaker}
 use Rattle.fetch_record.specs.Intents.{closed_rows}
 use Rattle.fetch_record.specs.Record.{Loaded, merged}
 use Rattle.fetch_session.specs.MessagePreview.{message_previews}
-use Rattle.fetch_session.proofs.ReadyLemmas.{planned_length}
-use Rattle.fetch_session.proofs.SessionLemmas.{previews_are}
+use Rattle.fetch_session.proofs.{ReadyLemmas.planned_length, SessionLemmas.previews_are}
 use Rattle.fetch_session.proofs.preview.preview_merged.Goals as goal
 
 pub message_previews-requires-clause-all_steps : goal.message_previews-requires-clause-all_steps
@@ -25,5 +24,4 @@ returns g c =
     (λ told is. is ∙ ap (λ (flags : List Bool). message_previews settings c.merge.new.self.rows now c.deref.result.now
     items flags) c.deref-held.ensures.value
     ∙ previews_are settings ended _ items c.args.found.now.held.items now c.deref.result.now rows (c.deref.ensures.value
-    ∙ c.in_ok-steps.ensures.steps))
-    c.message_previews.ensures
+    ∙ c.in_ok-steps.ensures.steps)) c.message_previews.ensures

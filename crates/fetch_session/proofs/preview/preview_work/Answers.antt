@@ -9,8 +9,7 @@ returns-clause-previews g c = λ d f.
     let reads = c.in_ok-read.ensures.reads f in
     asked (c.in_ok-found.ensures.looks d) reads.0 (λ left is.
     work_preview c.args.terms.settings.now (target_of c.args.work.now.store c.args.terms.account.now) c.args.listing.now
-    c.args.terms.now _ _ _ c.read.new.seen _ c.in_ok-found.found _ reads.1.0 reads.1.2 is
-    c.in_ok-preview_merged.ensures)
+    c.args.terms.now _ _ _ c.read.new.seen _ c.in_ok-found.found _ reads.1.0 reads.1.2 is c.in_ok-preview_merged.ensures)
 
 pub returns-in_err-read-clause-previews : goal.returns-in_err-read-clause-previews
 returns-in_err-read-clause-previews g c = rw (err_is c.from_residual.ensures.1) (λ d f.
@@ -18,8 +17,7 @@ returns-in_err-read-clause-previews g c = rw (err_is c.from_residual.ensures.1) 
       d,
       reads.0,
       untaken _ (not_read c.args.terms.settings.now
-          (target_of c.args.work.now.store c.args.terms.account.now) c.args.listing.now c.args.terms.now _ _ _
-          c.read.new.seen _ reads.1),
+          (target_of c.args.work.now.store c.args.terms.account.now) c.args.listing.now c.args.terms.now _ _ _ c.read.new.seen _ reads.1),
     ))
 
 pub returns-in_err-found-clause-previews : goal.returns-in_err-found-clause-previews

@@ -1,15 +1,12 @@
 use Rattle.std.proofs.Common.{false, sym, refl, ◌∙◌, ℕ, List, Option, None, Some}
-use Rattle.std.proofs.lemmas.Result.{err_from_is_err_and}
-use Rattle.std.proofs.lemmas.Simd.{splat_is_map}
+use Rattle.std.proofs.{lemmas.Result.err_from_is_err_and, lemmas.Simd.splat_is_map}
 use Rattle.fetch_record.specs.Record.{Intent}
 use Rattle.mail_store.specs.Durable.{Trusted, MayLeave}
 use Rattle.mail_store.specs.Power.{LeavesNoMore}
 use Rattle.mail_store.proofs.DiskLemmas.{all_trust, durable_flush}
 use Rattle.fetch_session.specs.Durable.{LeavesSettled}
-use Rattle.fetch_session.proofs.SessionLemmas.{durable_safe}
+use Rattle.fetch_session.proofs.{SessionLemmas.durable_safe, SceneLemmas.and_so, readiness.ask_mbox.Goals.After-check_mbox}
 use Rattle.fetch_session.proofs.TextLemmas.{asks_ok, asks_refused}
-use Rattle.fetch_session.proofs.SceneLemmas.{and_so}
-use Rattle.fetch_session.proofs.readiness.ask_mbox.Goals.{After-check_mbox}
 use Rattle.fetch_session.proofs.readiness.ask_mbox.Goals as goal
 
 pub returns-in_err-check_mbox-clause-asks : goal.returns-in_err-check_mbox-clause-asks
@@ -36,8 +33,7 @@ returns-clause-asks g c = λ kept.
 pub returns-clause-durable : goal.returns-clause-durable
 returns-clause-durable g c = λ kept trust.
     let firm = all_trust (g.F.FlatFile.disk c.settle.new.mbox) (g.F.FlatFile.disk c.check_mbox.new.file)
-    (c.in_ok-check_mbox.ensures.durable kept)
-    (c.in_ok-stored.ensures.durable (c.in_ok-check_mbox.ensures.checks kept).0 trust) in
+    (c.in_ok-check_mbox.ensures.durable kept) (c.in_ok-stored.ensures.durable (c.in_ok-check_mbox.ensures.checks kept).0 trust) in
     durable_safe g.F.FlatFile c.check_mbox.new.file (g.met.F.FlatFile.shown c.check_mbox.new.file) firm
 
 -- what is left after another flush could be left before it
@@ -46,14 +42,12 @@ settled : (a b b' : Option (List ℕ) → Type 0) (intent : Option Intent) (cont
 settled a b b' None content no_more leaves = λ left may. leaves left (no_more left may)
 settled a b b' (Some intent) content no_more leaves = λ left may. leaves left (no_more left may)
 
-checked : (g : _) (c : After-check_mbox g) → g.F.FlatFile.sound c.check_mbox.new.file
-    → Trusted (g.F.FlatFile.disk c.args.mbox.now).now
+checked : (g : _) (c : After-check_mbox g) → g.F.FlatFile.sound c.check_mbox.new.file → Trusted (g.F.FlatFile.disk c.args.mbox.now).now
     → LeavesSettled c.args.seen.now.intent (g.F.FlatFile.stored c.args.mbox.now).content
     (MayLeave (g.F.FlatFile.disk c.args.mbox.now)) (MayLeave (g.F.FlatFile.disk c.check_mbox.new.file))
 checked g c kept trust = settled _ _ _ c.args.seen.now.intent (g.F.FlatFile.stored c.args.mbox.now).content
     (durable_flush (g.F.FlatFile.disk c.settle.new.mbox) (g.F.FlatFile.disk c.check_mbox.new.file) c.check_mbox.result
-    (c.check_mbox.ensures.durable kept)).no_more
-    (c.settle.ensures.leaves (c.check_mbox.ensures.checks kept).0 trust)
+    (c.check_mbox.ensures.durable kept)).no_more (c.settle.ensures.leaves (c.check_mbox.ensures.checks kept).0 trust)
 
 pub returns-in_err-check_mbox-clause-leaves : goal.returns-in_err-check_mbox-clause-leaves
 returns-in_err-check_mbox-clause-leaves g c = checked g (goal.at.returns-in_err-check_mbox-clause-leaves g c).After-check_mbox

@@ -1,6 +1,5 @@
 use Rattle.std.proofs.Common.{subst}
-use Rattle.fetch_session.specs.Durable.{is_trusted}
-use Rattle.fetch_session.specs.Target.{no_maildir}
+use Rattle.fetch_session.specs.{Durable.is_trusted, Target.no_maildir}
 use Rattle.mail_store.proofs.MaildirLemmas.{none_taken}
 use Rattle.fetch_session.proofs.readiness.ask_store.Goals as goal
 

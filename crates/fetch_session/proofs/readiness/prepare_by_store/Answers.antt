@@ -1,8 +1,6 @@
 use Rattle.std.proofs.Common.{ap, inl, inr, length, refl, sym, ◌∙◌, Ok, Err}
-use Rattle.fetch_session.proofs.TalkLemmas.{err_is}
-use Rattle.fetch_session.specs.Record.{record_state_in}
-use Rattle.fetch_session.specs.Target.{target_of}
-use Rattle.fetch_session.proofs.SceneLemmas.{read_keeps}
+use Rattle.fetch_session.proofs.{TalkLemmas.err_is, SceneLemmas.read_keeps}
+use Rattle.fetch_session.specs.{Record.record_state_in, Target.target_of}
 use Rattle.fetch_session.proofs.ReadyLemmas.{planned_length, all_have_rows, asked, found_as_held, not_before, not_found, ready, unready}
 use Rattle.fetch_session.proofs.readiness.prepare_by_store.Goals as goal
 
@@ -29,10 +27,8 @@ returns-clause-held g c = λ d.
     let only_asked = rw (sym c.in_ok-steps.ensures.steps) at
     (c.only_asked_for_are_fetched.ensures settings rows c.args.listing.now c.args.terms.now) in (
       rw stays.2.0 (found_as_held (target_of c.args.work.now.store c.args.terms.account.now) _ settings was.rows rows
-          steps c.args.listing.now
-          (not_before c.held_is_delivered.ensures c.marked_is_delivered.ensures c.in_ok-found.found.stored was.rows
-          was.intent c.args.listing.now c.in_ok-found.found.held.items c.args.terms.now rows
-          c.in_ok-take_in.ensures.rows) only_asked),
+          steps c.args.listing.now (not_before c.held_is_delivered.ensures c.marked_is_delivered.ensures c.in_ok-found.found.stored was.rows
+          was.intent c.args.listing.now c.in_ok-found.found.held.items c.args.terms.now rows c.in_ok-take_in.ensures.rows) only_asked),
       stays.2.1,
     )
 
@@ -62,10 +58,8 @@ returns-in_err-take_in-clause-readies g c = rw (err_is c.from_residual-in_err-ta
     let merges = c.in_err-take_in.ensures.merges f in
     asked (c.in_ok-found.ensures.finds d) merges.0 (λ left finds.
     unready _ _ _ _ _ c.take_in.new.file c.args.terms.account.now _ _ _ left c.args.work.now.ledger.seen
-    c.in_ok-found.found (c.requires.stands merges.0) c.merges_ask_only_for_new_ids.ensures
-    c.requires.is_record finds
-    (Err c.in_err-take_in.field-0.0) merges.1
-    (λ safe. (
+    c.in_ok-found.found (c.requires.stands merges.0) c.merges_ask_only_for_new_ids.ensures c.requires.is_record finds
+    (Err c.in_err-take_in.field-0.0) merges.1 (λ safe. (
       safe.1,
       (c.in_err-take_in.ensures.durable f safe.1).0,
       c.in_ok-found.ensures.durable d safe.0,
@@ -77,9 +71,7 @@ returns-in_err-steps-clause-readies g c = rw (err_is c.from_residual-in_err-step
     let merges = c.in_ok-take_in.ensures.merges f in
     asked (c.in_ok-found.ensures.finds d) merges.0 (λ left finds.
     unready _ _ _ _ _ c.take_in.new.file c.args.terms.account.now _ _ _ left c.args.work.now.ledger.seen
-    c.in_ok-found.found (c.requires.stands merges.0) c.merges_ask_only_for_new_ids.ensures
-    c.requires.is_record finds
-    (Ok tt) merges.1
+    c.in_ok-found.found (c.requires.stands merges.0) c.merges_ask_only_for_new_ids.ensures c.requires.is_record finds (Ok tt) merges.1
     (λ safe. (
       safe.1,
       (c.in_ok-take_in.ensures.durable f safe.1).0,
@@ -91,12 +83,9 @@ pub returns-clause-readies : goal.returns-clause-readies
 returns-clause-readies g c = λ d f.
     let merges = c.in_ok-take_in.ensures.merges f in
     let only_asked = rw (sym c.in_ok-steps.ensures.steps) at
-    (c.only_asked_for_are_fetched.ensures c.args.terms.settings.now c.take_in.new.seen.rows
-    c.args.listing.now c.args.terms.now) in
+    (c.only_asked_for_are_fetched.ensures c.args.terms.settings.now c.take_in.new.seen.rows c.args.listing.now c.args.terms.now) in
     asked (c.in_ok-found.ensures.finds d) merges.0 (λ left finds.
     ready _ _ _ _ _ c.take_in.new.file c.args.terms.account.now _ _ _ left c.args.work.now.ledger.seen
-    c.in_ok-found.found (c.requires.stands merges.0) c.merges_ask_only_for_new_ids.ensures
-    c.requires.is_record finds
+    c.in_ok-found.found (c.requires.stands merges.0) c.merges_ask_only_for_new_ids.ensures c.requires.is_record finds
     _ c.held_is_delivered.ensures c.marked_is_delivered.ensures only_asked merges.1 c.in_ok-take_in.ensures.rows refl
-    c.in_ok-steps.ensures.steps
-    (λ safe. ((c.in_ok-take_in.ensures.durable f safe.1).1, c.in_ok-found.ensures.durable d safe.0)))
+    c.in_ok-steps.ensures.steps (λ safe. ((c.in_ok-take_in.ensures.durable f safe.1).1, c.in_ok-found.ensures.durable d safe.0)))

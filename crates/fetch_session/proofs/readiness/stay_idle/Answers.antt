@@ -56,8 +56,7 @@ returns-in_err-save-clause-readies g c = rw (err_is c.from_residual-in_err-save.
           c.save.new.file seen c.args.steps.items
           c.known_listings_change_nothing.ensures stood c.requires.idle c.in_ok-ready.ready c.in_err-save.field-0.0 finds.1
           (writes_merges (g.F.FlatFile.stored from) (g.F.FlatFile.stored c.save.new.file) (record_state_in seen)
-          (record_state_in seen) (Err c.in_err-save.field-0.0) (read_keeps _ seen stood)
-          c.save.ensures.stands saves.1)
+          (record_state_in seen) (Err c.in_err-save.field-0.0) (read_keeps _ seen stood) c.save.ensures.stands saves.1)
           (written_merged g.F.FlatFile from c.save.new.file (record_state_in seen) seen.rows _
           (rw c.requires.idle.closed at c.save.ensures.stands) (c.save.ensures.leaves f)) (c.rest.ensures.keeps d),
     ))
@@ -81,7 +80,6 @@ returns-clause-readies g c = λ d f.
       rested g.D.MaildirDisk g.F.FlatFile c.args.terms.account.now c.args.work.now.store c.rest.new.store from
           c.save.new.file seen c.args.steps.items
           c.known_listings_change_nothing.ensures stood c.requires.idle c.in_ok-ready.ready finds.1 (inr anew)
-          (rw (saves.1, c.requires.idle.closed) (rw c.requires.idle.closed at c.save.ensures.stands))
-          (rw saves.1 refl)
+          (rw (saves.1, c.requires.idle.closed) (rw c.requires.idle.closed at c.save.ensures.stands)) (rw saves.1 refl)
           (refl, c.in_ok-save.ensures.durable f) (c.rest.ensures.keeps d) c.in_ok-ready.ensures.steps c.in_ok-ready.ensures.length,
     )

@@ -1,7 +1,6 @@
 use Rattle.std.proofs.Common.{◌≡◌, List, None, false, inl, sym, ap, subst, ◌∙◌}
-use Rattle.fetch_record.specs.Intents.{closed_rows}
+use Rattle.fetch_record.specs.{Intents.closed_rows, RecordGrowth.Updates}
 use Rattle.fetch_record.specs.Record.{Row, RecordState, none_open, merged}
-use Rattle.fetch_record.specs.RecordGrowth.{Updates}
 use Rattle.fetch_session.specs.Durable.{LeavesMerged}
 use Rattle.mail_store.specs.Durable.{MayLeave}
 use Rattle.fetch_session.specs.Record.{Merges, Steady, record_state_in}
@@ -41,8 +40,7 @@ returns-clause-merges g c = λ kept.
     let it = grows g (goal.at.returns-clause-merges g c).After-grow kept in
     let old = g.F.FlatFile.stored c.args.file.now in
     let new = g.F.FlatFile.stored c.grow.new.file in
-    and_so (c.grow.ensures.saves kept)
-    (λ sound saves. subst (λ (h : RecordState). Merges old h (none_open rows) c.grow.result new)
+    and_so (c.grow.ensures.saves kept) (λ sound saves. subst (λ (h : RecordState). Merges old h (none_open rows) c.grow.result new)
     (held_is c.args.seen.now it.1)
     (saves_merges old new (none_open was) (none_open rows) c.grow.result it.0 (saves (none_open was) (none_open rows) (inl it.2))))
 
@@ -53,8 +51,7 @@ returns-clause-durable g c = λ kept safe.
     let rows = merged (closed_rows c.args.found.now.stored was c.args.seen.now.intent) c.args.listing.now
     c.args.found.now.held.items c.args.now in (
       subst (λ (h : RecordState). LeavesMerged (MayLeave (g.F.FlatFile.disk c.args.file.now)) h rows
-          (MayLeave (g.F.FlatFile.disk c.grow.new.file)))
-          (held_is c.args.seen.now it.1)
+          (MayLeave (g.F.FlatFile.disk c.grow.new.file))) (held_is c.args.seen.now it.1)
           (grown_merged g.F.FlatFile c.args.file.now c.grow.new.file (none_open was) rows c.deref-2.result.now it.2
           (c.grow.ensures.leaves kept safe (none_open was) it.0).1),
       c.grow.ensures.durable kept safe,

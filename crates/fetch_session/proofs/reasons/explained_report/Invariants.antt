@@ -1,7 +1,6 @@
 use Rattle.std.proofs.Common.{◌≡◌, ◌++◌, take, flat_map}
 use Rattle.std.specs.String.{string_bytes}
-use Rattle.fetch_session.specs.Reasons.{explained_line}
-use Rattle.fetch_session.specs.Text.{heading}
+use Rattle.fetch_session.specs.{Reasons.explained_line, Text.heading}
 use Rattle.fetch_session.proofs.reasons.explained_report.Given as goal
 
 abbrev pub invariant-loop-line : goal.invariant-loop-line

@@ -38,8 +38,7 @@ pub returns-in-Ok-clause-leaves : goal.returns-in-Ok-clause-leaves
 returns-in-Ok-clause-leaves g c = λ kept safe was stood.
     let part = part_left g.F.FlatFile c.append.new.self (g.F.FlatFile.stored c.args.file.now) was c.args.group.now
     (c.requires.begun (c.in-Ok.ensures.appends kept).0 (not_empty c.args.group.now c.is_empty.result c.if-is_empty.false
-    c.is_empty.ensures)) stood
-    (leaves_part g.F.FlatFile c.args.file.now c.append.new.self c.args.group.now c.append.result
+    c.is_empty.ensures)) stood (leaves_part g.F.FlatFile c.args.file.now c.append.new.self c.args.group.now c.append.result
     (g.met.F.FlatFile.shown c.args.file.now) (c.append.ensures.durable kept) safe) in
     (λ bytes is. part, λ left may. inr (part left may))
 
@@ -64,5 +63,4 @@ returns-in-Err-clause-keeps g c = λ kept. longer_rows g.F.FlatFile c.args.file.
 
 pub returns-in-Ok-clause-durable : goal.returns-in-Ok-clause-durable
 returns-in-Ok-clause-durable g c = λ kept. grown_safe g.F.FlatFile c.args.file.now c.append.new.self c.args.group.now
-    (tt {0}) (g.met.F.FlatFile.shown c.args.file.now) (g.met.F.FlatFile.shown c.append.new.self)
-    (c.in-Ok.ensures.durable kept)
+    (tt {0}) (g.met.F.FlatFile.shown c.args.file.now) (g.met.F.FlatFile.shown c.append.new.self) (c.in-Ok.ensures.durable kept)

@@ -5,10 +5,9 @@ use Rattle.fetch_session.specs.Durable.{IsGrownAtMost, IsSafeFile, LeavesFile, S
 use Rattle.mail_store.specs.FlatFile.{Stored}
 use Rattle.fetch_session.specs.Record.{Saves, bytes_in, intent_at, with_open}
 use Rattle.fetch_session.specs.declared.fault.Fault.{Fault}
-use Rattle.fetch_session.proofs.TalkLemmas.{err_is}
+use Rattle.fetch_session.proofs.{TalkLemmas.err_is, record.intend.Goals.After-grow}
 use Rattle.fetch_session.proofs.SessionLemmas.{no_more_left, part_grown, same_grown}
 use Rattle.fetch_session.proofs.SceneLemmas.{row_begun, opens, same_bytes, size_untold, stands_till}
-use Rattle.fetch_session.proofs.record.intend.Goals.{After-grow}
 use Rattle.fetch_session.proofs.record.intend.Goals as goal
 
 pub measure-requires : goal.measure-requires
@@ -26,8 +25,7 @@ grow-requires g c = record {
 }
 
 -- the line that was appended opens the intent
-grows : (g : _) (c : After-grow g)
-    → Grows c.args.seen.now.rows None c.deref.result.now c.args.seen.now.rows
+grows : (g : _) (c : After-grow g) → Grows c.args.seen.now.rows None c.deref.result.now c.args.seen.now.rows
     (Some (intent_at c.args.uid.now c.args.start c.args.len))
 grows g c = opens _ _ c.deref.result.now (record {
   legal = c.requires.legal;
@@ -40,22 +38,18 @@ grows g c = opens _ _ c.deref.result.now (record {
 from_there : (g : _) (c : After-grow g) (r : Result (Unit {0}) Fault)
     → g.F.FlatFile.stored c.measure.new.file ≡ g.F.FlatFile.stored c.args.file.now
     → Saves (g.F.FlatFile.stored c.measure.new.file) (none_open c.args.seen.now.rows)
-    (with_open c.args.seen.now.rows (intent_at c.args.uid.now c.args.start c.args.len)) r
-    (g.F.FlatFile.stored c.grow.new.file)
+    (with_open c.args.seen.now.rows (intent_at c.args.uid.now c.args.start c.args.len)) r (g.F.FlatFile.stored c.grow.new.file)
     → Saves (g.F.FlatFile.stored c.args.file.now) (none_open c.args.seen.now.rows)
-    (with_open c.args.seen.now.rows (intent_at c.args.uid.now c.args.start c.args.len)) r
-    (g.F.FlatFile.stored c.grow.new.file)
+    (with_open c.args.seen.now.rows (intent_at c.args.uid.now c.args.start c.args.len)) r (g.F.FlatFile.stored c.grow.new.file)
 from_there g c r same saves =
     subst (λ (s : Stored). Saves s (none_open c.args.seen.now.rows)
-    (with_open c.args.seen.now.rows (intent_at c.args.uid.now c.args.start c.args.len)) r
-    (g.F.FlatFile.stored c.grow.new.file)) same saves
+    (with_open c.args.seen.now.rows (intent_at c.args.uid.now c.args.start c.args.len)) r (g.F.FlatFile.stored c.grow.new.file)) same saves
 
 pub returns-in_err-size-clause-saves : goal.returns-in_err-size-clause-saves
 returns-in_err-size-clause-saves g c = λ kept.
     let told = c.in_err-size.ensures.size kept in (
       told.0,
-      rw (err_is c.from_residual-in_err-size.ensures.1)
-          (size_untold _ _ (none_open c.args.seen.now.rows) _ c.in_err-size.field-0.0 told.1),
+      rw (err_is c.from_residual-in_err-size.ensures.1) (size_untold _ _ (none_open c.args.seen.now.rows) _ c.in_err-size.field-0.0 told.1),
     )
 
 pub returns-in_err-grow-clause-saves : goal.returns-in_err-grow-clause-saves
@@ -65,8 +59,7 @@ returns-in_err-grow-clause-saves g c = λ kept.
       told.0,
       rw (err_is c.from_residual-in_err-grow.ensures.1)
           (from_there g (goal.at.returns-in_err-grow-clause-saves g c).After-grow (Err c.in_err-grow.field-0.0) told.1.1
-          (saves.1 (none_open _) (with_open _ _)
-          (grows g (goal.at.returns-in_err-grow-clause-saves g c).After-grow))),
+          (saves.1 (none_open _) (with_open _ _) (grows g (goal.at.returns-in_err-grow-clause-saves g c).After-grow))),
     )
 
 pub returns-clause-saves : goal.returns-clause-saves
@@ -99,8 +92,7 @@ returns-clause-steady g c = λ kept.
       (
         steady,
         stands_till old new _ c.deref.result.now rows (row_begun new.content rows (Some intent) c.args.uid.now steady
-            c.requires.row) told.1.0
-            (subst (λ (s : Stored). bytes_in new.content ≡ bytes_in s.content ++ c.deref.result.now) told.1.1
+            c.requires.row) told.1.0 (subst (λ (s : Stored). bytes_in new.content ≡ bytes_in s.content ++ c.deref.result.now) told.1.1
             (c.in_ok-grow.ensures.appends kept)) stood,
       ),
     )

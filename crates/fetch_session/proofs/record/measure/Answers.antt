@@ -25,7 +25,5 @@ returns-in-Err-clause-keeps g c =
     (c.edges.ensures.durable kept)).no_more
 
 pub returns-in-Ok-clause-durable : goal.returns-in-Ok-clause-durable
-returns-in-Ok-clause-durable g c = λ kept trust.
-    durable_safe g.F.FlatFile c.edges.new.self (g.met.F.FlatFile.shown c.edges.new.self)
-    (all_trust (g.F.FlatFile.disk c.args.file.now) (g.F.FlatFile.disk c.edges.new.self)
-    (c.in-Ok.ensures.durable kept) trust)
+returns-in-Ok-clause-durable g c = λ kept trust. durable_safe g.F.FlatFile c.edges.new.self (g.met.F.FlatFile.shown c.edges.new.self)
+    (all_trust (g.F.FlatFile.disk c.args.file.now) (g.F.FlatFile.disk c.edges.new.self) (c.in-Ok.ensures.durable kept) trust)

@@ -10,16 +10,14 @@ use Rattle.fetch_session.proofs.record.remember.Goals as goal
 
 pub grow-requires : goal.grow-requires
 grow-requires g c = record {
-  begun = λ kept some.
-      mark_begun (g.F.FlatFile.stored c.args.file.now).content c.args.seen.now.rows c.mark_rows.new.self.rows
+  begun = λ kept some. mark_begun (g.F.FlatFile.stored c.args.file.now).content c.args.seen.now.rows c.mark_rows.new.self.rows
       c.args.seen.now.intent c.mark_rows.new.self.intent c.args.uid.now c.deref.result.now
       (c.requires.steady kept) (ap (λ (seen : Loaded). seen.rows) c.in_ok-group.ensures.after)
       (rw c.deref.ensures.value c.in_ok-group.ensures.updates) some;
 }
 
 -- what was appended marks the id's row, and ends the intent
-updates : (g : _) (c : After-grow g)
-    → Updates c.args.seen.now.rows c.args.seen.now.intent c.deref.result.now
+updates : (g : _) (c : After-grow g) → Updates c.args.seen.now.rows c.args.seen.now.intent c.deref.result.now
     (marked c.args.seen.now.rows c.args.uid.now) None
 updates g c = rw c.deref.ensures.value (rw c.in_ok-group.ensures.after at c.in_ok-group.ensures.updates)
 

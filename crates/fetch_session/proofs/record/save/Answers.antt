@@ -1,11 +1,8 @@
 use Rattle.std.proofs.Common.{◌≡◌, ◌∙◌, ℕ, List, Option, None, Ok, ap, subst}
-use Rattle.fetch_record.specs.Record.{Intent}
-use Rattle.fetch_record.specs.RecordFile.{file_of}
-use Rattle.mail_store.specs.Durable.{MayLeave}
-use Rattle.mail_store.specs.Power.{LeavesEither}
+use Rattle.fetch_record.specs.{Record.Intent, RecordFile.file_of}
+use Rattle.mail_store.specs.{Durable.MayLeave, Power.LeavesEither}
 use Rattle.mail_store.proofs.DiskLemmas.{durable_replace}
-use Rattle.fetch_session.proofs.SessionLemmas.{durable_safe}
-use Rattle.fetch_session.proofs.record.save.Goals.{After-replace}
+use Rattle.fetch_session.proofs.{SessionLemmas.durable_safe, record.save.Goals.After-replace}
 use Rattle.fetch_session.proofs.record.save.Goals as goal
 
 pub returns-in_err-bytes-clause-stands : goal.returns-in_err-bytes-clause-stands
@@ -36,7 +33,6 @@ pub returns-clause-leaves : goal.returns-clause-leaves
 returns-clause-leaves g c = leaves g (goal.at.returns-clause-leaves g c).After-replace
 
 pub returns-in-Ok-clause-durable : goal.returns-in-Ok-clause-durable
-returns-in-Ok-clause-durable g c = λ kept.
-    durable_safe g.F.FlatFile c.replace.new.self (g.met.F.FlatFile.shown c.replace.new.self)
+returns-in-Ok-clause-durable g c = λ kept. durable_safe g.F.FlatFile c.replace.new.self (g.met.F.FlatFile.shown c.replace.new.self)
     (durable_replace (g.F.FlatFile.disk c.args.file.now) (g.F.FlatFile.disk c.replace.new.self) c.deref.result.now
     (Ok (tt {0})) (c.in-Ok.ensures.durable kept)).durable

@@ -1,7 +1,6 @@
 use Rattle.std.specs.Prelude.{not}
 use Rattle.std.proofs.lemmas.List.Elements.{filter_from_retain}
-use Rattle.fetch_session.specs.declared.report.ReportLine.{ReportLine}
-use Rattle.fetch_session.specs.Report.{is_deletion}
+use Rattle.fetch_session.specs.{declared.report.ReportLine.ReportLine, Report.is_deletion}
 use Rattle.fetch_session.proofs.report.kept_lines.Goals as goal
 
 pub returns-clause-kept : goal.returns-clause-kept

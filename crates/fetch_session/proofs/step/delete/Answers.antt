@@ -14,8 +14,7 @@ returns-clause-deletes g c = λ target store file rows. in_words g.W.Wire c.in_o
 
 pub returns-in_err-delete-clause-deletes : goal.returns-in_err-delete-clause-deletes
 returns-in_err-delete-clause-deletes g c = rw (err_is c.from_residual.ensures.1)
-    (λ target store file rows. in_words g.W.Wire c.in_err-delete.ensures.completes
-    (text_broken target c.in_err-delete.field-0.0 refl))
+    (λ target store file rows. in_words g.W.Wire c.in_err-delete.ensures.completes (text_broken target c.in_err-delete.field-0.0 refl))
 
 pub returns-in_err-delete-clause-link : goal.returns-in_err-delete-clause-link
 returns-in_err-delete-clause-link g c =

@@ -20,8 +20,7 @@ now g c = task_of c.first_task-first.result ∷ deleting (step_at c.args.plan.st
 abbrev later : (g : _) → After-first_task-first g → List Task
 later g c = later_at c.args.plan.steps.now c.args.plan.listing.now c.args.plan.held.now c.loop-i.i
 
-split : (g : _) (c : After-first_task-first g)
-    → tasks_planned c.args.plan.steps.now c.args.plan.listing.now c.args.plan.held.now
+split : (g : _) (c : After-first_task-first g) → tasks_planned c.args.plan.steps.now c.args.plan.listing.now c.args.plan.held.now
     ≡ (c.loop-i.invariant.0 ++ now g c) ++ later g c
 split g c =
     let done = c.loop-i.invariant.0 in
@@ -29,8 +28,7 @@ split g c =
     (tasks_left c.args.plan.steps.now c.args.plan.listing.now c.args.plan.held.now c.loop-i.i c.uid.result.now
     c.size.result (task_of c.first_task-first.result)
     (omega (arith, c.loop-i-test.true, c.len-i-end.ensures.count)) c.requires.all_steps c.requires.all_flags
-    (c.uid.ensures.value no_item) (c.size.ensures no_item) c.first_task-first.ensures)
-    ∙ sym (append_assoc done (now g c) (later g c))
+    (c.uid.ensures.value no_item) (c.size.ensures no_item) c.first_task-first.ensures) ∙ sym (append_assoc done (now g c) (later g c))
 
 pub do_step-requires : goal.do_step-requires
 do_step-requires g c =
@@ -44,8 +42,7 @@ loop-i-preserved g c =
     let inv = c.loop-i.invariant in (
       inv.0 ++ now g d,
       split g d,
-      goes_on c.turns_join.ensures g.met.W.Wire.leads_on inv.0 (now g d) (Ok tt) inv.2
-          c.in_ok-do_step.ensures,
+      goes_on c.turns_join.ensures g.met.W.Wire.leads_on inv.0 (now g d) (Ok tt) inv.2 c.in_ok-do_step.ensures,
       g.met.L.Listener.hears_on _ _ _ [] [] inv.3 c.hear.ensures,
     )
 
@@ -65,8 +62,7 @@ all_done : (g : _) (c : After-loop-i g)
 all_done g c =
     let inv = c.loop-i.invariant in
     inv.1 ∙ ap (λ (ss : List Step). inv.0 ++ tasks_planned ss (drop c.loop-i.i c.args.plan.listing.now)
-    (drop c.loop-i.i c.args.plan.held.now))
-    (drop_all c.loop-i.i c.args.plan.steps.now
+    (drop c.loop-i.i c.args.plan.held.now)) (drop_all c.loop-i.i c.args.plan.steps.now
     (omega (arith, c.loop-i-test.false, c.len-i-end.ensures.count, c.requires.all_steps))) ∙ append-nil inv.0
 
 pub returns-clause-runs : goal.returns-clause-runs

@@ -1,9 +1,7 @@
 use Rattle.std.proofs.Common.{[], Ok, refl}
 use Rattle.fetch_session.specs.Target.{stores_of, target_of}
 use Rattle.fetch_session.specs.Task.{skips, rereads, deletes}
-use Rattle.fetch_session.proofs.PartLemmas.{does_talking}
-use Rattle.fetch_session.proofs.TextLemmas.{taken_idle}
-use Rattle.fetch_session.proofs.TalkLemmas.{talked_none}
+use Rattle.fetch_session.proofs.{PartLemmas.does_talking, TextLemmas.taken_idle, TalkLemmas.talked_none}
 use Rattle.fetch_session.proofs.step.do_task.Goals as goal
 
 pub returns-in-Reread-clause-does : goal.returns-in-Reread-clause-does

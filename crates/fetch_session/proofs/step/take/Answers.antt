@@ -1,8 +1,6 @@
 use Rattle.std.proofs.Common.{◌∷◌, [], sym, subst, refl, inl}
 use Rattle.fetch_session.specs.declared.account.Store.TheVariants.{Maildir, Mboxrd}
-use Rattle.fetch_session.specs.declared.account.Store.{Store}
-use Rattle.fetch_session.specs.Parts.{RunsTasks}
-use Rattle.fetch_session.specs.Task.{stores}
+use Rattle.fetch_session.specs.{declared.account.Store.Store, Parts.RunsTasks, Task.stores}
 use Rattle.fetch_session.proofs.PartLemmas.{err_if, runs_taking}
 use Rattle.fetch_session.proofs.SceneLemmas.{on_any}
 use Rattle.std.proofs.lemmas.Result.{on_ok_weaker}

@@ -1,8 +1,7 @@
 use Rattle.std.proofs.Common.{◌≡◌, inl, inr, ◌<◌, ◌++◌, length, take, arith, sym, ◌∙◌, ap}
 use Rattle.pop3_wire.proofs.LinkLemmas.{and_then}
-use Rattle.fetch_session.proofs.TalkLemmas.{err_is}
+use Rattle.fetch_session.proofs.{TalkLemmas.err_is, TextLemmas.longer}
 use Rattle.std.proofs.lemmas.Bool.{false≢true}
-use Rattle.fetch_session.proofs.TextLemmas.{longer}
 use Rattle.fetch_session.proofs.storing.pass_text.Goals as goal
 
 pub returns-in_err-piece-clause-passes : goal.returns-in_err-piece-clause-passes
@@ -34,8 +33,7 @@ pieces-preserved g c = (
       let piece = take c.in_ok-piece.piece.put c.next_piece.new.out in (
         so_far.0 ++ piece,
         (took number start so_far.0 so_far.1).0,
-        longer c.pieces.length c.in_ok-piece.piece.put
-            so_far.0 c.next_piece.new.out so_far.2 c.in_ok-piece.ensures.took.fits,
+        longer c.pieces.length c.in_ok-piece.piece.put so_far.0 c.next_piece.new.out so_far.2 c.in_ok-piece.ensures.took.fits,
       )),
   c.in_ok-piece.ensures.counted ∙ c.pieces.invariant.3,
   c.in_ok-piece.ensures.link ∙ c.pieces.invariant.4,

@@ -16,13 +16,11 @@ returns-clause-rereads g c = λ target uid store file rows. and_then g.W.Wire g.
 
 pub returns-in_err-body-clause-rereads : goal.returns-in_err-body-clause-rereads
 returns-in_err-body-clause-rereads g c = rw (err_is c.from_residual.ensures.1)
-    (λ target uid store file rows. in_words g.W.Wire c.in_err-body.ensures.opens
-    (text_broken target c.in_err-body.field-0.0 refl))
+    (λ target uid store file rows. in_words g.W.Wire c.in_err-body.ensures.opens (text_broken target c.in_err-body.field-0.0 refl))
 
 pub returns-in_err-length-clause-rereads : goal.returns-in_err-length-clause-rereads
 returns-in_err-length-clause-rereads g c = rw (err_is c.from_residual-in_err-length.ensures.1)
-    (λ target uid store file rows. and_then g.W.Wire g.met.W.Wire.leads_on c.in_ok-body.ensures.opens
-    c.in_err-length.ensures.passes
+    (λ target uid store file rows. and_then g.W.Wire g.met.W.Wire.leads_on c.in_ok-body.ensures.opens c.in_err-length.ensures.passes
     (λ opened passed. text_broken target c.in_err-length.field-0.0 refl (passed c.args.number _ opened)))
 
 pub returns-in_err-body-clause-link : goal.returns-in_err-body-clause-link
@@ -41,7 +39,6 @@ returns-clause-link g c = record {
 pub returns-in_err-length-clause-link : goal.returns-in_err-length-clause-link
 returns-in_err-length-clause-link g c = rw (err_is c.from_residual-in_err-length.ensures.1)
     (link_broke c.conversations_are_paced.ensures (retr c.args.number) c.in_err-length.field-0.0
-    (c.pass_text.ensures.link ∙ c.open.ensures.link)
-    (rw c.in_ok-body.ensures.counted at c.in_err-length.ensures.counted)
+    (c.pass_text.ensures.link ∙ c.open.ensures.link) (rw c.in_ok-body.ensures.counted at c.in_err-length.ensures.counted)
     (and_then g.W.Wire g.met.W.Wire.leads_on c.in_ok-body.ensures.opens c.in_err-length.ensures.passes
     (λ opened passed. passed c.args.number _ opened)))

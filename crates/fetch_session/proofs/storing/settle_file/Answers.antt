@@ -24,8 +24,7 @@ returns g c = record {
         settles.0,
         (
           search rules,
-          λ draft begun. ⊎_map (λ none. none)
-              (λ (risen, are, is). rw (named_before (g.D.MaildirDisk.maildir c.args.disk.now).files risen
+          λ draft begun. ⊎_map (λ none. none) (λ (risen, are, is). rw (named_before (g.D.MaildirDisk.maildir c.args.disk.now).files risen
               (c.requires.named settles.0) are) at is) (settles.1 draft begun),
         ),
       );

@@ -13,13 +13,11 @@ use Rattle.fetch_session.proofs.storing.store_text.Goals as goal
 pub returns-in-Err-clause-stores : goal.returns-in-Err-clause-stores
 returns-in-Err-clause-stores g c = (
   [],
-  λ d. let starts = c.in-Err.ensures.starts d
-      in (
-        starts.0,
-        ⊎_elim inl (λ same. inr
-            (same.0, inl (same.1 ∙ ap maildir_refused (sym (dropped_none_begun _ (c.requires.none_begun starts.0))))))
-            starts.1,
-      ),
+  λ d. let starts = c.in-Err.ensures.starts d in (
+    starts.0,
+    ⊎_elim inl (λ same. inr (same.0, inl (same.1 ∙ ap maildir_refused (sym (dropped_none_begun _ (c.requires.none_begun starts.0))))))
+        starts.1,
+  ),
   λ w. (w, g.met.W.Wire.leads_same c.args.client.now.wire.now, λ number start now. (now, λ done. absurd (c.requires.open done))),
 )
 
@@ -31,8 +29,7 @@ returns-in-Err-next_piece-clause-stores g c =
           let drops = c.abandon.ensures.drops d in
           let was = inv.2 drops.0 in
           (was.0, rw c.from.ensures (drops.1 ∙ ap dropped was.1 ∙ dropped_none_begun _ (c.requires.none_begun was.0))),
-      and_then g.W.Wire g.met.W.Wire.leads_on inv.3 c.in-Err-next_piece.ensures.takes
-          (λ before took number start now. rw c.from.ensures
+      and_then g.W.Wire g.met.W.Wire.leads_on inv.3 c.in-Err-next_piece.ensures.takes (λ before took number start now. rw c.from.ensures
           (c.in-Err-next_piece.fault, refl, inr (inl (took number start inv.0 (before number start now))))),
     )
 
@@ -45,15 +42,13 @@ returns-in-Err-put_piece-clause-stores g c =
           let was = inv.2 puts.0 in
           (was.0, inr (puts.1.0, inl ((rw was.1 at puts.1.1) (draft (string_bytes c.args.stem) inv.0) refl))),
       and_then g.W.Wire g.met.W.Wire.leads_on inv.3 c.in-Ok.ensures.takes (λ before took number start now. let more =
-          took number start inv.0 (before number start now)
-          in (more.0, λ done. more.1 (c.in-Ok.ensures.took.ended.1 done))),
+          took number start inv.0 (before number start now) in (more.0, λ done. more.1 (c.in-Ok.ensures.took.ended.1 done))),
     )
 
 -- the piece was appended to what was written before
 put : (g : _) (c : After-put_piece g) → g.D.MaildirDisk.sound c.pieces.disk
     × PutsBytes (g.D.MaildirDisk.maildir c.pieces.disk) (take c.in-Ok.piece.put c.next_piece.new.out) (Ok tt)
-    (g.D.MaildirDisk.maildir c.put_piece.new.disk)
-    → g.D.MaildirDisk.sound c.args.disk.now
+    (g.D.MaildirDisk.maildir c.put_piece.new.disk) → g.D.MaildirDisk.sound c.args.disk.now
     × (g.D.MaildirDisk.maildir c.put_piece.new.disk ≡ begun_with (g.D.MaildirDisk.maildir c.args.disk.now)
     (draft (string_bytes c.args.stem) (c.pieces.invariant.2.0 ++ take c.in-Ok.piece.put c.next_piece.new.out)))
 put g c puts =
@@ -61,8 +56,7 @@ put g c puts =
     let was = inv.2 puts.0 in
     (was.0, (rw was.1 at puts.1) (draft (string_bytes c.args.stem) inv.0) refl)
 
-long : (g : _) (c : After-put_piece g)
-    → c.pieces.length + c.in-Ok.piece.put
+long : (g : _) (c : After-put_piece g) → c.pieces.length + c.in-Ok.piece.put
     ≡ length (c.pieces.invariant.2.0 ++ take c.in-Ok.piece.put c.next_piece.new.out)
 long g c = longer c.pieces.length c.in-Ok.piece.put c.pieces.invariant.2.0 c.next_piece.new.out c.pieces.invariant.2.1
     c.in-Ok.ensures.took.fits
@@ -91,8 +85,7 @@ returns-in-Ok-settle_file-clause-stores g c =
           let now = put g here (c.in_default-put_piece.ensures.puts ends.0) in (
             now.0,
             (
-              settled (g.D.MaildirDisk.maildir c.args.disk.now) _ _ (string_bytes c.args.stem) _ _ now.1
-                  (long g here) ends.1,
+              settled (g.D.MaildirDisk.maildir c.args.disk.now) _ _ (string_bytes c.args.stem) _ _ now.1 (long g here) ends.1,
               long g here,
             ),
           ),
@@ -141,8 +134,7 @@ pieces-preserved g c =
 
 pub returns-in-Err-next_piece-clause-counted : goal.returns-in-Err-next_piece-clause-counted
 returns-in-Err-next_piece-clause-counted g c =
-    rw c.from.ensures (before_cut (g.W.Wire.history c.args.client.now.wire.now)
-    (g.W.Wire.history c.pieces.client.wire.now)
+    rw c.from.ensures (before_cut (g.W.Wire.history c.args.client.now.wire.now) (g.W.Wire.history c.pieces.client.wire.now)
     (g.W.Wire.history c.next_piece.new.self.wire.now) _ c.pieces.invariant.3
     (cut_by c.in-Err-next_piece.fault (g.W.Wire.history c.pieces.client.wire.now)
     (g.W.Wire.history c.next_piece.new.self.wire.now) c.in-Err-next_piece.ensures.counted))

@@ -1,22 +1,16 @@
 use Rattle.std.proofs.Common.{rules, [], List, ℕ, Ok, Err, inl, inr, arith, refl, sym, subst, ◌∙◌, string_bytes}
 use Rattle.fetch_record.specs.Record.{RecordState, none_open, marked}
-use Rattle.fetch_session.specs.Record.{Saves}
+use Rattle.fetch_session.specs.{Record.Saves, Store.MayGain, Target.AsFiles, Refusal.TookTillCut, Parts.KeepsLink, Report.AddsLines}
 use Rattle.fetch_session.proofs.SceneLemmas.{held_is, all_sound, link_alone}
-use Rattle.pop3_client.specs.declared.fault.ClientFault.TheVariants.{NoMemory}
+use Rattle.pop3_client.specs.{declared.fault.ClientFault.TheVariants.NoMemory, Client.link_of}
 use Rattle.pop3_client.specs.Turns.{most, retr}
-use Rattle.pop3_client.specs.Client.{link_of}
 use Rattle.mail_store.specs.Maildir.{IsThere}
 use Rattle.mail_store.specs.FileName.{sized, sized_file, stem_of}
-use Rattle.fetch_session.specs.Store.{MayGain}
-use Rattle.fetch_session.specs.Target.{AsFiles}
 use Rattle.fetch_session.proofs.SessionLemmas.{same_left}
 use Rattle.fetch_session.proofs.TextLemmas.{named_more, stores_grows, text_broken, text_stops, text_stored, text_not_saved}
 use Rattle.pop3_wire.proofs.LinkLemmas.{and_then, in_words}
 use Rattle.fetch_session.proofs.TalkLemmas.{took_talked, takes_stopped, before_cut, err_is, did_both}
 use Rattle.fetch_session.proofs.PartLemmas.{link_broke, link_idle, link_then_cut, marked_ledger, same_ledger}
-use Rattle.fetch_session.specs.Refusal.{TookTillCut}
-use Rattle.fetch_session.specs.Parts.{KeepsLink}
-use Rattle.fetch_session.specs.Report.{AddsLines}
 use Rattle.fetch_session.proofs.storing.take_into_maildir.Goals.{After-note, After-store_text, In_ok-length}
 use Rattle.fetch_session.proofs.storing.take_into_maildir.Goals as goal
 
@@ -26,15 +20,13 @@ store_text-requires-clause-not_there g c = λ kept size there.
     c.requires.digits (c.requires.free kept)
     (subst (λ (stem : List ℕ). IsThere (g.D.MaildirDisk.maildir c.args.disk.now) (sized stem size)) c.in_ok-stem.ensures.stem there)
 
-grown : (g : _) (c : After-store_text g) → g.D.MaildirDisk.sound c.store_text.new.disk
-    → g.D.MaildirDisk.sound c.args.disk.now
+grown : (g : _) (c : After-store_text g) → g.D.MaildirDisk.sound c.store_text.new.disk → g.D.MaildirDisk.sound c.args.disk.now
     × MayGain (stem_of c.args.account.now c.args.uid.now) (g.D.MaildirDisk.maildir c.args.disk.now)
     (g.D.MaildirDisk.maildir c.store_text.new.disk)
 grown g c d =
     let stored = c.store_text.ensures.stores.1 d in (
       stored.0,
-      rw c.in_ok-stem.ensures.stem at
-          (stores_grows _ _ (string_bytes c.in_ok-stem.stem) c.store_text.ensures.stores.0 c.store_text.result
+      rw c.in_ok-stem.ensures.stem at (stores_grows _ _ (string_bytes c.in_ok-stem.stem) c.store_text.ensures.stores.0 c.store_text.result
           (c.requires.none_begun stored.0) stored.1),
     )
 
@@ -53,8 +45,7 @@ returns-in_err-stem g c = rw (err_is c.from_residual.ensures.1) (record {
   takes = link_alone (λ w. (
     w,
     g.met.W.Wire.leads_same c.args.client.now.wire.now,
-    text_broken
-        (AsFiles c.args.account.now) NoMemory refl (inr (inr (refl, refl, refl))),
+    text_broken (AsFiles c.args.account.now) NoMemory refl (inr (inr (refl, refl, refl))),
   ));
   keeps = search rules;
   durable = λ d f safe. (tt, inl (same_left g.F.FlatFile c.args.ledger.now.file safe (c.requires.ready.steady f)));
@@ -113,20 +104,16 @@ returns g c =
     record {
       link = stored g here.In_ok-length;
       ledger = marked_ledger (Ok tt) c.marked_keeps_rows.ensures refl (noted g here.After-note) (λ f. (marks.saves f).0)
-          (marks.rows, record { closed = marks.closed; steady = λ f. (marks.steady f).1 })
-          (λ f. (c.remember.ensures.keeps f).1);
-      grows = λ d. let grew = grown g here.After-store_text d
-          in (
-            grew.0,
-            grew.1,
-            rw (stores.1 d).1.0 (named_more (g.D.MaildirDisk.maildir c.args.disk.now).files _
-                (c.requires.named grew.0) refl),
-          );
+          (marks.rows, record { closed = marks.closed; steady = λ f. (marks.steady f).1 }) (λ f. (c.remember.ensures.keeps f).1);
+      grows = λ d. let grew = grown g here.After-store_text d in (
+        grew.0,
+        grew.1,
+        rw (stores.1 d).1.0 (named_more (g.D.MaildirDisk.maildir c.args.disk.now).files _ (c.requires.named grew.0) refl),
+      );
       takes = all_sound (and_then g.W.Wire g.met.W.Wire.leads_on c.in_ok-body.ensures.opens stores.2
           (λ opened link. link c.args.number _ opened)) stores.1 marks.saves
           (λ link stored saved. text_stored c.in_ok-length.length stores.0 (string_bytes c.in_ok-stem.stem)
-          c.in_ok-stem.ensures.stem stored link marks.rows
-          (rw c.requires.ready.closed at saved) c.note.ensures.items);
+          c.in_ok-stem.ensures.stem stored link marks.rows (rw c.requires.ready.closed at saved) c.note.ensures.items);
       keeps = λ f. (c.remember.ensures.keeps f).0;
       durable = λ d f safe. (marks.durable f safe, tt);
     }

@@ -1,7 +1,6 @@
 use Rattle.std.proofs.Common.{◌≡◌, ◌++◌, take, flat_map}
 use Rattle.std.specs.String.{string_bytes}
-use Rattle.fetch_session.specs.Telling.{message_preview_text}
-use Rattle.fetch_session.specs.Text.{heading}
+use Rattle.fetch_session.specs.{Telling.message_preview_text, Text.heading}
 use Rattle.fetch_session.proofs.telling.preview_text.Given as goal
 
 abbrev pub invariant-loop-message_preview : goal.invariant-loop-message_preview

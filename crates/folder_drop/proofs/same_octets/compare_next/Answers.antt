@@ -19,11 +19,9 @@ returns g c =
     let filled = subst (FillKeeps _ (g.F.Read.remaining rested) (g.F.BufRead.consumable_len rested)) c.in_ok-front.was
     c.fill_buf.follows.holds-at-none in
     let other_filled = subst (FillKeeps _ (g.G.Read.remaining other_rested) (g.G.BufRead.consumable_len other_rested))
-    c.in_ok-other_front.was
-    c.fill_buf-2.follows.holds-at-none in
+    c.in_ok-other_front.was c.fill_buf-2.follows.holds-at-none in
     let shown = Consumes_shown _ _ _ _ front count (omega (arith, c.min-count.ensures)) c.in_ok-front.ensures.front
-    c.in_ok-front.ensures.end
-    filled.0 filled.1 c.consume.ensures.bytes in
+    c.in_ok-front.ensures.end filled.0 filled.1 c.consume.ensures.bytes in
     let other_shown = Consumes_shown _ _ _ _ other_front count (omega (arith, c.min-count.ensures)) c.in_ok-other_front.ensures.front
     c.in_ok-other_front.ensures.end other_filled.0 other_filled.1 c.consume-2.ensures.bytes in
     let same : take count front ≡ take count other_front = search rules in

@@ -14,8 +14,7 @@ returns-in_err-append_flushed g c =
     let front = c.split_at.result.0.now in (
       sized.0,
       front_of_all {T = Unit {0}} (Unit {0}) (disk_at (g.F.FolderState.directory c.args.folder.now) c.args.name.now) _
-          _ front _ (Err p.0) p.0
-          (in_parts _ front _ _ c.split_at.ensures.front c.split_at.ensures.back) (rw sized.1.1 at piece.1),
+          _ front _ (Err p.0) p.0 (in_parts _ front _ _ c.split_at.ensures.front c.split_at.ensures.back) (rw sized.1.1 at piece.1),
     ))
 
 pub returns-in_err-append_flushed-2 : goal.returns-in_err-append_flushed-2
@@ -39,8 +38,7 @@ loop-rest-preserved g c =
       done.0 ++ page,
       rw (
         append_assoc done.0 page after,
-        ← in_parts _ page after _ c.split_at-in-loop-rest.ensures.front
-            c.split_at-in-loop-rest.ensures.back,
+        ← in_parts _ page after _ c.split_at-in-loop-rest.ensures.front c.split_at-in-loop-rest.ensures.back,
       ) done.1,
       λ s. let piece = c.in_ok-append_flushed-2.ensures s in
           let before = done.2 piece.0 in (

@@ -1,5 +1,4 @@
-use Rattle.std.proofs.Common.{inl}
-use Rattle.std.proofs.lemmas.Result.{err_from_is_err_and}
+use Rattle.std.proofs.{Common.inl, lemmas.Result.err_from_is_err_and}
 use Rattle.mail_store.specs.DiskCalls.{cut}
 use Rattle.folder_store.proofs.Files.{flushed_becomes, refused_becomes}
 use Rattle.folder_store.proofs.durable_file.cut_flushed.Goals as goal

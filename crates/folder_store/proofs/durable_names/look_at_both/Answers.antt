@@ -3,8 +3,7 @@ use Rattle.mail_store.specs.declared.maildir.disk.Folder.TheVariants.{New, Cur}
 use Rattle.folder_store.specs.MailFolders.{Directories}
 use Rattle.folder_store.specs.MailCalls.{Learns, ToldBoth}
 use Rattle.folder_store.proofs.MailCalls.{leads_learns, learned, learns_same, flushes_leads, lists_learns, lacked, unflushed, looked}
-use Rattle.folder_store.proofs.MailMoves.{moved_same}
-use Rattle.folder_store.proofs.durable_names.look_at_both.Given.{Over}
+use Rattle.folder_store.proofs.{MailMoves.moved_same, durable_names.look_at_both.Given.Over}
 use Rattle.folder_store.proofs.durable_names.look_at_both.Goals.{In_ok-flush_names, In_ok-flush_names-2, In_ok-names}
 use Rattle.folder_store.proofs.durable_names.look_at_both.Goals.{In_ok-in_cur, In_ok-rests}
 use Rattle.folder_store.proofs.durable_names.look_at_both.Goals as goal
@@ -80,8 +79,7 @@ returns-in-Ok-clause-looks g c = λ s.
     let t2 = c.in_ok-flush_names-2.ensures.flushes t3.0 in
     let t1 = c.in_ok-flush_names.ensures.flushes t2.0 in
     let told = looked c.args.sought _ _ _ _ _ _ c.in_ok-names.names c.in_ok-in_cur.in_cur c.in_ok-flush_names.field-0
-    c.in_ok-flush_names-2.field-0
-    c.in_ok-rests.field-0 t1.1 t2.1 t3.1 t4.1 t5.1 (search rules) in
+    c.in_ok-flush_names-2.field-0 c.in_ok-rests.field-0 t1.1 t2.1 t3.1 t4.1 t5.1 (search rules) in
     let all = by_all g (goal.at.returns-in-Ok-clause-looks g c).In_ok-rests s in
     let now = g.F.MailFolders.directories c.rests.new.self in
     (all.0, (all.1, subst (λ (names : List (String Global)). ToldBoth c.args.sought names now) (sym c.in-Ok.ensures.items) told, tt))

@@ -10,8 +10,7 @@ loop-stem-preserved c =
     let p : Bor (List ℕ) → Bool = λ stem. not (was_flushed c.args.found.now stem.now) in
     let flushed : (q : List ℕ) → has_text c.add_stems.new.flushed q ≡ has_flushed c.args.found.now q =
     λ q. c.in_ok-add_stems.ensures.flushed q ∙ rw c.new-flushed.ensures.empty refl in
-    let missed : (q : List ℕ)
-    → has_text c.add_stems.new.missed q ≡ has_missed c.args.found.now q = λ q. c.in_ok-add_stems.ensures.missed q
+    let missed : (q : List ℕ) → has_text c.add_stems.new.missed q ≡ has_missed c.args.found.now q = λ q. c.in_ok-add_stems.ensures.missed q
     ∙ rw c.new-missed.ensures.empty refl in
     let is : (stem : Bor (List ℕ))
     → (not (has_text c.add_stems.new.flushed stem.now) || has_text c.add_stems.new.missed stem.now) ≡ p stem =
@@ -23,16 +22,14 @@ loop-stem-preserved c =
       | then-is_left+in_ok-push w ↦ rw (
         w.left-is,
         more,
-        sym (is stem) ∙ sym c.is_left.ensures
-            ∙ w.if-is_left.true,
+        sym (is stem) ∙ sym c.is_left.ensures ∙ w.if-is_left.true,
         w.in_ok-push.ensures.items,
         c.loop-stem.invariant,
       ) refl
       | else-is_left w ↦ rw (
         w.left-is,
         more,
-        sym (is stem) ∙ sym c.is_left.ensures
-            ∙ w.if-is_left.false,
+        sym (is stem) ∙ sym c.is_left.ensures ∙ w.if-is_left.false,
         c.loop-stem.invariant,
       ) (sym (append-nil _))
     ]

@@ -7,8 +7,7 @@ returns-clause-held g c = (
   (
     c.pretend-preview.result,
     rw c.wipe.ensures (λ w d f. (c.pretend-preview.ensures.pretends w d f).4),
-    rw
-        (c.settings-settings.ensures.value, c.pretend-preview.ensures.settings) at c.said_ahead-said.ensures,
+    rw (c.settings-settings.ensures.value, c.pretend-preview.ensures.settings) at c.said_ahead-said.ensures,
   ),
 )
 

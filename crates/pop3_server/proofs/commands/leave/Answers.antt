@@ -1,15 +1,12 @@
 use Rattle.std.proofs.Common.{◌≡◌, refl, ◌+◌, ◌&&◌, drop, arith, true, []}
 use Rattle.std.proofs.Math.Bool.{and_assoc, and-true}
-use Rattle.std.proofs.lemmas.Grind.{common_steps}
-use Rattle.std.proofs.lemmas.List.{drop_more}
-use Rattle.std.proofs.lemmas.Option.{slice_get_read}
+use Rattle.std.proofs.{lemmas.Grind.common_steps, lemmas.List.drop_more, lemmas.Option.slice_get_read}
 use Rattle.pop3_server.specs.ServerMachine.{none, stays, goes}
 use Rattle.pop3_server.proofs.RemovalLemmas.{later_place}
 use Rattle.pop3_server.proofs.commands.leave.Goals as goal
 
 pub remove_at-done-requires : goal.remove_at-done-requires
-remove_at-done-requires g c = λ s.
-    (c.loop-i.invariant.1 s).1 c.loop-i.i c.index-rows-i.result (omega arith)
+remove_at-done-requires g c = λ s. (c.loop-i.invariant.1 s).1 c.loop-i.i c.index-rows-i.result (omega arith)
     (slice_get_read c.args.rows.now _ c.loop-i.i c.index-rows-i.result refl c.loop-i-test.true c.index-rows-i.is)
 
 pub loop-i-preserved-then-not-row : goal.loop-i-preserved-then-not-row
@@ -23,8 +20,7 @@ loop-i-preserved-then-not-row g c =
       λ s. let inv = c.loop-i.invariant.1 s in (
         inv.0,
         (λ k r later h. inv.1 k r (omega arith) h),
-        (λ tail end h. inv.2 tail end
-            (rw cut (stays i row (drop (i + 1) rows) mail tail end c.if-not-row.true h))),
+        (λ tail end h. inv.2 tail end (rw cut (stays i row (drop (i + 1) rows) mail tail end c.if-not-row.true h))),
       ),
     )
 
@@ -42,8 +38,7 @@ loop-i-preserved g c =
           let inv = c.loop-i.invariant.1 tried.0 in (
             inv.0,
             (λ k r later h. later_place mail next i k done tried.1 (omega (arith, later)) (inv.1 k r (omega arith) h)),
-            (λ tail end h. rw and_assoc
-                (inv.2 (done && tail) end
+            (λ tail end h. rw and_assoc (inv.2 (done && tail) end
                 (rw cut (goes i row (drop (i + 1) rows) mail next done tail end c.if-not-row.false tried.1 h)))),
           ),
     )

@@ -1,8 +1,7 @@
 use Rattle.std.proofs.Common.{◌≡◌, ℕ, zero, suc, List, [], ◌∷◌, map, Some, Vec, Ok, slice_get, refl, ◌∙◌, ap, inr}
 use Rattle.std.proofs.lemmas.Simd.{map-map}
 use Rattle.pop3_wire.specs.World.{Message}
-use Rattle.pop3_server.specs.declared.rows.MessageRow.{MessageRow}
-use Rattle.pop3_server.specs.declared.state.State.TheVariants.{Transaction}
+use Rattle.pop3_server.specs.{declared.rows.MessageRow.MessageRow, declared.state.State.TheVariants.Transaction}
 use Rattle.pop3_server.specs.Maildrop.{ListedMessage, DropMail, there, listed_message, ListsMessages}
 use Rattle.pop3_server.specs.ServerMachine.{message_row, row_of_entry, Unanswered, Tied}
 use Rattle.pop3_server.proofs.SlotLemmas.{there_map}
@@ -38,16 +37,14 @@ pub returns-in_err-rows-clause-err : goal.returns-in_err-rows-clause-err
 returns-in_err-rows-clause-err g c =
     rw (err_is c.from_residual-in_err-rows.ensures.1) (
       refl,
-      unanswered_listing _ _ _ _ c.in-Ok.entries c.in-Ok.ensures.lists c.in-Ok.ensures.tally
-          c.in-Ok.ensures.removes_none,
+      unanswered_listing _ _ _ _ c.in-Ok.entries c.in-Ok.ensures.lists c.in-Ok.ensures.tally c.in-Ok.ensures.removes_none,
     )
 
 pub returns-in_err-reply-clause-err : goal.returns-in_err-reply-clause-err
 returns-in_err-reply-clause-err g c =
     rw (err_is c.from_residual-in_err-reply.ensures.1) (
       c.in_err-reply.ensures.err,
-      unanswered_listing _ _ _ _ c.in-Ok.entries c.in-Ok.ensures.lists
-          c.in-Ok.ensures.tally c.in-Ok.ensures.removes_none,
+      unanswered_listing _ _ _ _ c.in-Ok.entries c.in-Ok.ensures.lists c.in-Ok.ensures.tally c.in-Ok.ensures.removes_none,
     )
 
 pub returns-clause-ok : goal.returns-clause-ok
@@ -59,8 +56,7 @@ returns-clause-ok g c = λ state. rw c.go-2.ensures (record {
     rw c.as_slice.ensures.value at c.in_ok-reply.ensures.ok,
     refl,
     λ s.
-        let l = c.in-Ok.ensures.lists s
-        in (
+        let l = c.in-Ok.ensures.lists s in (
           l.0,
           (
             l.1.0,

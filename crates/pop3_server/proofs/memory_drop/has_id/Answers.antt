@@ -1,8 +1,5 @@
 use Rattle.std.proofs.Common.{◌≡◌, take, sym, ◌∙◌, arith, subst, refl, Contains, append-nil, inl, inr}
-use Rattle.std.proofs.lemmas.Bool.{false≢true}
-use Rattle.std.proofs.lemmas.List.{map-append}
-use Rattle.std.proofs.lemmas.List.Elements.{Contains-push_cases}
-use Rattle.std.proofs.lemmas.Grind.{common_steps}
+use Rattle.std.proofs.{lemmas.Bool.false≢true, lemmas.List.map-append, lemmas.List.Elements.Contains-push_cases, lemmas.Grind.common_steps}
 use Rattle.pop3_server.specs.Maildrop.{ids}
 use Rattle.pop3_server.proofs.SlotLemmas.{Contains-slot, there_more}
 use Rattle.pop3_server.proofs.memory_drop.has_id.Goals as goal
@@ -11,8 +8,7 @@ use Rattle.pop3_server.proofs.memory_drop.has_id.Goals.{in-None, in-Some+else-is
 pub returns-then-is : goal.returns-then-is
 returns-then-is c = (
   λ _. subst (λ u. Contains (ids c.args.slots.now) u) (c.is.ensures.0 c.if-is.true)
-      (Contains-slot c.args.slots.now c.loop-slot.slot-index _ c.in-Some.message c.loop-slot-test.true c.slot-item.is
-      c.in-Some.is),
+      (Contains-slot c.args.slots.now c.loop-slot.slot-index _ c.in-Some.message c.loop-slot-test.true c.slot-item.is c.in-Some.is),
   λ _. refl,
 )
 
@@ -23,15 +19,13 @@ loop-slot-preserved c = λ h.
       | in-None w ↦ c.loop-slot.invariant (rw (more, w.in-None.is, append-nil) at h)
       | in-Some+else-is w ↦ elim (Contains-push_cases _ _ _ (rw (more, w.in-Some.is, map-append) at h)) [
         | inl old ↦ c.loop-slot.invariant old
-        | inr same ↦ absurd (false≢true (sym w.if-is.false
-            ∙ w.is.ensures.1 same))
+        | inr same ↦ absurd (false≢true (sym w.if-is.false ∙ w.is.ensures.1 same))
       ]
     ]
 
 pub returns : goal.returns
 returns c = (
   λ h. absurd (false≢true h),
-  λ h. absurd (let all : take c.loop-slot.slot-index c.args.slots.now
-      ≡ c.args.slots.now = grind (arith, common_steps)
+  λ h. absurd (let all : take c.loop-slot.slot-index c.args.slots.now ≡ c.args.slots.now = grind (arith, common_steps)
       in c.loop-slot.invariant (subst (λ s. Contains (ids s) c.args.uid.now) (sym all) h)),
 )

@@ -1,7 +1,6 @@
 use Rattle.std.proofs.Common.{◌≡◌, ◌++◌, ◌+◌, drop, codes}
 use Rattle.pop3_wire.specs.Line.{crlf}
-use Rattle.pop3_server.specs.ServerMachine.{lines_from}
-use Rattle.pop3_server.specs.ReplyLines.{row_line}
+use Rattle.pop3_server.specs.{ServerMachine.lines_from, ReplyLines.row_line}
 use Rattle.pop3_server.proofs.reply.say_rows.Given as goal
 
 abbrev pub invariant-loop-i : goal.invariant-loop-i

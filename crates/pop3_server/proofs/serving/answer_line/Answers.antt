@@ -6,8 +6,7 @@ use Rattle.pop3_server.proofs.serving.answer_line.Goals as goal
 pub returns-in_err-send-clause-answers : goal.returns-in_err-send-clause-answers
 returns-in_err-send-clause-answers g c =
     let before = c.loop-bytes.invariant.3 in
-    rw (err_is c.from_residual-in_err-send.ensures.1)
-    (and_then g.W.Wire g.met.W.Wire.leads_on before.2 c.in_err-send.ensures.sends
+    rw (err_is c.from_residual-in_err-send.ensures.1) (and_then g.W.Wire g.met.W.Wire.leads_on before.2 c.in_err-send.ensures.sends
     (λ link sent. rw c.in_err-send.ensures.err (
       before.0 ++ sent.0,
       sent.1,

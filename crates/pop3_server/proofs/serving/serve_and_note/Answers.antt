@@ -1,8 +1,6 @@
 use Rattle.std.proofs.Common.{◌≡◌, true, None, refl, sym, subst, ◌∙◌}
 use Rattle.std.proofs.lemmas.Bool.{not-true, not-false}
-use Rattle.pop3_server.specs.declared.fault.ServerFault.TheVariants.{WriteFailed}
-use Rattle.pop3_server.specs.ServerMachine.{is_open}
-use Rattle.pop3_server.specs.AnswersLines.{MakesAnswer}
+use Rattle.pop3_server.specs.{declared.fault.ServerFault.TheVariants.WriteFailed, ServerMachine.is_open, AnswersLines.MakesAnswer}
 use Rattle.pop3_server.proofs.ServeLemmas.{greeted, served_unmade, served_ungreeted, served_stopped, served_closed}
 use Rattle.pop3_server.proofs.ServeLemmas.{progress_line, long_turn, line_came}
 use Rattle.pop3_wire.proofs.LinkLemmas.{and_then_two}
@@ -11,12 +9,10 @@ use Rattle.pop3_server.proofs.serving.serve_and_note.Goals as goal
 
 pub returns-in_err-hello-clause-served : goal.returns-in_err-hello-clause-served
 returns-in_err-hello-clause-served g c =
-    rw (err_is c.from_residual.ensures.1)
-    (λ s. (
+    rw (err_is c.from_residual.ensures.1) (λ s. (
       s,
       g.met.W.Wire.leads_same c.args.wire.now,
-      rw c.in_err-hello.ensures.err
-          (served_unmade _ _ _ _ c.greeting.new.self c.greeting.ensures.same),
+      rw c.in_err-hello.ensures.err (served_unmade _ _ _ _ c.greeting.new.self c.greeting.ensures.same),
     ))
 
 pub returns-in_err-send-clause-served : goal.returns-in_err-send-clause-served
@@ -50,14 +46,12 @@ returns-in_err-send-in-LongLine-clause-served g c =
     c.in_err-send-in-LongLine.ensures.sends (λ p came sent.
     let heard = rw c.in-LongLine.is at came in
     let turn = long_turn g.D.Maildrop.sound g.D.Maildrop.mail c.loop-hello.server heard.1 c.loop-hello.invariant.1 heard.5 in
-    rw c.in_err-send-in-LongLine.ensures.err
-    (served_stopped p (record { gained = heard.0; took = heard.2; takes = heard.3; is = heard.4 })
+    rw c.in_err-send-in-LongLine.ensures.err (served_stopped p (record { gained = heard.0; took = heard.2; takes = heard.3; is = heard.4 })
     c.loop-hello.server _ WriteFailed (
       sent.0,
       sent.1,
       None,
-      subst (λ l. MakesAnswer g.D.Maildrop.sound g.D.Maildrop.mail c.loop-hello.server heard.1 l
-          None c.loop-hello.server) sent.2 turn,
+      subst (λ l. MakesAnswer g.D.Maildrop.sound g.D.Maildrop.mail c.loop-hello.server heard.1 l None c.loop-hello.server) sent.2 turn,
       sent.3,
     ))))
 

@@ -5,8 +5,7 @@ use Rattle.pop3_server.proofs.ServeLemmas.{Progress}
 use Rattle.pop3_server.proofs.serving.serve_and_note.Given as goal
 
 abbrev pub invariant-loop-hello : goal.invariant-loop-hello
-invariant-loop-hello g l = ((g.W.Wire.history l.wire).failures ≡ (g.W.Wire.history l.fn.wire).failures)
-    × (is_open l.server.state ≡ true)
+invariant-loop-hello g l = ((g.W.Wire.history l.wire).failures ≡ (g.W.Wire.history l.fn.wire).failures) × (is_open l.server.state ≡ true)
     × ((g.D.Maildrop.mail l.server.drop).removals ≡ (g.D.Maildrop.mail l.fn.server.drop).removals)
     × WhereSound g.W.Wire.sound g.W.Wire.leads_to l.fn.wire l.wire
     (Progress g.D.Maildrop.sound g.D.Maildrop.mail l.fn.server (g.W.Wire.history l.fn.wire) l.server (g.W.Wire.history l.wire) l.intake)

@@ -6,14 +6,11 @@ use Rattle.pop3_wire.proofs.command_line.without_spaces.Goals.{then-loop-length-
 
 pub returns : goal.returns
 returns c =
-    ap (λ k. take k c.args.line.now)
-    (omega (
+    ap (λ k. take k c.args.line.now) (omega (
       arith,
-      suffix_len_is is_space c.args.line.now c.loop-length.length 0 c.loop-length.invariant.0
-          c.loop-length.invariant.1
+      suffix_len_is is_space c.args.line.now c.loop-length.length 0 c.loop-length.invariant.0 c.loop-length.invariant.1
           (λ some. elim c.loop-length-test.branch [
-            | then-loop-length-test+else-line-length-eq32 w ↦ ne_eqb _ _
-                w.if-line-length-eq32.false
+            | then-loop-length-test+else-line-length-eq32 w ↦ ne_eqb _ _ w.if-line-length-eq32.false
             | else-loop-length-test w ↦ absurd (omega arith)
           ]),
     ))

@@ -5,8 +5,7 @@ use Rattle.pop3_wire.proofs.BodyLemmas.{IsLine-nowhere, IsLine-without_lf, line_
 use Rattle.pop3_wire.proofs.line.cut_line.Goals as goal
 
 pub returns-in_err-length-clause-none : goal.returns-in_err-length-clause-none
-returns-in_err-length-clause-none c =
-    rw c.from_residual-in_err-length.ensures (IsLine-nowhere c.args.bytes.now c.in_err-length.ensures)
+returns-in_err-length-clause-none c = rw c.from_residual-in_err-length.ensures (IsLine-nowhere c.args.bytes.now c.in_err-length.ensures)
 
 pub returns-in_err-feed-clause-none : goal.returns-in_err-feed-clause-none
 returns-in_err-feed-clause-none c = rw c.from_residual.ensures (IsLine-without_lf c.args.bytes.now c.in_err-feed.ensures)

@@ -8,6 +8,5 @@ returns-clause-quit g c = λ s.
     let opened : is_open c.into_server-server.result.state ≡ true = rw c.into_server-server.ensures refl in (
       did.0,
       did.1,
-      λ some. c.only_quit_closes.ensures _ _ _ _ _ did.2 opened
-          (sym c.is_open-is_open.ensures ∙ c.quit_of-quit.ensures.some some),
+      λ some. c.only_quit_closes.ensures _ _ _ _ _ did.2 opened (sym c.is_open-is_open.ensures ∙ c.quit_of-quit.ensures.some some),
     )

@@ -11,7 +11,5 @@ returns-in-None c =
 
 pub returns-in-Some : goal.returns-in-Some
 returns-in-Some c =
-    IfOk-weaker c.copies.result _ _
-    (λ more copied. copied ∙ ap (λ (texts : Option (List (List ℕ))). unwrap_or texts []) (c.in-Some.ensures
-    ∙ raw_values-rows (found_of c.args.matches.now) (codes "more")))
-    c.copies.ensures
+    IfOk-weaker c.copies.result _ _ (λ more copied. copied ∙ ap (λ (texts : Option (List (List ℕ))). unwrap_or texts []) (c.in-Some.ensures
+    ∙ raw_values-rows (found_of c.args.matches.now) (codes "more"))) c.copies.ensures

@@ -1,5 +1,4 @@
-use Rattle.std.proofs.Common.{rules}
-use Rattle.std.proofs.lemmas.Str.{is_utf8-from_IsUtf8}
+use Rattle.std.proofs.{Common.rules, lemmas.Str.is_utf8-from_IsUtf8}
 use Rattle.rc_file.specs.LineRules.{judge}
 use Rattle.rc_file.proofs.line.judge.Goals as goal
 

@@ -2,8 +2,7 @@ use Rattle.std.proofs.Common.{◌≡◌, ◌∷◌, [], ◌++◌, map, sym, ◌�
 use Rattle.std.proofs.lemmas.Bool.{MatchBool-at_false, not-true, not-false}
 use Rattle.std.proofs.lemmas.List.{map-append}
 use Rattle.std.specs.HashSet.{contains, IsUnchanged}
-use Rattle.rc_file.specs.RcMeaning.{warned}
-use Rattle.rc_file.specs.RowReading.{row_of}
+use Rattle.rc_file.specs.{RcMeaning.warned, RowReading.row_of}
 use Rattle.rc_file.specs.WarningSearch.{name_eq, warning_of}
 use Rattle.rc_file.proofs.RcMeaningLemmas.{tells_new, tells_again}
 use Rattle.rc_file.proofs.warning.tell.Goals as goal

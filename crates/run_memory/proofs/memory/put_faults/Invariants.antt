@@ -1,6 +1,5 @@
 use Rattle.std.proofs.Common.{◌≡◌, ◌++◌, take, flat_map}
-use Rattle.run_memory.specs.Lines.{known_fault_line}
-use Rattle.run_memory.specs.Memory.{with_lf}
+use Rattle.run_memory.specs.{Lines.known_fault_line, Memory.with_lf}
 use Rattle.run_memory.proofs.memory.put_faults.Given as goal
 
 abbrev pub invariant-loop-fault : goal.invariant-loop-fault

@@ -11,5 +11,4 @@ returns-in_ok-left-in-Some-1₀ c =
 pub returns-in-None : goal.returns-in-None
 returns-in-None c =
     inr (rw c.as_str.ensures.value at (was_once c.args.older.now c.as_str.result.now c.in-Some.i
-    c.in-Some.ensures.inside c.in-Some.ensures.named
-    c.index-older-i.result None (rw c.in-None.is tt)))
+    c.in-Some.ensures.inside c.in-Some.ensures.named c.index-older-i.result None (rw c.in-None.is tt)))

@@ -22,5 +22,4 @@ returns-in_ok-push-in-None-clause-placed c =
     ap (λ (fs : List Pair). folder_entries fs) c.in_ok-push-in-None.ensures.items ∙ push_placed _ (c.args.name, c.args.file) none
 
 pub returns-in_ok-push-in-None-clause-was : goal.returns-in_ok-push-in-None-clause-was
-returns-in_ok-push-in-None-clause-was c =
-    sym (rw (c.deref.ensures.value, c.as_str.ensures.value) at (not_found _ _ c.in-None.ensures.none))
+returns-in_ok-push-in-None-clause-was c = sym (rw (c.deref.ensures.value, c.as_str.ensures.value) at (not_found _ _ c.in-None.ensures.none))

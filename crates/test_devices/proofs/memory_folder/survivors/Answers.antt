@@ -10,6 +10,5 @@ loop-i-preserved c = rw (
   ←
       c.index-files-i.is,
   c.in_ok-add_left.ensures,
-)
-    (survives_next (map older_of c.args.older.now) _ (folder_entries c.loop-i.left.items) (folder_entry c.index-files-i.result)
+) (survives_next (map older_of c.args.older.now) _ (folder_entries c.loop-i.left.items) (folder_entry c.index-files-i.result)
     (option_map (λ bytes. bytes.items) c.in_ok-bytes.bytes) c.loop-i.invariant c.in_ok-bytes.ensures)

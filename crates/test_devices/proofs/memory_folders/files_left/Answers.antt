@@ -10,5 +10,4 @@ loop-i-preserved c = rw (
   ←
       c.index-files-i.is,
   c.in_ok-add_left.ensures,
-)
-    (left_on _ (map stored_file c.loop-i.left.items) _ (option_map stored_file c.in_ok-rest.rest) c.loop-i.invariant c.in_ok-rest.ensures)
+) (left_on _ (map stored_file c.loop-i.left.items) _ (option_map stored_file c.in_ok-rest.rest) c.loop-i.invariant c.in_ok-rest.ensures)

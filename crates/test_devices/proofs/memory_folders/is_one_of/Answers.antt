@@ -1,6 +1,5 @@
 use Rattle.std.proofs.Common.{rules, bytes_eq, string_bytes}
-use Rattle.std.proofs.lemmas.Iterator.{YieldsList-from_slice}
-use Rattle.std.proofs.lemmas.Iterator.Search.{any_from_yields_List}
+use Rattle.std.proofs.{lemmas.Iterator.YieldsList-from_slice, lemmas.Iterator.Search.any_from_yields_List}
 use Rattle.test_devices.proofs.MemoryMail.{among_has}
 use Rattle.test_devices.proofs.memory_folders.is_one_of.Goals as goal
 
@@ -8,5 +7,4 @@ pub returns-clause-has : goal.returns-clause-has
 returns-clause-has c =
     let text = c.args.text.now in
     rw (any_from_yields_List (λ other. bytes_eq text (string_bytes other)) _ _ _ c.any.ensures.ran
-    (YieldsList-from_slice c.args.texts.now cc) (λ x b q k. search rules))
-    (among_has c.args.texts.now text)
+    (YieldsList-from_slice c.args.texts.now cc) (λ x b q k. search rules)) (among_has c.args.texts.now text)

@@ -1,8 +1,7 @@
 use Rattle.std.proofs.Common.{◌∙◌, sym, arith}
 use Rattle.std.proofs.Math.Seq.{take-append_seam}
 use Rattle.std.proofs.lemmas.Bool.{cond-true, cond-false}
-use Rattle.fetch_record.proofs.MergeLemmas.{added_next}
-use Rattle.fetch_record.proofs.RowLemmas.{state_in_none}
+use Rattle.fetch_record.proofs.{MergeLemmas.added_next, RowLemmas.state_in_none}
 use Rattle.fetch_record.proofs.row_map.RowMap.add_until_refused.Goals as goal
 
 pub loop-i-preserved-then-has : goal.loop-i-preserved-then-has

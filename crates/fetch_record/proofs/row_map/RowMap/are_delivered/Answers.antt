@@ -14,5 +14,4 @@ loop-place-preserved g c =
 
 pub returns : goal.returns
 returns g c = All-from_all_within (λ row. row.delivered ≡ true) c.args.self.now
-    (AllWithin-upto (λ row. row.delivered ≡ true) c.args.self.now 0 c.loop-place.place _ (omega arith)
-    c.loop-place.invariant)
+    (AllWithin-upto (λ row. row.delivered ≡ true) c.args.self.now 0 c.loop-place.place _ (omega arith) c.loop-place.invariant)

@@ -23,8 +23,7 @@ loop-i-preserved g c = elim c.if-held-i.branch [
         (rw (sym v.is_delivered.ensures ∙ v.if-not-is_delivered.false, and-false) refl) (λ id. refl)
     | else-held-i-via-else-held-i v ↦
         HasHeldAnew-more _ _ c.loop-i.i c.requires (omega arith) c.args.self.now c.loop-i.ids c.loop-i.ids
-        c.uid-uid.result.now false c.loop-i.invariant c.uid-uid.ensures.value
-        (rw v.if-held-i.false refl) (λ id. refl)
+        c.uid-uid.result.now false c.loop-i.invariant c.uid-uid.ensures.value (rw v.if-held-i.false refl) (λ id. refl)
   ])
 ]
 

@@ -11,8 +11,7 @@ loop-i-preserved g c = elim c.if-held-i.branch [
   | then-held-i w ↦ rw (w.self-is, w.changed-is)
       (HasMarked-held _ _ _ c.requires (omega arith) w.uid.result.now _ _ _ _ _ w.uid.ensures.value w.if-held-i.true c.loop-i.invariant
       w.mark-changed.ensures.rows w.mark-changed.ensures.changed w.mark-changed.ensures.unchanged w.mark-changed.ensures.is_record)
-  | else-held-i w ↦ rw (w.self-is, w.changed-is)
-      (HasMarked-free _ _ _ c.requires (omega arith) _ _ _ w.if-held-i.false c.loop-i.invariant)
+  | else-held-i w ↦ rw (w.self-is, w.changed-is) (HasMarked-free _ _ _ c.requires (omega arith) _ _ _ w.if-held-i.false c.loop-i.invariant)
 ]
 
 pub returns-clause-rows : goal.returns-clause-rows

@@ -16,8 +16,7 @@ loop-line-init g c = Reads-none c.in-Some.older c.args.bytes.now c.in-Some.lines
 pub returns-in_err-part-in-Row-clause-err : goal.returns-in_err-part-in-Row-clause-err
 returns-in_err-part-in-Row-clause-err g c =
     let p = err_from_is_err_and c.from_residual.result c.from_residual.ensures.1 in
-    rw (p.1, p.2) (λ differs.
-    Reads-fails c.loop-line.invariant c.in-Some-read_line.behind.now
+    rw (p.1, p.2) (λ differs. Reads-fails c.loop-line.invariant c.in-Some-read_line.behind.now
     (RowLine (row_from c.in-Row.row.uid.now c.in-Row.row.state)) c.in_err-part-in-Row.field-0.0
     (rw c.in-Row.is at c.in-Some-read_line.ensures.is_line) (rw c.in-Row.is at c.in-Some-read_line.ensures.found)
     (λ n before. c.in_err-part-in-Row.ensures.err differs n before (open_seen c.loop-line.intent)))
@@ -27,8 +26,7 @@ returns-in_err-part-in-Group-clause-err g c =
     let p = err_from_is_err_and c.from_residual-in_err-part-in-Group.result c.from_residual-in_err-part-in-Group.ensures.1 in
     rw (p.1, p.2) (λ differs.
     rw c.in_err-part-in-Group.ensures.err.1 (Reads-group_fails c.loop-line.invariant c.in-Some-read_line.behind.now
-    c.in-Group.count (rw c.in-Group.is at c.in-Some-read_line.ensures.is_line)
-    (rw c.in-Group.is at c.in-Some-read_line.ensures.found)
+    c.in-Group.count (rw c.in-Group.is at c.in-Some-read_line.ensures.is_line) (rw c.in-Group.is at c.in-Some-read_line.ensures.found)
     c.in_err-part-in-Group.ensures.err.0))
 
 pub returns-in_err-take_intent-in-Opening-clause-err : goal.returns-in_err-take_intent-in-Opening-clause-err
@@ -38,8 +36,7 @@ returns-in_err-take_intent-in-Opening-clause-err g c =
     rw (p.1, p.2) (λ differs.
     Reads-fails c.loop-line.invariant c.in-Some-read_line.behind.now (IntentLine (intent_seen c.in-Opening.opened))
     c.in_err-take_intent-in-Opening.field-0.0 (rw c.in-Opening.is at c.in-Some-read_line.ensures.is_line)
-    (rw c.in-Opening.is at c.in-Some-read_line.ensures.found)
-    c.in_err-take_intent-in-Opening.ensures.err)
+    (rw c.in-Opening.is at c.in-Some-read_line.ensures.found) c.in_err-take_intent-in-Opening.ensures.err)
 
 pub loop-line-preserved : goal.loop-line-preserved
 loop-line-preserved g c = elim c.match-line.branch [
@@ -56,11 +53,9 @@ loop-line-preserved g c = elim c.match-line.branch [
         w.front-is,
         c.saturating_add-number.ensures,
         w.open_behind-intent.ensures,
-        seen_behind w.in_ok-part-in-Row.part
-            c.loop-line.intent,
+        seen_behind w.in_ok-part-in-Row.part c.loop-line.intent,
         part_is,
-      )
-      (Reads-row c.loop-line.invariant c.in-Some-read_line.behind.now row w.take_row.new.self is line
+      ) (Reads-row c.loop-line.invariant c.in-Some-read_line.behind.now row w.take_row.new.self is line
       (rw part_is at w.in_ok-part-in-Row.ensures.ok) w.in_ok-part-in-Row.ensures.is_record)
   | in-Group+in_ok-part-in-Group w ↦
       let line = rw w.in-Group.is at c.in-Some-read_line.ensures.found in
@@ -73,8 +68,7 @@ loop-line-preserved g c = elim c.match-line.branch [
         w.front-is,
         c.saturating_add-number.ensures,
         w.in_ok-part-in-Group.ensures.ok.1,
-      )
-      (Reads-group c.loop-line.invariant c.in-Some-read_line.behind.now w.in-Group.count is line w.in_ok-part-in-Group.ensures.ok.0)
+      ) (Reads-group c.loop-line.invariant c.in-Some-read_line.behind.now w.in-Group.count is line w.in_ok-part-in-Group.ensures.ok.0)
   | in-Opening+in_ok-take_intent-in-Opening w ↦
       let line = rw w.in-Opening.is at c.in-Some-read_line.ensures.found in
       let is = rw w.in-Opening.is at c.in-Some-read_line.ensures.is_line in

@@ -12,8 +12,7 @@ returns-in_default-known-clause-ok g c =
     let row : Row = row_from c.args.row.now.uid.now c.args.row.now.state in
     let known = sym c.in_ok-known.ensures.old ∙ c.in_default-known.is in
     let added = rw c.in_default-known.is at c.in_ok-known.ensures.added in
-    rw (c.after_row-in_default-known.ensures, added)
-    (takes_new c.args.older c.args.part c.args.self.now row c.in_default.not-Between
+    rw (c.after_row-in_default-known.ensures, added) (takes_new c.args.older c.args.part c.args.self.now row c.in_default.not-Between
     (has_row_none row.uid c.args.self.now known))
 
 pub returns-then-not-is_within-clause-err : goal.returns-then-not-is_within-clause-err
@@ -36,8 +35,7 @@ returns-clause-ok g c =
     let near = c.in-Some.ensures in
     let known = state_found c.args.self.now row.uid c.in-Some.place read c.len.ensures.is_record near c.at.ensures in
     let marks = c.deliver_at.ensures.rows read ∙ ap (marked c.args.self.now) (near.1 read) in
-    rw (c.after_row.ensures, marks)
-    (takes_old c.args.older c.args.part c.args.self.now row (sym c.is_within.ensures ∙ c.if-is_within.true)
+    rw (c.after_row.ensures, marks) (takes_old c.args.older c.args.part c.args.self.now row (sym c.is_within.ensures ∙ c.if-is_within.true)
     (has_row-some row.uid c.args.self.now c.at.result.1 known)
     (delivers-known c.args.older c.args.self.now row c.at.result.1 c.len.ensures.is_record known
     ∙ (sym c.delivers.ensures ∙ c.if-delivers.true)))

@@ -7,8 +7,7 @@ invariant_of-self g c =
       c.state.ensures.is_record,
       rw c.in_ok-copy.ensures (
         record {
-          legal = legal_of c.self.inside.rows c.args.uid.now c.state.ensures.is_record
-              has;
+          legal = legal_of c.self.inside.rows c.args.uid.now c.state.ensures.is_record has;
           start = c.ranges.start.fits;
           len = c.ranges.len.fits;
         },

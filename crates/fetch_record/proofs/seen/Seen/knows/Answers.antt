@@ -1,13 +1,11 @@
 use Rattle.std.proofs.Common.{◌≡◌, ◌<◌, ◌∙◌, ℕ, List, length, refl, get_or, sym, arith, true, false, All, Decides}
-use Rattle.std.proofs.lemmas.Bool.{true≢false}
-use Rattle.std.proofs.lemmas.List.Elements.{AllWithin-more}
+use Rattle.std.proofs.{lemmas.Bool.true≢false, lemmas.List.Elements.AllWithin-more}
 use Rattle.mail_terms.specs.Listing.{Item}
 use Rattle.fetch_record.specs.Record.{Row, is_delivered}
 use Rattle.mail_terms.proofs.IdLemmas.{nobody}
 use Rattle.fetch_record.proofs.seen.Seen.knows.Goals as goal
 
-one_unknown : (rows : List Row) (listing : List Item) (i : ℕ) → i < length listing
-    → is_delivered rows (get_or listing i nobody).uid ≡ false
+one_unknown : (rows : List Row) (listing : List Item) (i : ℕ) → i < length listing → is_delivered rows (get_or listing i nobody).uid ≡ false
     → Decides false (All (λ item. is_delivered rows item.uid ≡ true) listing)
 one_unknown rows listing i inside unknown =
     (λ no. absurd (true≢false (sym no)), λ all. absurd (true≢false (sym (all i nobody inside) ∙ unknown)))
@@ -24,7 +22,6 @@ loop-i-preserved g c = AllWithin-more (λ item. is_delivered c.args.self.now.row
 
 pub returns-clause-known : goal.returns-clause-known
 returns-clause-known g c = (
-  λ yes k d inside. c.loop-i.invariant k d (omega arith)
-      (omega (arith, inside, c.loop-i-test.false, c.len-i-end.ensures.count)),
+  λ yes k d inside. c.loop-i.invariant k d (omega arith) (omega (arith, inside, c.loop-i-test.false, c.len-i-end.ensures.count)),
   λ all. refl,
 )

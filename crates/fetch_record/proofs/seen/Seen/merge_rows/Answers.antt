@@ -8,6 +8,5 @@ returns-in-Ok-clause-updates g c =
     let front : take c.len-count.result c.add_listed.new.self ≡ c.self.inside.rows =
     rw (c.in_ok-add_listed.ensures.rows, c.len-count.ensures.count) (take-append_seam c.self.inside.rows _) in
     rw (← c.self.view_is, c.in-Ok.ensures, front, ← c.mark_held.ensures.rows)
-    (merge_updates c.self.inside.rows c.add_listed.new.self c.mark_held.new.self c.args.listing.now
-    c.args.held.now c.args.now
+    (merge_updates c.self.inside.rows c.add_listed.new.self c.mark_held.new.self c.args.listing.now c.args.held.now c.args.now
     c.in_ok-add_listed.ensures.rows c.mark_held.ensures.rows c.mark_held.ensures.is_record c.in_ok-add_listed.ensures.limit)

@@ -1,6 +1,5 @@
 use Rattle.std.proofs.Common.{Contains, sym}
-use Rattle.std.proofs.lemmas.List.Elements.{Contains-get_or}
-use Rattle.std.proofs.lemmas.Option.{IfSome_then}
+use Rattle.std.proofs.{lemmas.List.Elements.Contains-get_or, lemmas.Option.IfSome_then}
 use Rattle.folder_drop.proofs.listed_file.CountedSizes.size_of.Goals as goal
 
 pub returns-then-is_same : goal.returns-then-is_same
@@ -9,8 +8,7 @@ returns-then-is_same c =
     let first : Contains c.loop-self.self.files.now file =
     rw c.file-item.is (Contains-get_or c.loop-self.self.files.now 0 file c.in-len1-up.len_at_least) in
     let there = c.is_same.ensures c.if-is_same.true in
-    IfSome_then c.size_at.result c.size_at.ensures
-    (λ s is. record {
+    IfSome_then c.size_at.result c.size_at.ensures (λ s is. record {
       file = file;
       listed = c.loop-self.invariant file first;
       folder = there.0;

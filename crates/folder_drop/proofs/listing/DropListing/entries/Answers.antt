@@ -2,9 +2,7 @@ use Rattle.std.proofs.Common.{◌≡◌, ◌≤◌, ◌<◌, ◌∙◌, ℕ, Lis
 use Rattle.std.proofs.lemmas.List.{take_all}
 use Rattle.mail_terms.specs.Distinct.{AreDistinct}
 use Rattle.pop3_server.specs.Maildrop.{max_count}
-use Rattle.folder_drop.specs.declared.listed_file.ListedFile.{ListedFile}
-use Rattle.folder_drop.specs.Listing.{FileListing}
-use Rattle.folder_drop.specs.MaildirNames.{id_of}
+use Rattle.folder_drop.specs.{declared.listed_file.ListedFile.ListedFile, Listing.FileListing, MaildirNames.id_of}
 use Rattle.folder_drop.specs.RealMaildir.{HaveIds, id_of_name, listed_name, listed_names, uid_of}
 use Rattle.folder_drop.proofs.MaildirLemmas.{entry_more}
 use Rattle.folder_drop.proofs.listing.DropListing.entries.Goals as goal

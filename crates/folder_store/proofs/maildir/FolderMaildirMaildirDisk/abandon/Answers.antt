@@ -1,6 +1,5 @@
 use Rattle.std.proofs.Common.{◌∙◌, None, sym}
-use Rattle.folder_store.proofs.MailCalls.{maildir_same}
-use Rattle.folder_store.proofs.MailMoves.{moved_rests}
+use Rattle.folder_store.proofs.{MailCalls.maildir_same, MailMoves.moved_rests}
 use Rattle.folder_store.proofs.maildir.FolderMaildirMaildirDisk.abandon.Goals as goal
 
 pub returns-in-Some-clause-drops : goal.returns-in-Some-clause-drops

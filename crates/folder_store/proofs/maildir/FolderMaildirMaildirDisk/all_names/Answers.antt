@@ -1,7 +1,6 @@
 use Rattle.std.proofs.Common.{IsPermutation, subst, sym, option_map}
-use Rattle.folder_store.specs.MailFolders.{draft_begun}
+use Rattle.folder_store.specs.{MailFolders.draft_begun, declared.mail_folders.Sought.TheVariants.All}
 use Rattle.folder_store.proofs.MailCalls.{told_names}
-use Rattle.folder_store.specs.declared.mail_folders.Sought.TheVariants.{All}
 use Rattle.folder_store.proofs.maildir.FolderMaildirMaildirDisk.all_names.Goals as goal
 
 pub returns-clause-lists : goal.returns-clause-lists

@@ -1,7 +1,6 @@
 use Rattle.std.proofs.Common.{option_map}
-use Rattle.folder_store.specs.MailFolders.{draft_begun}
+use Rattle.folder_store.specs.{MailFolders.draft_begun, declared.mail_folders.Sought.TheVariants.Stems}
 use Rattle.folder_store.proofs.MailCalls.{told_names}
-use Rattle.folder_store.specs.declared.mail_folders.Sought.TheVariants.{Stems}
 use Rattle.mail_store.specs.Held.{AreAmong}
 use Rattle.folder_store.proofs.maildir.FolderMaildirMaildirDisk.names_among.Goals as goal
 

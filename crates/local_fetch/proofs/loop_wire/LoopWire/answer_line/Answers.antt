@@ -25,17 +25,13 @@ returns-clause-link g c =
     rw (
       ← c.self.view_is,
       rw c.if-is_err.ensures.negation at c.extend_from_slice-kept.ensures.items,
-      take-append-le
-          r.given (greeting_line ++ r.answers.items) c.as_slice.result.now c.self.invariant.1,
+      take-append-le r.given (greeting_line ++ r.answers.items) c.as_slice.result.now c.self.invariant.1,
     )
 
 pub returns-clause-serves : goal.returns-clause-serves
 returns-clause-serves g c =
     let r = c.self.inside in
     let count : r.used + c.args.octets - r.used ≡ c.args.octets = omega arith in
-    rw (← c.self.view_is) (serves_one r.used c.args.octets r.given c.as_slice.result.now []
-    (rw (← c.self.view_is) at c.requires.up)
-    (rw c.if-is_err.ensures.negation at c.extend_from_slice-kept.ensures.items)
-    (rw (← c.self.view_is) at c.requires.line)
-    (rw (append-nil, c.as_slice.ensures.value) (rw (count, c.deref.ensures.value) at c.in-Ok.ensures.ok))
-    (λ _. refl))
+    rw (← c.self.view_is) (serves_one r.used c.args.octets r.given c.as_slice.result.now [] (rw (← c.self.view_is) at c.requires.up)
+    (rw c.if-is_err.ensures.negation at c.extend_from_slice-kept.ensures.items) (rw (← c.self.view_is) at c.requires.line)
+    (rw (append-nil, c.as_slice.ensures.value) (rw (count, c.deref.ensures.value) at c.in-Ok.ensures.ok)) (λ _. refl))

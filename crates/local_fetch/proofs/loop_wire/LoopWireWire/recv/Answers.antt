@@ -1,6 +1,5 @@
 use Rattle.std.proofs.Common.{◌≡◌, ◌≤◌, ◌+◌, ◌++◌, [], length, length-drop, drop, eqb-true, inl, inr, ap, refl, arith, take-append-drop}
-use Rattle.std.proofs.lemmas.Bool.{or_cases}
-use Rattle.std.proofs.lemmas.List.{nil_from_length}
+use Rattle.std.proofs.{lemmas.Bool.or_cases, lemmas.List.nil_from_length}
 use Rattle.pop3_server.specs.ServerMachine.{greeting_line}
 use Rattle.local_fetch.specs.LoopLaws.{same_refl, serves_none}
 use Rattle.local_fetch.proofs.LoopLemmas.{nothing_sent, Gives, gives, refused}
@@ -12,8 +11,7 @@ returns-then-self-clause-got g c =
     refused c.args.self.now [] (nothing_sent g.D.Maildrop.sound g.D.Maildrop.mail c.args.self.now)
     c.refuse.ensures.counted c.refuse.ensures.same
 
-given : (g : _) (c : After-copy_from_slice g)
-    → Gives (greeting_line ++ c.self.inside.answers.items)
+given : (g : _) (c : After-copy_from_slice g) → Gives (greeting_line ++ c.self.inside.answers.items)
     (c.copy_from_slice.new.self ++ drop c.min-n.result c.args.buf.now) c.self.inside.given c.min-n.result
 given g c =
     let few : c.min-n.result ≤ length c.piece-piece.result.now = omega (arith, c.min-n.ensures) in

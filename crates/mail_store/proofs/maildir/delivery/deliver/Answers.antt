@@ -1,9 +1,7 @@
 use Rattle.std.proofs.Common.{◌≡◌, List, ℕ, [], length, rules, sym, refl, ◌∙◌, eqb-true, Result, Ok, Err, Some, IfErr}
 use Rattle.std.proofs.lemmas.List.{nil_from_length}
-use Rattle.mail_store.specs.declared.fault.StoreFault.{StoreFault}
-use Rattle.mail_store.specs.declared.fault.StoreFault.TheVariants.{Refused}
+use Rattle.mail_store.specs.{declared.fault.StoreFault.StoreFault, declared.fault.StoreFault.TheVariants.Refused, FileName.sized}
 use Rattle.mail_store.specs.Maildir.{Maildir, Settles, Delivers, draft, mail}
-use Rattle.mail_store.specs.FileName.{sized}
 use Rattle.mail_store.proofs.maildir.delivery.deliver.Goals as goal
 
 -- a file of these bytes was begun under any name, and settled under this one
@@ -39,6 +37,5 @@ returns-clause-delivers g c = λ k.
     let named : c.as_str-2.result.now ≡ sized c.args.stem.now (length c.args.text.now) = search rules in
     let written = rw ((rw begun.1.1 at added.1) (draft c.args.stem.now []) refl) at settled.1 in (
       begun.0,
-      rw (← named) (delivered _ _ c.args.stem.now c.as_str-2.result.now c.args.text.now c.settle-2.result
-          c.settle-2.ensures.fault written),
+      rw (← named) (delivered _ _ c.args.stem.now c.as_str-2.result.now c.args.text.now c.settle-2.result c.settle-2.ensures.fault written),
     )

@@ -1,9 +1,7 @@
 use Rattle.std.proofs.Common.{◌∙◌, [], ap, sym, subst, eqb-true, Global}
-use Rattle.std.proofs.lemmas.Bool.{false≢true}
-use Rattle.std.proofs.lemmas.List.{nil_from_length}
+use Rattle.std.proofs.{lemmas.Bool.false≢true, lemmas.List.nil_from_length}
 use Rattle.mail_store.specs.Maildir.{Maildir, WereTaken}
-use Rattle.mail_store.specs.Held.{flags_asked}
-use Rattle.mail_store.specs.Loss.{with_flushed}
+use Rattle.mail_store.specs.{Held.flags_asked, Loss.with_flushed}
 use Rattle.mail_store.proofs.MaildirLemmas.{asked_flushed, durable_left, found_durable, named_flushed, taken_flushed, taken_on}
 use Rattle.mail_store.proofs.maildir.held.+flush_within.Goals as goal
 
@@ -11,8 +9,7 @@ pub returns-then-is_empty-clause-finds : goal.returns-then-is_empty-clause-finds
 returns-then-is_empty-clause-finds g t c = λ k.
     let found = c.in_ok-found.ensures.finds k in
     let finds = found.1.2 in
-    let held = c.deref.ensures.value ∙ finds.0
-    ∙ ap (λ (m : Maildir). flags_asked c.args.asked.all c.args.account.now m c.args.listing.now
+    let held = c.deref.ensures.value ∙ finds.0 ∙ ap (λ (m : Maildir). flags_asked c.args.asked.all c.args.account.now m c.args.listing.now
     c.args.asked.flags.now) (sym finds.1) in
     let none = nil_from_length c.in_ok-stems.stems.items (sym c.in_ok-stems.stems.ok.0
     ∙ eqb-true c.in_ok-stems.stems.len 0 (sym c.is_empty.ensures ∙ c.if-is_empty.true)) in (
@@ -48,8 +45,7 @@ returns-then-branch-clause-finds g t c = λ k.
         (
           (finds.0 ∙ sym same, is, finds.2, finds.3, named_flushed stems left.files finds.4),
           rw is (found_durable c.args.asked.all account (with_flushed stems left) stems
-              (durable_left account left stems finds.4) items c.args.asked.flags.now
-              (rw held at c.in_ok-stems.ensures)),
+              (durable_left account left stems finds.4) items c.args.asked.flags.now (rw held at c.in_ok-stems.ensures)),
         ),
       ),
     )
@@ -64,8 +60,7 @@ returns-clause-finds g t c = λ k.
       found.0,
       (
         next.1.0,
-        taken_on (g.D.MaildirDisk.maildir c.args.disk.now) (g.D.MaildirDisk.maildir c.flush.new.self)
-            next.1.0 first next.1.1,
+        taken_on (g.D.MaildirDisk.maildir c.args.disk.now) (g.D.MaildirDisk.maildir c.flush.new.self) next.1.0 first next.1.1,
         next.1.2,
       ),
     )

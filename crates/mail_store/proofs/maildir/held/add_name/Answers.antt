@@ -1,6 +1,5 @@
 use Rattle.std.proofs.Common.{◌∙◌, sym, arith}
-use Rattle.std.proofs.lemmas.Cmp.{nat_list_eq_equiv}
-use Rattle.std.proofs.lemmas.Map.Text.{is_eq-slice_cmp}
+use Rattle.std.proofs.{lemmas.Cmp.nat_list_eq_equiv, lemmas.Map.Text.is_eq-slice_cmp}
 use Rattle.mail_store.proofs.MaildirLemmas.{same_digits}
 use Rattle.mail_store.proofs.maildir.held.add_name.Goals as goal
 
@@ -11,8 +10,7 @@ returns c = λ q.
     rw (
       sym c.stem.ensures ∙ c.in-Some.ensures,
       same_digits c.args.account.now q digits,
-      ← nat_list_eq_equiv.symm digits
-          q,
+      ← nat_list_eq_equiv.symm digits q,
       ← is_eq-slice_cmp digits q,
       added,
     ) (grind arith)

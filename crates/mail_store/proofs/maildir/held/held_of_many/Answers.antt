@@ -9,7 +9,6 @@ returns-clause-finds g c = λ k.
     let told = lists.1 in
     let none : (q : List ℕ) → has_text c.new-found.result q ≡ false = λ q. rw c.new-found.ensures.empty refl in
     let flags = rw (flags_of_many c.args.account.now told.0 c.args.listing.now c.args.flags.now
-    (has_text c.add_digits.new.found) c.deref.result.now
-    (λ q. rw (c.in_ok-add_digits.ensures q, none q, c.as_str.ensures.text) refl)
+    (has_text c.add_digits.new.found) c.deref.result.now (λ q. rw (c.in_ok-add_digits.ensures q, none q, c.as_str.ensures.text) refl)
     (rw (← c.deref.ensures.value) at told.2.2)) at c.in_ok-flags_sought.ensures.flags in
     (lists.0, (told.0, told.1, (flags, told.2.4, told.2.0, told.2.1, told.2.3)))

@@ -9,8 +9,7 @@ returns-clause-short c =
     rw c.add_size.ensures (omega (
       arith,
       length-append (name ++ codes ",S=") (decimal c.args.size),
-      length-append name
-          (codes ",S="),
+      length-append name (codes ",S="),
       digits,
       c.in_ok-name.ensures.short,
     ))

@@ -11,8 +11,7 @@ returns-clause-short c =
     rw named (omega (
       arith,
       length-append c.args.account.now (46 ∷ encode_lower c.args.uid.now),
-      length-encode_with
-          lower_digits c.args.uid.now,
+      length-encode_with lower_digits c.args.uid.now,
       c.as_str.ensures.digits.0,
       (c.legal_ids_have_ranges.ensures c.args.uid.now c.requires).short,
     ))

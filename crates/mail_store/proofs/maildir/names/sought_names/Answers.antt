@@ -1,6 +1,5 @@
 use Rattle.std.proofs.Common.{[], ◌∷◌, Global, map, string_bytes, sym, take}
-use Rattle.std.proofs.lemmas.List.{map_more}
-use Rattle.std.proofs.lemmas.List.Elements.{filter-append}
+use Rattle.std.proofs.{lemmas.List.map_more, lemmas.List.Elements.filter-append}
 use Rattle.mail_store.specs.Held.{is_sought}
 use Rattle.mail_store.proofs.maildir.names.sought_names.Goals as goal
 
@@ -10,6 +9,5 @@ loop-name-preserved c = rw (
   c.loop-name.invariant,
   map_more (string_bytes {Z = Global}) c.args.names.now c.loop-name.name-index c.name-item.result c.loop-name-test.true,
   ← c.name-item.is,
-)
-    (sym (filter-append (is_sought c.args.stems.now) (map string_bytes (take c.loop-name.name-index c.args.names.now))
+) (sym (filter-append (is_sought c.args.stems.now) (map string_bytes (take c.loop-name.name-index c.args.names.now))
     (string_bytes c.name-item.result ∷ [])))

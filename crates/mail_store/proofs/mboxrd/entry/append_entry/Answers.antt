@@ -2,22 +2,17 @@ use Rattle.std.proofs.Common.{◌≡◌, ◌++◌, ℕ, Some, List, [], inl, inr
 use Rattle.std.proofs.Common.{append-nil, take_at, Ok, Err, Result, Option, subst}
 use Rattle.std.specs.Prelude.{IfErr, OnOk}
 use Rattle.std.proofs.lemmas.Option.{same_Some}
-use Rattle.mail_store.specs.declared.file.flat_file.Edges.{Edges}
-use Rattle.mail_store.specs.declared.fault.EntryFault.{EntryFault}
+use Rattle.mail_store.specs.{declared.file.flat_file.Edges.Edges, declared.fault.EntryFault.EntryFault}
 use Rattle.mail_store.specs.declared.fault.EntryFault.TheVariants.{Nothing, Front}
-use Rattle.mail_store.specs.declared.fault.StoreFault.{StoreFault}
+use Rattle.mail_store.specs.{declared.fault.StoreFault.StoreFault, FlatFile.Stored, Mboxrd.entry_of, MboxCalls.IsStillDurable}
 use Rattle.mail_store.specs.DiskCalls.{CutsDisk, FlushesDisk}
 use Rattle.mail_store.specs.Durable.{Disk, IsDurable, Trusted, MayLeave, seen_on}
-use Rattle.mail_store.specs.FlatFile.{Stored}
-use Rattle.mail_store.specs.Mboxrd.{entry_of}
-use Rattle.mail_store.specs.MboxCalls.{IsStillDurable}
 use Rattle.mail_store.specs.Power.{KeepsWhole, LeavesPart}
 use Rattle.mail_store.specs.Settling.{MayBeLeft}
 use Rattle.mail_store.proofs.DiskLemmas.{all_no_more, all_trust, durable_append, cut_back, durable_cut, durable_trust}
 use Rattle.mail_store.proofs.DiskLemmas.{flush_durable, durable_flush}
-use Rattle.mail_store.proofs.DurableLemmas.{durable_is_left}
+use Rattle.mail_store.proofs.{DurableLemmas.durable_is_left, mboxrd.entry.append_entry.Given.Over}
 use Rattle.mail_store.proofs.SettlingLemmas.{cut_keeps, longer_keeps}
-use Rattle.mail_store.proofs.mboxrd.entry.append_entry.Given.{Over}
 use Rattle.mail_store.proofs.mboxrd.entry.append_entry.Goals.{After-cut_to}
 use Rattle.mail_store.proofs.mboxrd.entry.append_entry.Goals as goal
 
@@ -28,8 +23,7 @@ cut_to-requires g c = λ sound.
     let left = (rw looks.1 at appends.1) looks.0.0 looks.0.1.0 in (
       looks.0.0 ++ left.0,
       ap (λ (s : Stored). s.content) left.3,
-      omega
-          (arith, ap (λ (e : Edges). e.size) looks.0.2, length-append looks.0.0 left.0),
+      omega (arith, ap (λ (e : Edges). e.size) looks.0.2, length-append looks.0.0 left.0),
     )
 
 pub returns-in-Ok-clause-appends : goal.returns-in-Ok-clause-appends
@@ -75,8 +69,7 @@ kept g c = λ sound bytes is durable.
     let size : c.in_ok-edges.edges.size ≡ length bytes = ap (λ (e : Edges). e.size) looks.1.0.2 ∙ ap length same in
     let left = (rw looks.1.1 at appends.1) looks.1.0.0 looks.1.0.1.0 in
     cut_keeps (MayLeave (g.F.FlatFile.disk c.look_at.new.file)) (MayLeave (g.F.FlatFile.disk c.append.new.self))
-    (MayLeave (g.F.FlatFile.disk c.cut_to.new.self)) bytes
-    left.0 (seen_on (g.F.FlatFile.disk c.append.new.self))
+    (MayLeave (g.F.FlatFile.disk c.cut_to.new.self)) bytes left.0 (seen_on (g.F.FlatFile.disk c.append.new.self))
     (λ left may. durable left (all_no_more (g.F.FlatFile.disk c.args.file.now) (g.F.FlatFile.disk c.look_at.new.file)
     (c.in_ok-edges.ensures.durable appends.0) left may))
     (durable_append (g.F.FlatFile.disk c.look_at.new.file) (g.F.FlatFile.disk c.append.new.self) c.deref.result.now
@@ -166,8 +159,7 @@ returns-in-Ok-clause-leaves g c = λ sound on. (
 -- after the cut
 cut : (g : Over) (c : After-cut_to g) (r : Result (Unit {0}) StoreFault) → g.F.FlatFile.sound c.append.new.self
     → CutsDisk (g.F.FlatFile.disk c.append.new.self) c.in_ok-edges.edges.size r (g.F.FlatFile.disk c.cut_to.new.self)
-    → IsDurable (g.F.FlatFile.disk c.args.file.now)
-    → LeavesPart (g.F.FlatFile.stored c.args.file.now).content (entry_of c.args.text.items)
+    → IsDurable (g.F.FlatFile.disk c.args.file.now) → LeavesPart (g.F.FlatFile.stored c.args.file.now).content (entry_of c.args.text.items)
     (MayLeave (g.F.FlatFile.disk c.cut_to.new.self))
     × OnOk r (Trusted (g.F.FlatFile.disk c.cut_to.new.self).now → IsDurable (g.F.FlatFile.disk c.cut_to.new.self))
 cut g c r mid cuts on =

@@ -2,9 +2,8 @@ use Rattle.std.proofs.Common.{◌≡◌, ◌≤◌, ◌-◌, ◌+◌, List, [], 
 use Rattle.std.proofs.Common.{append_assoc, length-append, replicate}
 use Rattle.std.proofs.lemmas.List.{drop_at, length-replicate, replicate_more, take_all, take_at}
 use Rattle.mail_store.specs.Mboxrd.{entry_of, quoted_text, separator}
-use Rattle.mail_store.proofs.MboxLemmas.{quoted_longer}
+use Rattle.mail_store.proofs.{MboxLemmas.quoted_longer, mboxrd.entry.make_entry.Goals.In_ok-resize}
 use Rattle.mail_store.proofs.mboxrd.entry.make_entry.Goals as goal
-use Rattle.mail_store.proofs.mboxrd.entry.make_entry.Goals.{In_ok-resize}
 
 -- there is room for the entry: the text, and after it line ends
 record Room (text bytes : List ℕ) (count size : ℕ) : Type 0 where
@@ -33,8 +32,7 @@ room c =
       ←
           replicate_more {X = ℕ} (size - length text - 1) 10,
       ← append_assoc text rest (10 ∷ []),
-    ) at
-    c.in_ok-resize.ensures.items in
+    ) at c.in_ok-resize.ensures.items in
     let sum = length-append text rest in
     let many = length-replicate {A = ℕ} (size - length text - 1) 10 in
     record {
@@ -60,13 +58,11 @@ returns-clause-entry c =
     let made = room (goal.at.returns-clause-entry c).In_ok-resize in
     let bytes = c.quote_within.new.bytes.items in
     let at : c.quote_within.result ≡ length separator =
-    omega (arith, made.shown, ap (λ (l : List ℕ). length (quoted_text l)) made.front, c.quote_within.ensures.place)
-    in
+    omega (arith, made.shown, ap (λ (l : List ℕ). length (quoted_text l)) made.front, c.quote_within.ensures.place) in
     let given = c.put_front.ensures ∙ ap (λ (l : List ℕ). separator ++ drop (length separator) l) c.deref_mut.ensures.value
     ∙ ap (λ (n : ℕ). separator ++ drop n bytes) (sym at)
     ∙ ap (λ (l : List ℕ). separator ++ l) (rw (made.front, made.back) at c.quote_within.ensures.quoted) in
-    rw given (take_at (entry_of c.args.text.now.items) _ _
-    (omega (
+    rw given (take_at (entry_of c.args.text.now.items) _ _ (omega (
       arith,
       made.total,
       made.long,

@@ -1,7 +1,5 @@
 use Rattle.std.proofs.Common.{◌≡◌, ◌-◌, take, sym, ◌∙◌, arith}
-use Rattle.std.proofs.lemmas.Bool.{true≢false}
-use Rattle.std.proofs.lemmas.List.{length-take-le}
-use Rattle.std.proofs.lemmas.Option.{same_Some}
+use Rattle.std.proofs.{lemmas.Bool.true≢false, lemmas.List.length-take-le, lemmas.Option.same_Some}
 use Rattle.mail_store.proofs.MboxLemmas.{few_are_other, read_whole}
 use Rattle.mail_store.proofs.mboxrd.entry.peek_front.Goals as goal
 
@@ -32,19 +30,16 @@ returns-then-not-may_go_on-clause-checks g c = λ d.
     let read = rw measures.1.1 at reads.1.0 in
     let held : read.0 ≡ was = same_Some read.0 was (sym read.1 ∙ measures.1.0.1) in
     let tail = read_whole (c.args.size - 2) c.in_ok-read_at.field-0 c.read_at.new.buf was
-    (omega (arith, c.read_at.auto.buf)) (omega (arith, within, c.if-size.false))
-    (rw held at read.2) (rw held at read.3) in
+    (omega (arith, c.read_at.auto.buf)) (omega (arith, within, c.if-size.false)) (rw held at read.2) (rw held at read.3) in
     let ends = c.front_edges.ensures was measures.1.0.2 within tail in (
       measures.0,
       (
         (
           was,
           measures.1.0.1,
-          λ goes. true≢false
-              (sym ((c.may_go_on.ensures (take c.args.size was) ends).1 goes) ∙ c.if-not-may_go_on.true),
+          λ goes. true≢false (sym ((c.may_go_on.ensures (take c.args.size was) ends).1 goes) ∙ c.if-not-may_go_on.true),
         ),
-        reads.1.1
-            ∙ measures.1.1,
+        reads.1.1 ∙ measures.1.1,
       ),
     )
 
@@ -59,8 +54,7 @@ returns-clause-checks g c = λ d.
     let read = rw measures.1.1 at reads.1.0 in
     let held : read.0 ≡ was = same_Some read.0 was (sym read.1 ∙ measures.1.0.1) in
     let tail = read_whole (c.args.size - 2) c.in_ok-read_at.field-0 c.read_at.new.buf was
-    (omega (arith, c.read_at.auto.buf)) (omega (arith, within, c.if-size.false))
-    (rw held at read.2) (rw held at read.3) in
+    (omega (arith, c.read_at.auto.buf)) (omega (arith, within, c.if-size.false)) (rw held at read.2) (rw held at read.3) in
     let ends = c.front_edges.ensures was measures.1.0.2 within tail in (
       measures.0,
       (

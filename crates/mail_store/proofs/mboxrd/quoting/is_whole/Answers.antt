@@ -1,6 +1,5 @@
 use Rattle.std.proofs.Common.{[], ◌∷◌, arith}
-use Rattle.std.proofs.lemmas.Bool.Decides.{Decides-eqb}
-use Rattle.std.proofs.lemmas.Slice.Eq.{ends_is}
+use Rattle.std.proofs.{lemmas.Bool.Decides.Decides-eqb, lemmas.Slice.Eq.ends_is}
 use Rattle.mail_store.proofs.mboxrd.quoting.is_whole.Goals as goal
 
 pub returns-else-is_empty : goal.returns-else-is_empty

@@ -17,8 +17,7 @@ record Last (text bytes : List ℕ) (start from to : ℕ) : Type 0 where
   less : start ≤ length (quoted_text (take start text))
   shown : quoted_text (drop start text) ≡ quoted line ++ quoted_text (drop from text)
 
-last : (c : After-last_line-start)
-    → Last (take c.args.count c.args.bytes.now.items) c.loop-from.bytes.items c.last_line-start.result
+last : (c : After-last_line-start) → Last (take c.args.count c.args.bytes.now.items) c.loop-from.bytes.items c.last_line-start.result
     c.loop-from.from c.loop-from.to
 last c =
     let was = c.loop-from.invariant in
@@ -43,10 +42,8 @@ last c =
       room = omega (
         arith,
         ap (λ (l : List ℕ). length (quoted_text l)) before,
-        ap length
-            (quoted_last (take start text) line whole is),
-        length-append (quoted_text (take start text))
-            (quoted line),
+        ap length (quoted_last (take start text) line whole is),
+        length-append (quoted_text (take start text)) (quoted line),
         was.room,
       );
       less = omega (arith, length-take-le start text (omega (arith, fits, was.fits)), quoted_longer (take start text));
@@ -64,12 +61,10 @@ move_line-to-requires c =
         omega (
           arith,
           was.room,
-          length-take-le c.loop-from.from
-              (take c.args.count c.args.bytes.now.items) was.fits,
+          length-take-le c.loop-from.from (take c.args.count c.args.bytes.now.items) was.fits,
           quoted_longer text,
         ),
-        omega
-            (arith, was.place, was.size, c.requires.fits.1),
+        omega (arith, was.place, was.size, c.requires.fits.1),
       );
       room = omega (arith, line.room, line.less, ap (λ (l : List ℕ). length (quoted l)) line.taken);
     }

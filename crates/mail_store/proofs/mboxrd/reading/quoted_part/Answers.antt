@@ -1,10 +1,8 @@
 use Rattle.std.proofs.Common.{◌≡◌, [], ◌∷◌, ◌++◌, ℕ, List, None, Some, sym, ap, ◌∙◌, arith, inl, inr, length, true≢false}
-use Rattle.std.proofs.lemmas.Bool.Decides.{Decides-eqb}
+use Rattle.std.proofs.{lemmas.Bool.Decides.Decides-eqb, lemmas.Slice.Eq.strip_suffix_is}
 use Rattle.std.proofs.lemmas.List.{append_cancel_left, append_cancel_right, length-append}
-use Rattle.std.proofs.lemmas.Slice.Eq.{strip_suffix_is}
 use Rattle.mail_store.specs.Mboxrd.{lines_of, IsHead, HoldsText}
-use Rattle.mail_store.proofs.MboxLemmas.{line_first}
-use Rattle.mail_store.proofs.mboxrd.reading.quoted_part.Goals.{After-cut_line}
+use Rattle.mail_store.proofs.{MboxLemmas.line_first, mboxrd.reading.quoted_part.Goals.After-cut_line}
 use Rattle.mail_store.proofs.mboxrd.reading.quoted_part.Goals as goal
 
 -- the parts of a group that holds a text
@@ -18,8 +16,7 @@ parts_of c text held =
     sym cut.lines ∙ ap lines_of held.split ∙ line_first held.head (text ++ 10 ∷ []) held.begins.0 in
     let same : head ≡ held.head = cc in (
       rw same held.begins,
-      append_cancel_left head rest (text ++ 10 ∷ []) (sym cut.whole ∙ held.split
-          ∙ ap (λ (l : List ℕ). l ++ (text ++ 10 ∷ [])) (sym same)),
+      append_cancel_left head rest (text ++ 10 ∷ []) (sym cut.whole ∙ held.split ∙ ap (λ (l : List ℕ). l ++ (text ++ 10 ∷ [])) (sym same)),
     )
 
 pub returns-in_err-quoted-clause-none : goal.returns-in_err-quoted-clause-none

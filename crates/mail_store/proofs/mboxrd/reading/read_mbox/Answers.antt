@@ -26,14 +26,12 @@ loop-rest-preserved c =
     let held = c.in-Some.ensures.found in
     rw (
       c.in_ok-push.ensures.items,
-      map_push (λ (text : Vec ℕ Global). text.items) c.loop-rest.texts.items
-          c.in_ok-unquote.field-0,
+      map_push (λ (text : Vec ℕ Global). text.items) c.loop-rest.texts.items c.in_ok-unquote.field-0,
       c.in_ok-unquote.ensures,
     ) (record {
       front = was.front ++ group;
       split = was.split ∙ rw (cut.0.whole, append_assoc was.front group after) refl;
-      read = rw (group_of_bytes held.head text
-          ∙ sym held.split) at (adds_group was.front _ (group_of held.head text) was.read
+      read = rw (group_of_bytes held.head text ∙ sym held.split) at (adds_group was.front _ (group_of held.head text) was.read
           (holds_group c.loop-rest.rest.now group after text cut held));
       later = λ others file.
           let more = (was.later others file).1 in

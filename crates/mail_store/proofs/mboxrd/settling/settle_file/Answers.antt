@@ -2,8 +2,7 @@ use Rattle.std.proofs.Common.{inl, inr, ⊎_elim, ap, sym, ◌∙◌}
 use Rattle.mail_store.specs.Durable.{Trusted, MayLeave}
 use Rattle.mail_store.specs.FlatFile.{Stored}
 use Rattle.mail_store.specs.Power.{LeavesCut, LeavesFront}
-use Rattle.mail_store.proofs.DiskLemmas.{durable_cut}
-use Rattle.mail_store.proofs.mboxrd.settling.settle_file.Goals.{After-cut_to}
+use Rattle.mail_store.proofs.{DiskLemmas.durable_cut, mboxrd.settling.settle_file.Goals.After-cut_to}
 use Rattle.mail_store.proofs.mboxrd.settling.settle_file.Goals as goal
 
 cut_back : (g : _) (c : After-cut_to g) → g.F.FlatFile.sound c.cut_to.new.self
@@ -33,8 +32,7 @@ cut_leaves g c = λ kept trust left may.
     c.args.start c.cut_to.result (c.cut_to.ensures.durable kept) in
     let same = g.met.F.FlatFile.shown c.look_behind.new.file
     ∙ ap (λ (s : Stored). s.content) (c.in_ok-look_behind.ensures.looks sound).1.1 in
-    ⊎_elim (λ before. inl (c.look_behind.ensures.keeps sound left before))
-    (λ (was, has, all). inr (was, sym same ∙ has, all))
+    ⊎_elim (λ before. inl (c.look_behind.ensures.keeps sound left before)) (λ (was, has, all). inr (was, sym same ∙ has, all))
     (law.leaves (c.in_ok-look_behind.ensures.durable sound trust) left may)
 
 pub returns-in_err-cut_to-in-Torn-clause-leaves : goal.returns-in_err-cut_to-in-Torn-clause-leaves

@@ -1,9 +1,7 @@
 use Rattle.std.proofs.Common.{List, Err, length, map, ap, sym, subst, arith}
 use Rattle.std.proofs.lemmas.List.{length-map}
-use Rattle.mail_terms.specs.declared.listing.UidPlace.{UidPlace}
-use Rattle.mail_terms.specs.declared.listing.ScanRow.{ScanRow}
+use Rattle.mail_terms.specs.{declared.listing.UidPlace.UidPlace, declared.listing.ScanRow.ScanRow, IdPlaces.item_at}
 use Rattle.mail_terms.specs.Listing.{Joins, UidRow}
-use Rattle.mail_terms.specs.IdPlaces.{item_at}
 use Rattle.mail_terms.proofs.ListingLemmas.{numbered_by_places, within_places, joins_from_places, items_have_ids, ids_are_legal}
 use Rattle.mail_terms.proofs.listing.Listing.join.Goals as goal
 
@@ -15,8 +13,7 @@ returns-in_err-uid_places-clause-disagree c =
 
 pub items_at-requires-clause-uids_within : goal.items_at-requires-clause-uids_within
 items_at-requires-clause-uids_within c =
-    rw (c.deref-5.ensures.value, c.deref-4.ensures.value) (within_places _ _ _ _ c.in_ok-uid_places.ensures.order
-    (omega (
+    rw (c.deref-5.ensures.value, c.deref-4.ensures.value) (within_places _ _ _ _ c.in_ok-uid_places.ensures.order (omega (
       arith,
       ap length c.deref-2.ensures.value,
       ap length c.in_ok-uid_numbers.ensures,
@@ -26,8 +23,7 @@ items_at-requires-clause-uids_within c =
 
 pub items_at-requires-clause-sizes_within : goal.items_at-requires-clause-sizes_within
 items_at-requires-clause-sizes_within c =
-    rw (c.deref-6.ensures.value) (within_places _ _ _ _ c.in_ok-size_places.ensures.order
-    (omega (
+    rw (c.deref-6.ensures.value) (within_places _ _ _ _ c.in_ok-size_places.ensures.order (omega (
       arith,
       ap length c.deref-3.ensures.value,
       ap length c.in_ok-size_numbers.ensures,

@@ -1,8 +1,6 @@
 use Rattle.std.proofs.Common.{◌≡◌, ◌∙◌, List, ℕ, [], ◌∷◌, ◌++◌, length, map, ap, arith, length-append}
 use Rattle.std.proofs.lemmas.List.{length-map}
-use Rattle.mail_terms.specs.declared.listing.UidPlace.{UidPlace}
-use Rattle.mail_terms.specs.Listing.{UidRow}
-use Rattle.mail_terms.specs.IdPlaces.{row_at}
+use Rattle.mail_terms.specs.{declared.listing.UidPlace.UidPlace, Listing.UidRow, IdPlaces.row_at}
 use Rattle.mail_terms.proofs.ListingLemmas.{row_added, holds_added}
 use Rattle.mail_terms.proofs.listing.UidRows.push.Goals as goal
 

@@ -10,7 +10,6 @@ returns-clause-asks g c =
     and_then g.W.Wire g.met.W.Wire.leads_on c.in_ok-say.ensures.sent c.in_ok-length.ensures.heard (λ said heard turn names other is.
     let waits = rw c.in_ok-say.ensures.silent at (heard turn names) in (
       take c.in_ok-length.length c.hear.new.self.reader,
-      rw c.skip.ensures
-          (opened {old = place_of g.W.Wire c.args.self.now} turn said is waits
+      rw c.skip.ensures (opened {old = place_of g.W.Wire c.args.self.now} turn said is waits
           (λ gives. absurd (false≢true (sym other ∙ gives)))),
     ))

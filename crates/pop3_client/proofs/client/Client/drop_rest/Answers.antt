@@ -11,8 +11,7 @@ returns-then-has_ended-clause-completes g c = λ s.
 
 pub returns-in_err-piece-clause-completes : goal.returns-in_err-piece-clause-completes
 returns-in_err-piece-clause-completes g c =
-    rw (err_is c.from_residual.ensures.1)
-    (and_then g.W.Wire g.met.W.Wire.leads_on c.pieces.invariant.3 c.in_err-piece.ensures.takes
+    rw (err_is c.from_residual.ensures.1) (and_then g.W.Wire g.met.W.Wire.leads_on c.pieces.invariant.3 c.in_err-piece.ensures.takes
     (λ before took number start text now.
     let mid = before number start text now in took number start mid.0 mid.1))
 

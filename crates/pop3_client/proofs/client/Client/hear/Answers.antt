@@ -11,8 +11,7 @@ returns-in_err-length-clause-heard g c =
 pub returns-in-Ok-Positive-default-clause-heard : goal.returns-in-Ok-Positive-default-clause-heard
 returns-in-Ok-Positive-default-clause-heard g c =
     let first = rw (c.in-Ok-Positive-default.field-0-0-is, c.waiting.ensures.value) at c.in-Ok-Positive-default.ensures.ok in
-    in_words g.W.Wire c.in_ok-length.ensures.waits
-    (λ waits turn names. (
+    in_words g.W.Wire c.in_ok-length.ensures.waits (λ waits turn names. (
       waits.0.0,
       waits.0.1,
       waits.1.0,
@@ -23,8 +22,7 @@ returns-in-Ok-Positive-default-clause-heard g c =
 pub returns-in-Ok-Positive-default-clause-positive : goal.returns-in-Ok-Positive-default-clause-positive
 returns-in-Ok-Positive-default-clause-positive g c = (
   c.in-Ok-Positive-default.field-0-1.now,
-  rw (c.in-Ok-Positive-default.field-0-0-is, c.waiting.ensures.value) at
-      c.in-Ok-Positive-default.ensures.ok,
+  rw (c.in-Ok-Positive-default.field-0-0-is, c.waiting.ensures.value) at c.in-Ok-Positive-default.ensures.ok,
 )
 
 pub returns-in-Ok-Negative-default-clause-heard : goal.returns-in-Ok-Negative-default-clause-heard

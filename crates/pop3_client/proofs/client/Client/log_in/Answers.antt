@@ -30,8 +30,7 @@ returns-clause-talks g c = λ s.
     let first = c.in_ok-greet.ensures.asks second.0 in
     let named = second.2 (user name) (name, refl) refl is in
     let last = completes_talks (pass password) _ _ c.ask-2.result
-    (asks_completes (pass password) _ _ c.ask-2.result refl (third.2 (pass password) (password, refl) refl also))
-    in (
+    (asks_completes (pass password) _ _ c.ask-2.result refl (third.2 (pass password) (password, refl) refl also)) in (
       first.0,
       g.met.W.Wire.leads_on _ _ _ first.1 (g.met.W.Wire.leads_on _ _ _ second.1 third.1),
       completes_then greeting (user name ∷ pass password ∷ []) _ _ _ _ c.ask-2.result (talked_line greeting first.2.0 _ _ first.2.1 refl)

@@ -1,6 +1,5 @@
 use Rattle.std.proofs.Common.{refl, ◌∙◌}
-use Rattle.pop3_client.specs.Client.{place_of}
-use Rattle.pop3_client.specs.Turns.{retr}
+use Rattle.pop3_client.specs.{Client.place_of, Turns.retr}
 use Rattle.pop3_wire.proofs.LinkLemmas.{in_words}
 use Rattle.pop3_client.proofs.client.Client.open.Goals as goal
 

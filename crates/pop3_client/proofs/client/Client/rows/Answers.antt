@@ -11,8 +11,7 @@ rows-init g c = rw c.no_rows-rows.ensures (
   λ s. (
     s,
     g.met.W.Wire.leads_same _,
-    took_none g.R.ListedRows.turn g.R.ListedRows.stands_for _
-        g.met.R.ListedRows.is_listing,
+    took_none g.R.ListedRows.turn g.R.ListedRows.stands_for _ g.met.R.ListedRows.is_listing,
   ),
 )
 
@@ -54,7 +53,6 @@ rows-preserved g c =
       c.in_ok-length.ensures.counted ∙ c.rows.invariant.1,
       and_then g.W.Wire g.met.W.Wire.leads_on c.rows.invariant.2 c.in_ok-length.ensures.waits (λ before waits.
           let now = took_on before waits.0.1 waits.1.1 in
-          rw c.skip-in-rows.ensures
-          (took_row now waits.1.0 (not_end _ c.waiting.ensures.value c.if-is_end_mark.ensures.1)
+          rw c.skip-in-rows.ensures (took_row now waits.1.0 (not_end _ c.waiting.ensures.value c.if-is_end_mark.ensures.1)
           (g.met.R.ListedRows.is_row _ _ read) read (omega arith))),
     )

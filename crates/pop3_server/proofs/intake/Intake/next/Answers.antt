@@ -15,11 +15,9 @@ returns-then-is_long-clause-hears g c =
 pub returns-in_err-more-clause-hears : goal.returns-in_err-more-clause-hears
 returns-in_err-more-clause-hears g c =
     let takes = c.in_err-more.ensures.takes in
-    rw (err_is c.from_residual.ensures.1)
-    (and_then g.W.Wire g.met.W.Wire.leads_on c.loop-length.invariant.3 takes.5 (λ before more. (
+    rw (err_is c.from_residual.ensures.1) (and_then g.W.Wire g.met.W.Wire.leads_on c.loop-length.invariant.3 takes.5 (λ before more. (
       c.in_err-more.ensures.err,
-      reads_cut _ _ _ _ _ more.0 takes.2 takes.1 c.loop-length.is_long
-          (rw (← c.line_end.ensures.same) at before),
+      reads_cut _ _ _ _ _ more.0 takes.2 takes.1 c.loop-length.is_long (rw (← c.line_end.ensures.same) at before),
     )))
 
 pub returns-then-not-branch-clause-hears : goal.returns-then-not-branch-clause-hears
@@ -40,8 +38,7 @@ loop-length-preserved-then-waiting-lt-MAX_LINE g c =
       takes.3 (ap Ok c.if-not-branch.false),
       takes.1,
       ap length takes.2,
-      length-append
-          c.line_end.new.self.octets takes.0,
+      length-append c.line_end.new.self.octets takes.0,
       ap (λ (w : Waiting). length w.octets) same,
       ap (λ (w : Waiting). w.left) same,
     ) in (

@@ -9,6 +9,5 @@ invariant_of-self-2 c =
     let room = rw (← c.self.view_is) at c.requires.room in
     rw (c.in_ok-push.ensures.items, there-append, map-append, c.in_ok-message.ensures) (
       distinct_push _ _ c.self.invariant.0 (rw (← c.self.view_is) at c.requires.absent),
-      omega
-          (arith, length-append {A = Message}, room),
+      omega (arith, length-append {A = Message}, room),
     )

@@ -1,6 +1,5 @@
 use Rattle.std.proofs.Common.{◌≡◌, length, map, Some, Option, List, is_some, ◌∙◌, ap, arith, rules}
-use Rattle.std.proofs.lemmas.List.Elements.{filter_from_retain}
-use Rattle.std.proofs.lemmas.Simd.{map-map}
+use Rattle.std.proofs.{lemmas.List.Elements.filter_from_retain, lemmas.Simd.map-map}
 use Rattle.pop3_wire.specs.World.{Message}
 use Rattle.pop3_server.specs.Maildrop.{DropMail, there, listed_message}
 use Rattle.pop3_server.proofs.SlotLemmas.{there_map, filter_there}
@@ -16,8 +15,7 @@ invariant_of-self c = (
   omega (
     arith,
     ap (λ s. length (there s)) (kept_is c),
-    ap length
-        (there_map (there c.self.inside.slots.items)),
+    ap length (there_map (there c.self.inside.slots.items)),
     c.self.invariant.1,
   ),
 )
@@ -35,7 +33,6 @@ returns-clause-lists c = λ s.
       tt,
       (
         ap placed (kept_is c) ∙ ap listed c.self.view_is,
-        entries_are c
-            ∙ ap (λ (m : DropMail). map listed_message (there m.slots)) c.self.view_is,
+        entries_are c ∙ ap (λ (m : DropMail). map listed_message (there m.slots)) c.self.view_is,
       ),
     )

@@ -31,6 +31,5 @@ returns-clause-body c =
       c.in_ok-extend_from_slice-3.ensures.items,
       c.in_ok-put_stuffing-2.ensures.body,
       append_assoc,
-      ← sent_rest
-          c.loop-line.self.in_line c.loop-line.rest.now c.in_default.ensures.cut,
+      ← sent_rest c.loop-line.self.in_line c.loop-line.rest.now c.in_default.ensures.cut,
     ) c.loop-line.invariant.0

@@ -1,6 +1,5 @@
 use Rattle.std.proofs.Common.{Option, subst}
-use Rattle.pop3_server.specs.declared.text_part.TextBody.{TextBody}
-use Rattle.pop3_server.specs.TextAnswer.{ContinuesAnswer}
+use Rattle.pop3_server.specs.{declared.text_part.TextBody.TextBody, TextAnswer.ContinuesAnswer}
 use Rattle.pop3_server.proofs.text_part.TextBody.put.Goals as goal
 
 pub returns-in_default-clause-goes_on : goal.returns-in_default-clause-goes_on

@@ -19,8 +19,7 @@ returns-in-None-clause-taken c = λ rest.
     let self = c.loop-rest.self in
     let more = not_done c.is_done.result self.in_head self.left c.is_done.ensures c.loop-rest-test.true in
     so_far.2 rest ∙ rw (
-      takes_rest self.in_head self.in_line self.left c.loop-rest.rest.now rest c.in-None.ensures.cut
-          more,
+      takes_rest self.in_head self.in_line self.left c.loop-rest.rest.now rest c.in-None.ensures.cut more,
       c.is_empty.ensures,
       so_far.1,
     ) (simp append_assoc)

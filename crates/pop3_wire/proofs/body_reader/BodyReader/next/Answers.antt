@@ -34,8 +34,7 @@ returns-clause-takes g c = λ s.
       after.1,
       λ limit start text under. under_way_on
           (subst (λ (b : Rest). UnderWay limit start (at (g.W.Wire.history c.args.wire.now) c.args.reader.now) b text)
-          (sym c.self.view_is) under)
-          (g.W.Wire.history c.draw.new.wire) drawn.0 c.draw.new.reader c.use_waiting-fed.new.reader
+          (sym c.self.view_is) under) (g.W.Wire.history c.draw.new.wire) drawn.0 c.draw.new.reader c.use_waiting-fed.new.reader
           c.use_waiting-fed.result.used c.use_waiting-fed.new.unstuffer _
           drawn.1 after.2.0 after.2.1 used.0 used.1 used.2 c.use_waiting-fed.ensures.reached,
     )

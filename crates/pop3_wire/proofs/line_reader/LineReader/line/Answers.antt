@@ -1,8 +1,7 @@
 use Rattle.std.proofs.Common.{◌≡◌, ◌<◌, ◌++◌, ℕ, List, [], ◌∷◌, length, Err, ap, ◌∙◌, append-nil, arith, ◌≤◌, ◌+◌, append_assoc}
 use Rattle.std.proofs.Math.Bool.{or-true}
-use Rattle.pop3_wire.specs.Link.{Link}
+use Rattle.pop3_wire.specs.{Link.Link, declared.line_reader.LineFault.TheVariants.Ended}
 use Rattle.pop3_wire.specs.Place.{at, Gains, GoesOn, GotPiece, HasNoLine, ReadsLine}
-use Rattle.pop3_wire.specs.declared.line_reader.LineFault.TheVariants.{Ended}
 use Rattle.pop3_wire.proofs.line_reader.LineReader.line.Goals as goal
 
 -- the link has ended
@@ -16,8 +15,7 @@ read_ended {limit} {start} {link} last {first} {waiting} now {gained} [] gains o
         gained,
         record {
           got = ap (λ (l : Link). l.got) got ∙ append-nil link.got ∙ gains.got;
-          waiting = same
-              ∙ gains.waiting;
+          waiting = same ∙ gains.waiting;
           sent = ap (λ (l : Link). l.sent) got ∙ gains.sent;
         },
       ),
@@ -72,8 +70,7 @@ returns-then-n-eq0-clause-gained g c =
     let inv = c.loop-length.invariant.1 in
     let filled = c.in-Ok.ensures.ok in (
       inv.0 ++ filled.0,
-      filled.2 ∙ ap (λ (l : List ℕ). l ++ filled.0) (c.line_end.ensures.same ∙ inv.1)
-          ∙ append_assoc c.args.self.now inv.0 filled.0,
+      filled.2 ∙ ap (λ (l : List ℕ). l ++ filled.0) (c.line_end.ensures.same ∙ inv.1) ∙ append_assoc c.args.self.now inv.0 filled.0,
     )
 
 pub returns-then-n-eq0-clause-read : goal.returns-then-n-eq0-clause-read

@@ -1,7 +1,6 @@
 use Rattle.std.proofs.Common.{ℕ, ◌+◌, ◌/◌, List, ◌++◌, length, take, drop, Result, Ok, Err, sym, ap, ◌∙◌, refl, arith}
 use Rattle.std.proofs.Common.{append_assoc, take-append-drop}
-use Rattle.mail_store.specs.declared.fault.StoreFault.{StoreFault}
-use Rattle.mail_store.specs.declared.fault.StoreFault.TheVariants.{Refused}
+use Rattle.mail_store.specs.{declared.fault.StoreFault.StoreFault, declared.fault.StoreFault.TheVariants.Refused}
 use Rattle.mail_store.specs.FlatFile.{Stored, Appends}
 use Rattle.mail_store.proofs.DiskLemmas.{front_of_all}
 use Rattle.test_devices.proofs.fused.FusedFlatFile.append.Goals as goal
@@ -24,14 +23,12 @@ returns-then-is_last_effect-clause-appends g c = λ k.
     let inner = c.append.ensures.appends was.0 in
     rw c.blow.ensures.counted (
       (inner.0, omega (arith, was.1)),
-      front_appended _ _ c.args.bytes.now
-          (length c.args.bytes.now / 2) c.args.self.now.failures c.append.result inner.1,
+      front_appended _ _ c.args.bytes.now (length c.args.bytes.now / 2) c.args.self.now.failures c.append.result inner.1,
     )
 
 pub returns-then-is_last_effect-clause-durable : goal.returns-then-is_last_effect-clause-durable
 returns-then-is_last_effect-clause-durable g c = λ k.
     let half = length c.args.bytes.now / 2 in
     rw c.blow.ensures.counted (front_of_all (Unit {0}) (g.D.FlatFile.disk c.args.self.now.device)
-    (g.D.FlatFile.disk c.append.new.self) c.args.bytes.now (take half c.args.bytes.now) (drop half c.args.bytes.now)
-    c.append.result Refused
+    (g.D.FlatFile.disk c.append.new.self) c.args.bytes.now (take half c.args.bytes.now) (drop half c.args.bytes.now) c.append.result Refused
     (sym (take-append-drop half c.args.bytes.now)) (c.append.ensures.durable (rw c.blow.ensures.counted at k).0))

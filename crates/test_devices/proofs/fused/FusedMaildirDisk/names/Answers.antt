@@ -14,6 +14,5 @@ returns-clause-lists g c = λ s.
     let inner = rw (ap (λ (f : Fused g.row.D.Denot). f.device) passed.2) at (c.names-answer.ensures.lists (rw device at s.0)) in
     let count = rw (ap (λ (f : Fused g.row.D.Denot). f.failures) passed.2) at c.tally.ensures.count in (
       (inner.0, passed.0),
-      rw (c.tally.ensures.answer, device)
-          (fused_lists _ _ passed.0 _ _ c.args.folder c.names-answer.result count inner.1),
+      rw (c.tally.ensures.answer, device) (fused_lists _ _ passed.0 _ _ c.args.folder c.names-answer.result count inner.1),
     )

@@ -14,13 +14,11 @@ returns c =
     rw c.self.view_is at (file_moves c.readers_move.ensures.one was.files.items c.args.place file
     (record file { is_gone = true }) was.new_rests c.still_rests-self-inside.result
     was.cur_rests c.still_rests-self-inside-2.result (files_at (map stored_file was.taken.items))
-    (omega (arith, c.if-place-len.false, c.len.ensures)) c.index_mut-file.ensures.value
-    (record {
+    (omega (arith, c.if-place-len.false, c.len.ensures)) c.index_mut-file.ensures.value (record {
       keeps = record { title = refl; content = refl; flushed = λ h. h; named = λ h. h };
       flushed = refl;
       named =
           refl;
       new = λ h. h;
       cur = λ h. h;
-    })
-    c.still_rests-self-inside.ensures c.still_rests-self-inside-2.ensures)
+    }) c.still_rests-self-inside.ensures c.still_rests-self-inside-2.ensures)

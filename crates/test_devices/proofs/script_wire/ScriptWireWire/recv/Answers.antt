@@ -13,8 +13,7 @@ returns-then-is_full-clause-front c =
 pub returns-clause-front : goal.returns-clause-front
 returns-clause-front c = (
   drop (c.self.inside.given + c.min-n.result) c.self.inside.replies.items,
-  sym
-      (take-append-drop (c.self.inside.given + c.min-n.result) c.self.inside.replies.items),
+  sym (take-append-drop (c.self.inside.given + c.min-n.result) c.self.inside.replies.items),
 )
 
 pub returns-clause-got : goal.returns-clause-got

@@ -10,5 +10,4 @@ returns-in-Ok-clause-lists c = λ k.
     (k, (c.args.self.now.maildir, none_taken c.args.self.now.maildir, (rw (← c.self.view_is) (grind arith), theirs, refl)))
 
 pub returns-in-Err-clause-lists : goal.returns-in-Err-clause-lists
-returns-in-Err-clause-lists c = λ k.
-    (search rules, (c.args.self.now.maildir, none_taken c.args.self.now.maildir, search rules))
+returns-in-Err-clause-lists c = λ k. (search rules, (c.args.self.now.maildir, none_taken c.args.self.now.maildir, search rules))

@@ -6,6 +6,5 @@ pub returns-in-Ok-clause-settles : goal.returns-in-Ok-clause-settles
 returns-in-Ok-clause-settles c =
     λ k. (
       search rules,
-      λ d begun.
-          (c.args.self.now.maildir.files, named_same c.args.self.now.maildir.files, search rules),
+      λ d begun. (c.args.self.now.maildir.files, named_same c.args.self.now.maildir.files, search rules),
     )
