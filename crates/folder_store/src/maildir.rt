@@ -7,6 +7,7 @@ ghost use Rattle.folder_store.specs.NewDevices.{LeftMaildirsStay, LossesMayLeave
 
 use crate::durable_names::{put_durably, told_names, told_names_of};
 use crate::file_folder::NewFile;
+use crate::host::HostNewFile;
 use crate::host_folders::HostFolders;
 use crate::mail_folders::{MailFolders, Sought};
 use crate::process_mark::ProcessMark;
@@ -25,18 +26,21 @@ use system_calls::System;
 /// delivered text is durable. The names of both folders are flushed before they are returned, so that
 /// no loss of power takes one back.
 #[derive(Drop)]
-pub struct FolderMaildir<F: MailFolders> {
+pub struct FolderMaildir<F, N> {
     alloc: Global,
     folders: F,
     /// The name and the file that is being written.
-    begun: Option<(String, F::File)>,
+    begun: Option<(String, N)>,
     failures: FailureCount,
 }
 
-impl<F: MailFolders + Drop> FolderMaildir<F> {
+/// One in the folders of the host.
+pub type HostMaildir<'a, R> = FolderMaildir<HostFolders<'a, R>, HostNewFile<'a, R>>;
+
+impl<N: NewFile + Drop, F: MailFolders<File = N> + Drop> FolderMaildir<F, N> {
     /// The Maildir of these folders.
-    pub fn over(alloc: Global, folders: F) -> FolderMaildir<F>
-        ensures { ⟦<FolderMaildir<F> as MaildirDisk>⟧.maildir result ≡ maildir_in (F.directories folders) None 0 }
+    pub fn over(alloc: Global, folders: F) -> FolderMaildir<F, N>
+        ensures { ⟦<FolderMaildir<F, N> as MaildirDisk>⟧.maildir result ≡ maildir_in (F.directories folders) None 0 }
     {
         FolderMaildir {
             alloc,
@@ -60,15 +64,11 @@ impl<F: MailFolders + Drop> FolderMaildir<F> {
     }
 }
 
-impl<'a, R: Files + Clock + AllocGlobal + Clone + Drop> FolderMaildir<HostFolders<'a, R>> {
+impl<'a, R: Files + Clock + AllocGlobal + Clone + Drop> HostMaildir<'a, R> {
     /// The Maildir at a path, absolute or taken from the working folder. It must hold the folders
     /// `tmp`, `new` and `cur`; none of them is made.
-    pub fn at(
-        system: &'a System<'a, R>,
-        path: &'a str,
-        mark: ProcessMark,
-    ) -> FolderMaildir<HostFolders<'a, R>>
-        ensures { ⟦<FolderMaildir<HostFolders<'a, R>> as MaildirDisk>⟧.maildir result ≡ unknown_maildir }
+    pub fn at(system: &'a System<'a, R>, path: &'a str, mark: ProcessMark) -> HostMaildir<'a, R>
+        ensures { ⟦<HostMaildir<'a, R> as MaildirDisk>⟧.maildir result ≡ unknown_maildir }
     {
         FolderMaildir::over(system.alloc(), HostFolders::of_maildir(system, path, mark))
     }
@@ -100,11 +100,11 @@ fn is_file_name(name: &str) -> bool {
     !name.is_empty() && !name.starts_with('.') && !name.bytes().any(|b| b == b'/' || b == 0)
 }
 
-impl<F: MailFolders + Drop> MaildirDisk for FolderMaildir<F> {
-    ghost maildir = { λ d. maildir_in (F.directories d.folders) (option_map (draft_begun F.File.made) d.begun)
+impl<N: NewFile + Drop, F: MailFolders<File = N> + Drop> MaildirDisk for FolderMaildir<F, N> {
+    ghost maildir = { λ d. maildir_in (F.directories d.folders) (option_map (draft_begun N.made) d.begun)
         d.failures };
 
-    ghost sound = { λ d. F.sound d.folders × IfSome d.begun (λ begun. F.File.sound begun.1)
+    ghost sound = { λ d. F.sound d.folders × IfSome d.begun (λ begun. N.sound begun.1)
         × (d.failures < greatest_count) };
 
     fn names(&mut self, folder: Folder) -> Result<Vec<String>, StoreFault> {
@@ -204,8 +204,8 @@ impl<F: MailFolders + Drop> MaildirDisk for FolderMaildir<F> {
 
 /// A loss of power of the folders is one of the Maildir. Made anew over the same folders, a Maildir has the
 /// files of the last one, and as much of them is durable; over folders that a loss of power left, all is.
-pub fn new_maildirs_keep_mail<F: MailFolders + Drop>()
-    ensures losses { LossesMayLeave ⟦<FolderMaildir<F> as MaildirDisk>⟧ (λ d. F.directories d.folders) }
-    ensures keeps { NewMaildirsKeepMail ⟦<FolderMaildir<F> as MaildirDisk>⟧ (λ d. F.directories d.folders) }
-    ensures stays { LeftMaildirsStay ⟦<FolderMaildir<F> as MaildirDisk>⟧ (λ d. F.directories d.folders) }
+pub fn new_maildirs_keep_mail<N: NewFile + Drop, F: MailFolders<File = N> + Drop>()
+    ensures losses { LossesMayLeave ⟦<FolderMaildir<F, N> as MaildirDisk>⟧ (λ d. F.directories d.folders) }
+    ensures keeps { NewMaildirsKeepMail ⟦<FolderMaildir<F, N> as MaildirDisk>⟧ (λ d. F.directories d.folders) }
+    ensures stays { LeftMaildirsStay ⟦<FolderMaildir<F, N> as MaildirDisk>⟧ (λ d. F.directories d.folders) }
 {}

@@ -7,7 +7,7 @@ ghost use Rattle.getmail_program.specs.Holding.{kind_in};
 
 use fetch_rules::{Dest, Settings};
 use fetch_session::Store;
-use folder_store::{FolderMaildir, HostFile, HostFolder, HostFolders, ProcessMark};
+use folder_store::{HostFile, HostFolder, HostMaildir, ProcessMark};
 use getmail_setup::account_of;
 use mail_store::{FlatFile, MaildirDisk};
 use std::rt::{Clock, Files};
@@ -80,7 +80,7 @@ pub struct HostDevices<'a, R> {
 }
 
 impl<'a, R: Files + Clock + AllocGlobal + Clone + Drop> Devices<'a> for HostDevices<'a, R> {
-    type Maildir = FolderMaildir<HostFolders<'a, R>>;
+    type Maildir = HostMaildir<'a, R>;
 
     type File = HostFile<'a, HostFolder<'a, R>>;
 
@@ -98,7 +98,7 @@ impl<'a, R: Files + Clock + AllocGlobal + Clone + Drop> Devices<'a> for HostDevi
     ) -> Store<Self::Maildir, Self::File> {
         let (system, mark) = (self.for_store, self.mark);
         match dest {
-            Dest::Maildir(_) => Store::Maildir(FolderMaildir::at(system, path, mark)),
+            Dest::Maildir(_) => Store::Maildir(HostMaildir::at(system, path, mark)),
             Dest::Mboxrd(_) => Store::Mboxrd(HostFile::keeping(system, path, rests, mark)),
         }
     }

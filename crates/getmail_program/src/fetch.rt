@@ -8,7 +8,7 @@ ghost use Rattle.getmail_program.specs.Fetching.{ConnectsAndHolds, HoldsSetup, R
 use crate::devices::{HostDevices, seconds_now};
 use crate::errand::{Errand, fetch_at};
 use fetch_rules::Settings;
-use folder_store::{FolderMaildir, HostFile, HostFolder, HostFolders, ProcessMark};
+use folder_store::{HostFile, HostFolder, HostMaildir, ProcessMark};
 use getmail_setup::{
     Errors, Failure, Link, Lock, Output, Peer, Reasons, Setup, connect, fail, failure_of,
     is_long_held, link_over, other_list, peer_of, take_lock,
@@ -89,7 +89,7 @@ where
     O: Write + Drop,
     requires { IsValid errand.settings }
     ensures within { result ≤ 1 }
-    ensures holds { HoldsSetup W.Wire ⟦<FolderMaildir<HostFolders<'a, R>> as MaildirDisk>⟧
+    ensures holds { HoldsSetup W.Wire ⟦<HostMaildir<'a, R> as MaildirDisk>⟧
         ⟦<HostFile<'a, HostFolder<'a, R>> as FlatFile>⟧ (record {
           settings = errand.entry.settings;
           paths = errand.entry.paths.now;
@@ -117,7 +117,7 @@ where
     requires valid { IsValid setup.settings }
     requires turn { goes_on _lock.now ≡ true }
     ensures within { result ≤ 2 }
-    ensures holds { ConnectsAndHolds ⟦<Link<'a> as Wire>⟧ ⟦<FolderMaildir<HostFolders<'a, R>> as MaildirDisk>⟧
+    ensures holds { ConnectsAndHolds ⟦<Link<'a> as Wire>⟧ ⟦<HostMaildir<'a, R> as MaildirDisk>⟧
         ⟦<HostFile<'a, HostFolder<'a, R>> as FlatFile>⟧ setup result }
 {
     let Setup {
@@ -161,7 +161,7 @@ where
     R: Net<Stream = TcpStream> + Files<File = File> + Clock + RandomSource + AllocGlobal,
     R: Clone + Drop,
 {
-    ghost ran = { λ _. Runs ⟦<Link<'a> as Wire>⟧ ⟦<FolderMaildir<HostFolders<'a, R>> as MaildirDisk>⟧
+    ghost ran = { λ _. Runs ⟦<Link<'a> as Wire>⟧ ⟦<HostMaildir<'a, R> as MaildirDisk>⟧
         ⟦<HostFile<'a, HostFolder<'a, R>> as FlatFile>⟧ };
 
     /// The lock is taken first, and held to the end.

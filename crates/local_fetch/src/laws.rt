@@ -11,11 +11,11 @@ use fetch_runs::{
     mbox_starts,
 };
 use fetch_session::good_sessions_store_all;
-use folder_store::{FolderMaildir, HostFile};
+use folder_store::HostFile;
 use mail_store::{FlatFile, MaildirDisk, MemoryFile, MemoryMaildir};
 use pop3_server::{Maildrop, MemoryDrop};
 use pop3_wire::Wire;
-use test_devices::{Fused, FusedWire, MemoryFolder, MemoryFolders};
+use test_devices::{Fused, FusedWire, MemoryFolder, MemoryFolderMaildir};
 
 /// A law: kills are events of the statement. A program that is killed makes no more calls, so it leaves, but for a
 /// draft in `tmp`, what the same call of `session` leaves over a link and devices of which each, from some call on,
@@ -86,10 +86,10 @@ pub fn promises_hold_in_memory()
 
 /// The same over folders in memory, where a mail reader moves files and takes them away before each call.
 pub fn promises_hold_in_folders<'a>()
-    ensures { FetchesFromNothing ⟦<LoopWire<MemoryDrop> as Wire>⟧ ⟦<FolderMaildir<MemoryFolders> as MaildirDisk>⟧
+    ensures { FetchesFromNothing ⟦<LoopWire<MemoryDrop> as Wire>⟧ ⟦<MemoryFolderMaildir as MaildirDisk>⟧
         ⟦<HostFile<'a, MemoryFolder> as FlatFile>⟧ ⟦<MemoryDrop as Maildrop>⟧ }
 {
-    fetches_keep_promises::<MemoryDrop, FolderMaildir<MemoryFolders>, HostFile<'a, MemoryFolder>>();
+    fetches_keep_promises::<MemoryDrop, MemoryFolderMaildir, HostFile<'a, MemoryFolder>>();
     empty_accounts_hold();
 }
 
@@ -104,14 +104,10 @@ pub fn mbox_promises_hold_in_memory()
 
 /// The same for one in a folder in memory.
 pub fn mbox_promises_hold_in_folders<'a>()
-    ensures { MboxFetchesFromNothing ⟦<LoopWire<MemoryDrop> as Wire>⟧ ⟦<FolderMaildir<MemoryFolders> as MaildirDisk>⟧
+    ensures { MboxFetchesFromNothing ⟦<LoopWire<MemoryDrop> as Wire>⟧ ⟦<MemoryFolderMaildir as MaildirDisk>⟧
         ⟦<HostFile<'a, MemoryFolder> as FlatFile>⟧ ⟦<MemoryDrop as Maildrop>⟧ }
 {
-    mbox_fetches_keep_promises::<
-        MemoryDrop,
-        FolderMaildir<MemoryFolders>,
-        HostFile<'a, MemoryFolder>,
-    >();
+    mbox_fetches_keep_promises::<MemoryDrop, MemoryFolderMaildir, HostFile<'a, MemoryFolder>>();
     mbox_starts();
 }
 

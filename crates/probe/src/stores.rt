@@ -4,7 +4,7 @@ use crate::mbox;
 use crate::record::{add_row, scan_rows};
 use crate::stopwatch::Stopwatch;
 use crate::trouble::{Result, Trouble};
-use folder_store::{FolderMaildir, HostFile, HostFolder, ProcessMark};
+use folder_store::{HostFile, HostFolder, HostMaildir, ProcessMark};
 use mail_store::{FlatFile, MaildirDisk, account_id, deliver, file_stem, held};
 use mail_terms::{Listing, UidRows, is_legal_id};
 use std::alloc::Global;
@@ -91,7 +91,7 @@ pub fn use_maildir_at(rt: &HostRuntime, call: &str, path: &str, count: u32) -> R
     let mark = mark_of(rt)?;
     let refusals = Refusals::new(rt.alloc(), None);
     let system = System::new(rt, &refusals);
-    use_maildir(rt, call, FolderMaildir::at(&system, path, mark), count)
+    use_maildir(rt, call, HostMaildir::at(&system, path, mark), count)
 }
 
 /// Replaces a file by a text, appends it and cuts that off again.
@@ -167,6 +167,6 @@ pub fn sweep(rt: &HostRuntime, path: &str) -> Result<()> {
     let refusals = Refusals::new(rt.alloc(), None);
     let system = System::new(rt, &refusals);
     HostFile::at(&system, record.as_str(), mark).sweep();
-    FolderMaildir::at(&system, path, mark).sweep(&account_id("bench", 110, "bench"));
+    HostMaildir::at(&system, path, mark).sweep(&account_id("bench", 110, "bench"));
     Ok(())
 }

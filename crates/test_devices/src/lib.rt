@@ -12,5 +12,6 @@ mod script_wire;
 pub use fused::Fused;
 pub use fused_wire::FusedWire;
 pub use memory_folder::{Left, MemoryFolder};
-pub use memory_folders::{MailLeft, MemoryFolders, ReaderStep};
+pub use memory_folders::{MailLeft, MemoryFolderMaildir, MemoryFolders, ReaderStep};
+pub use new_file::MemoryNewFile;
 pub use script_wire::ScriptWire;

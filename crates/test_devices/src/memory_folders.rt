@@ -14,7 +14,7 @@ ghost use Rattle.folder_store.specs.MailPower.{EntriesLeftAs, LosesMail};
 ghost use Rattle.test_devices.specs.MemoryFolders.{list_of, stored_file};
 
 use crate::new_file::MemoryNewFile;
-use folder_store::{MailFolders, Sought, readers_move};
+use folder_store::{FolderMaildir, MailFolders, Sought, readers_move};
 use mail_store::{Folder, StoreFault, sought_names, stem};
 use mail_terms::base;
 use std::alloc::{AllocError, Global};
@@ -71,6 +71,9 @@ pub struct MemoryFolders {
     steps: Vec<ReaderStep>,
     next: usize,
 }
+
+/// A Maildir in them.
+pub type MemoryFolderMaildir = FolderMaildir<MemoryFolders, MemoryNewFile>;
 
 impl Model for MemoryFolders {
     ghost use Rattle.std.specs.Prelude.{map};

@@ -5,7 +5,7 @@ use Rattle.folder_store.proofs.maildir.FolderMaildirMaildirDisk.all_names.Goals 
 
 pub returns-clause-lists : goal.returns-clause-lists
 returns-clause-lists g c = rw c.tally.ensures.same (λ s.
-    let begun = option_map (draft_begun g.F.File.NewFile.made) c.args.self.now.begun in
+    let begun = option_map (draft_begun g.N.NewFile.made) c.args.self.now.begun in
     let t = c.told_names.ensures.tells s.0 in (
       (t.0, s.1, c.in_ok-admit.ensures.admitted),
       told_names IsPermutation All (λ names told t. subst (IsPermutation names) (sym t.2) t.1) _ _ begun _

@@ -6,7 +6,7 @@ use Rattle.folder_store.proofs.maildir.FolderMaildirMaildirDisk.names_among.Goal
 
 pub returns-clause-lists : goal.returns-clause-lists
 returns-clause-lists g c = rw c.tally.ensures.same (λ s.
-    let begun = option_map (draft_begun g.F.File.NewFile.made) c.args.self.now.begun in
+    let begun = option_map (draft_begun g.N.NewFile.made) c.args.self.now.begun in
     let t = c.told_names.ensures.tells s.0 in (
       (t.0, s.1, c.in_ok-admit.ensures.admitted),
       told_names (AreAmong c.args.stems.now) (Stems c.args.stems) (λ names told t. t) _ _ begun _ c.tally.new.failures
