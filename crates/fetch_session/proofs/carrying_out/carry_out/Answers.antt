@@ -166,7 +166,7 @@ told g c store file back =
       );
       total_is = refl;
       skips = c.skips_of.ensures ∙ ap skips_of (c.deref.ensures.value ∙ c.in_ok-ready.ensures.plans.steps);
-      is = is ∙ c.deref-2.ensures.value ∙ c.in_ok-ready.ensures.plans.steps;
+      is = is ∙ c.deref-4.ensures.value ∙ c.in_ok-ready.ensures.plans.steps;
     }) c.tell_plan.ensures) c.do_steps.ensures.heard
 
 pub returns-in_err-do_steps : goal.returns-in_err-do_steps
