@@ -228,8 +228,9 @@ find_left name other (Some bytes) es = let rest = find_others name other es in g
 pub power_leaves : PowerLeaves
 power_leaves old name left = (
   λ may. (
-    record { entries = entries_left name left old.entries; older = [] },
+    record old { entries = entries_left name left old.entries; older = [] },
     record {
+      can_make = refl;
       each = λ n. rw (find_left name n left old.entries, seen_all (left_at name left old.entries n))
           (cond_both (bytes_eq n name) left (content_at old n) (λ (o : Option (List ℕ)). MayBe old n o)
           (λ same. rw ((bytes_eq-Decides n name).0 same) may) (λ _. may_now old n (content_at old n) (may_arrive (find n old.entries))));

@@ -465,7 +465,7 @@ none_begun (Some x) P none = absurd cc
 pub begun_anew : {N : Type 0} (made : N → MadeFile) (a b : Directories) (begun : Option Draft) (title : String Global)
     (file : N) (name : List ℕ) (n : ℕ) → string_bytes title ≡ name → Then (MakesDraft made (Ok file)) a b → (a.there.tmp ≡ true)
     × (maildir_in b (Some (draft_begun made (title, file))) n ≡ record (maildir_in a begun n) { begun = Some (draft name []) })
-begun_anew made a b begun title file name n same (m, v, (there, empty, e)) =
+begun_anew made a b begun title file name n same (m, v, (e, (there, empty))) =
     let h = same_rests_at a m b v e in
     (rw (sym v.there) there, rw (h.there, h.taken, h.files, same, empty) refl)
 

@@ -1,6 +1,6 @@
 -- A folder of a file system: what its calls see, what of it is durable, and what each call does, for
 -- either outcome.
-use Rattle.std.specs.Prelude.{◌≡◌, ℕ, List, [], ◌∷◌, ◌++◌, length, take, map, Bool, false}
+use Rattle.std.specs.Prelude.{◌≡◌, ℕ, List, [], ◌∷◌, ◌++◌, length, take, map, Bool, true, false}
 use Rattle.std.specs.Prelude.{Option, Some, None, option_map, Result, Ok, Err, ◌⊎◌, Vec}
 use Rattle.std.specs.Prelude.{bytes_eq, if◌then◌else◌}
 use Rattle.mail_store.specs.{declared.fault.StoreFault.StoreFault, declared.fault.StoreFault.TheVariants.Missing}
@@ -19,9 +19,10 @@ pub record Older : Type 0 where
   pub name : List ℕ
   pub was : Option Blob
 
--- a folder: the files by their names in the order in which they came, and what names led to before they were
--- changed, since the names were last flushed
+-- a folder: whether a file can be made, the files by their names in the order in which they came, and what names led
+-- to before they were changed, since the names were last flushed
 pub record Directory : Type 0 where
+  pub can_make : Bool
   pub entries : List DirEntry
   pub older : List Older
 
@@ -67,7 +68,7 @@ with_blob d name blob = record d { entries = placed name blob d.entries }
 
 -- the file that was made has a name here
 abbrev pub put_in : Directory → MadeFile → List ℕ → Directory
-put_in d file name = record {
+put_in d file name = record d {
   entries = placed name (blob_made file) d.entries;
   older = record { name = name; was = find name d.entries } ∷ d.older;
 }
@@ -75,6 +76,11 @@ put_in d file name = record {
 -- the names are durable
 abbrev pub names_flushed : Directory → Directory
 names_flushed d = record d { older = [] }
+
+-- `make`: a file without bytes; Missing only if none can be made
+abbrev pub Makes : {N : Type 0} → (N → MadeFile) → Bool → Result N StoreFault → Type 0
+Makes made can_make (Ok file) = (can_make ≡ true) × (made file ≡ empty_made)
+Makes made can_make (Err fault) = fault ≡ Missing → can_make ≡ false
 
 -- `put`: the file that was made is put under the name; a refused call did that, or nothing
 abbrev pub PutsFile : {T : Type 0} → Directory → MadeFile → List ℕ → Result T StoreFault → Directory → Type 0
@@ -144,4 +150,4 @@ FlushesNames old (Err fault) new = (new ≡ old) ⊎ (new ≡ names_flushed old)
 
 -- a folder of which nothing is known
 abbrev pub unknown_directory : Directory
-unknown_directory = record { entries = []; older = [] }
+unknown_directory = record { can_make = false; entries = []; older = [] }

@@ -12,7 +12,7 @@ use Rattle.mail_store.specs.Maildir.{names_of}
 use Rattle.mail_store.specs.{Held.is_sought, Loss.is_among}
 use Rattle.folder_store.specs.declared.mail_folders.Sought.{Sought}
 use Rattle.folder_store.specs.declared.mail_folders.Sought.TheVariants.{All, Stems}
-use Rattle.folder_store.specs.FileFolder.{MadeFile, empty_made}
+use Rattle.folder_store.specs.FileFolder.{MadeFile, Makes}
 use Rattle.folder_store.specs.MailFolders.{Directories, MailFile, KeepsFile, Moved, files_at, is_left}
 use Rattle.folder_store.specs.MailFolders.{is_taken}
 use Rattle.folder_store.specs.MailFolders.{name_at, entries_in, rests_in, touches_new, touches_cur}
@@ -76,8 +76,7 @@ LooksUpNew name r old new =
 
 -- `make`: a file without bytes and without a name
 abbrev pub MakesDraft : {N : Type 0} → (N → MadeFile) → Result N StoreFault → Directories → Directories → Type 0
-MakesDraft made (Ok file) old new = (old.there.tmp ≡ true) × (made file ≡ empty_made) × (new ≡ old)
-MakesDraft made (Err fault) old new = (new ≡ old) × (fault ≡ Missing → old.there.tmp ≡ false)
+MakesDraft made r old new = (new ≡ old) × Makes made old.there.tmp r
 
 -- a file that was made, in `new`
 abbrev pub put_as : List ℕ → MadeFile → MailFile

@@ -33,6 +33,7 @@ IsDurableIn d name = IsDurable (disk_at d name)
 -- the folder after a loss of power: under each name is something that may be left there, whatever is under the
 -- others, and all of it is durable
 pub record Loses (old new : Directory) : Type 0 where
+  pub can_make : new.can_make ≡ old.can_make
   pub each : (name : List ℕ) → MayBe old name (content_at new name)
   pub durable : (name : List ℕ) → IsDurableIn new name
 

@@ -44,16 +44,18 @@ pub trait FolderState {
 pub trait FileFolder: FolderState {
     ghost use Rattle.std.specs.Prelude.{◌≡◌, ◌≤◌, length, IfErr, IfOk};
     ghost use Rattle.mail_store.specs.Fault.{IsDeviceFault};
-    ghost use Rattle.folder_store.specs.FileFolder.{AppendsTo, CutsTo, FlushesFile, FlushesNames, MeasuresFile};
-    ghost use Rattle.folder_store.specs.FileFolder.{PutsFile, ReadsFile, ReadsPiece, TellsFileSize, empty_made};
+    ghost use Rattle.folder_store.specs.FileFolder.{AppendsTo, CutsTo, FlushesFile, FlushesNames, Makes, MeasuresFile};
+    ghost use Rattle.folder_store.specs.FileFolder.{PutsFile, ReadsFile, ReadsPiece, TellsFileSize};
 
     // It can't be let go: whoever makes one puts it or gives it up.
     type File: NewFile;
 
     /// Makes a file, which its owner alone can read. The name tells it from others that were made.
+    /// Missing if the place for such files isn't there.
     fn make(&mut self, name: &str) -> Result<Self::File, StoreFault>
-        ensures makes { Self.sound self.new → Self.sound self.old × (Self.directory self.new ≡ Self.directory self.old)
-            × IfOk result (λ file. Self.File.made file ≡ empty_made) }
+        ensures makes { Self.sound self.new → IfOk result Self.File.sound → Self.sound self.old
+            × (Self.directory self.new ≡ Self.directory self.old)
+            × Makes Self.File.made (Self.directory self.old).can_make result }
         ensures fault { IfErr result IsDeviceFault };
 
     /// Puts a file that was made under a name, in the place of another, if there is one.

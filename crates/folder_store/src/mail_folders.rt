@@ -19,13 +19,14 @@ pub enum Sought<'a> {
 /// A file is made without a name in the two, at a place that no other call sees, and then put into
 /// `new` at one step. No call removes a file that has a name.
 pub trait MailFolders {
-    ghost use Rattle.std.specs.Prelude.{◌≡◌, false, true, IfErr, Ok};
+    ghost use Rattle.std.specs.Prelude.{◌≡◌, false, true, IfErr, IfOk, Ok};
     ghost use Rattle.mail_store.specs.Fault.{IsDeviceFault};
     ghost use Rattle.folder_store.specs.MailFolders.{Directories, Moved};
     ghost use Rattle.folder_store.specs.MailCalls.{ChecksIn, FlushesFiles, FlushesNamesIn, ListsIn, LooksUpNew};
     ghost use Rattle.folder_store.specs.MailCalls.{MakesDraft, PutsDraft, TellsRest, Then};
 
-    type File: NewFile + Drop;
+    // Whoever makes one puts it or gives it up: only that shows that it was sound, which `make` asks.
+    type File: NewFile;
 
     // What calls see of the folders, and what of it is durable.
     ghost directories: { Self → Directories };
@@ -73,7 +74,7 @@ pub trait MailFolders {
     /// Makes a file, which its owner alone can read. The name tells it from others that were made.
     /// Missing if the place for such files isn't there.
     fn make(&mut self, name: &str) -> Result<Self::File, StoreFault>
-        ensures makes { sound self.new → sound self.old
+        ensures makes { sound self.new → IfOk result Self.File.sound → sound self.old
             × Then (MakesDraft Self.File.made result) (directories self.old) (directories self.new) }
         ensures fault { IfErr result IsDeviceFault };
 

@@ -257,7 +257,7 @@ survives_names older (e ∷ es) left (inr (bytes, rest, is, may, more)) distinct
     (survives_names older es rest more (distinct_tail e.name (names_in es) distinct)))
 
 abbrev pub memory_in : List Pair → List Before → Directory
-memory_in files older = record { entries = folder_entries files; older = map older_of older }
+memory_in files older = record { can_make = true; entries = folder_entries files; older = map older_of older }
 
 -- the folder of what is left
 pub memory_loses : (files left : List Pair) (was now : List Before) → AreDistinct (names_in (folder_entries files))
@@ -265,6 +265,7 @@ pub memory_loses : (files left : List Pair) (was now : List Before) → AreDisti
 memory_loses files left was now distinct h e =
     let found : (name : List ℕ) → Stays (map older_of was) (folder_entries files) (folder_entries left) name = λ name.
     survives_find (map older_of was) (folder_entries files) (folder_entries left) name distinct h in rw e (record {
+      can_make = refl;
       each = λ name.
           let s = found name in
           let d = memory_in files was in

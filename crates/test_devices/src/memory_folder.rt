@@ -1,9 +1,9 @@
 //! A folder in memory.
 
 ghost use Rattle.std.specs.Prelude.{◌≡◌, ◌≢◌, ◌<◌, ◌≤◌, ◌++◌, ℕ, [], ◌∷◌, length, map, slice_index_or, string_bytes};
-ghost use Rattle.std.specs.Prelude.{HoldsAt, IfErr, IfNone, IfOk, IfSome, IsOk, OnErr, OnOk, option_map, take};
+ghost use Rattle.std.specs.Prelude.{HoldsAt, IfErr, IfNone, IfOk, IfSome, IsOk, OnErr, OnOk, option_map, take, true};
 ghost use Rattle.mail_store.specs.Fault.{IsDeviceFault};
-ghost use Rattle.folder_store.specs.FileFolder.{empty_made, find, placed, put_in, with_blob};
+ghost use Rattle.folder_store.specs.FileFolder.{Makes, find, placed, put_in, with_blob};
 ghost use Rattle.folder_store.specs.FileFolder.{FlushesNames, MeasuresFile, ReadsPiece, TellsFileSize};
 ghost use Rattle.folder_store.specs.PowerLoss.{Loses, left_under};
 ghost use Rattle.mail_store.specs.DiskCalls.{appended, cut, flushed};
@@ -53,7 +53,7 @@ pub struct MemoryFolder {
 }
 
 impl Model for MemoryFolder {
-    ghost use Rattle.std.specs.Prelude.{map};
+    ghost use Rattle.std.specs.Prelude.{map, true};
     ghost use Rattle.mail_terms.specs.Distinct.{AreDistinct};
     ghost use Rattle.folder_store.specs.FileFolder.{Directory, names_in};
 
@@ -61,7 +61,11 @@ impl Model for MemoryFolder {
 
     ghost use Rattle.test_devices.specs.MemoryFolder.{folder_entries, older_of};
 
-    ghost view = { λ m. record { entries = folder_entries m.files.items; older = map older_of m.older.items } };
+    ghost view = { λ m. record {
+      can_make = true;
+      entries = folder_entries m.files.items;
+      older = map older_of m.older.items;
+    } };
 
     ghost invariant = { λ m. AreDistinct (names_in (folder_entries m.files.items)) };
 }
@@ -270,7 +274,7 @@ impl MemoryBlob {
 impl MemoryFolder {
     /// A folder without files.
     pub fn new(alloc: Global) -> MemoryFolder
-        ensures { result ≡ record { entries = []; older = [] } }
+        ensures { result ≡ record { can_make = true; entries = []; older = [] } }
     {
         MemoryFolder {
             alloc,
@@ -336,7 +340,8 @@ impl FileFolder for MemoryFolder {
 
     // The calls that take no memory answer.
     fn make(&mut self, _name: &str) -> Result<MemoryNewFile, StoreFault>
-        ensures makes { Unit {0} → Unit {0} × (self.new ≡ self.old) × IfOk result (λ file. made_of file ≡ empty_made) }
+        ensures makes { Unit {0} → IfOk result (λ _. Unit {0}) → Unit {0} × (self.new ≡ self.old)
+            × Makes made_of self.old.can_make result }
         ensures fault { IfErr result IsDeviceFault }
         ensures answers { IsOk result }
     {
