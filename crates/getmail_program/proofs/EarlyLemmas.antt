@@ -1,29 +1,27 @@
 -- What is written of a report before its session's end.
-use Rattle.std.proofs.Common.{◌≡◌, ◌≢◌, ℕ, List, [], ◌∷◌, Option, ◌++◌, false, refl, sym, subst, append-nil, inl, inr, ◌⊎◌, flat_map}
-use Rattle.rc_file.specs.declared.settings.Settings.{Settings}
-use Rattle.fetch_session.specs.{Text.heading, Report.is_deletion, declared.report.ReportLine.ReportLine}
+use Rattle.std.proofs.Common.{◌≡◌, ◌≢◌, ◌⊎◌, ℕ, List, [], ◌∷◌, Option, false, refl, sym, subst, append-nil, inl, inr}
+use Rattle.fetch_rules.specs.declared.plans.Step.{Step}
+use Rattle.fetch_session.specs.{Hearing.HearsOne, Report.is_deletion, declared.report.ReportLine.ReportLine}
 use Rattle.fetch_session.specs.declared.report.ReportLine.TheVariants.{Delivered, Held, Skipped, Deleted}
+use Rattle.getmail_setup.specs.{declared.output.Output.Output, Output.Puts}
+use Rattle.getmail_setup.proofs.OutputLemmas.{puts_both}
+use Rattle.rc_file.specs.declared.settings.Settings.{Settings}
 use Rattle.getmail_program.specs.declared.teller.Teller.{Teller}
-use Rattle.getmail_program.specs.Teller.{EarlyLine, StaysClosed, TellsEarly, Wrote, WroteMore, WroteText, early_text, wrote_then}
+use Rattle.getmail_program.specs.Teller.{StartsTelling, EarlyLine, HasLast, HasSameLinks, StaysClosed, Wrote, WroteMore, WroteText, early_text}
 
--- a first line, and then lines; nothing was kept before
-early_after : {O : Type 0} (contents : O → Option (List ℕ)) (settings : Settings) (first : List ℕ) (a b c : Teller O)
-    → (first ≡ []) ⊎ (first ≡ heading settings) → b.verbose ≡ settings.verbose → a.notes.now.written.items ≡ []
-    → Wrote contents first a b → WroteMore contents b c → TellsEarly contents settings a.out.now c.notes.now.written.items c.out.now
-early_after contents settings first a b c is same none begun more =
-    let whole = subst (λ (verbose : ℕ). Wrote contents (first ++ flat_map (early_text verbose) more.lines) a c) same
-    (wrote_then contents first _ a b c begun more.wrote) in
-    let text = subst (λ (start : List ℕ). c.notes.now.written.items
-    ≡ start ++ (first ++ flat_map (early_text settings.verbose) more.lines)) none whole.kept in
-    record { first = first; is_first = is; lines = more.lines; is_text = text; puts = rw (text) whole.puts }
+-- a first line, and then lines
+pub early : {O : Type 0} (contents : O → Option (List ℕ)) (settings : Settings) (out : Output O) (a b : Teller O)
+    → StartsTelling contents settings out a → WroteMore contents a b → Puts contents out b.notes.now.written.items b.out.now
+early contents settings out a b begun more =
+    rw (more.wrote.kept, begun.kept) (puts_both contents out a.out.now b.out.now begun.first _ begun.puts more.wrote.puts)
 
-pub early : {O : Type 0} (contents : O → Option (List ℕ)) (settings : Settings) (a b c : Teller O) → b.verbose ≡ settings.verbose
-    → a.notes.now.written.items ≡ [] → WroteText contents (heading settings) a b → WroteMore contents b c
-    → TellsEarly contents settings a.out.now c.notes.now.written.items c.out.now
-early contents settings a b c same none begun more = elim begun [
-  | inl nothing ↦ early_after contents settings [] a b c (inl refl) same none nothing more
-  | inr whole ↦ early_after contents settings (heading settings) a b c (inr refl) same none whole more
-]
+-- what a teller has told that was told of one plan at most
+pub heard_of : {O : Type 0} (contents : O → Option (List ℕ)) (Is : List Step → Type 0) (a b : Teller O)
+    → HearsOne (λ (a : Teller O) plans b. HasSameLinks a b × WroteMore contents a b × HasLast plans a b) Is a b
+    → HasSameLinks a b × WroteMore contents a b
+    × ((b.notes.now.plan.items ≡ a.notes.now.plan.items) ⊎ Is b.notes.now.plan.items)
+heard_of contents Is a b (inl none) = (none.0, none.1, inl none.2)
+heard_of contents Is a b (inr one) = (one.2.0, one.2.1, inr (rw one.2.2 one.1))
 
 -- a line, or nothing
 pub one_line : {O : Type 0} (contents : O → Option (List ℕ)) (a b : Teller O) (told : EarlyLine)

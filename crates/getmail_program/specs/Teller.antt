@@ -54,15 +54,13 @@ pub record WroteMore {O : Type 0} (contents : O → Option (List ℕ)) (old new 
   pub wrote : Wrote contents (flat_map (early_text old.verbose) lines) old new
   pub closed : StaysClosed contents old new
 
--- of a report that was written before its session's end: its first line, and lines of messages
-pub record TellsEarly {O : Type 0} (contents : O → Option (List ℕ)) (settings : Settings) (out : Output O)
-    (text : List ℕ)
-    (out' : Output O) : Type 0 where
+-- the first line of a report was written to the output and is kept, or nothing
+pub record StartsTelling {O : Type 0} (contents : O → Option (List ℕ)) (settings : Settings) (out : Output O)
+    (teller : Teller O) : Type 0 where
   pub first : List ℕ
   pub is_first : (first ≡ []) ⊎ (first ≡ heading settings)
-  pub lines : List EarlyLine
-  pub is_text : text ≡ first ++ flat_map (early_text settings.verbose) lines
-  pub puts : Puts contents out text out'
+  pub kept : teller.notes.now.written.items ≡ first
+  pub puts : Puts contents out first teller.out.now
 
 last_on : (kept : List Step) (ps qs : List (List Step))
     → last_plan kept (ps ++ qs) ≡ last_plan (last_plan kept ps) qs
@@ -79,7 +77,7 @@ wrote_none contents a = record {
   puts = record { whole = λ clean. (clean, Appends-nil (contents a.out.now.writer)); stays = λ _. refl };
 }
 
-pub wrote_then : {O : Type 0} (contents : O → Option (List ℕ)) (first second : List ℕ) (a b c : Teller O)
+wrote_then : {O : Type 0} (contents : O → Option (List ℕ)) (first second : List ℕ) (a b c : Teller O)
     → Wrote contents first a b
     → Wrote contents second b c → Wrote contents (first ++ second) a c
 wrote_then contents first second a b c p q = record {

@@ -3,11 +3,11 @@ ghost use Rattle.std.specs.Prelude.{◌≡◌, ℕ, false, true, List, [], IfOk}
 ghost use Rattle.std.specs.String.{string_bytes};
 ghost use Rattle.std.proofs.Common.{refl, ◌∙◌};
 ghost use Rattle.fetch_session.specs.Report.{is_deletion};
-ghost use Rattle.getmail_program.specs.Teller.{HasLast, HasSameLinks, StaysClosed, WroteMore, WroteText};
+ghost use Rattle.getmail_program.specs.Teller.{StartsTelling, HasLast, HasSameLinks, StaysClosed, WroteMore, WroteText};
 ghost use Rattle.getmail_program.specs.Teller.{early_text, has_last, wrote_both, wrote_nothing};
 
-use fetch_rules::Step;
-use fetch_session::{Listener, ReportLine, explained_line};
+use fetch_rules::{Settings, Step};
+use fetch_session::{Listener, ReportLine, explained_line, heading};
 use getmail_setup::Output;
 use std::alloc::{AllocError, Global};
 use std::io::Write;
@@ -48,33 +48,37 @@ pub struct Teller<'a, O> {
 }
 
 impl<'a, O: Write> Teller<'a, O> {
-    /// Nothing is written yet. With `verbose` 0 nothing will be. With `explains` the lines of messages that are
-    /// passed over have the reasons.
+    /// The first line of a report is written. With `verbose` 0 nothing is. With `explains` the lines of messages that
+    /// are passed over have the reasons.
     pub fn new(
         alloc: Global,
         out: &'a mut Output<O>,
         notes: &'a mut Notes,
-        verbose: u8,
+        settings: &Settings,
         explains: bool,
     ) -> Teller<'a, O>
+        requires { notes.old.written.items ≡ [] }
         ensures links { (result.out.ghost_name ≡ out.entry.ghost_name)
             × (result.notes.ghost_name ≡ notes.entry.ghost_name) }
-        ensures start { (result.out.now ≡ out.old) × (result.notes.now ≡ notes.old) }
-        ensures verbose { result.verbose ≡ verbose }
+        ensures verbose { result.verbose ≡ settings.now.verbose }
+        ensures plan { result.notes.now.plan.items ≡ notes.old.plan.items }
+        ensures begins { StartsTelling O.contents settings.now out.old result }
     {
-        Teller {
+        let mut teller = Teller {
             alloc,
             out,
-            verbose,
+            verbose: settings.verbose,
             explains,
             heard: 0,
-            is_open: verbose > 0,
+            is_open: settings.verbose > 0,
             notes,
-        }
+        };
+        teller.put(heading(alloc, settings));
+        teller
     }
 
     /// Writes a text, unless there is no memory for it or nothing more is to be written.
-    pub fn put(&mut self, text: Result<String, AllocError>)
+    fn put(&mut self, text: Result<String, AllocError>)
         ensures links { HasSameLinks self.old self.new }
         ensures plan { HasLast [] self.old self.new }
         ensures wrote { (words : List ℕ) → IfOk text (λ made. string_bytes made ≡ words)

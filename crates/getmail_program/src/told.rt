@@ -1,21 +1,18 @@
 //! What a session says at its end.
-ghost use Rattle.std.specs.Prelude.{◌≡◌, ◌⊎◌, [], false, true, if◌then◌else◌};
+ghost use Rattle.std.specs.Prelude.{◌≡◌, [], true, if◌then◌else◌};
+ghost use Rattle.fetch_session.specs.Account.{IsSameAccount};
 ghost use Rattle.fetch_session.specs.Hearing.{IsPlanOf};
 ghost use Rattle.fetch_session.specs.Reasons.{told_report};
-ghost use Rattle.fetch_session.specs.Target.{kind_of};
 ghost use Rattle.fetch_session.specs.Telling.{preview_text};
-ghost use Rattle.fetch_session.specs.Durable.{RunsSession};
-ghost use Rattle.fetch_session.specs.Refusal.{IsWithinLimits};
 ghost use Rattle.getmail_program.specs.Holding.{HoldsSession};
 ghost use Rattle.getmail_setup.specs.Output.{Puts};
-ghost use Rattle.getmail_program.specs.Teller.{HasSameLinks, TellsEarly, WroteMore};
 ghost use Rattle.getmail_program.specs.Telling.{Reported, is_idle, told_outcome};
 
 use crate::doubt::said_ahead;
 use crate::teller::{Notes, Teller};
 use fetch_rules::{Settings, Step};
 use fetch_session::{
-    Account, Outcome, Preview, Report, heading, pretend, preview_text, session_told, told_report,
+    Account, Outcome, Preview, Report, pretend, preview_text, session_told, told_report,
 };
 use getmail_setup::{Output, ShownWire};
 use mail_store::{FlatFile, MaildirDisk};
@@ -100,90 +97,11 @@ fn put_report<O: Write>(
     }
 }
 
-/// Runs one session of the account over the link, and tells its lines.
-fn hold_over<W: Wire, S: Write, D: MaildirDisk, F: FlatFile, H: BuildHasher, O: Write>(
-    account: &mut Account<D, F, H>,
-    wire: &mut ShownWire<W, S>,
-    now: u64,
-    teller: &mut Teller<'_, O>,
-) -> Report
-    ensures settings { account.new.settings ≡ account.old.settings }
-    ensures kind { kind_of account.new.store ≡ kind_of account.old.store }
-    ensures limits { IsWithinLimits W.Wire wire.old.wire result wire.new.wire }
-    ensures runs { RunsSession W.Wire D.MaildirDisk F.FlatFile now account.old wire.old.wire result account.new
-        wire.new.wire }
-    ensures links { HasSameLinks teller.old teller.new }
-    ensures wrote { WroteMore O.contents teller.old teller.new }
-    ensures plan { (teller.new.notes.now.plan.items ≡ teller.old.notes.now.plan.items)
-        ⊎ IsPlanOf W.Wire D.MaildirDisk F.FlatFile now account.old wire.old.wire account.new wire.new.wire result
-        teller.new.notes.now.plan.items }
-{
-    session_told(account, wire, now, teller)
-}
-
-/// Runs one session of the account over the link. The first line of its report and those of its messages are
-/// written as they come, up to a deletion: what is written is a front of the report, and tells no deletion.
-/// Returns the report, and what was written of it and heard.
-fn hold_telling<W: Wire, S: Write, D: MaildirDisk, F: FlatFile, H: BuildHasher, O: Write>(
-    alloc: Global,
-    account: &mut Account<D, F, H>,
-    wire: &mut ShownWire<W, S>,
-    terms: RunTerms<'_>,
-    out: &mut Output<O>,
-) -> (Report, Notes)
-    ensures settings { account.new.settings ≡ account.old.settings }
-    ensures kind { kind_of account.new.store ≡ kind_of account.old.store }
-    ensures limits { IsWithinLimits W.Wire wire.old.wire result.0 wire.new.wire }
-    ensures runs { RunsSession W.Wire D.MaildirDisk F.FlatFile terms.entry.now account.old wire.old.wire result.0
-        account.new wire.new.wire }
-    ensures told { TellsEarly O.contents account.old.settings out.old result.1.written.items out.new }
-    ensures plan { (result.1.plan.items ≡ [])
-        ⊎ IsPlanOf W.Wire D.MaildirDisk F.FlatFile terms.entry.now account.old wire.old.wire account.new wire.new.wire
-        result.0 result.1.plan.items }
-{
-    let mut notes = Notes::new(alloc);
-    let verbose = account.settings().verbose;
-    let mut teller = Teller::new(alloc, out, &mut notes, verbose, terms.explains);
-    teller.put(heading(alloc, account.settings()));
-    let report = hold_over(account, wire, terms.now, &mut teller);
-    (report, notes)
-}
-
 /// The plan, if reasons are asked for.
 fn asked_for(explains: bool, plan: &[Step]) -> &[Step]
     ensures { result.now ≡ (if explains then plan.entry.now else []) }
 {
     if explains { plan } else { &[] }
-}
-
-/// Runs one session of the account over the link, wipes the line of progress, and writes the report.
-fn hold_run<W: Wire, S: Write, D: MaildirDisk, F: FlatFile, H: BuildHasher, O: Write>(
-    alloc: Global,
-    account: &mut Account<D, F, H>,
-    wire: &mut ShownWire<W, S>,
-    terms: RunTerms<'_>,
-    out: &mut Output<O>,
-) -> Told
-    ensures settings { account.new.settings ≡ account.old.settings }
-    ensures kind { kind_of account.new.store ≡ kind_of account.old.store }
-    ensures held { HoldsSession W.Wire D.MaildirDisk F.FlatFile false terms.entry.now account.old wire.old.wire result
-        account.new wire.new.wire }
-    ensures reported { Reported O.contents terms.entry.explains account.old.settings
-        (IsPlanOf W.Wire D.MaildirDisk F.FlatFile terms.entry.now account.old wire.old.wire account.new wire.new.wire)
-        result out.old out.new }
-{
-    let (report, notes) = hold_telling(alloc, account, wire, terms, out);
-    wire.wipe();
-    let plan = asked_for(terms.explains, &notes.plan);
-    put_report(
-        alloc,
-        &report,
-        account.settings(),
-        plan,
-        &notes.written,
-        out,
-    );
-    Told::Done(report)
 }
 
 /// Previews a session of the account over the link, wipes the line of progress, and writes what a run would do.
@@ -202,8 +120,7 @@ fn hold_preview<
     terms: RunTerms<'_>,
     out: &mut Output<O>,
 ) -> Told
-    ensures settings { account.new.settings ≡ account.old.settings }
-    ensures kind { kind_of account.new.store ≡ kind_of account.old.store }
+    ensures same { IsSameAccount account.old account.new }
     ensures held { HoldsSession W.Wire D.MaildirDisk F.FlatFile true terms.entry.now account.old wire.old.wire result
         account.new wire.new.wire }
     ensures reported { Reported O.contents terms.entry.explains account.old.settings
@@ -219,7 +136,7 @@ fn hold_preview<
 }
 
 /// Runs one session of the account over the link, or only previews it, and wipes the line of progress. What it
-/// says is written to `out`.
+/// says is written to `out`: of a report the first line and those of its messages as they come, up to a deletion.
 pub fn hold<
     R: Files + AllocGlobal,
     W: Wire,
@@ -235,8 +152,7 @@ pub fn hold<
     terms: RunTerms<'_>,
     out: &mut Output<O>,
 ) -> Told
-    ensures settings { account.new.settings ≡ account.old.settings }
-    ensures kind { kind_of account.new.store ≡ kind_of account.old.store }
+    ensures same { IsSameAccount account.old account.new }
     ensures held { HoldsSession W.Wire D.MaildirDisk F.FlatFile terms.entry.pretends terms.entry.now account.old
         wire.old.wire result
         account.new wire.new.wire }
@@ -247,5 +163,13 @@ pub fn hold<
     if terms.pretends {
         return hold_preview(system, account, wire, terms, out);
     }
-    hold_run(system.alloc(), account, wire, terms, out)
+    let alloc = system.alloc();
+    let mut notes = Notes::new(alloc);
+    let mut teller = Teller::new(alloc, out, &mut notes, account.settings(), terms.explains);
+    let report = session_told(account, wire, terms.now, &mut teller);
+    wire.wipe();
+    let settings = account.settings();
+    let plan = asked_for(terms.explains, &notes.plan);
+    put_report(alloc, &report, settings, plan, &notes.written, out);
+    Told::Done(report)
 }
