@@ -5,7 +5,8 @@ use Rattle.pop3_wire.specs.declared.wire.Wire.{Ghosts as WireGhosts}
 use Rattle.mail_store.specs.declared.maildir.disk.MaildirDisk.{Ghosts as DiskGhosts}
 use Rattle.mail_store.specs.declared.file.flat_file.FlatFile.{Ghosts as FileGhosts}
 use Rattle.rc_file.specs.{declared.settings.Dest.Dest, declared.settings.Settings.Settings}
-use Rattle.fetch_session.specs.{Account.Holding, declared.account.Store.Store, declared.report.Report.Report}
+use Rattle.fetch_session.specs.Account.{Holding, IsSameAccount}
+use Rattle.fetch_session.specs.{declared.account.Store.Store, declared.report.Report.Report}
 use Rattle.fetch_rules.specs.declared.plans.Step.{Step}
 use Rattle.getmail_setup.specs.{Failures.status_of, declared.errors.Errors.Errors, declared.failure.Failure.Failure}
 use Rattle.getmail_setup.specs.{declared.output.Output.Output, declared.output.OutputRefusal.OutputRefusal}
@@ -26,6 +27,7 @@ pub record FetchesAt {W D F : Type 0} (link : WireGhosts W) (disk : DiskGhosts D
   pub left : Holding D F
   pub wire' : W
   pub holds : HoldsSession link disk file pretends now (holding_of settings store seen_file) wire told left wire'
+  pub same : IsSameAccount (holding_of settings store seen_file) left
 
 -- what a session said was written, and this is its exit status
 pub record TellsOf {O E : Type 0} (out_contents : O → Option (List ℕ)) (err_contents : E → Option (List ℕ))

@@ -1,5 +1,5 @@
 //! A run over devices that are made for it.
-ghost use Rattle.std.specs.Prelude.{◌≤◌, ℕ};
+ghost use Rattle.std.specs.Prelude.{◌≡◌, ◌≤◌, ℕ};
 ghost use Rattle.rc_file.specs.Settings.{IsValid};
 ghost use Rattle.fetch_session.specs.Hearing.{IsPlanOf};
 ghost use Rattle.getmail_program.specs.Fetching.{FetchesAt, TellsOf};
@@ -7,16 +7,18 @@ ghost use Rattle.getmail_program.specs.Holding.{holding_of};
 ghost use Rattle.getmail_program.specs.declared.told.Told.{Told};
 
 use crate::devices::{Devices, seconds_now};
+use crate::ending::{Fetched, tell_all};
 use crate::reason::line_of;
-use crate::run::{Parts, RunEnd, fetch_with};
-use crate::told::RunTerms;
+use crate::told::{RunTerms, hold};
 use fetch_rules::Settings;
+use fetch_session::{Account, Store};
 use getmail_setup::{Errors, Output, Paths, ShownWire, Subject};
 use pop3_wire::Wire;
 use std::alloc::Global;
 use std::hash::BuildHasher;
 use std::io::Write;
 use std::rt::{Clock, Files};
+use system_calls::System;
 
 /// What a run is to do: with these settings, at these paths.
 pub struct Errand<'a> {
@@ -24,6 +26,24 @@ pub struct Errand<'a> {
     pub paths: &'a Paths,
     /// Whether it only shows what it would do.
     pub pretends: bool,
+}
+
+/// What a run leaves, and how it came out.
+#[derive(Drop)]
+struct RunEnd<D, F> {
+    settings: Settings,
+    store: Store<D, F>,
+    seen_file: F,
+    fetched: Fetched,
+}
+
+impl<D: Drop, F: Drop> RunEnd<D, F> {
+    /// The exit status. The devices are dropped here, where nothing is known of their types: that is proved at once.
+    fn into_status(self) -> u8
+        ensures { result ≡ self.fetched.status }
+    {
+        self.fetched.status
+    }
 }
 
 /// Writes the line of a reason, if there is memory for it.
@@ -83,8 +103,26 @@ fn tell_unflushed<'a, M: Devices<'a>, E: Write>(
     }
 }
 
-/// Runs one session over devices that are made for it, or only previews it, and returns the exit status. Then it
-/// removes what killed runs left, unless the run had nothing to fetch. The caller has drawn the hasher's keys.
+/// Tells what a run left that somebody should look at, and removes what killed runs left, unless the run had nothing to
+/// fetch.
+fn tell_left<'a, M: Devices<'a>, E: Write>(
+    alloc: Global,
+    devices: &M,
+    left: &RunEnd<M::Maildir, M::File>,
+    rests: &str,
+    errors: &mut Errors<'_, E>,
+) {
+    tell_store(alloc, devices, left, rests, errors);
+    errors.close(Subject::Notice);
+    tell_unflushed(alloc, devices, left, errors);
+    errors.close(Subject::Notice);
+    if !left.fetched.is_idle {
+        devices.sweep(&left.settings, &left.store, &left.seen_file);
+    }
+}
+
+/// Runs one session over devices that are made for it, or only previews it, and returns the exit status. What it says
+/// goes to `out`, all else to standard error. The caller has drawn the hasher's keys and the mark of the files.
 pub fn fetch_at<'a, R, M, E, W, H, O>(
     rt: &R,
     devices: &M,
@@ -116,37 +154,33 @@ where
         pretends,
     } = errand;
     let (wire, hasher) = link;
-    let mut wire = ShownWire::new(rt.alloc(), wire, errors.screen(&settings));
-    let parts = Parts {
-        store: devices.store(
-            &settings.dest,
-            paths.destination.as_str(),
-            paths.rests.as_str(),
-        ),
-        seen_file: devices.record_file(paths.record.as_str()),
-        settings,
-        hasher,
-    };
+    let alloc = rt.alloc();
+    let mut wire = ShownWire::new(alloc, wire, errors.screen(&settings));
+    let destination = paths.destination.as_str();
+    let rests = paths.rests.as_str();
+    let record = paths.record.as_str();
+    let store = devices.store(&settings.dest, destination, rests);
+    let seen_file = devices.record_file(record);
+    let mut account = Account::new(alloc, settings, store, seen_file, hasher);
     let terms = RunTerms {
         now: seconds_now(rt),
-        destination: paths.destination.as_str(),
-        record: paths.record.as_str(),
+        destination,
+        record,
         pretends,
         explains: errors.explains,
     };
-    let left = fetch_with(rt, parts, &mut wire, terms, out, &mut errors);
-    tell_store(
-        rt.alloc(),
-        devices,
-        &left,
-        paths.rests.as_str(),
-        &mut errors,
-    );
-    errors.close(Subject::Notice);
-    tell_unflushed(rt.alloc(), devices, &left, &mut errors);
-    errors.close(Subject::Notice);
-    if !left.fetched.is_idle {
-        devices.sweep(&left.settings, &left.store, &left.seen_file);
-    }
+    let reasons = errors.reasons;
+    let system = System::new(rt, &reasons.store);
+    let told = hold(&system, &mut account, &mut wire, terms, out);
+    let settings = account.settings();
+    let fetched = tell_all(alloc, settings, &terms, &told, out.refusal(), &mut errors);
+    let (settings, store, seen_file) = account.into_parts();
+    let left = RunEnd {
+        settings,
+        store,
+        seen_file,
+        fetched,
+    };
+    tell_left(alloc, devices, &left, rests, &mut errors);
     left.into_status()
 }
