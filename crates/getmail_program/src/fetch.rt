@@ -1,20 +1,23 @@
-//! The run of a setup: the lock, the connection, and one session.
-ghost use Rattle.std.specs.Prelude.{◌≡◌, ◌≤◌, ℕ, Bool, true};
+//! A run: its setup, the lock, the connection, and one session.
+ghost use Rattle.std.specs.Prelude.{◌≡◌, ◌≤◌, ◌&&◌, not, true};
 ghost use Rattle.rc_file.specs.Settings.{IsValid};
 ghost use Rattle.getmail_setup.specs.Lock.{goes_on};
-ghost use Rattle.getmail_setup.specs.declared.setup.Setup.{Setup};
+ghost use Rattle.system_calls.specs.declared.system.System.{System};
 ghost use Rattle.getmail_program.specs.Fetching.{ConnectsAndHolds, Runs};
+ghost use Rattle.getmail_program.specs.Starting.{Starts};
 
 use crate::devices::{HostDevices, seconds_now};
 use crate::errand::{Errand, fetch_at};
 use fetch_rules::Settings;
+use file_reading::ReadFile;
 use folder_store::{HostFile, HostFolder, HostMaildir, ProcessMark};
 use getmail_setup::{
-    Errors, Failure, Link, Lock, Output, Peer, Reasons, Setup, connect, fail, failure_of,
-    is_long_held, link_over, other_list, peer_of, take_lock,
+    Errors, Failure, Link, Lock, Output, Peer, Reasons, Setup, Words, connect, fail, failure_of,
+    home, is_long_held, link_over, other_list, peer_of, set_up, take_lock,
 };
 use mail_store::{FlatFile, MaildirDisk};
 use pop3_wire::Wire;
+use std::env::Env;
 use std::fs::File;
 use std::hash::{BuildHasher, RandomState};
 use std::io::{self, Write};
@@ -23,24 +26,6 @@ use std::process::Process;
 use std::random::RandomSource;
 use std::rt::{Clock, Files};
 use system_calls::System;
-
-/// One that runs a setup.
-pub trait RunSetup {
-    // It ran this setup, for somebody or unattended, and the run had this exit status.
-    ghost ran: { Self → Setup → Bool → ℕ → Type 0 };
-
-    /// Connects, runs one session or only shows what it would do, and returns the exit status.
-    fn run<O: Write + Drop, E: Write + Copy + Drop>(
-        &self,
-        setup: Setup,
-        is_unattended: bool,
-        out: O,
-        errors: Errors<'_, E>,
-    ) -> u8
-        requires { IsValid setup.settings }
-        ensures within { result ≤ 2 }
-        ensures ran { ran self.now setup is_unattended result };
-}
 
 /// A machine, and the process that runs there.
 #[derive(Drop)]
@@ -129,39 +114,56 @@ fn is_patient(rt: &impl Clock, is_unattended: bool, reasons: &Reasons) -> bool
     }
 }
 
-impl<'a, R> RunSetup for Machine<'a, R>
-where
-    R: Net<Stream = TcpStream> + Files<File = File> + Clock + RandomSource + AllocGlobal,
-    R: Clone + Drop,
+/// Whether nobody waits for what is said. A preview is for somebody.
+pub fn is_unattended(words: &Words) -> bool
+    ensures { result ≡ (words.now.unattended && not words.now.pretend) }
 {
-    ghost ran = { λ _. Runs ⟦<Link<'a> as Wire>⟧ ⟦<HostMaildir<'a, R> as MaildirDisk>⟧
-        ⟦<HostFile<'a, HostFolder<'a, R>> as FlatFile>⟧ };
+    words.unattended && !words.pretend
+}
 
-    /// The lock is taken first, and held to the end.
-    fn run<O: Write + Drop, E: Write + Copy + Drop>(
-        &self,
-        setup: Setup,
-        is_unattended: bool,
-        out: O,
-        mut errors: Errors<'_, E>,
-    ) -> u8 {
-        let rt = self.rt;
-        if let Some(list) = other_list(rt, &setup) {
-            let failure = Failure::OtherList(list.as_str(), setup.paths.record.as_str());
-            return fail(rt.alloc(), failure, None, &mut errors);
-        }
-        let prepared = match prepare(rt, self.process, &setup.settings) {
-            Ok(prepared) => prepared,
-            Err(failure) => return fail(rt.alloc(), failure, None, &mut errors),
-        };
-        let lock = take_lock(rt, &setup, &mut errors);
-        if let Lock::Elsewhere = &lock {
-            if is_patient(rt, is_unattended, errors.reasons) {
-                return 0;
-            }
-            let settings = Some(&setup.settings);
-            return fail(rt.alloc(), Failure::AtWork, settings, &mut errors);
-        }
-        fetch_with(rt, setup, prepared, &lock, out, errors)
+/// Sets a run up from the rc file that the words name, takes its lock, which is held to the end, and runs one session
+/// or only shows what it would do. Returns the exit status.
+pub fn run<'a, R, O, E>(
+    machine: &Machine<'a, R>,
+    words: &Words,
+    out: O,
+    mut errors: Errors<'_, E>,
+) -> u8
+where
+    R: Net<Stream = TcpStream> + Files<File = File> + Env + Clock + RandomSource + AllocGlobal,
+    R: Clone + Drop,
+    O: Write + Drop,
+    E: Write + Copy + Drop,
+    ensures within { result ≤ 2 }
+    ensures starts { (files : System R) × Starts (⟦<System<'a, R> as ReadFile>⟧.gave files)
+        (⟦<System<'a, R> as ReadFile>⟧.refused files) (Runs ⟦<Link<'a> as Wire>⟧
+        ⟦<HostMaildir<'a, R> as MaildirDisk>⟧ ⟦<HostFile<'a, HostFolder<'a, R>> as FlatFile>⟧) words.now result }
+{
+    let rt = machine.rt;
+    let alloc = rt.alloc();
+    let reasons = errors.reasons;
+    let files = System::new(rt, &reasons.before);
+    let Ok(home) = home(rt) else {
+        return fail(alloc, Failure::NoMemory, None, &mut errors);
+    };
+    let setup = match set_up(rt, &files, home.as_deref(), words, &mut errors) {
+        Ok(setup) => setup,
+        Err(failure) => return fail(alloc, failure, None, &mut errors),
+    };
+    if let Some(list) = other_list(rt, &setup) {
+        let failure = Failure::OtherList(list.as_str(), setup.paths.record.as_str());
+        return fail(alloc, failure, None, &mut errors);
     }
+    let prepared = match prepare(rt, machine.process, &setup.settings) {
+        Ok(prepared) => prepared,
+        Err(failure) => return fail(alloc, failure, None, &mut errors),
+    };
+    let lock = take_lock(rt, &setup, &mut errors);
+    if let Lock::Elsewhere = &lock {
+        if is_patient(rt, is_unattended(words), reasons) {
+            return 0;
+        }
+        return fail(alloc, Failure::AtWork, Some(&setup.settings), &mut errors);
+    }
+    fetch_with(rt, setup, prepared, &lock, out, errors)
 }

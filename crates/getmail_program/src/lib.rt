@@ -21,7 +21,7 @@ mod transcript;
 pub use devices::{Devices, HostDevices};
 pub use ending::Fetched;
 pub use errand::{Errand, fetch_at};
-pub use fetch::{Machine, RunSetup};
+pub use fetch::Machine;
 pub use rehearsal::rehearse;
 pub use start::obey_command_line;
 pub use told::{RunTerms, Told};

@@ -1,19 +1,20 @@
 //! A run from its command line to its exit status.
-ghost use Rattle.std.specs.Prelude.{◌≡◌, ◌≤◌, ◌&&◌, map, not};
+ghost use Rattle.std.specs.Prelude.{◌≡◌, ◌≤◌, map};
 ghost use Rattle.std.specs.String.{string_bytes};
 ghost use Rattle.system_calls.specs.declared.system.System.{System};
+ghost use Rattle.getmail_program.specs.Fetching.{Runs};
 ghost use Rattle.getmail_program.specs.Rehearsal.{Rehearses};
 ghost use Rattle.getmail_program.specs.Starting.{LeadsTo, Obeys, Starts};
 
-use crate::fetch::{Machine, RunSetup};
+use crate::fetch::{Machine, is_unattended, run};
 use crate::news::tell_news;
 use crate::rehearsal::rehearse;
 use crate::transcript::Transcript;
 use fetch_rules::RcFault;
 use file_reading::ReadFile;
+use folder_store::{HostFile, HostFolder, HostMaildir};
 use getmail_setup::{
-    Errors, Failure, Journal, Kept, Output, Reasons, Words, explain, fail, home, read_words,
-    set_up, tell,
+    Errors, Failure, Journal, Kept, Link, Output, Reasons, Words, explain, fail, read_words, tell,
 };
 use mail_store::{FlatFile, MaildirDisk, MemoryFile, MemoryMaildir};
 use pop3_wire::{StreamWire, Wire};
@@ -27,41 +28,6 @@ use std::random::RandomSource;
 use std::rt::{Clock, Files};
 use system_calls::System;
 use trace::TracedWire;
-
-/// Whether nobody waits for what is said. A preview is for somebody.
-fn is_unattended(words: &Words) -> bool
-    ensures { result ≡ (words.now.unattended && not words.now.pretend) }
-{
-    words.unattended && !words.pretend
-}
-
-/// Sets a run up from the rc file that the words name, and runs it. Returns the exit status.
-fn run<R, S, M, O, E>(
-    rt: &R,
-    files: &S,
-    machine: &M,
-    words: &Words,
-    out: O,
-    mut errors: Errors<'_, E>,
-) -> u8
-where
-    R: Files + Env + AllocGlobal,
-    S: ReadFile,
-    M: RunSetup,
-    O: Write + Drop,
-    E: Write + Copy + Drop,
-    ensures within { result ≤ 2 }
-    ensures starts { Starts (S.gave files.now) (S.refused files.now) (M.ran machine.now) words.now
-        result }
-{
-    let Ok(home) = home(rt) else {
-        return fail(rt.alloc(), Failure::NoMemory, None, &mut errors);
-    };
-    match set_up(rt, files, home.as_deref(), words, &mut errors) {
-        Ok(setup) => machine.run(setup, is_unattended(words), out, errors),
-        Err(failure) => fail(rt.alloc(), failure, None, &mut errors),
-    }
-}
 
 /// Where an unattended run says what it says: in a journal.
 fn errors_kept<'a>(journal: &'a Journal, reasons: &'a Reasons) -> Errors<'a, Kept<'a>> {
@@ -91,14 +57,13 @@ where
     O: Write + Drop,
     ensures within { result ≤ 2 }
     ensures starts { (files : System R) × Starts (⟦<System<'a, R> as ReadFile>⟧.gave files)
-        (⟦<System<'a, R> as ReadFile>⟧.refused files) (⟦<Machine<'a, R> as RunSetup>⟧.ran machine.now) words.now
-        result }
+        (⟦<System<'a, R> as ReadFile>⟧.refused files) (Runs ⟦<Link<'a> as Wire>⟧
+        ⟦<HostMaildir<'a, R> as MaildirDisk>⟧ ⟦<HostFile<'a, HostFolder<'a, R>> as FlatFile>⟧) words.now result }
 {
     let rt = machine.rt;
     let journal = Journal::new(rt.alloc());
     let errors = errors_kept(&journal, reasons);
-    let files = System::new(rt, &reasons.before);
-    let status = run(rt, &files, machine, words, out, errors);
+    let status = run(machine, words, out, errors);
     tell_news(rt, machine.process, words, &journal, err);
     status
 }
@@ -137,7 +102,8 @@ where
     ensures obeys { Obeys (Rehearses ⟦<TracedWire<'static, StreamWire<I, Transcript<O>>, Stderr> as Wire>⟧
         ⟦<MemoryMaildir as MaildirDisk>⟧ ⟦<MemoryFile as FlatFile>⟧)
         ⟦<System<'a, R> as ReadFile>⟧.gave ⟦<System<'a, R> as ReadFile>⟧.refused
-        (⟦<Machine<'a, R> as RunSetup>⟧.ran machine.now) words.now result }
+        (Runs ⟦<Link<'a> as Wire>⟧
+        ⟦<HostMaildir<'a, R> as MaildirDisk>⟧ ⟦<HostFile<'a, HostFolder<'a, R>> as FlatFile>⟧) words.now result }
 {
     let rt = machine.rt;
     let is_terminal = err.is_terminal();
@@ -157,8 +123,7 @@ where
     if is_unattended(words) {
         return run_unattended(machine, words, streams.1, err, &reasons);
     }
-    let files = System::new(rt, &reasons.before);
-    run(rt, &files, machine, words, streams.1, errors)
+    run(machine, words, streams.1, errors)
 }
 
 /// The words of the command line, the program's name first. If they can't be read, for example because
@@ -194,7 +159,8 @@ where
     ensures leads { LeadsTo (Rehearses ⟦<TracedWire<'static, StreamWire<I, Transcript<O>>, Stderr> as Wire>⟧
         ⟦<MemoryMaildir as MaildirDisk>⟧ ⟦<MemoryFile as FlatFile>⟧)
         ⟦<System<'a, R> as ReadFile>⟧.gave ⟦<System<'a, R> as ReadFile>⟧.refused
-        (⟦<Machine<'a, R> as RunSetup>⟧.ran machine.now) (map string_bytes arguments.now) result }
+        (Runs ⟦<Link<'a> as Wire>⟧
+        ⟦<HostMaildir<'a, R> as MaildirDisk>⟧ ⟦<HostFile<'a, HostFolder<'a, R>> as FlatFile>⟧) (map string_bytes arguments.now) result }
 {
     match read_words(machine.rt.alloc(), arguments) {
         Ok(words) => obey(machine, &words, streams, err),
