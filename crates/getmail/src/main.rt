@@ -2,11 +2,15 @@
 #![tactic(auto)]
 
 use command_line::StandIns;
-use getmail_program::obey_command_line;
+use getmail_program::{Machine, arguments, obey_command_line};
 use std::process::ExitCode;
 
 fn main(rt: HostRuntime) -> ExitCode {
     let _stand_ins = StandIns::new(&rt);
     let streams = (rt.stdin(), rt.stdout());
-    ExitCode::from(obey_command_line(&rt, rt.process(), streams, rt.stderr()))
+    let machine = Machine {
+        rt: &rt,
+        process: rt.process(),
+    };
+    ExitCode::from(obey_command_line(&machine, arguments(&rt), streams, rt.stderr()))
 }

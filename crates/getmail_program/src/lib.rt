@@ -23,5 +23,5 @@ pub use ending::Fetched;
 pub use errand::{Errand, fetch_at};
 pub use fetch::Machine;
 pub use rehearsal::rehearse;
-pub use start::obey_command_line;
+pub use start::{arguments, obey_command_line};
 pub use told::{RunTerms, Told};

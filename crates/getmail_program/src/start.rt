@@ -1,10 +1,11 @@
 //! A run from its command line to its exit status.
-ghost use Rattle.std.specs.Prelude.{◌≡◌, ◌≤◌, map};
+ghost use Rattle.std.specs.Prelude.{◌≡◌, ◌≤◌, map, IfErr, IfOk};
 ghost use Rattle.std.specs.String.{string_bytes};
+ghost use Rattle.getmail_setup.specs.Failures.{status_of};
 ghost use Rattle.system_calls.specs.declared.system.System.{System};
 ghost use Rattle.getmail_program.specs.Fetching.{Runs};
 ghost use Rattle.getmail_program.specs.Rehearsal.{Rehearses};
-ghost use Rattle.getmail_program.specs.Starting.{LeadsTo, Obeys, Starts};
+ghost use Rattle.getmail_program.specs.Starting.{LeadsTo, Starts};
 
 use crate::fetch::{Machine, is_unattended, run};
 use crate::news::tell_news;
@@ -23,7 +24,6 @@ use std::env::{self, Env};
 use std::fs::File;
 use std::io::{ErrorKind, IsTerminal, Read, Stderr, Write};
 use std::net::{Net, TcpStream};
-use std::process::Process;
 use std::random::RandomSource;
 use std::rt::{Clock, Files};
 use system_calls::System;
@@ -91,44 +91,9 @@ where
     status
 }
 
-/// Does what these words ask for, and returns the exit status.
-fn obey<'a, R, I, O>(machine: &Machine<'a, R>, words: &Words, streams: (I, O), err: Stderr) -> u8
-where
-    R: Net<Stream = TcpStream> + Files<File = File> + Env + Clock,
-    R: RandomSource + AllocGlobal + Clone + Drop,
-    I: Read + Drop,
-    O: Write + IsTerminal + Drop,
-    ensures within { result ≤ 2 }
-    ensures obeys { Obeys (Rehearses ⟦<TracedWire<'static, StreamWire<I, Transcript<O>>, Stderr> as Wire>⟧
-        ⟦<MemoryMaildir as MaildirDisk>⟧ ⟦<MemoryFile as FlatFile>⟧)
-        ⟦<System<'a, R> as ReadFile>⟧.gave ⟦<System<'a, R> as ReadFile>⟧.refused
-        (Runs ⟦<Link<'a> as Wire>⟧
-        ⟦<HostMaildir<'a, R> as MaildirDisk>⟧ ⟦<HostFile<'a, HostFolder<'a, R>> as FlatFile>⟧) words.now result }
-{
-    let rt = machine.rt;
-    let is_terminal = err.is_terminal();
-    let trace = if words.trace { Some(err) } else { None };
-    let reasons = Reasons::new(rt.alloc(), trace);
-    let mut errors = Errors {
-        err: Output::new(err),
-        shows_progress: is_terminal && !words.trace,
-        says_why: words.why || words.unattended || is_terminal,
-        explains: words.why || streams.1.is_terminal(),
-        reasons: &reasons,
-        journal: None,
-    };
-    if words.rehearse {
-        return rehearse_told(rt.alloc(), words, streams, trace, &mut errors);
-    }
-    if is_unattended(words) {
-        return run_unattended(machine, words, streams.1, err, &reasons);
-    }
-    run(machine, words, streams.1, errors)
-}
-
 /// The words of the command line, the program's name first. If they can't be read, for example because
 /// one isn't UTF-8, a word that is no option takes their place, so that the usage is shown.
-fn arguments<'a, R: Env + AllocGlobal>(rt: &R) -> Result<Vec<String>, Failure<'a>> {
+pub fn arguments<'a, R: Env + AllocGlobal>(rt: &R) -> Result<Vec<String>, Failure<'a>> {
     match env::args(rt) {
         Ok(words) => Ok(words.collect(rt.alloc())?),
         Err(error) => {
@@ -143,10 +108,11 @@ fn arguments<'a, R: Env + AllocGlobal>(rt: &R) -> Result<Vec<String>, Failure<'a
     }
 }
 
-/// Does what these arguments ask for, the program's name first, and returns the exit status.
-fn obey_arguments<'a, R, I, O>(
+/// Does what a command line asks for, and returns the exit status. The streams are standard input and output; `err` is
+/// standard error, to which a trace goes.
+pub fn obey_command_line<'a, R, I, O>(
     machine: &Machine<'a, R>,
-    arguments: &[String],
+    arguments: Result<Vec<String>, Failure<'_>>,
     streams: (I, O),
     err: Stderr,
 ) -> u8
@@ -156,30 +122,39 @@ where
     I: Read + Drop,
     O: Write + IsTerminal + Drop,
     ensures within { result ≤ 2 }
-    ensures leads { LeadsTo (Rehearses ⟦<TracedWire<'static, StreamWire<I, Transcript<O>>, Stderr> as Wire>⟧
+    ensures leads { IfOk arguments (λ arguments.
+        LeadsTo (Rehearses ⟦<TracedWire<'static, StreamWire<I, Transcript<O>>, Stderr> as Wire>⟧
         ⟦<MemoryMaildir as MaildirDisk>⟧ ⟦<MemoryFile as FlatFile>⟧)
         ⟦<System<'a, R> as ReadFile>⟧.gave ⟦<System<'a, R> as ReadFile>⟧.refused
-        (Runs ⟦<Link<'a> as Wire>⟧
-        ⟦<HostMaildir<'a, R> as MaildirDisk>⟧ ⟦<HostFile<'a, HostFolder<'a, R>> as FlatFile>⟧) (map string_bytes arguments.now) result }
+        (Runs ⟦<Link<'a> as Wire>⟧ ⟦<HostMaildir<'a, R> as MaildirDisk>⟧
+        ⟦<HostFile<'a, HostFolder<'a, R>> as FlatFile>⟧) (map string_bytes arguments.items) result) }
+    ensures failed { IfErr arguments (λ failure. result ≡ status_of failure) }
 {
-    match read_words(machine.rt.alloc(), arguments) {
-        Ok(words) => obey(machine, &words, streams, err),
-        Err(error) => explain(machine.rt, &error, &mut Output::new(err)),
+    let rt = machine.rt;
+    let words = match arguments {
+        Ok(arguments) => read_words(rt.alloc(), &arguments),
+        Err(failure) => return tell(rt.alloc(), failure, &mut Output::new(err)),
+    };
+    let words = match words {
+        Ok(words) => words,
+        Err(error) => return explain(rt, &error, &mut Output::new(err)),
+    };
+    let is_terminal = err.is_terminal();
+    let trace = if words.trace { Some(err) } else { None };
+    let reasons = Reasons::new(rt.alloc(), trace);
+    let mut errors = Errors {
+        err: Output::new(err),
+        shows_progress: is_terminal && !words.trace,
+        says_why: words.why || words.unattended || is_terminal,
+        explains: words.why || streams.1.is_terminal(),
+        reasons: &reasons,
+        journal: None,
+    };
+    if words.rehearse {
+        return rehearse_told(rt.alloc(), &words, streams, trace, &mut errors);
     }
-}
-
-/// Does what the command line of a runtime asks for, and returns the exit status. The streams are standard
-/// input and output; `err` is standard error, to which a trace goes.
-pub fn obey_command_line<R, I, O>(rt: &R, process: Process, streams: (I, O), err: Stderr) -> u8
-where
-    R: Net<Stream = TcpStream> + Files<File = File> + Env + Clock,
-    R: RandomSource + AllocGlobal + Print + Eprint + Clone + Drop,
-    I: Read + Drop,
-    O: Write + IsTerminal + Drop,
-    ensures { result ≤ 2 }
-{
-    match arguments(rt) {
-        Ok(arguments) => obey_arguments(&Machine { rt, process }, &arguments, streams, err),
-        Err(failure) => tell(rt.alloc(), failure, &mut Output::new(err)),
+    if is_unattended(&words) {
+        return run_unattended(machine, &words, streams.1, err, &reasons);
     }
+    run(machine, &words, streams.1, errors)
 }
