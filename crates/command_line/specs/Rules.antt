@@ -1,7 +1,6 @@
 -- The rules of options and words, and whether a flag was given.
-use Rattle.std.specs.Prelude.{ℕ, Bool, true, false, List, [], Some, codes, nat_lt, bytes_eq}
-use Rattle.std.specs.Option.{option_map_or}
-use Rattle.clap.specs.Words.{App, Row, Rule, count_of, first_of, new_app, new_rule}
+use Rattle.std.specs.Prelude.{ℕ, Bool, true, false, List, [], Some, nat_lt}
+use Rattle.clap.specs.Words.{App, Row, Rule, count_of, new_app, new_rule}
 use Rattle.clap.specs.declared.error.kind.ErrorKind.{ErrorKind}
 use Rattle.clap.specs.declared.error.kind.ErrorKind.TheVariants.{DisplayHelp, DisplayVersion}
 use Rattle.clap.specs.declared.builder.action.ArgAction.TheVariants.{Set, Count}

@@ -23,7 +23,7 @@ use Rattle.fetch_runs.specs.Sessions.{Effect, StoresTexts, file_for, is_unheld, 
 use Rattle.fetch_runs.specs.Sessions.{IsHonest, AreTexts, IsBegun, SendsOnly, ReadsReplies, Served, IsNumbered, Leaves}
 use Rattle.fetch_runs.specs.Sessions.{Retrieves, SessionOverLink, MboxMail, settled, mbox_rows, mbox_wanted, entries}
 use Rattle.fetch_runs.specs.Sessions.{IsBroken, MboxStores, MboxLeaves, AsksForNone, MboxSessionOverLink}
-use Rattle.pop3_wire.specs.{declared.command.Command.Command, World.Message, Reading.WholeReply, Place.at, Body.lf_line}
+use Rattle.pop3_wire.specs.{declared.command.Command.Command, World.Message, Reading.WholeReply, Place.at}
 use Rattle.pop3_wire.specs.declared.command.Command.TheVariants.{Dele, User, Pass, Stat, UidlAll, ListAll, Rset, Retr}
 use Rattle.fetch_runs.specs.Steps.{IsAmong, WasFetched, DeletesAllowed, StandsAfter, IsIn, AddsTexts, AppendsMessages}
 use Rattle.fetch_runs.specs.Steps.{BringsMessages, IsSafeSession, MboxIsSafe}

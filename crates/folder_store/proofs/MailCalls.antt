@@ -5,7 +5,7 @@ use Rattle.std.proofs.Common.{IsPermutation, IsTrue, IfErr, String, Global, Vec,
 use Rattle.std.proofs.Common.{◌≢◌, suc, Some, append_assoc, append-nil, None, is_some, IfSome}
 use Rattle.mail_store.specs.Maildir.{AfterFlushing, AfterTaking, AllNamed, AreTheirs, Checks, Draft, File}
 use Rattle.mail_store.specs.Maildir.{Folders, IsWithout, Lists, Maildir, MayBeNamed, MayHave, bases_told}
-use Rattle.mail_store.specs.Maildir.{maildir_refused, draft, dropped, is_there, mail, names_of, with_file, ListsBoth}
+use Rattle.mail_store.specs.Maildir.{maildir_refused, draft, dropped, is_there, mail, names_of, ListsBoth}
 use Rattle.mail_store.specs.{Held.is_sought, declared.maildir.disk.Folder.Folder, declared.fault.StoreFault.StoreFault}
 use Rattle.mail_store.specs.Loss.{Flushes, with_flushed, flushed_by}
 use Rattle.std.specs.List.{AllByRecursion, AllZip, filter}

@@ -7,7 +7,8 @@ use Rattle.getmail_setup.specs.{declared.output.Output.Output, Output.Puts}
 use Rattle.getmail_setup.proofs.OutputLemmas.{puts_both}
 use Rattle.rc_file.specs.declared.settings.Settings.{Settings}
 use Rattle.getmail_program.specs.declared.teller.Teller.{Teller}
-use Rattle.getmail_program.specs.Teller.{StartsTelling, EarlyLine, HasLast, HasSameLinks, StaysClosed, Wrote, WroteMore, WroteText, early_text}
+use Rattle.getmail_program.specs.Teller.{StartsTelling, EarlyLine, HasLast, HasSameLinks, StaysClosed, Wrote, WroteMore}
+use Rattle.getmail_program.specs.Teller.{WroteText, early_text}
 
 -- a first line, and then lines
 pub early : {O : Type 0} (contents : O → Option (List ℕ)) (settings : Settings) (out : Output O) (a b : Teller O)
