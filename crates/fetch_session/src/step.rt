@@ -7,7 +7,7 @@ ghost use Rattle.fetch_session.specs.Parts.{DoesTasks, RunsTasks, IsReadyFor, Ke
 ghost use Rattle.fetch_session.specs.Report.{AddsLines, HasRoom};
 ghost use Rattle.fetch_session.specs.Scene.{scene, TakesTask};
 ghost use Rattle.fetch_session.specs.Target.{Stores, Target};
-ghost use Rattle.fetch_session.specs.Task.{deletes, deleting, fetching, stores, tasks_planned};
+ghost use Rattle.fetch_session.specs.Task.{deletes, deleting, fetching, tasks_planned};
 ghost use Rattle.mail_store.specs.FlatFile.{Stored};
 ghost use Rattle.pop3_client.specs.Client.{place_of};
 ghost use Rattle.pop3_client.specs.Turns.{dele, most};
@@ -56,27 +56,6 @@ fn first_task<'a>(step: Step, uid: &'a [u8], size: u64, held: bool) -> Task<'a>
     Task::Store { number, uid }
 }
 
-/// Takes one text: it is read, stored and marked.
-fn take<W: Wire, D: MaildirDisk, F: FlatFile, H: BuildHasher>(
-    client: &mut Client<'_, W>,
-    work: &mut Work<D, F, H>,
-    account: &AccountId,
-    number: u32,
-    uid: &[u8],
-) -> Result<(), Cut>
-    requires { IsReadyFor D.MaildirDisk F.FlatFile account.now (stores number uid.now ∷ []) work.old }
-    ensures { RunsTasks W.Wire D.MaildirDisk F.FlatFile account.now (stores number uid.now ∷ [])
-        client.old work.old result client.new work.new }
-{
-    one_more_is_held();
-    match &mut work.store {
-        Store::Maildir(disk) => {
-            take_into_maildir(client, disk, &mut work.ledger, account, number, uid)
-        }
-        Store::Mboxrd(mbox) => take_into_mbox(client, mbox, &mut work.ledger, number, uid),
-    }
-}
-
 /// Deletes a message.
 fn delete<W: Wire>(
     alloc: Global,
@@ -112,8 +91,14 @@ fn do_task<W: Wire, D: MaildirDisk, F: FlatFile, H: BuildHasher>(
     ensures does { DoesTasks W.Wire D.MaildirDisk F.FlatFile account.now (task_of task.entry ∷ [])
         client.old work.old result client.new work.new }
 {
+    one_more_is_held();
     match task {
-        Task::Store { number, uid } => take(client, work, account, number, uid),
+        Task::Store { number, uid } => match &mut work.store {
+            Store::Maildir(disk) => {
+                take_into_maildir(client, disk, &mut work.ledger, account, number, uid)
+            }
+            Store::Mboxrd(mbox) => take_into_mbox(client, mbox, &mut work.ledger, number, uid),
+        },
         Task::Reread { number, .. } => {
             reread(work.ledger.alloc, client, &mut work.ledger.lines, number)
         }
