@@ -75,8 +75,8 @@ fn proceed<W: Wire, D: MaildirDisk, F: FlatFile, H: BuildHasher, L: Listener>(
     carry_out(client, work, terms, &listing, &mut counts.skipped, listener)
 }
 
-/// Runs one session of an account over a client with nothing waiting.
-fn session_over<W: Wire, D: MaildirDisk, F: FlatFile, H: BuildHasher, L: Listener>(
+/// As `session`, over a client with nothing waiting. The listener is told of the lines as they are noted.
+pub fn session_told<W: Wire, D: MaildirDisk, F: FlatFile, H: BuildHasher, L: Listener>(
     account: &mut Account<D, F, H>,
     client: &mut Client<'_, W>,
     now: u64,
@@ -139,22 +139,6 @@ pub fn session<W: Wire, D: MaildirDisk, F: FlatFile, H: BuildHasher>(
     ensures same { IsSameAccount account.old account.new }
     ensures session { RunsSession W.Wire D.MaildirDisk F.FlatFile now account.old wire.old result account.new wire.new }
 {
-    session_told(account, wire, now, &mut Silent)
-}
-
-/// As `session`; the listener is told of the lines as they are noted.
-pub fn session_told<W: Wire, D: MaildirDisk, F: FlatFile, H: BuildHasher, L: Listener>(
-    account: &mut Account<D, F, H>,
-    wire: &mut W,
-    now: u64,
-    listener: &mut L,
-) -> Report
-    ensures limits { IsWithinLimits W.Wire wire.old result wire.new }
-    ensures same { IsSameAccount account.old account.new }
-    ensures session { RunsSession W.Wire D.MaildirDisk F.FlatFile now account.old wire.old result account.new wire.new }
-    ensures heard { HearsOne L.hears (IsPlanOf W.Wire D.MaildirDisk F.FlatFile now account.old wire.old account.new
-        wire.new result) listener.old listener.new }
-{
     let mut client = Client::new(wire);
-    session_over(account, &mut client, now, listener)
+    session_told(account, &mut client, now, &mut Silent)
 }

@@ -16,6 +16,7 @@ use fetch_session::{
 };
 use getmail_setup::{Output, ShownWire};
 use mail_store::{FlatFile, MaildirDisk};
+use pop3_client::Client;
 use pop3_wire::Wire;
 use std::alloc::Global;
 use std::hash::BuildHasher;
@@ -166,7 +167,8 @@ pub fn hold<
     let alloc = system.alloc();
     let mut notes = Notes::new(alloc);
     let mut teller = Teller::new(alloc, out, &mut notes, account.settings(), terms.explains);
-    let report = session_told(account, wire, terms.now, &mut teller);
+    let mut client = Client::new(wire);
+    let report = session_told(account, &mut client, terms.now, &mut teller);
     wire.wipe();
     let settings = account.settings();
     let plan = asked_for(terms.explains, &notes.plan);
