@@ -105,7 +105,7 @@ fn tell_unflushed<'a, M: Devices<'a>, E: Write>(
 
 /// Tells what a run left that somebody should look at, and removes what killed runs left, unless the run had nothing to
 /// fetch.
-fn tell_left<'a, M: Devices<'a>, E: Write>(
+fn finish<'a, M: Devices<'a>, E: Write>(
     alloc: Global,
     devices: &M,
     left: &RunEnd<M::Maildir, M::File>,
@@ -181,6 +181,6 @@ where
         seen_file,
         fetched,
     };
-    tell_left(alloc, devices, &left, rests, &mut errors);
+    finish(alloc, devices, &left, rests, &mut errors);
     left.into_status()
 }

@@ -3,7 +3,7 @@ ghost use Rattle.std.specs.Prelude.{◌≡◌, ◌≤◌, ◌&&◌, not, true};
 ghost use Rattle.rc_file.specs.Settings.{IsValid};
 ghost use Rattle.getmail_setup.specs.Lock.{goes_on};
 ghost use Rattle.system_calls.specs.declared.system.System.{System};
-ghost use Rattle.getmail_program.specs.Fetching.{ConnectsAndHolds, Runs};
+ghost use Rattle.getmail_program.specs.Fetching.{ConnectsAndHolds, HoldsSetup, Runs};
 ghost use Rattle.getmail_program.specs.Starting.{Starts};
 
 use crate::devices::{HostDevices, seconds_now};
@@ -57,6 +57,35 @@ fn prepare<'a, R: RandomSource + AllocGlobal>(
     }
 }
 
+/// Runs one session over the machine's files, or only previews it, and returns the exit status. It is apart since the
+/// requirement of `fetch_at` is too large a term where the link's type is known too.
+fn fetch_setup<'a, R, E, W, H, O>(
+    rt: &R,
+    devices: &HostDevices<'a, R>,
+    errand: Errand<'a>,
+    link: (W, H),
+    out: O,
+    errors: Errors<'_, E>,
+) -> u8
+where
+    R: Files + Clock + AllocGlobal + Clone + Drop,
+    E: Write + Copy + Drop,
+    W: Wire + Drop,
+    H: BuildHasher + Drop,
+    O: Write + Drop,
+    requires { IsValid errand.settings }
+    ensures within { result ≤ 1 }
+    ensures holds { HoldsSetup W.Wire ⟦<HostMaildir<'a, R> as MaildirDisk>⟧
+        ⟦<HostFile<'a, HostFolder<'a, R>> as FlatFile>⟧ (record {
+          settings = errand.entry.settings;
+          paths = errand.entry.paths.now;
+          pretends = errand.entry.pretends;
+        }) result }
+{
+    let mut out = Output::new(out);
+    fetch_at(rt, devices, errand, link, &mut out, errors)
+}
+
 /// Connects, runs one session or only shows what it would do, and returns the exit status. A run of which
 /// another one has the lock does neither.
 fn fetch_with<'a, R, O, E>(
@@ -100,8 +129,7 @@ where
         paths: &paths,
         pretends,
     };
-    let mut out = Output::new(out);
-    fetch_at(rt, &devices, errand, (link, hasher), &mut out, errors)
+    fetch_setup(rt, &devices, errand, (link, hasher), out, errors)
 }
 
 /// Whether an unattended run says nothing of another one that has the lock: not for the first hour.

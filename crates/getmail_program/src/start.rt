@@ -122,13 +122,13 @@ where
     I: Read + Drop,
     O: Write + IsTerminal + Drop,
     ensures within { result ≤ 2 }
-    ensures leads { IfOk arguments (λ arguments.
+    ensures leads { IfOk arguments.entry (λ arguments.
         LeadsTo (Rehearses ⟦<TracedWire<'static, StreamWire<I, Transcript<O>>, Stderr> as Wire>⟧
         ⟦<MemoryMaildir as MaildirDisk>⟧ ⟦<MemoryFile as FlatFile>⟧)
         ⟦<System<'a, R> as ReadFile>⟧.gave ⟦<System<'a, R> as ReadFile>⟧.refused
         (Runs ⟦<Link<'a> as Wire>⟧ ⟦<HostMaildir<'a, R> as MaildirDisk>⟧
         ⟦<HostFile<'a, HostFolder<'a, R>> as FlatFile>⟧) (map string_bytes arguments.items) result) }
-    ensures failed { IfErr arguments (λ failure. result ≡ status_of failure) }
+    ensures failed { IfErr arguments.entry (λ failure. result ≡ status_of failure) }
 {
     let rt = machine.rt;
     let words = match arguments {

@@ -1,4 +1,4 @@
-use Rattle.std.proofs.Common.{refl, subst, sym, inl, ◌≡◌, ◌⊎◌, ◌∙◌, ap, Bool, true, false, List, [], if◌then◌else◌}
+use Rattle.std.proofs.Common.{refl, subst, sym, inl, inr, rules, ◌≡◌, ◌⊎◌, ◌∙◌, ap, Bool, true, false, List, [], if◌then◌else◌}
 use Rattle.fetch_session.specs.{Hearing.IsPlanOf, declared.report.Report.Report, Durable.RunsSession, Refusal.IsWithinLimits}
 use Rattle.fetch_rules.specs.declared.plans.Step.{Step}
 use Rattle.getmail_program.specs.{Telling.IsOwnPlan, declared.told.Told.TheVariants.Done}
@@ -10,3 +10,44 @@ told_plan : (IsPlan : Report → List Step → Type 0) (report : Report) (explai
     → plan ≡ (if explains then kept else []) → (kept ≡ []) ⊎ IsPlan report kept → IsOwnPlan IsPlan (Done report) plan
 told_plan IsPlan report true plan kept is own = rw is own
 told_plan IsPlan report false plan kept is own = inl is
+
+pub returns-clause-held : goal.returns-clause-held
+returns-clause-held g c =
+    let ran = c.session_told-report in
+    let same : ran.new.client.wire.now ≡ c.wire-1.given.0 = search rules in
+    let Held : g.row.W.Denot → g.row.W.Denot → Type 0 = λ a b. IsWithinLimits g.W.Wire a ran.result b
+    × RunsSession g.W.Wire g.D.MaildirDisk g.F.FlatFile c.args.terms.now c.args.account.now a ran.result ran.new.account b in
+    let held = subst (λ w. Held w.wire ran.new.client.wire.now.wire) c.new-client.ensures.place.0
+    ((ran.ensures.counted, ran.ensures.bounded), ran.ensures.session) in
+    let moved = subst (λ w. Held c.args.wire.now.wire w.wire) same held in
+    let wiped = subst (λ w. Held c.args.wire.now.wire w) (sym c.wipe.ensures) moved in
+    (c.if-terms.false, wiped.0, wiped.1)
+
+pub returns-clause-reported : goal.returns-clause-reported
+returns-clause-reported g c =
+    let contents = g.O.Write.contents in
+    let ran = c.session_told-report in
+    let same : ran.new.client.wire.now ≡ c.wire-1.given.0 = search rules in
+    let begun = c.new-teller.ensures in
+    let end = ran.new.listener in
+    let heard = heard_of contents (IsPlanOf g.W.Wire g.D.MaildirDisk g.F.FlatFile c.args.terms.now c.args.account.now
+    c.new-client.result.wire.now.wire ran.new.account ran.new.client.wire.now.wire ran.result) c.new-teller.result end
+    ran.ensures.heard in
+    let out = c.out-1.given.1 (sym (heard.0.0 ∙ begun.links.0)) in
+    let notes = c.notes-2-1.given.1 (sym (heard.0.1 ∙ begun.links.1)) in
+    record {
+      plan = c.asked_for-plan.result.now;
+      own = told_plan (IsPlanOf g.W.Wire g.D.MaildirDisk g.F.FlatFile c.args.terms.now c.args.account.now
+          c.args.wire.now.wire ran.new.account c.wipe.new.self.wire) ran.result c.args.terms.explains
+          c.asked_for-plan.result.now end.notes.now.plan.items
+          (c.asked_for-plan.ensures ∙ ap (λ (kept : List Step). if c.args.terms.explains then kept else [])
+          (c.deref.ensures.value ∙ ap (λ n. n.plan.items) notes))
+          (rw (c.wipe.ensures, ← same, ← c.new-client.ensures.place.0) (elim heard.2 [
+            | inl kept ↦ inl (kept ∙ begun.plan ∙ c.new-notes.ensures.1)
+            | inr own ↦ inr own
+          ]));
+      asked = λ no. rw no at c.asked_for-plan.ensures;
+      puts = rw (c.settings-settings.ensures.value, ran.ensures.same.settings) at (c.put_report.ensures c.args.out.now
+          (rw (c.deref-2.ensures.value, ap (λ n. n.written.items) notes, out)
+          (early contents _ c.args.out.now c.new-teller.result end begun.begins heard.1)));
+    }
