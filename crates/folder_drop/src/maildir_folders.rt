@@ -9,22 +9,17 @@ use crate::maildir_names::{Folder, PlacedFile, Stamp};
 use crate::removal::{FileNumber, Namesake, TwoMessages, listed_place, removed_with};
 use crate::same_octets::have_same_octets;
 use crate::seen_files::SeenFiles;
-use folder_store::{ChangeTime, Sought, list_names};
+use folder_store::{ChangeTime, HostFolders, ProcessMark, Sought, list_both};
 use mail_terms::base;
+use std::alloc::AllocError;
 use std::io::{self, BufReader, ErrorKind};
 use std::marker::Model;
 use std::rt::Files;
-use std::time::{Clock, Duration};
+use std::time::Clock;
 use system_calls::{Noted, System};
 
 /// How many times a file is tried, if it has a new name each time.
 const MOST_TRIES: u32 = 10;
-
-/// How many times the folders are listed while others change `new` all the time, and for how many
-/// seconds at most.
-const MOST_LISTINGS: u32 = 100;
-
-const MOST_SECONDS: u64 = 4;
 
 /// Why a file or a folder isn't read.
 const BUSY: &str = "changes all the time";
@@ -42,6 +37,18 @@ impl<'a, R: Files + AllocGlobal + Clone + Drop> Model for MaildirFolders<'a, R> 
     ghost Value = { List ℕ };
 
     ghost view = { λ f. string_bytes f.path };
+}
+
+/// Adds the files of these names in a folder.
+fn add_files(
+    files: &mut Vec<PlacedFile>,
+    folder: Folder,
+    names: Vec<String>,
+) -> Result<(), AllocError> {
+    for name in names {
+        files.push(PlacedFile::of(folder, name))?;
+    }
+    Ok(())
 }
 
 /// Opens a regular file. Nothing else is opened: a pipe that nobody writes to would be waited for.
@@ -104,45 +111,22 @@ impl<'a, R: Files + Clock + AllocGlobal + Clone + Drop> MaildirFolders<'a, R> {
         })
     }
 
-    /// Adds the files of a folder at one moment, and returns the folder's time of change then. Names that
-    /// aren't UTF-8, or begin with a full stop, are skipped.
-    fn add_files(&self, folder: Folder, files: &mut Vec<PlacedFile>) -> io::Result<ChangeTime> {
-        let path = self.folder_path(folder)?;
-        let listed = list_names(self.system, path.as_str(), Sought::All)?;
-        for name in listed.names {
-            files.push(PlacedFile::of(folder, name))?;
-        }
-        Ok(ChangeTime::of(&listed.folder))
-    }
-
-    /// The files of both folders, in order. None if `new` changed meanwhile: a file may then have moved
-    /// from the folder that wasn't listed yet to the one that was.
-    fn list_once(&self) -> io::Result<Option<Vec<PlacedFile>>> {
-        let mut files = Vec::new(self.system.alloc());
-        let change = self.add_files(Folder::New, &mut files)?;
-        self.add_files(Folder::Cur, &mut files)?;
-        if self.change_of(Folder::New)? != change {
-            return Ok(None);
-        }
-        files.sort_unstable_by(|a, b| a.place().cmp(&b.place()));
-        Ok(Some(files))
-    }
-
     /// The files of both folders at one moment, in order: each once, although others move files between
     /// the two meanwhile. Refused if `new` changes all the time.
     pub fn list(&self) -> io::Result<Vec<PlacedFile>> {
-        let start = self.system.rt.monotonic()?;
-        for _ in 0..MOST_LISTINGS {
-            if let Some(files) = self.list_once()? {
-                return Ok(files);
-            }
-            let passed = self.system.rt.monotonic()?.saturating_sub(start);
-            if passed >= Duration::from_secs(MOST_SECONDS) {
-                break;
-            }
-        }
-        let path = self.folder_path(Folder::New)?;
-        Err(self.system.refusals.refuse(path.as_str(), BUSY))
+        let mut folders = HostFolders::of_maildir(
+            self.system,
+            self.path.as_str(),
+            ProcessMark::none(),
+        );
+        let Ok((in_new, in_cur)) = list_both(&mut folders, Sought::All) else {
+            return Err(self.system.refusals.error());
+        };
+        let mut files = Vec::new(self.system.alloc());
+        add_files(&mut files, Folder::New, in_new)?;
+        add_files(&mut files, Folder::Cur, in_cur)?;
+        files.sort_unstable_by(|a, b| a.place().cmp(&b.place()));
+        Ok(files)
     }
 
     /// The path of a file that isn't at `tried` any more: where the last listing saw a file with its

@@ -1,9 +1,9 @@
 -- What telling the names of the folders, and writing and settling a file, does to the Maildir of the folders.
 use Rattle.std.proofs.Common.{◌≡◌, ◌+◌, inl, inr, ⊎_elim, ℕ, List, [], ◌∷◌, refl, subst, arith, ◌⊎◌, true, sym, ap, ◌∙◌}
 use Rattle.std.proofs.Common.{Bool, false, not, ◌++◌, map, get_or, Contains, Option, Result, Ok, Err, IsErrAnd}
-use Rattle.std.proofs.Common.{IsPermutation, IsTrue, IfErr, String, Global, Vec, string_bytes, filter, if◌then◌else◌}
+use Rattle.std.proofs.Common.{IsPermutation, IsTrue, IfErr, IfOk, String, Global, Vec, string_bytes, filter, if◌then◌else◌}
 use Rattle.std.proofs.Common.{◌≢◌, suc, Some, append_assoc, append-nil, None, is_some, IfSome}
-use Rattle.mail_store.specs.Maildir.{AfterFlushing, AfterTaking, AllNamed, AreTheirs, Checks, Draft, File}
+use Rattle.mail_store.specs.Maildir.{AfterFlushing, AfterTaking, AreTheirs, Checks, Draft, File}
 use Rattle.mail_store.specs.Maildir.{Folders, IsWithout, Lists, Maildir, MayBeNamed, MayHave, bases_told}
 use Rattle.mail_store.specs.Maildir.{maildir_refused, draft, dropped, is_there, mail, names_of, ListsBoth}
 use Rattle.mail_store.specs.{Held.is_sought, declared.maildir.disk.Folder.Folder, declared.fault.StoreFault.StoreFault}
@@ -14,15 +14,15 @@ use Rattle.std.proofs.lemmas.Bool.{cases_Bool, cond_both, or_left, or_right}
 use Rattle.std.proofs.lemmas.List.Elements.{recursion_from_All, All-weaker, filter-append, filter_passes}
 use Rattle.mail_terms.specs.{MaildirName.base, FailureCount.refuses}
 use Rattle.mail_store.specs.declared.maildir.disk.Folder.TheVariants.{New, Cur}
-use Rattle.folder_store.specs.MailFolders.{MailFile, Directories, files_at, is_left, is_taken, mail_at, MovesFile}
+use Rattle.folder_store.specs.MailFolders.{KeepsFile, MailFile, Directories, files_at, is_left, is_taken, mail_at, MovesFile}
 use Rattle.folder_store.specs.MailFolders.{Moved, touches, touches_new, touches_cur, name_at, is_in, entries_in}
 use Rattle.folder_store.specs.MailFolders.{draft_begun, maildir_in}
 use Rattle.folder_store.specs.{FileFolder.MadeFile, declared.mail_folders.Sought.Sought}
 use Rattle.folder_store.specs.declared.mail_folders.Sought.TheVariants.{All, Stems}
-use Rattle.folder_store.specs.MailCalls.{AreSought, BringsFiles, ChecksIn, FlushesFiles, FlushesNamesIn, IsUnknown}
-use Rattle.folder_store.specs.MailCalls.{Lacks, Leads, Learns, ListsIn, LooksAtBoth, MakesDraft, PutsDraft, PutsDurably}
-use Rattle.folder_store.specs.MailCalls.{PutsIntoNew, SameFiles, StandsIn}
-use Rattle.folder_store.specs.MailCalls.{TellsBoth, TellsOne, TellsRest, Then, ToldBoth, entry_flushed_by}
+use Rattle.folder_store.specs.MailCalls.{AreSought, BringsFiles, ChecksIn, FlushesFiles, FlushesNamesIn, IfMissing, IsUnknown}
+use Rattle.folder_store.specs.MailCalls.{Lacks, LacksOne, Leads, Learns, ListedBoth, ListsIn, MakesDraft, PutsDraft}
+use Rattle.folder_store.specs.MailCalls.{PutsDurably, PutsIntoNew, SameFiles, StandsIn, TellsOfBoth}
+use Rattle.folder_store.specs.MailCalls.{TellsOne, TellsRest, Then, ToldBoth, entry_flushed_by}
 use Rattle.folder_store.specs.MailCalls.{after_listing, named_by, names_flushed_in, names_sought, put_as, without_taken}
 use Rattle.std.proofs.lemmas.List.{map-append, get_or-map, length-map}
 use Rattle.std.proofs.lemmas.List.Sorted.{Contains-permutation, IsPermutation-append, IsPermutation-sym}
@@ -30,7 +30,7 @@ use Rattle.std.proofs.lemmas.List.Sorted.{IsPermutation-map, IsPermutation-trans
 use Rattle.std.proofs.{lemmas.Simd.map-map, lemmas.Option.same_Some}
 use Rattle.mail_store.specs.declared.fault.StoreFault.TheVariants.{Missing, Refused}
 use Rattle.mail_store.specs.Fault.{IsDeviceFault, is_refusal}
-use Rattle.folder_store.proofs.MailMoves.{SomeIs, both_named, files_moved, files_reached, flush_keeps, leads_same}
+use Rattle.folder_store.proofs.MailMoves.{SomeIs, both_named, each_by, files_moved, files_reached, flush_keeps, leads_same}
 use Rattle.folder_store.proofs.MailMoves.{mapped_leads, moved_leads, moved_maildir, moved_rests, moved_same, rests_new}
 use Rattle.folder_store.proofs.MailMoves.{rests_on_at, same_rests_at, some_kept, some_map, there_some}
 use Rattle.mail_store.proofs.MaildirLemmas.{named_same, reached_same, reaches_same, without_more, without_on, sought_bases, stem_base}
@@ -47,12 +47,6 @@ pub listed_is : (folder : Folder) (a : Directories) → ((after_listing folder a
     × ((after_listing folder a).there ≡ a.there)
 listed_is New a = (refl, refl)
 listed_is Cur a = (refl, refl)
-
--- names that are durable stay so
-left_named : (ss : List MailFile) → AllNamed (files_at ss) → AllNamed (files_at (filter is_left ss))
-left_named [] all = tt
-left_named (s ∷ ss) all = cond_both (is_left s) (s ∷ filter is_left ss) (filter is_left ss) (λ (ts : List MailFile). AllNamed (files_at ts))
-    (λ _. (all.0, left_named ss all.1)) (λ _. left_named ss all.1)
 
 -- what is left once those that readers took away were taken from the others
 left_without : (ss : List MailFile) → IsWithout (files_at ss) (files_at (filter is_taken ss)) (files_at (filter is_left ss))
@@ -88,6 +82,10 @@ learns_on a b c first next = record {
   taken = next.taken ∙ ap (λ (fs : List File). fs ++ next.gone) first.taken ∙ append_assoc a.taken first.gone next.gone;
   left = without_on first.gone next.gone (files_at a.entries) (files_at b.entries) (files_at c.entries) first.left next.left;
 }
+
+-- what is learned by the calls so far
+abbrev pub Learned : {S : Type 0} → (S → Type 0) → (S → Directories) → S → S → Type 0
+Learned sound directories old new = sound new → sound old × Learns (directories old) (directories new)
 
 -- one more call
 pub learned : {P Q R D : Type 0} (a b c : Directories) → (Q → P × Learns a b) → (R → Q × D) → (D → Learns b c) → R → P × Learns a c
@@ -129,20 +127,22 @@ pub one_unflushed : (a b c : Directories) (folder : Folder) (fault : StoreFault)
 one_unflushed a b c folder fault led t =
     (leads_after a b c led (flushes_leads {T = Unit {0}} folder b c (Err fault) t), tt, gone_since t.0 c folder fault t.2)
 
-pub unflushed : {P Q R : Type 0} (sought : Sought) (a b c : Directories) (folder : Folder) (fault : StoreFault)
-    (r : Result (Option (Vec (String Global) Global)) StoreFault) → IsErrAnd r (λ e. e ≡ fault)
-    → (Q → P × Learns a b) → (R → Q × Then (FlushesNamesIn {T = Unit {0}} folder (Err fault)) b c) → R → P × LooksAtBoth sought a r c
-unflushed sought a b c folder fault r is before call s =
+pub unflushed : {T P Q R : Type 0} (Is : T → Type 0) (a b c : Directories) (folder : Folder) (fault : StoreFault)
+    (r : Result T StoreFault) → IsErrAnd r (λ e. e ≡ fault)
+    → (Q → P × Learns a b) → (R → Q × Then (FlushesNamesIn {T = Unit {0}} folder (Err fault)) b c) → R
+    → P × (Learns a c × IfOk r Is × IfMissing r (LacksOne c))
+unflushed Is a b c folder fault r is before call s =
     let t = call s in
     let led = before t.0 in
     let told = one_unflushed a b c folder fault led.1 t.1 in
     (led.0, rw (is_err r is) (told.0, tt, λ missing. (folder, told.2 missing)))
 
-pub lacked : {P Q R : Type 0} (sought : Sought) (a b c : Directories) (folder : Folder) (fault : StoreFault)
-    (r : Result (Option (Vec (String Global) Global)) StoreFault) → IsErrAnd r (λ e. e ≡ fault)
-    → (Q → P × Learns a b) → (R → Q × Then (λ m x. Lacks m folder fault x) b c) → R → P × LooksAtBoth sought a r c
-lacked sought a b c folder fault r is before call =
-    unflushed sought a b c folder fault r is before (λ s. let t = call s in (t.0, (t.1.0, t.1.1, inl t.1.2)))
+pub lacked : {T P Q R : Type 0} (Is : T → Type 0) (a b c : Directories) (folder : Folder) (fault : StoreFault)
+    (r : Result T StoreFault) → IsErrAnd r (λ e. e ≡ fault)
+    → (Q → P × Learns a b) → (R → Q × Then (λ m x. Lacks m folder fault x) b c) → R
+    → P × (Learns a c × IfOk r Is × IfMissing r (LacksOne c))
+lacked Is a b c folder fault r is before call =
+    unflushed Is a b c folder fault r is before (λ s. let t = call s in (t.0, (t.1.0, t.1.1, inl t.1.2)))
 
 -- ---- the names of both
 
@@ -181,44 +181,43 @@ told_both sought ss new cur (first, in_new, are_new) (second, in_cur, are_cur) =
           ∙ rw (are_new, are_cur) (sym (sought_on sought first second))) ∙ sought_title sought (first ++ second),
     )
 
--- what was told is still so once others moved files
-told_moved : {A : Type 0} (sought : Sought) (names : List (String A)) (a b : Directories) → Moved a b
-    → ToldBoth sought names a → ToldBoth sought names b
-told_moved sought names a b m told = record {
-  new_is_there = rw m.there told.new_is_there;
-  cur_is_there = rw m.there told.cur_is_there;
-  lists = rw (files_moved a.entries b.entries m.moves) told.lists;
-  named = rw (files_moved a.entries b.entries m.moves) told.named;
-}
-
--- all of it: the flushes, the lists, and `new` has rested since its own
-pub looked : {A B T : Type 0} (sought : Sought) (b0 b1 b2 b3 b4 b5 : Directories) (new cur : Vec (String A) B)
-    (done done' : T) (rests : Bool) → Then (FlushesNamesIn New (Ok done)) b0 b1 → Then (FlushesNamesIn Cur (Ok done')) b1 b2
-    → Then (ListsIn New sought (Ok new)) b2 b3 → Then (ListsIn Cur sought (Ok cur)) b3 b4
-    → Then (TellsRest New (Ok rests)) b4 b5 → IsTrue rests → ToldBoth sought (new.items ++ cur.items) b5
-looked sought b0 b1 b2 b3 b4 b5 new cur done done' rests (m1, v1, s1) (m2, v2, s2) (m3, v3, s3) (m4, v4, s4) (m5, v5, s5) rested_since =
-    rw s5.0 (told_moved sought (new.items ++ cur.items) (after_listing Cur m4) m5 last told)
+-- both lists, and `new` has rested since its own
+pub looked : {A B : Type 0} (sought : Sought) (b0 b1 b2 b3 : Directories) (new cur : Vec (String A) B) (rests : Bool)
+    → Then (ListsIn New sought (Ok new)) b0 b1 → Then (ListsIn Cur sought (Ok cur)) b1 b2
+    → Then (TellsRest New (Ok rests)) b2 b3 → IsTrue rests → ListedBoth sought (new, cur) b3
+looked sought b0 b1 b2 b3 new cur rests (m1, v1, s1) (m2, v2, s2) (m3, v3, s3) rested =
+    (record m2 { cur_rests = true }, (rw still.there s1.0, rw same_new s1.1, refl), (s2.0, s2.1, refl), rw s3.0 last)
   where
-    last : Moved (after_listing Cur m4) m5
-    last = rw s4.2 at v5
+    last : Moved (after_listing Cur m2) m3
+    last = rw s2.2 at v3
 
-    still : Moved (after_listing New m3) m4
-    still = rw s3.2 at v4
+    still : Moved (after_listing New m1) m2
+    still = rw s1.2 at v2
 
     -- `new` rested from its own listing to that of `cur`
-    in_new : map name_at (entries_in New m4.entries) ≡ map name_at (entries_in New m3.entries)
-    in_new = rests_new (filter is_left m3.entries) m4.entries (still.rests New (last.rests New (s5.1 rested_since)).0).1
-        ∙ ap (λ (ss : List MailFile). map name_at (filter (is_in New) ss)) (left_twice m3.entries)
+    same_new : map name_at (entries_in New m2.entries) ≡ map name_at (entries_in New m1.entries)
+    same_new = rests_new (filter is_left m1.entries) m2.entries (still.rests New (last.rests New (s3.1 rested)).0).1
+        ∙ ap (λ (ss : List MailFile). map name_at (filter (is_in New) ss)) (left_twice m1.entries)
 
-    near : AllNamed (files_at m3.entries)
-    near = rw (files_moved b2.entries m3.entries v3.moves) (rw s2 (both_named m1.entries m2.entries (rw s1 at v2.moves)))
+names_kept : (a b : List MailFile) → AllZip KeepsFile a b → names_of (files_at b) ≡ names_of (files_at a)
+names_kept a b = each_by KeepsFile (λ a b. names_of (files_at b) ≡ names_of (files_at a)) refl
+    (λ s t ss ts k same. rw (k.title, same) refl) a b
 
-    told : ToldBoth sought (new.items ++ cur.items) (after_listing Cur m4)
-    told = record {
-      new_is_there = rw still.there s3.0;
-      cur_is_there = s4.0;
-      lists = told_both sought m4.entries new.items cur.items (rw in_new s3.1) s4.1;
-      named = left_named m4.entries (rw (files_moved (filter is_left m3.entries) m4.entries still.moves) (left_named m3.entries near));
+-- and then the names of both folders were flushed
+pub told : {A B T : Type 0} (sought : Sought) (a b c : Directories) (names : Vec (String A) B × Vec (String A) B) (done done' : T)
+    → ListedBoth sought names a → Then (FlushesNamesIn New (Ok done)) a b → Then (FlushesNamesIn Cur (Ok done')) b c
+    → ToldBoth sought (names.0.items ++ names.1.items) c
+told sought a b c names done done' (l, new, cur, since) (m, v, e) (m', v', e') =
+    let first = flushes_leads New a b (Ok done) (m, v, e) in
+    let next = flushes_leads Cur b c (Ok done') (m', v', e') in
+    let there : c.there ≡ l.there = next.there ∙ first.there ∙ since.there in
+    let same : names_of (files_at c.entries) ≡ names_of (files_at (filter is_left l.entries)) =
+    names_kept b.entries c.entries next.keeps ∙ names_kept a.entries b.entries first.keeps
+    ∙ ap names_of (files_moved (filter is_left l.entries) a.entries since.moves) in record {
+      new_is_there = rw there new.0;
+      cur_is_there = rw there cur.0;
+      lists = rw same (told_both sought l.entries names.0.items names.1.items new.1 cur.1);
+      named = rw e' (both_named m.entries m'.entries (rw e at v'.moves));
     }
 
 -- ---- the names of one folder
@@ -319,7 +318,8 @@ one_lacks there Cur e = inr e
 -- what was told
 pub told_names : {A B : Type 0} (Told : List (List ℕ) → List (List ℕ) → Type 0) (sought : Sought)
     → ((names told : List (List ℕ)) → AreSought sought names told → Told names told)
-    → (a b : Directories) (begun : Option Draft) (n m : ℕ) (r : Result (Vec (String A) B) StoreFault) → TellsBoth sought a r b
+    → (a b : Directories) (begun : Option Draft) (n m : ℕ) (r : Result (Vec (String A) B) StoreFault)
+    → TellsOfBoth a r b (λ names. ToldBoth sought names.items)
     → IfErr r IsDeviceFault → IsCountAfter r n m → AfterTaking (maildir_in a begun n) (λ left. ListsBoth Told left r (maildir_in b begun m))
 told_names Told sought is a b begun n m (Ok names) (l, told, _) device k =
     seen a b begun n l (

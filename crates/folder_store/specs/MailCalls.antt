@@ -1,6 +1,6 @@
 -- What each call does to the folders of a Maildir, once others have moved files.
-use Rattle.std.specs.Prelude.{◌≡◌, ◌≢◌, ◌⊎◌, ◌||◌, ◌↔◌, ℕ, Bool, true, false, IsTrue, List, [], ◌∷◌, ◌++◌, map, Option}
-use Rattle.std.specs.Prelude.{Result, Ok, Err, IfErr, IfOk, IfSome, OnOk, Vec, String, string_bytes}
+use Rattle.std.specs.Prelude.{◌≡◌, ◌≢◌, ◌⊎◌, ◌||◌, ◌↔◌, ℕ, Bool, true, false, IsTrue, List, [], ◌∷◌, ◌++◌, map}
+use Rattle.std.specs.Prelude.{Result, Ok, Err, IfErr, IfOk, OnOk, Vec, String, string_bytes}
 use Rattle.std.specs.Prelude.{IsPermutation, Contains}
 use Rattle.std.specs.List.{AllByRecursion, AllZip, filter}
 use Rattle.mail_terms.specs.MaildirName.{base}
@@ -161,6 +161,12 @@ pub record Learns (old new : Directories) : Type 0 where
   pub taken : new.taken ≡ old.taken ++ gone
   pub left : IsWithout (files_at old.entries) gone (files_at new.entries)
 
+-- at one moment these were the names of `new` and of `cur` that are sought, and since then others only moved files
+abbrev pub ListedBoth : {A B : Type 0} → Sought → Vec (String A) B × Vec (String A) B → Directories → Type 0
+ListedBoth sought names d =
+    (moment : Directories) × ListsIn New sought (Ok names.0) moment (after_listing New moment)
+    × ListsIn Cur sought (Ok names.1) moment (after_listing Cur moment) × Moved (without_taken moment) d
+
 -- the names of both folders at one moment that are sought; and each file has a durable name
 pub record ToldBoth {A : Type 0} (sought : Sought) (names : List (String A)) (d : Directories) : Type 0 where
   pub new_is_there : d.there.new ≡ true
@@ -172,17 +178,10 @@ pub record ToldBoth {A : Type 0} (sought : Sought) (names : List (String A)) (d 
 abbrev pub LacksOne : Directories → Type 0
 LacksOne d = (folder : Folder) × (is_there d.there folder ≡ false)
 
--- a look at both folders: None if `new` changed meanwhile
-abbrev pub LooksAtBoth : {A B : Type 0} → Sought → Directories → Result (Option (Vec (String A) B)) StoreFault
-    → Directories → Type 0
-LooksAtBoth sought old r new = Learns old new × IfOk r (λ o. IfSome o (λ names. ToldBoth sought names.items new))
-    × IfMissing r (LacksOne new)
-
--- the names of both folders that are sought were told
-abbrev pub TellsBoth : {A B : Type 0} → Sought → Directories → Result (Vec (String A) B) StoreFault → Directories
+-- a call that needs both folders answered; an answer tells this of them
+abbrev pub TellsOfBoth : {T : Type 0} → Directories → Result T StoreFault → Directories → (T → Directories → Type 0)
     → Type 0
-TellsBoth sought old r new = Learns old new × IfOk r (λ names. ToldBoth sought names.items new)
-    × IfMissing r (LacksOne new)
+TellsOfBoth old r new Told = Learns old new × IfOk r (λ answer. Told answer new) × IfMissing r (LacksOne new)
 
 -- the names of one folder were told: each is that of a file that is there, in this folder or already in the other
 -- one, and stays

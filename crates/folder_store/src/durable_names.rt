@@ -1,50 +1,43 @@
 //! What a Maildir does to its folders in several calls.
 
-ghost use Rattle.std.specs.Prelude.{◌≡◌, ◌++◌, true, IfErr, IfOk, OnOk};
+ghost use Rattle.std.specs.Prelude.{◌≡◌, ◌++◌, true, IfErr, IfOk, IfSome, OnOk};
 ghost use Rattle.mail_store.specs.Fault.{IsDeviceFault};
-ghost use Rattle.folder_store.specs.MailCalls.{LooksAtBoth, PutsDurably, SameFiles, TellsBoth, TellsOne};
+ghost use Rattle.folder_store.specs.MailCalls.{ListedBoth, PutsDurably, SameFiles, TellsOfBoth, TellsOne, ToldBoth};
 
 use crate::file_folder::NewFile;
 use crate::mail_folders::{MailFolders, Sought};
 use mail_store::{Folder, StoreFault};
 
-/// How many times the folders are listed for one answer.
-const MOST_LOOKS: u32 = 100;
-
-/// The names of both folders that are sought, once all are durable. None if `new` changed meanwhile: a reader may
-/// then have moved a file from the folder that wasn't listed yet to the one that was.
+/// The names of `new` and of `cur` that are sought. None if `new` changed meanwhile: a reader may then have moved a
+/// file from the folder that wasn't listed yet to the one that was.
 fn look_at_both<F: MailFolders>(
     folders: &mut F,
     sought: Sought<'_>,
-) -> Result<Option<Vec<String>>, StoreFault>
+) -> Result<Option<(Vec<String>, Vec<String>)>, StoreFault>
     ensures looks { F.sound folders.new → F.sound folders.old
-        × LooksAtBoth sought.entry (F.directories folders.old) result (F.directories folders.new) }
+        × TellsOfBoth (F.directories folders.old) result (F.directories folders.new)
+        (λ names d. IfSome names (λ names. ListedBoth sought.entry names d)) }
     ensures fault { IfErr result IsDeviceFault }
 {
-    folders.flush_names(Folder::New)?;
-    folders.flush_names(Folder::Cur)?;
-    let mut names = folders.list(Folder::New, sought)?;
-    let mut in_cur = folders.list(Folder::Cur, sought)?;
+    let in_new = folders.list(Folder::New, sought)?;
+    let in_cur = folders.list(Folder::Cur, sought)?;
     if !folders.rests(Folder::New)? {
         return Ok(None);
     }
-    match names.append(&mut in_cur) {
-        Ok(()) => Ok(Some(names)),
-        Err(_) => Err(StoreFault::Refused),
-    }
+    Ok(Some((in_new, in_cur)))
 }
 
-/// Of the names of the files of `new` and `cur` at one moment those that are sought, once all are durable.
-/// Refused if readers change `new` all the time.
-pub fn told_names<F: MailFolders>(
+/// Of the names of the files of `new` and of `cur` at one moment those that are sought. Refused if readers change
+/// `new` all the time.
+pub fn list_both<F: MailFolders>(
     folders: &mut F,
     sought: Sought<'_>,
-) -> Result<Vec<String>, StoreFault>
-    ensures tells { F.sound folders.new → F.sound folders.old
-        × TellsBoth sought.entry (F.directories folders.old) result (F.directories folders.new) }
+) -> Result<(Vec<String>, Vec<String>), StoreFault>
+    ensures lists { F.sound folders.new → F.sound folders.old
+        × TellsOfBoth (F.directories folders.old) result (F.directories folders.new) (ListedBoth sought.entry) }
     ensures fault { IfErr result IsDeviceFault }
 {
-    for times in 0..MOST_LOOKS {
+    for times in 0..u32::MAX {
         if !folders.may_list_again(times) {
             break;
         }
@@ -53,6 +46,26 @@ pub fn told_names<F: MailFolders>(
         }
     }
     Err(StoreFault::Refused)
+}
+
+/// The same names, once all are durable.
+pub fn told_names<F: MailFolders>(
+    folders: &mut F,
+    sought: Sought<'_>,
+) -> Result<Vec<String>, StoreFault>
+    ensures tells { F.sound folders.new → F.sound folders.old
+        × TellsOfBoth (F.directories folders.old) result (F.directories folders.new)
+        (λ names. ToldBoth sought.entry names.items) }
+    ensures fault { IfErr result IsDeviceFault }
+{
+    let both = list_both(folders, sought)?;
+    folders.flush_names(Folder::New)?;
+    folders.flush_names(Folder::Cur)?;
+    let (mut names, mut in_cur) = both;
+    match names.append(&mut in_cur) {
+        Ok(()) => Ok(names),
+        Err(_) => Err(StoreFault::Refused),
+    }
 }
 
 /// The names of a folder's files, once they are durable.

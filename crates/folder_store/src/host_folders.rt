@@ -1,6 +1,7 @@
 //! The folders of a Maildir in the machine's file system.
 
-ghost use Rattle.std.specs.Prelude.{◌≡◌};
+ghost use Rattle.std.specs.Prelude.{◌≡◌, ◌<◌, ◌↔◌, IsTrue, Some};
+ghost use Rattle.std.specs.Duration.{as_nanos};
 ghost use Rattle.folder_store.specs.MailFolders.{unknown_directories};
 
 use crate::exact_listing::{ChangeTime, FolderNames};
@@ -17,7 +18,9 @@ use std::rt::Files;
 use std::time::{Clock, Duration};
 use system_calls::System;
 
-/// For how many seconds the folders are listed again while readers change them all the time.
+/// How many times the folders are listed while readers change them all the time, and for how many seconds.
+const MOST_LISTINGS: u32 = 100;
+
 const MOST_SECONDS: u64 = 4;
 
 /// How many times files that are to be flushed are looked up while readers move them.
@@ -146,6 +149,20 @@ impl<'a, R: Files + Clock + AllocGlobal + Clone + Drop> HostFolders<'a, R> {
     }
 }
 
+/// Whether the folders are listed once more, after this many times and this long after the first.
+fn may_list_both(times: u32, passed: Duration) -> bool
+    ensures { IsTrue result ↔ (times < 100) × (as_nanos passed < 4_000_000_000) }
+{
+    times < MOST_LISTINGS && passed < Duration::from_secs(MOST_SECONDS)
+}
+
+/// Whether a folder has rested, by its time of change when it was last listed and now.
+fn has_rested(listed: Option<ChangeTime>, now: ChangeTime) -> bool
+    ensures { IsTrue result ↔ listed ≡ Some now }
+{
+    listed == Some(now)
+}
+
 fn texts_of(alloc: Global, texts: &[String]) -> Result<Vec<&str>, AllocError> {
     let mut all = Vec::new(alloc);
     for text in texts {
@@ -214,7 +231,7 @@ impl<'a, R: Files + Clock + AllocGlobal + Clone + Drop> MailFolders for HostFold
         let refusals = self.system.refusals;
         let listed = self.folder_mut(folder);
         let found = answer_of(refusals, listed.host.look_at_folder())?;
-        Ok(listed.change == Some(ChangeTime::of(&found)))
+        Ok(has_rested(listed.change, ChangeTime::of(&found)))
     }
 
     fn may_list_again(&mut self, times: u32) -> bool {
@@ -224,7 +241,7 @@ impl<'a, R: Files + Clock + AllocGlobal + Clone + Drop> MailFolders for HostFold
         if times == 0 {
             self.start = now;
         }
-        let may = now.saturating_sub(self.start) < Duration::from_secs(MOST_SECONDS);
+        let may = may_list_both(times, now.saturating_sub(self.start));
         if !may {
             self.new_folder.host.refuse_folder("changes all the time");
         }

@@ -21,7 +21,8 @@ mod system;
 mod tally;
 
 pub use durable_file::Appending;
-pub use exact_listing::{ChangeTime, FolderNames, list_names};
+pub use durable_names::list_both;
+pub use exact_listing::ChangeTime;
 pub use file::{HostFile, new_files_keep_bytes};
 pub use file_folder::{FileFolder, FolderState, NewFile};
 pub use host::{HostFolder, HostNewFile};

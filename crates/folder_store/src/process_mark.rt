@@ -25,6 +25,14 @@ impl ProcessMark {
         })
     }
 
+    /// That of no process, for folders in which nothing is made.
+    pub fn none() -> ProcessMark {
+        ProcessMark {
+            process: 0,
+            random: 0,
+        }
+    }
+
     /// A name with the mark after it: 14 to 29 octets more.
     pub fn marked(self, alloc: Global, name: &str) -> Result<String, AllocError> {
         let ProcessMark { process, random } = self;

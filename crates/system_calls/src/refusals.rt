@@ -89,6 +89,17 @@ impl Refusals {
         self.last.set(None);
     }
 
+    /// The error of what was refused last, which stays. If it wasn't kept, memory ran out.
+    pub fn error(&self) -> io::Error {
+        let last = self.last.take();
+        let error = match &last {
+            Some(refusal) => refusal.error,
+            None => io::Error::from(ErrorKind::OutOfMemory),
+        };
+        self.last.set(last);
+        error
+    }
+
     /// What was refused last. It is taken out.
     pub fn take(&self) -> Option<Refusal> {
         self.last.take()

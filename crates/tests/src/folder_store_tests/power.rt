@@ -52,12 +52,12 @@ fn names_are_told_once_and_stay(rt: HostRuntime) -> Result<(), Fail> {
 
 #[test]
 fn names_are_told_until_their_files_are_taken_away(rt: HostRuntime) -> Result<(), Fail> {
-    // The fourth call lists `cur`.
+    // The second call lists `cur`.
     for number in 0..8 {
         let (count, _) = told_of_one(rt.alloc(), number, ReaderStep::Away(0))?;
         assert_eq!(rt;
             count,
-            usize::from(number > 3),
+            usize::from(number > 1),
             "taken before call {number}"
         );
     }

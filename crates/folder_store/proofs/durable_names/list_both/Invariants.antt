@@ -1,5 +1,5 @@
 use Rattle.folder_store.specs.MailCalls.{Learns}
-use Rattle.folder_store.proofs.durable_names.told_names.Given as goal
+use Rattle.folder_store.proofs.durable_names.list_both.Given as goal
 
 abbrev pub invariant-loop-times : goal.invariant-loop-times
 invariant-loop-times g l = g.F.MailFolders.sound l.folders → g.F.MailFolders.sound l.initial.folders
