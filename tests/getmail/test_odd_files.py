@@ -1,5 +1,6 @@
-"""What bears the name of a message that the record doesn't show, and is no file that can be read: the run is refused, no run
-waits for it, and each one names its path, what is wrong with it and the account, without being asked."""
+"""What bears the name of a message that the record doesn't show, and is no file that can be read, stops nothing but its own
+message: that one is neither fetched nor deleted, no run waits for it, and each one names its path, what is wrong with it and
+the account, without being asked."""
 
 import os
 import shutil
@@ -12,8 +13,9 @@ from getmail.account import Account
 from getmail.shared_server import SharedServer
 from harness import programs
 from harness.kernel import LOOPBACK
+from probe import grammar
 
-LETTERS = [(b"uid-%d" % number, b"Subject: %d\n\ntext\n" % number) for number in range(2)]
+LETTERS = [(b"uid-%d" % number, b"Subject: %d\n\ntext\n" % number) for number in range(3)]
 
 # A user for whom a file's mode counts.
 NOBODY = 65534
@@ -63,7 +65,7 @@ KINDS = (
 class OddFiles(unittest.TestCase):
     def setUp(self):
         self.server = self.enterContext(SharedServer(LETTERS))
-        self.account = self.enterContext(Account(self.server.port))
+        self.account = self.enterContext(Account(self.server.port, "max_messages_per_session = 1\n"))
         self.user = {}
         self.program = programs.path_of("getmail")
         if os.geteuid() == 0:
@@ -91,14 +93,27 @@ class OddFiles(unittest.TestCase):
         self.server.wait_for_end()
         return programs.Run(done.returncode, done.stdout, done.stderr)
 
+    def told(self, path, words):
+        return f"getmail: u@{LOOPBACK}:{self.server.port}: {path}: {words}\n".encode()
+
+    def states(self):
+        """The rows of the record: whether each id is delivered."""
+        return {uid: state for uid, (_, state) in grammar.record_of(self.account.record.read_bytes()).rows.items()}
+
     def check_told(self, path, words):
-        line = f"getmail: u@{LOOPBACK}:{self.server.port}: {path}: {words}\n"
-        refused = programs.Run(1, b"", b"getmail: destination refused\n" + line.encode())
+        """The other messages come one by one, as the limit says, and are deleted; of this one nothing is done."""
         before = os.lstat(path)
-        for options in ((), ("--why",), ()):
-            self.assertEqual(self.run_getmail("-q", "-d", *options), refused)
+        left_out = self.told("left out", "1 obstructed")
+        for options, more, numbers in (((), b"", (0, 2)), (("--why",), left_out, (0,)), ((), b"", (0,))):
+            done = self.run_getmail("-q", "-d", *options)
+            self.assertEqual(done, programs.Run(0, b"", more + self.told(path, words)))
+            self.assertEqual(self.server.messages, [LETTERS[number] for number in numbers])
+            self.assertEqual({uid for uid, state in self.states().items() if not state},
+                             {LETTERS[number][0] for number in numbers})
         self.assertEqual(os.lstat(path).st_ino, before.st_ino)
-        self.assertEqual(self.server.messages, LETTERS)
+        preview = self.run_getmail("--pretend")
+        self.assertEqual((preview.status, preview.err), (0, self.told(path, words)))
+        self.assertIn(b"obstructed\n", preview.out)
 
     def test_each_kind(self):
         for part, marks in (("new", ""), ("cur", ":2,S")):
@@ -122,7 +137,8 @@ class OddFiles(unittest.TestCase):
         elsewhere.write_bytes(LETTERS[0][1])
         (self.account.maildir / "cur" / (self.account.name(*LETTERS[0]) + ":2,S")).symlink_to(elsewhere)
         self.give_away()
-        self.assertEqual(self.run_getmail("-q", "-d"), programs.SILENT)
+        for _ in LETTERS:
+            self.assertEqual(self.run_getmail("-q", "-d"), programs.SILENT)
         self.assertEqual((self.account.held(), self.server.messages), (LETTERS, []))
 
 

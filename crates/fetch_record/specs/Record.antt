@@ -6,8 +6,7 @@ use Rattle.std.specs.List.{list_any}
 use Rattle.mail_terms.specs.{UniqueId.IsLegalId, Distinct.AreDistinct}
 use Rattle.mail_terms.specs.Listing.{Item, is_flagged}
 
--- one message: its id, the second since 1970 at which it was first listed, and whether it was
--- delivered
+-- one message: its id, the second since 1970 at which it was first listed, and whether it was delivered
 pub record Row : Type 0 where
   pub uid : List ℕ
   pub first_seen : ℕ

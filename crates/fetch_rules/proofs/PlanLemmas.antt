@@ -24,30 +24,35 @@ use Rattle.fetch_record.specs.Record.{Row, is_delivered}
 use Rattle.fetch_rules.specs.Due.{is_due, may_delete}
 use Rattle.fetch_rules.specs.Laws.{FetchesAsked, FetchesFirsts}
 use Rattle.fetch_rules.specs.Plan.{fetches, is_deleted, planned, retrieved, step_of}
-use Rattle.fetch_rules.specs.Wanted.{WantedAreFirst, at_most, is_candidate, is_full, is_within, own_skip, skip_for, skip_of, wanted}
+use Rattle.fetch_rules.specs.Wanted.{WantedAreFirst, at_most, is_candidate, is_full, is_within, none_odd}
+use Rattle.fetch_rules.specs.Wanted.{own_skip, skip_for, skip_of, wanted}
 use Rattle.fetch_rules.specs.{declared.plans.Skip.Skip, declared.plans.Step.Step}
-use Rattle.fetch_rules.specs.declared.plans.Skip.TheVariants.{Delivered, TooLarge, PastLimit, SameId}
+use Rattle.fetch_rules.specs.declared.plans.Skip.TheVariants.{Delivered, Obstructed, TooLarge, PastLimit, SameId}
 
 -- a message with its number
 abbrev pub Message : Type 0
 Message = ℕ × Item
 
--- a message has no reason of its own exactly if it is within the limit on sizes, and isn't known or all are to be read
-pub own_passes : (settings : Settings) (is_known : List ℕ → Bool) (uid : List ℕ) (size : ℕ)
-    → is_none (own_skip settings is_known uid size) ≡ not (not settings.read_all && is_known uid) && is_within settings.max_size size
-own_passes settings is_known uid size = by (not settings.read_all && is_known uid) (is_within settings.max_size size)
+-- a message has no reason of its own exactly if it is within the limit on sizes, isn't obstructed, and isn't known or all are
+-- to be read
+pub own_passes : (settings : Settings) (odd : Bool) (is_known : List ℕ → Bool) (uid : List ℕ) (size : ℕ)
+    → is_none (own_skip settings odd is_known uid size)
+    ≡ not (not settings.read_all && is_known uid) && (not odd && is_within settings.max_size size)
+own_passes settings odd is_known uid size = by (not settings.read_all && is_known uid) odd (is_within settings.max_size size)
   where
-    by : (known within : Bool) → is_none (if known then Some Delivered else if not within then Some TooLarge else None)
-        ≡ not known && within
-    by true within = refl
-    by false true = refl
-    by false false = refl
+    by : (known odd within : Bool)
+        → is_none (if known then Some Delivered else if odd then Some Obstructed else if not within then Some TooLarge else None)
+        ≡ not known && (not odd && within)
+    by true odd within = refl
+    by false true within = refl
+    by false false true = refl
+    by false false false = refl
 
 -- it is fetched exactly if it has none, is the first with its id and no session is full before it
-pub passes_for : (settings : Settings) (rows : List Row) (first full : Bool) (item : Item)
-    → is_none (skip_for settings rows first full item)
-    ≡ (is_none (own_skip settings (is_delivered rows) item.uid item.size) && first) && not full
-passes_for settings rows first full item = by (own_skip settings (is_delivered rows) item.uid item.size) first full
+pub passes_for : (settings : Settings) (is_odd : List ℕ → Bool) (rows : List Row) (first full : Bool) (item : Item)
+    → is_none (skip_for settings is_odd rows first full item)
+    ≡ (is_none (own_skip settings (is_odd item.uid) (is_delivered rows) item.uid item.size) && first) && not full
+passes_for settings is_odd rows first full item = by (own_skip settings (is_odd item.uid) (is_delivered rows) item.uid item.size) first full
   where
     by : (own : Option Skip) (first full : Bool)
         → is_none (option_or own (if full then Some PastLimit else if first then None else Some SameId))
@@ -58,12 +63,12 @@ passes_for settings rows first full item = by (own_skip settings (is_delivered r
     by None false true = refl
     by None false false = refl
 
-pub parts_for : (settings : Settings) (rows : List Row) (first full : Bool) (item : Item)
-    → is_none (skip_for settings rows first full item) ≡ true
-    → (is_none (own_skip settings (is_delivered rows) item.uid item.size) ≡ true) × (first ≡ true)
-parts_for settings rows first full item fetched =
-    let own = is_none (own_skip settings (is_delivered rows) item.uid item.size) in
-    and_parts own first (and_parts (own && first) (not full) (sym (passes_for settings rows first full item) ∙ fetched)).0
+pub parts_for : (settings : Settings) (is_odd : List ℕ → Bool) (rows : List Row) (first full : Bool) (item : Item)
+    → is_none (skip_for settings is_odd rows first full item) ≡ true
+    → (is_none (own_skip settings (is_odd item.uid) (is_delivered rows) item.uid item.size) ≡ true) × (first ≡ true)
+parts_for settings is_odd rows first full item fetched =
+    let own = is_none (own_skip settings (is_odd item.uid) (is_delivered rows) item.uid item.size) in
+    and_parts own first (and_parts (own && first) (not full) (sym (passes_for settings is_odd rows first full item) ∙ fetched)).0
 
 -- what steps fetch
 retrieved_steps : (f : Message → Step) (messages : List Message)
@@ -75,9 +80,9 @@ retrieved_steps f (message ∷ messages) = elim (cases_Bool (fetches (f message)
   | inr miss ↦ rw miss (retrieved_steps f messages)
 ]
 
-pub retrieved-planned : (settings : Settings) (rows : List Row) (listing : List Item) (now : ℕ)
-    → retrieved (planned settings rows listing now) listing ≡ wanted settings rows listing
-retrieved-planned settings rows listing now = retrieved_steps (step_of settings rows listing now) (numbered listing)
+pub retrieved-planned : (settings : Settings) (is_odd : List ℕ → Bool) (rows : List Row) (listing : List Item) (now : ℕ)
+    → retrieved (planned settings is_odd rows listing now) listing ≡ wanted settings is_odd rows listing
+retrieved-planned settings is_odd rows listing now = retrieved_steps (step_of settings is_odd rows listing now) (numbered listing)
 
 pub message_at : (listing : List Item) (i : ℕ) (d : Item) → i < length listing
     → get_or (numbered listing) i (0, d) ≡ (i + 1, get_or listing i d)
@@ -91,28 +96,30 @@ full_is max c full = (grind (arith, nat_tests), grind (arith, nat_tests))
 is_full_by : (max c : ℕ) → (max == 0) ≡ false → max ≤ c → not (max == 0) && nat_le max c ≡ true
 is_full_by max c some full = grind (arith, nat_tests)
 
-module _ (settings : Settings) (rows : List Row) (listing : List Item) where
+module _ (settings : Settings) (is_odd : List ℕ → Bool) (rows : List Row) (listing : List Item) where
   -- those of the first i messages that may be fetched
   abbrev before : ℕ → List Message
-  before i = filter (is_candidate settings rows listing) (take i (numbered listing))
+  before i = filter (is_candidate settings is_odd rows listing) (take i (numbered listing))
 
   abbrev gets : Message → Bool
-  gets message = is_none (skip_of settings rows listing message)
+  gets message = is_none (skip_of settings is_odd rows listing message)
 
   within : (i : ℕ) → i < length listing → i < length (numbered listing)
   within i inside = omega (arith, inside, length-enumerate_from 1 listing)
 
   pub before_more : (i : ℕ) → i < length listing → length (before (i + 1))
-      ≡ length (before i) + cond (is_candidate settings rows listing (i + 1, get_or listing i nobody)) 1 0
-  before_more i inside = length-filter_more (is_candidate settings rows listing) (numbered listing) i (0, nobody) (within i inside)
-      ∙ ap (λ (m : Message). length (before i) + cond (is_candidate settings rows listing m) 1 0) (message_at listing i nobody inside)
+      ≡ length (before i) + cond (is_candidate settings is_odd rows listing (i + 1, get_or listing i nobody)) 1 0
+  before_more i inside = length-filter_more (is_candidate settings is_odd rows listing) (numbered listing) i (0, nobody) (within i inside)
+      ∙ ap (λ (m : Message). length (before i) + cond (is_candidate settings is_odd rows listing m) 1 0)
+      (message_at listing i nobody inside)
 
   gets_at : (i : ℕ) → gets (i + 1, get_or listing i nobody)
-      ≡ is_candidate settings rows listing (i + 1, get_or listing i nobody) && not (is_full settings (before i))
+      ≡ is_candidate settings is_odd rows listing (i + 1, get_or listing i nobody) && not (is_full settings (before i))
   gets_at i = let place : i + 1 - 1 ≡ i = omega arith in
-      ap (λ (k : ℕ). is_none (skip_for settings rows (is_first listing (i + 1, get_or listing i nobody))
+      ap (λ (k : ℕ). is_none (skip_for settings is_odd rows (is_first listing (i + 1, get_or listing i nobody))
       (is_full settings (before k)) (get_or listing i nobody))) place
-      ∙ passes_for settings rows (is_first listing (i + 1, get_or listing i nobody)) (is_full settings (before i)) (get_or listing i nobody)
+      ∙ passes_for settings is_odd rows (is_first listing (i + 1, get_or listing i nobody)) (is_full settings (before i))
+      (get_or listing i nobody)
 
 -- what may be left of these if so many were before them
 abbrev left_of : ℕ → ℕ → List Message → List Message
@@ -166,16 +173,21 @@ agree_on p q (m ∷ ms) all = rw (
   agree_on p q ms (All-tail (λ m. p m ≡ q m) m ms all),
 ) refl
 
+-- and two functions that agree on these have the same values
+same_on : {X : Type 0} (f g : Message → X) (ms : List Message) → All (λ m. f m ≡ g m) ms → map f ms ≡ map g ms
+same_on f g [] all = refl
+same_on f g (m ∷ ms) all = rw (All-head (λ m. f m ≡ g m) m ms all, same_on f g ms (All-tail (λ m. f m ≡ g m) m ms all)) refl
+
 -- ---- a loop over the listing: the steps of the first i messages, and how many of these are fetched
 
 -- so many are fetched of so many that may be
 abbrev pub IsCounted : ℕ → ℕ → ℕ → Type 0
 IsCounted max may fetched = (fetched ≡ may) ⊎ (((max == 0) ≡ false) × (max ≤ fetched) × (max ≤ may))
 
-pub record HasPlanned (settings : Settings) (rows : List Row) (listing : List Item) (now i : ℕ) (steps : List Step)
+pub record HasPlanned (settings : Settings) (is_odd : List ℕ → Bool) (rows : List Row) (listing : List Item) (now i : ℕ) (steps : List Step)
     (fetched : ℕ) : Type 0 where
-  pub steps_are : steps ≡ map (step_of settings rows listing now) (take i (numbered listing))
-  pub count : IsCounted settings.max_count (length (before settings rows listing i)) fetched
+  pub steps_are : steps ≡ map (step_of settings is_odd rows listing now) (take i (numbered listing))
+  pub count : IsCounted settings.max_count (length (before settings is_odd rows listing i)) fetched
   pub few : fetched ≤ i
 
 full_same : (max may fetched : ℕ) → IsCounted max may fetched → not (max == 0) && nat_le max fetched ≡ not (max == 0) && nat_le max may
@@ -195,50 +207,74 @@ counted_more max may fetched candidate was = elim (cases_Bool (not (max == 0) &&
   ]
 ]
 
-pub HasPlanned-more : (settings : Settings) (rows : List Row) (listing : List Item) (now i : ℕ) (steps : List Step)
+pub HasPlanned-more : (settings : Settings) (is_odd : List ℕ → Bool) (rows : List Row) (listing : List Item) (now i : ℕ) (steps : List Step)
     (fetched : ℕ) (full : Bool) (skip : Option Skip) (deleted : Bool) (next : ℕ)
-    → HasPlanned settings rows listing now i steps fetched → i < length listing
+    → HasPlanned settings is_odd rows listing now i steps fetched → i < length listing
     → full ≡ not (settings.max_count == 0) && nat_le settings.max_count fetched
-    → ((d : Item) → skip ≡ skip_for settings rows (is_first listing (i + 1, get_or listing i d)) full (get_or listing i d))
+    → ((d : Item) → skip ≡ skip_for settings is_odd rows (is_first listing (i + 1, get_or listing i d)) full (get_or listing i d))
     → ((d : Item) → deleted ≡ is_deleted settings rows listing now (is_none skip) (i + 1, get_or listing i d))
     → next ≡ fetched + cond (is_none skip) 1 0
-    → HasPlanned settings rows listing now (i + 1) (steps ++ record { number = i + 1; skip = skip; delete = deleted } ∷ []) next
-HasPlanned-more settings rows listing now i steps fetched full skip deleted next has inside as_full skip_is deleted_is next_is = record {
-  steps_are = rw (
-    has.steps_are,
-    map_more (step_of settings rows listing now) (numbered listing) i (0, nobody) (within settings rows listing i inside),
-    message_at listing i nobody inside,
-    deleted_is nobody,
-    skip_there,
-  ) refl;
-  count = subst (λ (n : ℕ). IsCounted settings.max_count n next) (sym (before_more settings rows listing i inside))
-      (subst (λ (n : ℕ). IsCounted settings.max_count (length (before settings rows listing i)
-      + cond (is_candidate settings rows listing (i + 1, get_or listing i nobody)) 1 0) n)
-      (sym (next_is ∙ ap (λ (b : Bool). fetched + cond b 1 0) gets_it))
-      (counted_more settings.max_count (length (before settings rows listing i)) fetched
-      (is_candidate settings rows listing (i + 1, get_or listing i nobody)) has.count));
-  few = grind (arith, has.few, next_is);
-}
+    → HasPlanned settings is_odd rows listing now (i + 1) (steps ++ record { number = i + 1; skip = skip; delete = deleted } ∷ []) next
+HasPlanned-more settings is_odd rows listing now i steps fetched full skip deleted next has inside as_full skip_is deleted_is
+    next_is = record {
+      steps_are = rw (
+        has.steps_are,
+        map_more (step_of settings is_odd rows listing now) (numbered listing) i (0, nobody) (within settings is_odd rows listing i inside),
+        message_at listing i nobody inside,
+        deleted_is nobody,
+        skip_there,
+      ) refl;
+      count = subst (λ (n : ℕ). IsCounted settings.max_count n next) (sym (before_more settings is_odd rows listing i inside))
+          (subst (λ (n : ℕ). IsCounted settings.max_count (length (before settings is_odd rows listing i)
+          + cond (is_candidate settings is_odd rows listing (i + 1, get_or listing i nobody)) 1 0) n)
+          (sym (next_is ∙ ap (λ (b : Bool). fetched + cond b 1 0) gets_it))
+          (counted_more settings.max_count (length (before settings is_odd rows listing i)) fetched
+          (is_candidate settings is_odd rows listing (i + 1, get_or listing i nobody)) has.count));
+      few = grind (arith, has.few, next_is);
+    }
   where
     place : i + 1 - 1 ≡ i
     place = omega arith
 
-    gets_it : is_none skip ≡ is_candidate settings rows listing (i + 1, get_or listing i nobody) &&
+    gets_it : is_none skip ≡ is_candidate settings is_odd rows listing (i + 1, get_or listing i nobody) &&
         not (not (settings.max_count == 0) && nat_le settings.max_count fetched)
     gets_it = ap (λ (s : Option Skip). is_none s) (skip_is nobody)
-        ∙ passes_for settings rows (is_first listing (i + 1, get_or listing i nobody)) full (get_or listing i nobody)
-        ∙ ap (λ (b : Bool). is_candidate settings rows listing (i + 1, get_or listing i nobody) && not b) as_full
+        ∙ passes_for settings is_odd rows (is_first listing (i + 1, get_or listing i nobody)) full (get_or listing i nobody)
+        ∙ ap (λ (b : Bool). is_candidate settings is_odd rows listing (i + 1, get_or listing i nobody) && not b) as_full
 
-    skip_there : skip ≡ skip_of settings rows listing (i + 1, get_or listing i nobody)
+    skip_there : skip ≡ skip_of settings is_odd rows listing (i + 1, get_or listing i nobody)
     skip_there = skip_is nobody
-        ∙ ap (λ (b : Bool). skip_for settings rows (is_first listing (i + 1, get_or listing i nobody)) b (get_or listing i nobody))
-        (as_full ∙ full_same settings.max_count (length (before settings rows listing i)) fetched has.count
-        ∙ ap (λ (k : ℕ). is_full settings (before settings rows listing k)) (sym place))
+        ∙ ap (λ (b : Bool). skip_for settings is_odd rows (is_first listing (i + 1, get_or listing i nobody)) b (get_or listing i nobody))
+        (as_full ∙ full_same settings.max_count (length (before settings is_odd rows listing i)) fetched has.count
+        ∙ ap (λ (k : ℕ). is_full settings (before settings is_odd rows listing k)) (sym place))
 
-pub HasPlanned-all : (settings : Settings) (rows : List Row) (listing : List Item) (now i : ℕ) (steps : List Step)
-    (fetched : ℕ) → HasPlanned settings rows listing now i steps fetched → length listing ≤ i → steps ≡ planned settings rows listing now
-HasPlanned-all settings rows listing now i steps fetched has past =
+pub HasPlanned-all : (settings : Settings) (is_odd : List ℕ → Bool) (rows : List Row) (listing : List Item) (now i : ℕ) (steps : List Step)
+    (fetched : ℕ) → HasPlanned settings is_odd rows listing now i steps fetched → length listing ≤ i
+    → steps ≡ planned settings is_odd rows listing now
+HasPlanned-all settings is_odd rows listing now i steps fetched has past =
     rw (← take_all i (numbered listing) (omega (arith, length-enumerate_from 1 listing))) has.steps_are
+
+-- the same of whatever these flags say to be odd
+pub record PlansSoFar (settings : Settings) (rows : List Row) (listing : List Item) (odd : List Bool) (now i : ℕ)
+    (steps : List Step) (fetched : ℕ) : Type 0 where
+  pub few : fetched ≤ i
+  pub has : (is_odd : List ℕ → Bool) → odd ≡ map (λ (item : Item). is_odd item.uid) listing
+      → HasPlanned settings is_odd rows listing now i steps fetched
+
+-- the flag of a message says whether it is odd
+pub odd_at : (is_odd : List ℕ → Bool) (listing : List Item) (odd : List Bool) (i : ℕ) (unset : Bool)
+    → odd ≡ map (λ (item : Item). is_odd item.uid) listing → i < length listing
+    → (item : Item) → get_or odd i unset ≡ is_odd (get_or listing i item).uid
+odd_at is_odd listing odd i unset are inside item = ap (λ (bs : List Bool). get_or bs i unset) are
+    ∙ get_or-map (λ (item : Item). is_odd item.uid) listing i item unset inside
+
+-- if each listed id is recorded as delivered and only what is new is fetched, it doesn't matter what is odd
+pub all_known : (settings : Settings) (is_odd : List ℕ → Bool) (rows : List Row) (listing : List Item) (now : ℕ)
+    → settings.read_all ≡ false → All (λ (item : Item). is_delivered rows item.uid ≡ true) listing
+    → planned settings none_odd rows listing now ≡ planned settings is_odd rows listing now
+all_known settings is_odd rows listing now not_all known = same_on _ _ (numbered listing) (λ k d inside.
+    let there : k < length listing = omega (arith, inside, length-enumerate_from 1 listing) in
+    rw (get_or-enumerate_from 1 listing k d there, not_all, known k d.1 there) refl)
 
 -- nothing is due if the settings let nothing be deleted
 pub never_due : (settings : Settings) (now since : ℕ) → may_delete settings ≡ false → is_due settings now since ≡ false
@@ -246,48 +282,50 @@ never_due settings now since never = grind arith
 
 -- ---- A plan fetches only messages whose id no earlier message has
 
-first_at : (settings : Settings) (rows : List Row) (listing front rest : List Item) (i : Item) (k : ℕ)
-    → listing ≡ front ++ i ∷ rest → k ≡ length front + 1 → is_none (skip_of settings rows listing (k, i)) ≡ true
+first_at : (settings : Settings) (is_odd : List ℕ → Bool) (rows : List Row) (listing front rest : List Item) (i : Item) (k : ℕ)
+    → listing ≡ front ++ i ∷ rest → k ≡ length front + 1 → is_none (skip_of settings is_odd rows listing (k, i)) ≡ true
     → (has_item front i.uid ≡ false) × ((settings.read_all || not (is_delivered rows i.uid)) ≡ true)
-first_at settings rows listing front rest i k is at fetched =
-    let parts = parts_for settings rows (is_first listing (k, i)) (is_full settings (before settings rows listing (k - 1))) i fetched in (
+first_at settings is_odd rows listing front rest i k is at fetched =
+    let parts = parts_for settings is_odd rows (is_first listing (k, i)) (is_full settings (before settings is_odd rows listing (k - 1)))
+    i fetched in (
       rw (is, at, take_at front (i ∷ rest) (length front + 1 - 1) (omega arith)) at
           (not-true (has_item (take (k - 1) listing) i.uid) parts.1),
       asked settings.read_all (is_delivered rows i.uid) (and_parts (not (not settings.read_all && is_delivered rows i.uid))
-          (is_within settings.max_size i.size) (sym (own_passes settings (is_delivered rows) i.uid i.size) ∙ parts.0)).0,
+          (not (is_odd i.uid) && is_within settings.max_size i.size)
+          (sym (own_passes settings (is_odd i.uid) (is_delivered rows) i.uid i.size) ∙ parts.0)).0,
     )
   where
     asked : (all delivered : Bool) → not (not all && delivered) ≡ true → (all || not delivered) ≡ true
     asked true delivered is = refl
     asked false delivered is = is
 
-asked_from : (settings : Settings) (rows : List Row) (listing front rest : List Item) (now k : ℕ)
+asked_from : (settings : Settings) (is_odd : List ℕ → Bool) (rows : List Row) (listing front rest : List Item) (now k : ℕ)
     → listing ≡ front ++ rest → k ≡ length front + 1
-    → FetchesAsked settings rows (map (step_of settings rows listing now) (enumerate_from k rest)) rest
-asked_from settings rows listing front [] now k is at = tt
-asked_from settings rows listing front (i ∷ rest) now k is at = (
-  λ fetched. (first_at settings rows listing front rest i k is at fetched).1,
-  asked_from settings rows listing (front ++ i ∷ []) rest now (k + 1) (is ∙ sym (append_assoc front (i ∷ []) rest))
+    → FetchesAsked settings rows (map (step_of settings is_odd rows listing now) (enumerate_from k rest)) rest
+asked_from settings is_odd rows listing front [] now k is at = tt
+asked_from settings is_odd rows listing front (i ∷ rest) now k is at = (
+  λ fetched. (first_at settings is_odd rows listing front rest i k is at fetched).1,
+  asked_from settings is_odd rows listing (front ++ i ∷ []) rest now (k + 1) (is ∙ sym (append_assoc front (i ∷ []) rest))
       (omega (arith, at, length-append front (i ∷ []))),
 )
 
-pub asked_planned : (settings : Settings) (rows : List Row) (listing : List Item) (now : ℕ)
-    → FetchesAsked settings rows (planned settings rows listing now) listing
-asked_planned settings rows listing now = asked_from settings rows listing [] listing now 1 refl (omega arith)
+pub asked_planned : (settings : Settings) (is_odd : List ℕ → Bool) (rows : List Row) (listing : List Item) (now : ℕ)
+    → FetchesAsked settings rows (planned settings is_odd rows listing now) listing
+asked_planned settings is_odd rows listing now = asked_from settings is_odd rows listing [] listing now 1 refl (omega arith)
 
-firsts_from : (settings : Settings) (rows : List Row) (listing front rest : List Item) (now k : ℕ)
+firsts_from : (settings : Settings) (is_odd : List ℕ → Bool) (rows : List Row) (listing front rest : List Item) (now k : ℕ)
     → listing ≡ front ++ rest → k ≡ length front + 1
-    → FetchesFirsts front (map (step_of settings rows listing now) (enumerate_from k rest)) rest
-firsts_from settings rows listing front [] now k is at = tt
-firsts_from settings rows listing front (i ∷ rest) now k is at = (
-  λ fetched. (first_at settings rows listing front rest i k is at fetched).0,
-  firsts_from settings rows listing (front ++ i ∷ []) rest now (k + 1) (is ∙ sym (append_assoc front (i ∷ []) rest))
+    → FetchesFirsts front (map (step_of settings is_odd rows listing now) (enumerate_from k rest)) rest
+firsts_from settings is_odd rows listing front [] now k is at = tt
+firsts_from settings is_odd rows listing front (i ∷ rest) now k is at = (
+  λ fetched. (first_at settings is_odd rows listing front rest i k is at fetched).0,
+  firsts_from settings is_odd rows listing (front ++ i ∷ []) rest now (k + 1) (is ∙ sym (append_assoc front (i ∷ []) rest))
       (omega (arith, at, length-append front (i ∷ []))),
 )
 
-pub firsts_planned : (settings : Settings) (rows : List Row) (listing : List Item) (now : ℕ)
-    → FetchesFirsts [] (planned settings rows listing now) listing
-firsts_planned settings rows listing now = firsts_from settings rows listing [] listing now 1 refl (omega arith)
+pub firsts_planned : (settings : Settings) (is_odd : List ℕ → Bool) (rows : List Row) (listing : List Item) (now : ℕ)
+    → FetchesFirsts [] (planned settings is_odd rows listing now) listing
+firsts_planned settings is_odd rows listing now = firsts_from settings is_odd rows listing [] listing now 1 refl (omega arith)
 
 -- ---- loops that fill a set of ids from the front or from the back
 
@@ -438,18 +476,20 @@ all_flags test listing n flags all count are = rw (are, count, ← length-enumer
     (sym (all_pass test (numbered listing) all))
 
 pub wanted-first : WantedAreFirst
-wanted-first settings rows listing distinct =
-    firsts settings.max_count (is_candidate settings rows listing) (gets settings rows listing) (numbered listing) (0, nobody) (λ i inside.
+wanted-first settings is_odd rows listing distinct =
+    firsts settings.max_count (is_candidate settings is_odd rows listing) (gets settings is_odd rows listing) (numbered listing)
+    (0, nobody) (λ i inside.
     let there = message_at listing i nobody (omega (arith, inside, length-enumerate_from 1 listing)) in
-    ap (gets settings rows listing) there ∙ gets_at settings rows listing i
-    ∙ ap (λ (m : Message). is_candidate settings rows listing m && not (is_full settings (before settings rows listing i))) (sym there))
-    ∙ ap (at_most settings.max_count) (agree_on (is_candidate settings rows listing) own (numbered listing)
+    ap (gets settings is_odd rows listing) there ∙ gets_at settings is_odd rows listing i
+    ∙ ap (λ (m : Message). is_candidate settings is_odd rows listing m && not (is_full settings (before settings is_odd rows listing i)))
+    (sym there))
+    ∙ ap (at_most settings.max_count) (agree_on (is_candidate settings is_odd rows listing) own (numbered listing)
     (λ k d inside. same (get_or (numbered listing) k d) (are_first listing distinct k d inside)))
   where
     own : Message → Bool
-    own m = is_none (own_skip settings (is_delivered rows) m.1.uid m.1.size)
+    own m = is_none (own_skip settings (is_odd m.1.uid) (is_delivered rows) m.1.uid m.1.size)
 
-    same : (m : Message) → is_first listing m ≡ true → is_candidate settings rows listing m ≡ own m
+    same : (m : Message) → is_first listing m ≡ true → is_candidate settings is_odd rows listing m ≡ own m
     same m first = ap (λ (b : Bool). own m && b) first ∙ and-true (own m)
 
 -- ---- rows are joined in one way

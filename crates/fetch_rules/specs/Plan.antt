@@ -16,9 +16,9 @@ is_deleted settings rows listing now fetched message =
     is_due settings now (seen_since rows message.1.uid now) && (is_delivered rows message.1.uid || fetched)
     && (is_first listing message && is_last listing message)
 
-abbrev pub step_of : Settings → List Row → List Item → ℕ → ℕ × Item → Step
-step_of settings rows listing now message =
-    let skip = skip_of settings rows listing message in
+abbrev pub step_of : Settings → (List ℕ → Bool) → List Row → List Item → ℕ → ℕ × Item → Step
+step_of settings is_odd rows listing now message =
+    let skip = skip_of settings is_odd rows listing message in
     record {
       number = message.0;
       skip = skip;
@@ -30,8 +30,8 @@ abbrev pub fetches : Step → Bool
 fetches step = is_none step.skip
 
 -- the steps, one for each message, in order
-abbrev pub planned : Settings → List Row → List Item → ℕ → List Step
-planned settings rows listing now = map (step_of settings rows listing now) (numbered listing)
+abbrev pub planned : Settings → (List ℕ → Bool) → List Row → List Item → ℕ → List Step
+planned settings is_odd rows listing now = map (step_of settings is_odd rows listing now) (numbered listing)
 
 -- a step neither fetches nor deletes
 abbrev pub IsQuiet : Step → Type 0

@@ -1,12 +1,12 @@
 -- Which messages of a listing are fetched, and why the others aren't.
-use Rattle.std.specs.Prelude.{◌≡◌, ℕ, Bool, not, ◌&&◌, ◌||◌, ◌==◌, ◌-◌, nat_le, List, length, take, filter}
+use Rattle.std.specs.Prelude.{◌≡◌, ℕ, Bool, false, not, ◌&&◌, ◌||◌, ◌==◌, ◌-◌, nat_le, List, length, take, filter}
 use Rattle.std.specs.Prelude.{Option, Some, None, is_none, if◌then◌else◌}
 use Rattle.std.specs.Option.{option_or}
 use Rattle.mail_terms.specs.Listing.{Item, HasDistinctIds, numbered, is_first}
 use Rattle.fetch_record.specs.Record.{Row, is_delivered}
 use Rattle.rc_file.specs.declared.settings.Settings.{Settings}
 use Rattle.fetch_rules.specs.declared.plans.Skip.{Skip}
-use Rattle.fetch_rules.specs.declared.plans.Skip.TheVariants.{Delivered, TooLarge, PastLimit, SameId}
+use Rattle.fetch_rules.specs.declared.plans.Skip.TheVariants.{Delivered, Obstructed, TooLarge, PastLimit, SameId}
 
 -- whether a size is within the limit; 0 sets none
 abbrev pub is_within : ℕ → ℕ → Bool
@@ -17,39 +17,48 @@ abbrev pub at_most : {X : Type 0} → ℕ → List X → List X
 at_most limit xs = if limit == 0 then xs else take limit xs
 
 -- why a message of this id and size isn't fetched, whatever comes before it, if there is a reason and such ids are
--- known to be delivered; these are fetched if all are to be read
-abbrev pub own_skip : Settings → (List ℕ → Bool) → List ℕ → ℕ → Option Skip
-own_skip settings is_known uid size =
-    if not settings.read_all && is_known uid then Some Delivered
+-- known to be delivered; these are fetched if all are to be read. It may be that what can't be opened bears its name
+abbrev pub own_skip : Settings → Bool → (List ℕ → Bool) → List ℕ → ℕ → Option Skip
+own_skip settings odd is_known uid size =
+    if not settings.read_all && is_known uid then Some Delivered else if odd then Some Obstructed
     else if not (is_within settings.max_size size) then Some TooLarge
     else None
 
 -- why a message isn't fetched, if there is a reason, by whether it is the first with its id, and whether a session is
 -- full before it
-abbrev pub skip_for : Settings → List Row → Bool → Bool → Item → Option Skip
-skip_for settings rows first full item = option_or (own_skip settings (is_delivered rows) item.uid item.size)
+abbrev pub skip_for : Settings → (List ℕ → Bool) → List Row → Bool → Bool → Item → Option Skip
+skip_for settings is_odd rows first full item = option_or
+    (own_skip settings (is_odd item.uid) (is_delivered rows) item.uid item.size)
     (if full then Some PastLimit else if first then None else Some SameId)
 
 -- the message may be fetched, unless a session is full before it
-abbrev pub is_candidate : Settings → List Row → List Item → ℕ × Item → Bool
-is_candidate settings rows listing message =
-    is_none (own_skip settings (is_delivered rows) message.1.uid message.1.size) && is_first listing message
+abbrev pub is_candidate : Settings → (List ℕ → Bool) → List Row → List Item → ℕ × Item → Bool
+is_candidate settings is_odd rows listing message =
+    is_none (own_skip settings (is_odd message.1.uid) (is_delivered rows) message.1.uid message.1.size)
+    && is_first listing message
 
 -- whether a session that may fetch these messages fetches none after them; 0 sets no limit
 abbrev pub is_full : Settings → List (ℕ × Item) → Bool
 is_full settings messages = not (settings.max_count == 0) && nat_le settings.max_count (length messages)
 
 -- why a message isn't fetched, if there is a reason
-abbrev pub skip_of : Settings → List Row → List Item → ℕ × Item → Option Skip
-skip_of settings rows listing message = skip_for settings rows (is_first listing message)
-    (is_full settings (filter (is_candidate settings rows listing) (take (message.0 - 1) (numbered listing)))) message.1
+abbrev pub skip_of : Settings → (List ℕ → Bool) → List Row → List Item → ℕ × Item → Option Skip
+skip_of settings is_odd rows listing message = skip_for settings is_odd rows (is_first listing message)
+    (is_full settings (filter (is_candidate settings is_odd rows listing) (take (message.0 - 1) (numbered listing))))
+    message.1
 
 -- the messages that are fetched
-abbrev pub wanted : Settings → List Row → List Item → List (ℕ × Item)
-wanted settings rows listing = filter (λ message. is_none (skip_of settings rows listing message)) (numbered listing)
+abbrev pub wanted : Settings → (List ℕ → Bool) → List Row → List Item → List (ℕ × Item)
+wanted settings is_odd rows listing =
+    filter (λ message. is_none (skip_of settings is_odd rows listing message)) (numbered listing)
 
 -- a law: if no id occurs twice, they are the first of those that have no reason of their own
 abbrev pub WantedAreFirst : Type 0
-WantedAreFirst = (settings : Settings) (rows : List Row) (listing : List Item) → HasDistinctIds listing
-    → wanted settings rows listing ≡ at_most settings.max_count (filter (λ message.
-    is_none (own_skip settings (is_delivered rows) message.1.uid message.1.size)) (numbered listing))
+WantedAreFirst = (settings : Settings) (is_odd : List ℕ → Bool) (rows : List Row) (listing : List Item)
+    → HasDistinctIds listing → wanted settings is_odd rows listing ≡ at_most settings.max_count (filter (λ message.
+    is_none (own_skip settings (is_odd message.1.uid) (is_delivered rows) message.1.uid message.1.size))
+    (numbered listing))
+
+-- of no id what can't be opened bears a name
+abbrev pub none_odd : List ℕ → Bool
+none_odd uid = false

@@ -2,7 +2,7 @@
 //! law.
 #![tactic(auto, using(crate::proofs::PlanLemmas::plan_laws))]
 
-ghost use Rattle.std.specs.Prelude.{◌≡◌, ℕ, List, []};
+ghost use Rattle.std.specs.Prelude.{◌≡◌, ℕ, Bool, List, []};
 ghost use Rattle.mail_terms.specs.Listing.{Item, Joins, UidRow};
 ghost use Rattle.fetch_record.specs.Record.{Row};
 ghost use Rattle.fetch_rules.specs.Laws.{FetchesAsked, FetchesFirsts};
@@ -14,20 +14,20 @@ use rc_file::Settings;
 
 /// A plan fetches only messages whose id no earlier message has, so no id twice.
 pub fn only_firsts_are_fetched()
-    ensures { (settings : Settings) (rows : List Row) (listing : List Item) (now : ℕ)
-        → FetchesFirsts [] (planned settings rows listing now) listing }
+    ensures { (settings : Settings) (is_odd : List ℕ → Bool) (rows : List Row) (listing : List Item) (now : ℕ)
+        → FetchesFirsts [] (planned settings is_odd rows listing now) listing }
 {}
 
 /// A plan fetches only messages that aren't recorded as delivered, unless all are to be read.
 pub fn only_asked_for_are_fetched()
-    ensures { (settings : Settings) (rows : List Row) (listing : List Item) (now : ℕ)
-        → FetchesAsked settings rows (planned settings rows listing now) listing }
+    ensures { (settings : Settings) (is_odd : List ℕ → Bool) (rows : List Row) (listing : List Item) (now : ℕ)
+        → FetchesAsked settings rows (planned settings is_odd rows listing now) listing }
 {}
 
 /// The messages that a plan's steps fetch are those that are wanted.
 pub fn plans_fetch_wanted()
-    ensures { (settings : Settings) (rows : List Row) (listing : List Item) (now : ℕ)
-        → retrieved (planned settings rows listing now) listing ≡ wanted settings rows listing }
+    ensures { (settings : Settings) (is_odd : List ℕ → Bool) (rows : List Row) (listing : List Item) (now : ℕ)
+        → retrieved (planned settings is_odd rows listing now) listing ≡ wanted settings is_odd rows listing }
 {}
 
 /// The rows of UIDL and of LIST are joined in one way.

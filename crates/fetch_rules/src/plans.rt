@@ -1,10 +1,11 @@
 //! Which messages of a listing are fetched, and which are deleted.
 
 ghost use Rattle.std.specs.Prelude.{◌≡◌, ◌==◌, false, not, nat_le, ◌<◌, ◌&&◌, ◌||◌, ◌↔◌, true, length, map, All};
-ghost use Rattle.std.specs.Prelude.{IsTrue, HoldsAt, IfOk};
+ghost use Rattle.std.specs.Prelude.{ℕ, Bool, List, IsTrue, HoldsAt, IfOk, None, Some, if◌then◌else◌};
+ghost use Rattle.std.specs.Option.{option_or};
 ghost use Rattle.mail_terms.specs.Listing.{numbered, is_last};
 ghost use Rattle.fetch_record.specs.Record.{is_delivered};
-ghost use Rattle.fetch_rules.specs.Wanted.{skip_for, wanted};
+ghost use Rattle.fetch_rules.specs.Wanted.{none_odd, own_skip, wanted};
 ghost use Rattle.fetch_rules.specs.Due.{is_due, may_delete};
 ghost use Rattle.fetch_rules.specs.Plan.{IsQuiet, seen_since, planned, retrieved};
 
@@ -23,6 +24,8 @@ pub const SECONDS_PER_DAY: u64 = 86_400;
 pub enum Skip {
     /// The record has it as delivered.
     Delivered,
+    /// What can't be opened bears its name in the store.
+    Obstructed,
     /// Its size is above the limit.
     TooLarge,
     /// As many messages as a session may fetch come before it.
@@ -84,24 +87,38 @@ fn is_full(settings: &Settings, fetched: u64) -> bool
     settings.max_count != 0 && settings.max_count <= fetched
 }
 
-/// Why the message of number `i + 1` isn't fetched, if there is a reason; `first` says whether it is the
-/// first with its id, and `full` whether a session is full before it.
-fn skip_for<H: BuildHasher>(
+/// Why the message of number `i + 1` isn't fetched, if there is a reason of its own; `odd` says whether what can't
+/// be opened bears its name.
+fn own_skip<H: BuildHasher>(
     settings: &Settings,
     seen: &Seen<H>,
     listing: &Listing,
-    first: bool,
-    full: bool,
+    odd: bool,
     i: u32,
 ) -> Option<Skip>
     requires { i < length listing.now }
-    ensures { HoldsAt (λ item. result ≡ skip_for settings.now seen.now.rows first full item) listing.now i }
+    ensures { HoldsAt (λ item. result ≡ own_skip settings.now odd (is_delivered seen.now.rows) item.uid item.size)
+        listing.now i }
 {
     if !settings.read_all && seen.is_delivered(listing.uid(i)) {
         return Some(Skip::Delivered);
     }
+    if odd {
+        return Some(Skip::Obstructed);
+    }
     if settings.max_size != 0 && settings.max_size < listing.size(i) {
         return Some(Skip::TooLarge);
+    }
+    None
+}
+
+/// Why a message isn't fetched, if there is a reason, by its own; `first` says whether it is the first with its id,
+/// and `full` whether a session is full before it.
+fn skip_for(own: Option<Skip>, first: bool, full: bool) -> Option<Skip>
+    ensures { result ≡ option_or own (if full then Some Skip.PastLimit else if first then None else Some Skip.SameId) }
+{
+    if own.is_some() {
+        return own;
     }
     if full {
         return Some(Skip::PastLimit);
@@ -130,15 +147,7 @@ fn is_done_with<H: BuildHasher>(
         && (seen.is_delivered(uid) || fetched)
 }
 
-/// One step for each message of the listing, in order.
-///
-/// A message is fetched unless it is recorded as delivered and `read_all` is false, its size is above
-/// `max_size`, `max_count` others that may be fetched come before it, or an earlier one has its id; the
-/// first of these reasons is given. A 0 sets no limit. A message is deleted if it is recorded as delivered
-/// or is fetched, no other message has its id, and `delete` is true or it was first seen `delete_after`
-/// days ago or more; a 0 sets no age. An id without a row is not delivered, and is first seen now. `now`
-/// is in seconds since 1970. Takes n log n comparisons of ids for n messages, and up to three look-ups in
-/// the record for each.
+/// As `plan_without`, if no flag is set.
 pub fn plan<H: BuildHasher>(
     alloc: Global,
     settings: &Settings,
@@ -146,11 +155,37 @@ pub fn plan<H: BuildHasher>(
     listing: &Listing,
     now: u64,
 ) -> Result<Vec<Step>, AllocError>
-    ensures steps { IfOk result (λ steps. steps.items ≡ planned settings.now seen.now.rows listing.now now) }
+    ensures steps { IfOk result
+        (λ steps. steps.items ≡ planned settings.now none_odd seen.now.rows listing.now now) }
 
     // What is fetched is, in order, the wanted messages.
     ensures fetched { IfOk result
-        (λ steps. retrieved steps.items listing.now ≡ wanted settings.now seen.now.rows listing.now) }
+        (λ steps. retrieved steps.items listing.now ≡ wanted settings.now none_odd seen.now.rows listing.now) }
+{
+    let none = vec![in alloc; false; listing.len() as usize]?;
+    plan_without(alloc, settings, seen, listing, now, &none)
+}
+
+/// One step for each message of the listing, in order.
+///
+/// A message is fetched unless it is recorded as delivered and `read_all` is false, its flag in `odd` says
+/// that what can't be opened bears its name, its size is above `max_size`, `max_count` others that may be
+/// fetched come before it, or an earlier one has its id; the first of these reasons is given. A 0 sets no
+/// limit. A message is deleted if it is recorded as delivered or is fetched, no other message has its id,
+/// and `delete` is true or it was first seen `delete_after` days ago or more; a 0 sets no age. An id without
+/// a row is not delivered, and is first seen now. `now` is in seconds since 1970. Takes n log n comparisons
+/// of ids for n messages, and up to three look-ups in the record for each.
+pub fn plan_without<H: BuildHasher>(
+    alloc: Global,
+    settings: &Settings,
+    seen: &Seen<H>,
+    listing: &Listing,
+    now: u64,
+    odd: &[bool],
+) -> Result<Vec<Step>, AllocError>
+    requires { length odd.now ≡ length listing.now }
+    ensures { (is_odd : List ℕ → Bool) → odd.now ≡ map (λ item. is_odd item.uid) listing.now
+        → IfOk result (λ steps. steps.items ≡ planned settings.now is_odd seen.now.rows listing.now now) }
 {
     let firsts = are_first(alloc, listing)?;
     let lasts = lasts_where_asked(alloc, settings, listing)?;
@@ -161,7 +196,8 @@ pub fn plan<H: BuildHasher>(
         // Both are known: `&&` would only be a branch more to prove.
         let alone = first & lasts[i as usize];
         let full = is_full(settings, fetched);
-        let skip = skip_for(settings, seen, listing, first, full, i);
+        let own = own_skip(settings, seen, listing, odd[i as usize], i);
+        let skip = skip_for(own, first, full);
         let delete = is_done_with(settings, seen, listing, now, alone, skip.is_none(), i);
         steps.push(Step {
             number: i + 1,
@@ -187,8 +223,8 @@ pub fn ask_nothing(steps: &[Step]) -> bool
     steps.iter().all(|step| is_quiet(step))
 }
 
-/// As `plan`, if each listed id is recorded as delivered and only what is new is fetched. If nothing
-/// may be deleted, nothing is looked up.
+/// As `plan_without`, whatever is odd, if each listed id is recorded as delivered and only what is new is fetched.
+/// If nothing may be deleted, nothing is looked up.
 pub fn plan_of_known<H: BuildHasher>(
     alloc: Global,
     settings: &Settings,
@@ -198,7 +234,8 @@ pub fn plan_of_known<H: BuildHasher>(
 ) -> Result<Vec<Step>, AllocError>
     requires new_alone { settings.now.read_all ≡ false }
     requires known { All (λ item. is_delivered seen.now.rows item.uid ≡ true) listing.now }
-    ensures { IfOk result (λ steps. steps.items ≡ planned settings.now seen.now.rows listing.now now) }
+    ensures { (is_odd : List ℕ → Bool)
+        → IfOk result (λ steps. steps.items ≡ planned settings.now is_odd seen.now.rows listing.now now) }
 {
     if may_delete(settings) {
         return plan(alloc, settings, seen, listing, now);

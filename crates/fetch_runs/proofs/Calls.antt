@@ -85,6 +85,9 @@ calls_leave laws link disk file mail account devices call shows account_is is =
         maildrop = is.maildrop;
         served = is.served s.sent s.got s.sent_is s.got_is;
         effect = s.effect;
+        odd = (laws.kept call.settings (digits_of call.settings) call.now (link.history call.wire)
+            (account_files left (file.stored devices.file)) call.report
+            (link.history call.wire') (account_files (disk.maildir call.after.store) (file.stored call.after.file)) met.4.2.0).3;
         session = subst (λ (k : AccountMail). SessionOverLink call.settings mail.account k s.sent s.got call.report s.effect after) here
             (subst (λ (a : List ℕ). SessionOverLink call.settings a mid s.sent s.got call.report s.effect after) account_is s.session);
       };
@@ -139,9 +142,9 @@ calls_keep_promises laws {W} {D} {F} link disk file = keep
               safe = λ trust safe. calls_keep_safe laws file devices.file call.after.file mail
                   (with_left mail state it.left) call it.sent it.after here it.session
                   it.leaves trust (left_keeps_safe (file.disk devices.file) mail state it.left kept it.taken safe);
-              in_order = λ all legal front next. calls_keep_order mail (own mail.account account) file devices.file call.after.file
-                  (with_left mail state it.left) call it.sent it.after done.0 it.leaves all legal
-                  (left_keeps_front mail state it.left kept it.taken all legal front) next;
+              in_order = λ all legal front next clear. calls_keep_order mail (own mail.account account) file devices.file
+                  call.after.file (with_left mail state it.left) call it.sent it.after done.0 it.leaves all legal
+                  (left_keeps_front mail state it.left kept it.taken all legal front) next clear;
             },
             keep mail _ call.after later it.shows done.1,
           ),
@@ -461,8 +464,9 @@ headline link disk file promised = all_hold
     all_hold world state devices (Called call ∷ later) sound shows kept front = (
       shows,
       holds_a_prefix world state sound front kept,
-      λ withdrawn none order account_is is.
+      λ withdrawn none order account_is is clear.
           let (promises, (after_shows, after_kept)) = (promised world.start state devices (Called call ∷ []) shows kept).2 account_is is in
+          let clear' = ap (λ (m : Maildir). m.odd) promises.shows.maildir ∙ clear in
           let (sound', front', same) = withdrawn_leave_fronts world state withdrawn sound front none in
           let legal = legal_selected (world_without withdrawn world) sound' in
           let shown : (f : IsFront world.start state (selected_of (world_without withdrawn world)))
@@ -479,10 +483,10 @@ headline link disk file promised = all_hold
                   done = done_is ∙ durable.done;
                   at_most_one = durable.at_most_one;
                   named = durable.named;
-                }) (shown is'),
+                }) (shown is') clear',
             all_hold (world_without withdrawn world) _ call.after later sound' after_shows after_kept
                 (promises.promises.in_order _ legal (left_front world.start state promises.left kept promises.taken _
-                front') (shown front')).0,
+                front') (shown front') clear').0,
           ),
     )
     all_hold world state devices (Left left account ∷ later) sound shows kept front =

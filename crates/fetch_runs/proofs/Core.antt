@@ -37,24 +37,24 @@ has_listed ms e id = rw e (any_map (λ (i : Item). bytes_eq id i.uid) item_of ms
 abbrev pub num_item : ℕ × Message → ℕ × Item
 num_item q = (q.0, item_of q.1)
 
--- whether a session may fetch a message, if it knows such ids
-abbrev pub may_fetch : Settings → (List ℕ → Bool) → Message → Bool
-may_fetch settings is_known m = is_none (own_skip settings is_known m.uid m.size)
+-- whether a session may fetch a message, if it met such odd names and knows such ids
+abbrev pub may_fetch : Settings → (odd known : List ℕ → Bool) → Message → Bool
+may_fetch settings is_odd is_known m = is_none (own_skip settings (is_odd m.uid) is_known m.uid m.size)
 
-abbrev pub asked : Settings → List Row → Message → Bool
-asked settings rows = may_fetch settings (is_delivered rows)
+abbrev pub asked : Settings → (List ℕ → Bool) → List Row → Message → Bool
+asked settings is_odd rows = may_fetch settings is_odd (is_delivered rows)
 
-abbrev pub offered : Settings → List Row → List Message → List Message
-offered settings rows ms = filter (asked settings rows) ms
+abbrev pub offered : Settings → (List ℕ → Bool) → List Row → List Message → List Message
+offered settings is_odd rows ms = filter (asked settings is_odd rows) ms
 
-abbrev pub wants : Settings → List Row → List Message → List Message
-wants settings rows ms = at_most settings.max_count (offered settings rows ms)
+abbrev pub wants : Settings → (List ℕ → Bool) → List Row → List Message → List Message
+wants settings is_odd rows ms = at_most settings.max_count (offered settings is_odd rows ms)
 
-abbrev pub offered_by_number : Settings → List Row → List Message → List (ℕ × Message)
-offered_by_number settings rows ms = filter (λ (q : ℕ × Message). asked settings rows q.1) (enumerate_from 1 ms)
+abbrev pub offered_by_number : Settings → (List ℕ → Bool) → List Row → List Message → List (ℕ × Message)
+offered_by_number settings is_odd rows ms = filter (λ (q : ℕ × Message). asked settings is_odd rows q.1) (enumerate_from 1 ms)
 
-abbrev pub wants_by_number : Settings → List Row → List Message → List (ℕ × Message)
-wants_by_number settings rows ms = at_most settings.max_count (offered_by_number settings rows ms)
+abbrev pub wants_by_number : Settings → (List ℕ → Bool) → List Row → List Message → List (ℕ × Message)
+wants_by_number settings is_odd rows ms = at_most settings.max_count (offered_by_number settings is_odd rows ms)
 
 abbrev pub snd : ℕ × Message → Message
 snd q = q.1
@@ -62,30 +62,30 @@ snd q = q.1
 at_most-map : {X Y : Type 0} (f : X → Y) (n : ℕ) (xs : List X) → at_most n (map f xs) ≡ map f (at_most n xs)
 at_most-map f n xs = grind (arith, take-map)
 
-module _ (settings : Settings) (rows : List Row) where
+module _ (settings : Settings) (is_odd : List ℕ → Bool) (rows : List Row) where
   pub wanted_are : WantedAreFirst → {listing : List Item} (ms : List Message) → listing ≡ listing_of ms → Distinct (message_ids ms)
-      → wanted settings rows listing ≡ map num_item (wants_by_number settings rows ms)
+      → wanted settings is_odd rows listing ≡ map num_item (wants_by_number settings is_odd rows ms)
   wanted_are firsts ms e d =
-      rw e (firsts settings rows (listing_of ms) (rw map-map (are_distinct (message_ids ms) d))
+      rw e (firsts settings is_odd rows (listing_of ms) (rw map-map (are_distinct (message_ids ms) d))
       ∙ ap (at_most settings.max_count) (ap (filter may) (enumerated 1 ms) ∙ filter-map may num_item (enumerate_from 1 ms))
-      ∙ at_most-map num_item settings.max_count (offered_by_number settings rows ms))
+      ∙ at_most-map num_item settings.max_count (offered_by_number settings is_odd rows ms))
     where
       may : ℕ × Item → Bool
-      may message = is_none (own_skip settings (is_delivered rows) message.1.uid message.1.size)
+      may message = is_none (own_skip settings (is_odd message.1.uid) (is_delivered rows) message.1.uid message.1.size)
 
       enumerated : (n : ℕ) (ms : List Message) → enumerate_from n (listing_of ms) ≡ map num_item (enumerate_from n ms)
       enumerated n [] = refl
       enumerated n (m ∷ ms) = ap (λ (l : List (ℕ × Item)). (n, item_of m) ∷ l) (enumerated (n + 1) ms)
 
-  pub offered_snd : (ms : List Message) → map snd (offered_by_number settings rows ms) ≡ offered settings rows ms
+  pub offered_snd : (ms : List Message) → map snd (offered_by_number settings is_odd rows ms) ≡ offered settings is_odd rows ms
   offered_snd ms = snds 1 ms
     where
-      snds : (n : ℕ) (ms : List Message) → map snd (filter (λ (q : ℕ × Message). asked settings rows q.1) (enumerate_from n ms))
-          ≡ offered settings rows ms
+      snds : (n : ℕ) (ms : List Message) → map snd (filter (λ (q : ℕ × Message). asked settings is_odd rows q.1) (enumerate_from n ms))
+          ≡ offered settings is_odd rows ms
       snds n [] = refl
       snds n (m ∷ ms) = grind (arith, snds (n + 1) ms)
 
-  pub wants_snd : (ms : List Message) → map snd (wants_by_number settings rows ms) ≡ wants settings rows ms
+  pub wants_snd : (ms : List Message) → map snd (wants_by_number settings is_odd rows ms) ≡ wants settings is_odd rows ms
   wants_snd ms = sym (at_most-map _ _ _) ∙ ap (at_most _) (offered_snd ms)
 
 -- ---- each is at its number
@@ -103,9 +103,9 @@ are_numbered xs = recursion_from_All _ (enumerate_from 1 xs) (λ k d l.
 pub all_at_most : {X : Type 0} (P : X → Type 0) (n : ℕ) (xs : List X) → AllByRecursion P xs → AllByRecursion P (at_most n xs)
 all_at_most P n xs h = cond_both _ xs (take n xs) (AllByRecursion P) (λ e. h) (λ e. all_take P n xs h)
 
-pub wants_placed : (settings : Settings) (rows : List Row) (ms : List Message)
-    → AllByRecursion (IsNumbered ms) (wants_by_number settings rows ms)
-wants_placed _ _ ms = all_at_most _ _ _ (all_filter _ _ _ (are_numbered ms))
+pub wants_placed : (settings : Settings) (is_odd : List ℕ → Bool) (rows : List Row) (ms : List Message)
+    → AllByRecursion (IsNumbered ms) (wants_by_number settings is_odd rows ms)
+wants_placed _ _ _ ms = all_at_most _ _ _ (all_filter _ _ _ (are_numbered ms))
 
 -- ---- texts
 
@@ -235,20 +235,21 @@ mbox_fetched s = grind (arith, s.marks, s.number)
 -- ---- a session over a maildrop
 
 -- no two messages of the maildrop share an id, and the server was honest
-pub record Fetch (settings : Settings) (rows : List Row) (drop' : List Message) (effect : Effect) : Type 0 where
+pub record Fetch (settings : Settings) (is_odd : List ℕ → Bool) (rows : List Row) (drop' : List Message) (effect : Effect) : Type 0 where
   pub firsts : WantedAreFirst
   pub distinct : Distinct (message_ids drop')
-  pub honest : IsHonest (wanted settings rows effect.listing) drop' effect
+  pub honest : IsHonest (wanted settings is_odd rows effect.listing) drop' effect
 
-module _ {settings : Settings} {rows : List Row} {drop' : List Message} {effect : Effect} (is : Fetch settings rows drop' effect) where
+module _ {settings : Settings} {is_odd : List ℕ → Bool} {rows : List Row} {drop' : List Message} {effect : Effect}
+    (is : Fetch settings is_odd rows drop' effect) where
   abbrev os : List Message
-  os = offered settings rows drop'
+  os = offered settings is_odd rows drop'
 
   abbrev ws : List Message
-  ws = wants settings rows drop'
+  ws = wants settings is_odd rows drop'
 
   abbrev pub qs : List (ℕ × Message)
-  qs = wants_by_number settings rows drop'
+  qs = wants_by_number settings is_odd rows drop'
 
   -- what holds of all messages of the maildrop holds of those that are wanted
   pub all_wanted : (P : Message → Type 0) → AllByRecursion P drop' → AllByRecursion P ws
@@ -261,44 +262,44 @@ module _ {settings : Settings} {rows : List Row} {drop' : List Message} {effect 
 
   -- if only what is new is read, no message that is wanted is recorded
   pub none_recorded : settings.read_all ≡ false → AllByRecursion (λ (m : Message). is_delivered rows m.uid ≡ false) ws
-  none_recorded only_new = all_at_most _ _ _ (all_map _ (all_passing (asked settings rows) drop')
-      (λ m a. grind (arith, sym (own_passes settings (is_delivered rows) m.uid m.size) ∙ a, only_new)))
+  none_recorded only_new = all_at_most _ _ _ (all_map _ (all_passing (asked settings is_odd rows) drop')
+      (λ m a. grind (arith, sym (own_passes settings (is_odd m.uid) (is_delivered rows) m.uid m.size) ∙ a, only_new)))
 
   -- ---- numbers and texts
 
-  pub wanted_is : wanted settings rows effect.listing ≡ map num_item qs
-  wanted_is = wanted_are settings rows is.firsts drop' is.honest.listing is.distinct
+  pub wanted_is : wanted settings is_odd rows effect.listing ≡ map num_item qs
+  wanted_is = wanted_are settings is_odd rows is.firsts drop' is.honest.listing is.distinct
 
   pub taken_is : (n : ℕ) → map snd (take n qs) ≡ take n ws
-  taken_is n = sym (take-map snd n qs) ∙ ap (take n) (wants_snd settings rows drop')
+  taken_is n = sym (take-map snd n qs) ∙ ap (take n) (wants_snd settings is_odd rows drop')
 
   -- the first texts, and these messages
   pub texts_are : {n : ℕ} → n ≤ length effect.texts
-      → (zip (take n (wanted settings rows effect.listing)) effect.texts ≡ map with_text (take n qs))
+      → (zip (take n (wanted settings is_odd rows effect.listing)) effect.texts ≡ map with_text (take n qs))
       × (take n effect.texts ≡ map (λ (m : Message). m.text) (take n ws))
   texts_are {n} l =
-      let both = first_texts drop' qs effect.texts n (wants_placed settings rows drop') (rw wanted_is at is.honest.texts) l in
+      let both = first_texts drop' qs effect.texts n (wants_placed settings is_odd rows drop') (rw wanted_is at is.honest.texts) l in
       (rw wanted_is both.0, rw (← taken_is n) both.1)
 
-  pub wanted_ids : (n : ℕ) → ids_wanted (take n (wanted settings rows effect.listing)) ≡ message_ids (take n ws)
+  pub wanted_ids : (n : ℕ) → ids_wanted (take n (wanted settings is_odd rows effect.listing)) ≡ message_ids (take n ws)
   wanted_ids n = rw (wanted_is, ← wants_snd) (simp (take-map, map-map))
 
-  pub length_is : length (wanted settings rows effect.listing) ≡ length ws
+  pub length_is : length (wanted settings is_odd rows effect.listing) ≡ length ws
   length_is = rw (wanted_is, length-map, ← wants_snd, length-map) refl
 
   -- ---- what an uncut session wants
 
   asked_as : (is_known : List ℕ → Bool) (ms : List Message) → AllByRecursion (λ (m : Message). is_delivered rows m.uid ≡ is_known m.uid) ms
-      → filter (may_fetch settings is_known) ms ≡ offered settings rows ms
+      → filter (may_fetch settings is_odd is_known) ms ≡ offered settings is_odd rows ms
   asked_as is_known [] known = refl
   asked_as is_known (m ∷ ms) known = rw (known.0, asked_as is_known ms known.1) refl
 
   -- all of it is among the first n that were fetched
   pub fetches_wanted : (is_known : List ℕ → Bool) → AllByRecursion (λ (m : Message). is_delivered rows m.uid ≡ is_known m.uid) drop'
-      → (n : ℕ) {retrieved : ℕ} → length (wanted settings rows effect.listing) ≤ n
-      → retrieved ≡ length (wanted settings rows effect.listing) → (Is : Message → Type 0)
+      → (n : ℕ) {retrieved : ℕ} → length (wanted settings is_odd rows effect.listing) ≤ n
+      → retrieved ≡ length (wanted settings is_odd rows effect.listing) → (Is : Message → Type 0)
       → ((m : Message) → has_id (message_ids (take n ws)) m.uid ≡ true → Is m) → ((m : Message) → is_delivered rows m.uid ≡ true → Is m)
-      → let all = at_most settings.max_count (filter (may_fetch settings is_known) drop') in (retrieved ≡ length all)
+      → let all = at_most settings.max_count (filter (may_fetch settings is_odd is_known) drop') in (retrieved ≡ length all)
       × AllByRecursion Is (filter (λ (m : Message). is_known m.uid) drop' ++ all)
   fetches_wanted is_known known n l counted Is got old = rw (asked_as is_known drop' known) (
     counted ∙ length_is,
@@ -327,8 +328,8 @@ next_here limit {all} come gone done rest mail prefix all_gone =
     fit : Message → Bool
     fit m = is_selected limit m
 
-module _ {settings : Settings} {rows : List Row} {drop' : List Message} {effect : Effect}
-    (is : Fetch settings rows drop' effect) (done rest : List Message)
+module _ {settings : Settings} {is_odd : List ℕ → Bool} {rows : List Row} {drop' : List Message} {effect : Effect}
+    (is : Fetch settings is_odd rows drop' effect) (clear : (id : List ℕ) → is_odd id ≡ false) (done rest : List Message)
     (known : AllByRecursion (λ (m : Message). is_delivered rows m.uid ≡ true
     → has_id (message_ids done) m.uid ≡ true) drop') (next : BeginsWith (next_in settings.max_size done drop') rest)
   where
@@ -337,24 +338,30 @@ module _ {settings : Settings} {rows : List Row} {drop' : List Message} {effect 
 
     -- the first n of what is wanted, without those that are done already
     abbrev pub added : ℕ → List Message
-    added n = filter undone (take n (wants settings rows drop'))
+    added n = filter undone (take n (wants settings is_odd rows drop'))
 
     abbrev some' : List Message
-    some' = offered settings rows drop'
+    some' = offered settings is_odd rows drop'
 
     abbrev behind : ℕ → List Message
-    behind n = drop n (wants settings rows drop') ++ past_limit settings.max_count some'
+    behind n = drop n (wants settings is_odd rows drop') ++ past_limit settings.max_count some'
 
     undone_offered : (ms : List Message) → AllByRecursion (λ (m : Message). is_delivered rows m.uid ≡ true
-        → has_id (message_ids done) m.uid ≡ true) ms → next_in settings.max_size done ms ≡ filter undone (offered settings rows ms)
+        → has_id (message_ids done) m.uid ≡ true) ms → next_in settings.max_size done ms ≡ filter undone (offered settings is_odd rows ms)
     undone_offered [] h = refl
-    undone_offered (m ∷ ms) h = grind (arith, h.0, own_passes settings (is_delivered rows) m.uid m.size, undone_offered ms h.1)
+    undone_offered (m ∷ ms) h = grind (
+      arith,
+      h.0,
+      clear m.uid,
+      own_passes settings (is_odd m.uid) (is_delivered rows) m.uid m.size,
+      undone_offered ms h.1,
+    )
 
     pub added_begins : (n : ℕ) → BeginsWith (added n) rest
     added_begins n = (
       filter undone (behind n) ++ next.0,
       next.1 ∙ ap (λ l. l ++ next.0) (undone_offered _ known ∙ ap (filter undone) (sym (begins n settings.max_count some'))
-          ∙ filter-append undone (take n (wants settings rows drop')) (behind n))
+          ∙ filter-append undone (take n (wants settings is_odd rows drop')) (behind n))
           ∙ append_assoc (added n) (filter undone (behind n)) next.0,
     )
 
@@ -363,6 +370,6 @@ module _ {settings : Settings} {rows : List Row} {drop' : List Message} {effect 
 
     -- if all that is done is recorded, and only what is new is read, none is done
     pub all_added : ((id : List ℕ) → is_delivered rows id ≡ has_id (message_ids done) id) → settings.read_all ≡ false
-        → (n : ℕ) → added n ≡ take n (wants settings rows drop')
+        → (n : ℕ) → added n ≡ take n (wants settings is_odd rows drop')
     all_added exact only_new n = filter_all _ _
         (all_take _ _ _ (all_map _ (none_recorded is only_new) (λ m k. ap not (sym (exact m.uid) ∙ k))))

@@ -35,7 +35,7 @@ use Rattle.fetch_session.specs.Task.{Done, Task, file_from, files_in, files_of, 
 use Rattle.fetch_session.specs.Task.{tasks_of}
 use Rattle.fetch_session.specs.declared.account.Store.TheVariants.{Maildir as InMaildir}
 use Rattle.fetch_session.specs.declared.report.Skips.{Skips}
-use Rattle.mail_store.specs.FileName.{IsAccountText, is_held, names_id, sized_file, stem, stem_of}
+use Rattle.mail_store.specs.FileName.{IsAccountText, is_held, is_odd, names_id, sized_file, stem, stem_of}
 use Rattle.mail_store.specs.Held.{HasDurable, flags_of}
 use Rattle.mail_store.specs.Maildir.{AllNamed, File, IsNamed, Maildir}
 use Rattle.mail_store.specs.Settling.{MayBeLeft, block_size, is_lost}
@@ -226,7 +226,7 @@ module _ (account : List ℕ) (settings : Settings) (items : List Item) (now : �
   -- no file came
   quiet_came : (result : Result (Unit {0}) Cut) (new : Scene) (skipped : Skips)
       → (c : Carried settings (AsFiles account) items now place (in_maildir left) file [] result new skipped)
-      → All IsQuiet (planned settings c.mid.rows items now) → new.store.maildir.files ≡ left.files
+      → All IsQuiet (planned settings (is_odd account left) c.mid.rows items now) → new.store.maildir.files ≡ left.files
   quiet_came result new _ c quiet = by _ c.does
     where
       none : ids_ahead (tasks_ahead settings (AsFiles account) items now (in_maildir left) c.mid.rows) ≡ []
@@ -376,7 +376,8 @@ module _ (laws : Below) {D F : Type 0} (files : FileGhosts F) (device device' : 
                 c.does.went.rows,
               ) d
 
-          by : (durable : (All IsQuiet (planned settings c.mid.rows items now) × IsFileKept c.mid.rows (files.stored from) c.mid.file)
+          by : (durable : (All IsQuiet (planned settings (is_odd account left) c.mid.rows items now)
+              × IsFileKept c.mid.rows (files.stored from) c.mid.file)
               ⊎ AreDurable (AsFiles account) c.prepared.was.rows items (in_maildir left))
               → UnlessQuiet files (InMaildir device) from c.mid.rows (files.stored from) c.mid.file durable
               (Durably files (AsFiles account) (tasks_ahead settings (AsFiles account) items now (in_maildir left)
@@ -491,7 +492,7 @@ module _ (laws : Below) {D F : Type 0} (files : FileGhosts F) (device device' : 
                 unprepared.unready.cause) unprepared.unready.content (all (tt, trust.0))
             of (rows', inr c) all = by_plan c.prepared.durable (all (tt, trust.0))
               where
-                by_plan : (durable : (All IsQuiet (planned settings c.mid.rows dealt.items now)
+                by_plan : (durable : (All IsQuiet (planned settings (is_odd account left) c.mid.rows dealt.items now)
                     × IsFileKept c.mid.rows (files.stored from) c.mid.file)
                     ⊎ AreDurable (AsFiles account) c.prepared.was.rows dealt.items (in_maildir left))
                     → UnlessQuiet files (InMaildir device) from c.mid.rows (files.stored from) c.mid.file durable

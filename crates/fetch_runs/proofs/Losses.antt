@@ -438,7 +438,7 @@ module _ (mail : Mail) (own : (m : Message) → names_id mail.account m.uid (nam
       (now : AccountMail) (promises : Promises mail state call sent now)
       (leaves : LeavesDurably store mail.account from f state.account now)
       (all : List Message) (legal : AreLegal all) (front : IsDurableFront mail state all)
-      (next : ShowsNext call.settings call.maildrop front.is.done front.is.rest) where
+      (next : ShowsNext call.settings call.maildrop front.is.done front.is.rest) (clear : now.maildir.odd ≡ []) where
     abbrev after : State
     after = state_with mail state call.vanished now
 
@@ -447,7 +447,7 @@ module _ (mail : Mail) (own : (m : Message) → names_id mail.account m.uid (nam
 
     later : (later : IsFront mail after all) × (later.done ≡ front.is.done ++ filter
         (λ (m : Message). not (has_id (message_ids front.is.done) m.uid)) promises.came)
-    later = promises.in_order all legal front.is next
+    later = promises.in_order all legal front.is next clear
 
     on : (id : List ℕ) → is_durable mail state id ≡ true → is_durable mail after id ≡ true
     on = durable_call store from f mail state call.vanished now leaves

@@ -9,6 +9,7 @@ use Rattle.pop3_client.specs.Texts.{body_text}
 use Rattle.rc_file.specs.Settings.{IsValid}
 use Rattle.fetch_record.specs.Record.{Intent, RecordState, Row, has_row, is_delivered, marked, none_open}
 use Rattle.fetch_rules.specs.Plan.{IsQuiet, planned}
+use Rattle.fetch_rules.specs.Wanted.{none_odd}
 use Rattle.mail_store.specs.Durable.{MayLeave, seen_on}
 use Rattle.mail_store.specs.{FlatFile.Stored, Mboxrd.entry_of, Settling.MayBeLeft}
 use Rattle.mail_store.specs.declared.file.flat_file.FlatFile.{Ghosts as FileGhosts}
@@ -423,7 +424,7 @@ module _ (laws : Below) (D : Type 0) {F : Type 0} (files : FileGhosts F)
         rw (read ∙ was) (read_before _ (still mbox also))
 
     -- or else this is left
-    planned_left : (Safe : Type 0) → (Safe → Leaves) → (durable : (All IsQuiet (planned v.settings c.mid.rows items v.now)
+    planned_left : (Safe : Type 0) → (Safe → Leaves) → (durable : (All IsQuiet (planned v.settings none_odd c.mid.rows items v.now)
         × IsFileKept c.mid.rows (files.stored from.file) c.mid.file)
         ⊎ AreDurable AsEntries c.prepared.was.rows items (in_mbox (files.stored from.store)))
         → UnlessQuiet {D = D} files (InMbox from.store) from.file c.mid.rows (files.stored from.file) c.mid.file durable Safe

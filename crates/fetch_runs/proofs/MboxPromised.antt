@@ -21,6 +21,7 @@ use Rattle.fetch_runs.specs.{Accounts.message_ids, Below.Below}
 use Rattle.fetch_runs.specs.Promises.{IsOf, IsMaildrop, ShowsNext, Call, Base, is_entered, IsOpenFor, Stands}
 use Rattle.fetch_runs.specs.Promises.{HoldsEntries, IsMboxFront, MboxPromises, MboxStarts, AppendsMail}
 use Rattle.fetch_runs.proofs.{Promised.sends_such, Safety.mbox_served_session}
+use Rattle.fetch_rules.specs.Wanted.{none_odd}
 use Rattle.fetch_runs.proofs.Core.{BeginsWith, next_in, added, added_begins, prefix_after, all_added, parts_apart, IsNumbered, num_item}
 use Rattle.fetch_runs.proofs.Core.{Fetch, all_wanted, distinct_wanted, fetches_wanted, wanted_is, taken_is, texts_are, wanted_ids}
 use Rattle.fetch_runs.proofs.Core.{none_recorded, qs, wants, wants_placed, has_listed, length_is, mbox_fetched}
@@ -278,11 +279,11 @@ module _ (base : Base) where
       abbrev pub was : List Message
       was = done ++ origin.0
 
-      pub fetch : Fetch v.settings rows v.maildrop did
+      pub fetch : Fetch v.settings none_odd rows v.maildrop did
       fetch = record { firsts = laws.firsts; distinct = distinct_is v.maildrop is.distinct; honest = honest }
 
       abbrev pub new : ℕ → List Message
-      new n = take n (wants v.settings rows v.maildrop)
+      new n = take n (wants v.settings none_odd rows v.maildrop)
 
       all_new : (P : Message → Type 0) (n : ℕ) → AllByRecursion P v.maildrop → AllByRecursion P (new n)
       all_new P n h = all_take P n _ (all_wanted fetch P h)
@@ -313,7 +314,7 @@ module _ (base : Base) where
 
       placed : (b : IsBroken v.settings before did s.stored now) → (q : ℕ × Message) × (b.message ≡ num_item q)
           × (b.text ≡ q.1.text) × (take (suc s.stored) (qs fetch) ≡ take s.stored (qs fetch) ++ q ∷ [])
-      placed b = at_place _ _ did.texts s.stored (wants_placed v.settings rows v.maildrop)
+      placed b = at_place _ _ did.texts s.stored (wants_placed v.settings none_odd rows v.maildrop)
           (rw (wanted_is fetch) at honest.texts) (rw (wanted_is fetch) at b.wanted) b.got
 
       broken_taken : (b : IsBroken v.settings before did s.stored now) → new (suc s.stored) ≡ new s.stored ++ (placed b).0.1 ∷ []
@@ -401,7 +402,7 @@ module _ (base : Base) where
         fetched = λ uncut. let all = (s.ended (ended.1 uncut)).0 in (
           new s.stored,
           refl,
-          ap length (take_all s.stored (wants v.settings rows v.maildrop) (omega (arith, all, length_is fetch)))
+          ap length (take_all s.stored (wants v.settings none_odd rows v.maildrop) (omega (arith, all, length_is fetch)))
               ∙ sym (length_is fetch) ∙ sym (all_retrieved (ended.1 uncut) uncut),
         );
         wanted = λ uncut. fetches_wanted fetch (is_entered base was) (all_map _ (members v.maildrop) (λ m there. known m.uid))
@@ -442,13 +443,13 @@ module _ (base : Base) where
             → has_id (message_ids (front.first ++ was)) m.uid ≡ true) v.maildrop
         done_known = all_map _ (members _) (λ m _ d. sym (known_was _) ∙ d)
 
-        abbrev rest_after : (n : ℕ) → BeginsWith (added fetch (front.first ++ was) later.0 done_known later.2 n) later.0
-        rest_after = added_begins fetch (front.first ++ was) later.0 done_known later.2
+        abbrev rest_after : (n : ℕ) → BeginsWith (added fetch (λ id. refl) (front.first ++ was) later.0 done_known later.2 n) later.0
+        rest_after = added_begins fetch (λ id. refl) (front.first ++ was) later.0 done_known later.2
 
         prefix_new : (n : ℕ) → all ≡ (front.first ++ (was ++ new n)) ++ (rest_after n).0
-        prefix_new n = prefix_after fetch (front.first ++ was) later.0 done_known later.2 prefix_was n
+        prefix_new n = prefix_after fetch (λ id. refl) (front.first ++ was) later.0 done_known later.2 prefix_was n
             ∙ ap (λ (l : List Message). l ++ (rest_after n).0)
-            (rw (all_added fetch (front.first ++ was) later.0 done_known later.2 known_was only_new n)
+            (rw (all_added fetch (λ id. refl) (front.first ++ was) later.0 done_known later.2 known_was only_new n)
             (append_assoc front.first was (new n)))
 
         next_open : (b : IsBroken v.settings before did s.stored now) → Next (inr (broken b))

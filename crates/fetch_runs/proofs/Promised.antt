@@ -14,7 +14,7 @@ use Rattle.pop3_wire.specs.{World.Message, declared.command.Command.Command, dec
 use Rattle.fetch_record.specs.Record.{is_delivered, Row}
 use Rattle.mail_store.specs.Maildir.{File, file as file_of}
 use Rattle.mail_terms.specs.MaildirName.{base}
-use Rattle.mail_store.specs.FileName.{names_id, name_of, stem, is_held, stem_of, IsAccountText}
+use Rattle.mail_store.specs.FileName.{names_id, name_of, stem, is_held, is_odd, stem_of, IsAccountText}
 use Rattle.fetch_runs.specs.Accounts.{message_ids, item_of, listing_of, texts_of, AccountMail, copies, files, has_named, without_flags}
 use Rattle.fetch_runs.specs.Sessions.{Effect, Leaves, StoresTexts, IsHonest, wanted_at, merged_rows, ids_wanted}
 use Rattle.fetch_runs.specs.Sessions.{SendsOnly, IsBegun, Served, SessionOverLink, is_retr}
@@ -131,26 +131,31 @@ pub record IsSession {W S F : Type 0} (mail : Mail) (before : AccountMail) (call
   pub maildrop : IsMaildrop mail.text call.maildrop
   pub served : Served call.maildrop sent got call.vanished
   pub effect : Effect
+  pub odd : after.maildir.odd ≡ before.maildir.odd
   pub session : SessionOverLink call.settings mail.account before sent got call.report effect after
 
 module _ {W S F : Type 0} (laws : Below) {mail : Mail} (account_is : IsAccountText mail.account) {state : State}
     (o : Call W S F) (now : AccountMail) (kept : Invariant mail state) (e : Effect)
     (is : IsMaildrop mail.text o.maildrop) {commands : List Command} {part : List ℕ}
     (s : StoresTexts o.settings mail.account state.account e now o.report commands part)
-    (honest : IsHonest (wanted_at o.settings mail.account state.account e) o.maildrop e) where
+    (honest : IsHonest (wanted_at o.settings mail.account state.account e) o.maildrop e)
+    (same_odd : now.maildir.odd ≡ state.account.maildir.odd) where
   abbrev rows : List Row
   rows = merged_rows mail.account state.account e
 
   abbrev held : List ℕ → Bool
   held id = is_held mail.account state.account.maildir id
 
+  abbrev odd : List ℕ → Bool
+  odd = is_odd mail.account state.account.maildir
+
   abbrev ws : List Message
-  ws = wants o.settings rows o.maildrop
+  ws = wants o.settings odd rows o.maildrop
 
   abbrev after : State
   after = state_with mail state o.vanished now
 
-  fetch : Fetch o.settings rows o.maildrop e
+  fetch : Fetch o.settings odd rows o.maildrop e
   fetch = record { firsts = laws.firsts; distinct = distinct_is o.maildrop is.distinct; honest = honest }
 
   -- ---- what came
@@ -247,15 +252,16 @@ module _ {W S F : Type 0} (laws : Below) {mail : Mail} (account_is : IsAccountTe
 
   -- what came is the next, if what could come is
   front_after : (all : List Message) → AllByRecursion IsLegal all → (front : IsFront mail state all)
-      → ShowsNext o.settings o.maildrop front.done front.rest → (later : IsFront mail after all)
+      → ShowsNext o.settings o.maildrop front.done front.rest → now.maildir.odd ≡ [] → (later : IsFront mail after all)
       × (later.done ≡ front.done ++ filter (λ (m : Message). not (has_id (message_ids front.done) m.uid)) came)
-  front_after _ _ front next =
+  front_after _ _ front next none =
+      let clear : (id : List ℕ) → odd id ≡ false = λ id. rw (sym same_odd ∙ none) refl in
       let known = all_map _ legal_drop (λ m l d. front.is_done m.uid l ∙ (known_safe m.uid d).1) in (
         record {
-          done = front.done ++ added fetch front.done front.rest known next s.stored;
-          rest = (added_begins fetch front.done front.rest known next s.stored).0;
-          prefix = prefix_after fetch front.done front.rest known next front.prefix s.stored;
-          is_done = λ id l. ids_both front.done (added fetch front.done front.rest known next s.stored) id
+          done = front.done ++ added fetch clear front.done front.rest known next s.stored;
+          rest = (added_begins fetch clear front.done front.rest known next s.stored).0;
+          prefix = prefix_after fetch clear front.done front.rest known next front.prefix s.stored;
+          is_done = λ id l. ids_both front.done (added fetch clear front.done front.rest known next s.stored) id
               ∙ ap (λ b. has_id (message_ids front.done) id || b) (ids_filtered (λ x. not (has_id (message_ids front.done) x)) got id)
               ∙ more_done _ _ _ _ _ (has_named mail.account now.maildir id) (front.is_done id l) (held_now id l);
         },
@@ -268,9 +274,9 @@ module _ {W S F : Type 0} (laws : Below) {mail : Mail} (account_is : IsAccountTe
       → AllByRecursion (λ id. has_id e.begun id ≡ true) o.vanished → Promises mail state o sent now × Invariant mail after
   stored_kept ended sends retrieves vanished = (
     record {
-      wanted = λ uncut. let all = s.ended (ended.1 uncut) in
+      wanted = rw same_odd (λ uncut. let all = s.ended (ended.1 uncut) in
           fetches_wanted fetch known known_listed s.stored (grind (arith, all, s.kept)) all (λ m. IsSafe mail after m.uid)
-          (λ m. got_safe m.uid) (λ m old. still_safe mail state now m.uid (known_safe m.uid old));
+          (λ m. got_safe m.uid) (λ m old. still_safe mail state now m.uid (known_safe m.uid old)));
       deletes = sends_such (IsSafe mail after) o.maildrop e (inl honest.listing) begun_safe sends;
       retrieved = λ uncut. retrieves (ended.1 uncut);
       came = came;
@@ -318,7 +324,7 @@ left_kept {mail = mail} {state = state} o now e kept left ended sends vanished =
     added = ap without_flags left.same ∙ sym (append-nil (without_flags (files state.account)));
     new = tt;
     recorded = λ id recorded. rw left.rows recorded;
-    in_order = λ _ _ front _. (
+    in_order = λ _ _ front _ _. (
       record { done = front.done; rest = front.rest; prefix = front.prefix; is_done = λ id l. front.is_done id l ∙ unchanged id },
       sym (append-nil front.done),
     );
@@ -356,5 +362,5 @@ pub sessions_keep_promises : Below
 sessions_keep_promises laws mail state call _ after account_is kept is =
     let step = served_session laws call.settings mail.account state.account is.effect is.session is.served in
     ⊎_elim (λ left. left_kept call after is.effect kept left is.session.ended is.session.sends step.1)
-    (λ (stores, honest). stored_kept laws account_is call after kept is.effect is.maildrop stores honest
+    (λ (stores, honest). stored_kept laws account_is call after kept is.effect is.maildrop stores honest is.odd
     is.session.ended is.session.sends is.session.retrieves step.1) step.0

@@ -11,11 +11,11 @@ use Rattle.std.proofs.lemmas.List.Folds.{list_any_at, flat_map-map}
 use Rattle.std.proofs.lemmas.Option.{slice_get_within, get_or_from_slice_get, same_Some, slice_get-map}
 use Rattle.std.proofs.Math.Logic.{⊎_elim, ⊎_map}
 use Rattle.mail_terms.specs.Listing.{Item, numbered, is_first}
-use Rattle.fetch_rules.specs.Wanted.{skip_of, wanted}
+use Rattle.fetch_rules.specs.Wanted.{none_odd, skip_of, wanted}
 use Rattle.fetch_rules.proofs.PlanLemmas.{parts_for}
 use Rattle.rc_file.specs.declared.settings.Settings.{Settings}
 use Rattle.fetch_record.specs.Record.{Row, is_delivered}
-use Rattle.mail_store.specs.FileName.{is_held, mail_file}
+use Rattle.mail_store.specs.FileName.{is_held, is_odd, mail_file}
 use Rattle.mail_store.specs.Mboxrd.{entry_of, MboxFile, EntryAddsText}
 use Rattle.mail_terms.specs.{UniqueId.has_id, Text.IsWhole}
 use Rattle.fetch_runs.specs.Accounts.{AccountMail, without_flags, item_of, listing_of}
@@ -62,11 +62,11 @@ one_number listing m n at at' same = grind (arith, not_before m n at at' same, n
 
 -- ---- a wanted message is at its number
 
-pub wanted_first : (settings : Settings) (rows : List Row) (listing : List Item)
-    → AllByRecursion (IsFirstAt listing) (wanted settings rows listing)
-wanted_first settings rows listing = all_both {P = IsPlaced listing} _ (all_filter _ _ _ (are_numbered listing))
-    (all_passing (λ m. is_none (skip_of settings rows listing m)) (numbered listing))
-    (λ q h e. (h.0, h.1, (parts_for settings rows (is_first listing q) _ q.1 e).1))
+pub wanted_first : (settings : Settings) (is_odd : List ℕ → Bool) (rows : List Row) (listing : List Item)
+    → AllByRecursion (IsFirstAt listing) (wanted settings is_odd rows listing)
+wanted_first settings is_odd rows listing = all_both {P = IsPlaced listing} _ (all_filter _ _ _ (are_numbered listing))
+    (all_passing (λ m. is_none (skip_of settings is_odd rows listing m)) (numbered listing))
+    (λ q h e. (h.0, h.1, (parts_for settings is_odd rows (is_first listing q) _ q.1 e).1))
 
 behind_one : {X : Type 0} {x : X} (y : X) (xs : List X) → IsAmong x xs → IsAmong x (y ∷ xs)
 behind_one y _ (front, behind, is) = (y ∷ front, behind, ap (λ l. y ∷ l) is)
@@ -175,7 +175,7 @@ module _ (settings : Settings) (account : List ℕ) (before : AccountMail) (effe
           (or_cases _ _ (sym (delivered_merged laws account before.maildir before.rows effect.listing effect.now id) ∙ known)))
       | inr stored ↦ ⊎_map inr (λ (free : is_held account before.maildir id ≡ false).
           let t = found_at effect.listing s.stored qs effect.texts id
-          (wanted_first settings (merged_rows account before effect) effect.listing)
+          (wanted_first settings (is_odd account before.maildir) (merged_rows account before effect) effect.listing)
           (fetched s) (taken_more (λ (q : ℕ × Item). q.1.uid) qs id (order s) stored) in (
             t,
             rw t.id_is at (among_made (is_unheld account before.maildir) (file_for account) _ t.taken (rw (t.id_is, free))),
@@ -208,7 +208,7 @@ module _ (settings : Settings) (before : MboxMail) (effect : Effect) (after : Mb
     | inl known ↦ inl (sym (delivered_unheld laws (settled effect.listing before).rows effect.listing effect.now id) ∙ known)
     | inr stored ↦
         let t = found_at effect.listing s.stored (mbox_wanted settings before effect) effect.texts id
-        (wanted_first settings (mbox_rows before effect) effect.listing) (mbox_fetched s) stored in
+        (wanted_first settings none_odd (mbox_rows before effect) effect.listing) (mbox_fetched s) stored in
         let tail = tail_of s in
         inr (
           t,
@@ -405,7 +405,7 @@ session_holds laws settings account before {sent} {got} {report} effect {after} 
           let is = session_honest laws effect {drop = drop} {vanished = []} session.sends
           (record { marks = marks; honest = honest; marked = tt }) (wanted_at settings account before effect) reads in
           let first = subst (λ (l : List Item). AllByRecursion (IsFirstAt l) (wanted_at settings account before effect))
-          is.listing (wanted_first settings (merged_rows account before effect) effect.listing) in
+          is.listing (wanted_first settings (is_odd account before.maildir) (merged_rows account before effect) effect.listing) in
           inr (
             is.listing,
             all_mapped (IsFileOf account drop) (file_for account) _ (all_filter (IsPair account drop) (is_unheld account before.maildir) _

@@ -10,14 +10,15 @@ use Rattle.pop3_wire.specs.Reading.{WholeReply, reply_bytes}
 use Rattle.pop3_wire.specs.declared.command.Command.TheVariants.{User, Pass, Stat, UidlAll, ListAll, Quit}
 use Rattle.mail_terms.specs.Listing.{Item, Joins, UidRow}
 use Rattle.rc_file.specs.{declared.settings.Settings.Settings, Settings.IsValid}
-use Rattle.mail_store.specs.{FileName.is_held, FlatFile.Stored}
+use Rattle.mail_store.specs.FileName.{is_held, is_odd}
+use Rattle.mail_store.specs.FlatFile.{Stored}
 use Rattle.fetch_session.specs.{declared.fault.Cut.Cut, declared.report.ReportLine.ReportLine, declared.report.Skips.Skips, Fault.fault_of}
 use Rattle.fetch_session.specs.Task.{Task, stores, rereads, Done, tasks_of, says, turns_in, turns_of}
 use Rattle.fetch_session.specs.Task.{IsAnswered, tasks_planned, report_lines, lines_in}
 use Rattle.fetch_session.specs.CarryingOut.{tasks_ahead, Carried, Carries, Prepared}
 use Rattle.fetch_session.specs.Scene.{Scene, scene, Does}
 use Rattle.fetch_session.specs.Session.{Keeping, Dealt, Proceeds, LeavesLink, Enters_with, SessionIn, keeps_entries, keeps_files}
-use Rattle.fetch_session.specs.Target.{Target, AsFiles, AsEntries, Stores}
+use Rattle.fetch_session.specs.Target.{Target, AsFiles, AsEntries, Stores, odd_in}
 use mathlib.Core.Logic.{⊎_map}
 use Rattle.std.proofs.lemmas.List.{append-nil, append_cancel_left}
 use Rattle.std.proofs.lemmas.List.Concat.{flat_map-append, flat_map_single}
@@ -28,6 +29,7 @@ use Rattle.fetch_runs.specs.Conversations.{is_retrieval, retrieved_by, FollowsPl
 use Rattle.fetch_runs.specs.Conversations.{SessionsAreConversations, step_commands}
 use Rattle.fetch_record.specs.Record.{Row}
 use Rattle.fetch_rules.specs.Plan.{planned, step_of}
+use Rattle.fetch_rules.specs.Wanted.{none_odd}
 use Rattle.fetch_rules.specs.declared.plans.Step.{Step}
 use Rattle.pop3_client.specs.declared.fault.ClientFault.{ClientFault}
 use Rattle.pop3_client.specs.Conversation.{Talked, Talks}
@@ -385,10 +387,10 @@ plan_same held f n (i ∷ items) = let later = plan_same held f (n + 1) items in
 
 pub turns_ahead : (settings : Settings) (target : Target) (items : List Item) (now : ℕ) (store : Stores) (rows : List Row)
     → flat_map turns_in (tasks_ahead settings target items now store rows)
-    ≡ map Some (flat_map step_commands (planned settings rows items now) ++ Quit ∷ [])
+    ≡ map Some (flat_map step_commands (planned settings (odd_in target store) rows items now) ++ Quit ∷ [])
 turns_ahead settings (AsFiles account) items now store rows =
-    plan_same (λ item. is_held account store.maildir item.uid) (step_of settings rows items now) 1 items
-turns_ahead settings AsEntries items now _ rows = plan_same (λ _. false) (step_of settings rows items now) 1 items
+    plan_same (λ item. is_held account store.maildir item.uid) (step_of settings (is_odd account store.maildir) rows items now) 1 items
+turns_ahead settings AsEntries items now _ rows = plan_same (λ _. false) (step_of settings none_odd rows items now) 1 items
 
 -- ---- how many texts were taken
 
@@ -433,9 +435,9 @@ pub record Planned (settings : Settings) (target : Target) (now : ℕ) (before :
   pub plain : AllByRecursion IsPlain (begun_of c)
   pub said : Said c enters.3 by.took
   pub open said use *
-  pub split : plan_turns (name_of settings) (word_of settings) (planned settings by.rows items now)
+  pub split : plan_turns (name_of settings) (word_of settings) (planned settings (odd_in target before.store) by.rows items now)
       ≡ (opening_of settings ++ by.took.done) ++ (by.took.begun ++ flat_map turns_in by.ahead.later)
-  pub follows : FollowsPlan settings (planned settings by.rows items now) sent
+  pub follows : FollowsPlan settings (planned settings (odd_in target before.store) by.rows items now) sent
 
 -- what a session said: with no listing, the opening alone
 abbrev pub Spoke : Settings → Target → ℕ → Keeping → Link → Link → Result (Unit {0}) Cut → List ReportLine → SessionCourse → Type 0
@@ -462,7 +464,7 @@ session_spoke laws settings valid target now link before report link' after sess
         (rw by.ahead.split at (plain_ahead settings target is.items now before.store by.rows few)) in
         let said = spoken laws valid.valid_username valid.valid_password c (is_tail_for result) refl is.enters.3
         (rw (← by.ahead.same_items) at is.enters.4) plain by.took in
-        let split : plan_turns (name_of settings) (word_of settings) (planned settings by.rows is.items now)
+        let split : plan_turns (name_of settings) (word_of settings) (planned settings (odd_in target before.store) by.rows is.items now)
         ≡ (opening_of settings ++ by.took.done) ++ (by.took.begun ++ flat_map turns_in by.ahead.later) =
         ap (λ (ts : List Turn). opening_of settings ++ ts) (sym (turns_ahead settings target is.items now before.store by.rows)
         ∙ ap (flat_map turns_in) by.ahead.split ∙ flat_map-append turns_in (begun_of c) by.ahead.later
@@ -477,7 +479,7 @@ session_spoke laws settings valid target now link before report link' after sess
           split = split;
           follows = search (
             said.whole.asked,
-            front_of_plan {steps = planned settings by.rows is.items now}
+            front_of_plan {steps = planned settings (odd_in target before.store) by.rows is.items now}
                 (flat_map turns_in by.ahead.later) split (is_tail_for result) said.whole,
           );
         }
@@ -522,7 +524,7 @@ mbox_sessions_follow_plans laws settings now link before report link' after vali
         → Spoke settings AsEntries now (keeps_entries before) link link' session.result session.notes.lines
         session_course → (sent : List ℕ) × (link'.sent ≡ link.sent ++ sent) × (steps : List Step) × FollowsPlan settings steps sent
     by Idle it = (it.sent, it.sent_is, [], follows_none laws settings valid (is_tail_for session.result) it)
-    by (Deals c) p = (p.sent, p.sent_is, planned settings p.by.rows p.items now, p.follows)
+    by (Deals c) p = (p.sent, p.sent_is, planned settings none_odd p.by.rows p.items now, p.follows)
 
 pub sessions_are_conversations : Below → SessionsAreConversations
 sessions_are_conversations laws settings account now link before report link' after valid session =

@@ -14,7 +14,8 @@ use Rattle.fetch_record.specs.Record.{Row, is_delivered, is_of, has_row, with_de
 use Rattle.fetch_record.specs.Record.{merged, none_open}
 use Rattle.fetch_rules.specs.{Wanted.wanted, declared.plans.Step.Step}
 use Rattle.fetch_rules.specs.Plan.{fetches, step_of}
-use Rattle.mail_store.specs.{Maildir.Maildir, FileName.is_held, Held.flags_of}
+use Rattle.mail_store.specs.{Maildir.Maildir, Held.flags_of}
+use Rattle.mail_store.specs.FileName.{is_held, is_odd}
 use Rattle.pop3_client.specs.Turns.{quit, IsGood}
 use Rattle.fetch_session.specs.Task.{Task, says, stores, rereads, deletes, fetching, deleting, tasks_in, tasks_planned, Done, IsAnswered}
 use Rattle.fetch_session.specs.Task.{turns_in, tasks_of, files_in, files_of, lines_in, report_lines, ids_ahead, task_in, ids_in, marked_ids}
@@ -94,14 +95,18 @@ rows_on p = merged p.rows p.items (flags_of p.account p.maildir p.items) p.now
 abbrev pub tasks_on : Inputs → List Task
 tasks_on p = tasks_ahead p.settings p.account p.items p.now p.maildir (rows_on p)
 
+-- of which ids what can't be opened bears a name
+abbrev pub odd_on : Inputs → List ℕ → Bool
+odd_on p = is_odd p.account p.maildir
+
 abbrev pub messages_on : Inputs → List (ℕ × Item)
-messages_on p = wanted p.settings (rows_on p) p.items
+messages_on p = wanted p.settings (odd_on p) (rows_on p) p.items
 
 abbrev pub IsRightOn : Inputs → Task → Type 0
 IsRightOn p task = IsRight p.account p.maildir p.items task
 
 abbrev steps_on : Inputs → ℕ × Item → Step
-steps_on p = step_of p.settings (rows_on p) p.items p.now
+steps_on p = step_of p.settings (odd_on p) (rows_on p) p.items p.now
 
 -- the tasks of a plan are those of its messages, and QUIT
 tasks_are : (p : Inputs) → tasks_on p ≡ flat_map (tasks_at (steps_on p) (is_held p.account p.maildir)) (numbered p.items) ++ says quit ∷ []
@@ -337,7 +342,7 @@ module _ (laws : Below) (p : Inputs) where
         flat_map-append,
         append-nil,
         fetched_plan,
-        laws.plans p.settings (rows_on p) p.items p.now,
+        laws.plans p.settings (odd_on p) (rows_on p) p.items p.now,
       )
 
   -- the tasks so far fetched the first of the wanted messages

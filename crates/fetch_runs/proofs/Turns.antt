@@ -18,7 +18,7 @@ use Rattle.fetch_session.specs.{Store.RefusesText, Fault.fault_of, declared.faul
 use Rattle.fetch_session.specs.CarryingOut.{tasks_ahead, Carried, Carries}
 use Rattle.fetch_session.specs.Scene.{Scene, scene, NoFile, Stops, Does}
 use Rattle.fetch_session.specs.Session.{Keeping, Noted, Dealt, Proceeds, outcome_of}
-use Rattle.fetch_session.specs.Target.{Target, AsFiles, AsEntries, Stores}
+use Rattle.fetch_session.specs.Target.{Target, AsFiles, AsEntries, Stores, odd_in}
 use mathlib.Core.Logic.{⊎_map}
 use Rattle.std.proofs.lemmas.List.{append-nil, append_cancel_left, map-append}
 use Rattle.std.proofs.{lemmas.List.Concat.flat_map-append, lemmas.Bool.true≢false, lemmas.List.Folds.flat_map-map}
@@ -362,7 +362,8 @@ small_steps f same n (item ∷ items) within =
 pub plain_ahead : (settings : Settings) (target : Target) (items : List Item) (now : ℕ) (store : Stores)
     (rows : List Row) → length items ≤ 100000 → AllByRecursion IsPlain (tasks_ahead settings target items now store rows)
 plain_ahead settings target items now store rows few =
-    all_append _ _ _ (plain_planned _ _ _ (small_steps (step_of settings rows items now) (λ q. refl) 1 items (omega (arith, few))))
+    all_append _ _ _ (plain_planned _ _ _ (small_steps (step_of settings (odd_in target store) rows items now) (λ q. refl) 1 items
+    (omega (arith, few))))
     (refl, tt)
 
 -- ---- their turns

@@ -28,8 +28,8 @@ pub record Below : Type 0 where
       → is_flagged items (flags_of account maildir items) uid ≡ (has_item items uid && is_held account maildir uid)
   -- what is wanted
   pub firsts : WantedAreFirst
-  pub plans : (settings : Settings) (rows : List Row) (listing : List Item) (now : ℕ)
-      → retrieved (planned settings rows listing now) listing ≡ wanted settings rows listing
+  pub plans : (settings : Settings) (is_odd : List ℕ → Bool) (rows : List Row) (listing : List Item) (now : ℕ)
+      → retrieved (planned settings is_odd rows listing now) listing ≡ wanted settings is_odd rows listing
   -- a record after a merge and after a mark, and its file
   pub merges : (rows : List Row) (listing : List Item) (held : List Bool) (now : ℕ) (uid : List ℕ)
       → is_delivered (merged rows listing held now) uid ≡ (is_delivered rows uid || is_flagged listing held uid)

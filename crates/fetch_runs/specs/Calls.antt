@@ -78,6 +78,7 @@ pub record IsPromised {W D F : Type 0} (link : WireGhosts W) (disk : DiskGhosts 
       → IsCrashSafe (file.disk call.after.file) mail (state_with mail (with_left mail state left) call.vanished after)
   pub in_order : (all : List Message) → AllByRecursion (λ (m : Message). is_legal_id m.uid ≡ true) all
       → (front : IsDurableFront mail state all) → ShowsNext call.settings call.maildrop front.is.done front.is.rest
+      → after.maildir.odd ≡ []
       → IsDurableFront mail (state_with mail (with_left mail state left) call.vanished after) all
 
 -- of the account's messages no other is held than such as were held or taken away
@@ -121,8 +122,7 @@ ArePromised link disk file mail state devices (Left left account ∷ later) = Sh
     → let next : State = record state { account = account } in IsCrashSafe (file.disk left.file) mail next
     × KeepsFronts mail state next × ArePromised link disk file mail next left later)
 
--- the law: so it is of any list of calls, of what others leave, and of losses of power, from a state with
--- the invariant on
+-- the law: so it is of any list of calls, of what others leave and of losses of power, from a state with the invariant
 abbrev pub CallsKeepPromises : {W D F : Type 0} → WireGhosts W → DiskGhosts D → FileGhosts F → Type 0
 CallsKeepPromises {W} {D} {F} link disk file = (mail : Mail) (state : State) (devices : Devices D F)
     (list : List (Happening (Call W D F) (Devices D F) AccountMail)) → Shows disk file devices state.account

@@ -11,7 +11,7 @@ use Rattle.pop3_wire.specs.Reading.{WholeReply, reply_bytes}
 use Rattle.pop3_client.specs.Turns.{Turn, asking, greeting, retr, IsGood}
 use Rattle.mail_terms.specs.Listing.{Item}
 use Rattle.fetch_record.specs.Record.{Row, merged}
-use Rattle.mail_store.specs.Held.{flags_of}
+use Rattle.mail_store.specs.{FileName.is_odd, Held.flags_of}
 use Rattle.fetch_session.specs.{Record.KeepsRows, declared.fault.Fault.TheVariants.StoreRefused}
 use Rattle.fetch_rules.specs.Plan.{fetches, planned}
 use Rattle.rc_file.specs.{Settings.IsValid, declared.settings.Settings.Settings}
@@ -114,12 +114,13 @@ pub record SpeaksByPlan (settings : Settings) (account : List ℕ) (now : ℕ) (
   pub items : List Item
   pub rows : List Row
   pub said : Converses
-      (plan_turns (string_bytes settings.username) (string_bytes settings.password) (planned settings rows items now))
+      (plan_turns (string_bytes settings.username) (string_bytes settings.password)
+      (planned settings (is_odd account before.maildir) rows items now))
       (tail_behind report.outcome) sent got
   pub found : ((was : List Row) × KeepsRows before.file.content was
       × (rows ≡ merged was items (flags_of account before.maildir items) now))
       ⊎ ((said.done ≡ opening (string_bytes settings.username) (string_bytes settings.password)) × (said.begun ≡ []))
-  pub follows : FollowsPlan settings (planned settings rows items now) sent
+  pub follows : FollowsPlan settings (planned settings (is_odd account before.maildir) rows items now) sent
   pub listed : (hello user pass stat uidl list : WholeReply) × (more : List WholeReply)
       × (said.replies ≡ hello ∷ user ∷ pass ∷ stat ∷ uidl ∷ list ∷ more) × IsListed stat uidl list items
   pub counts : CountsTexts report.outcome said.done said.begun report.retrieved

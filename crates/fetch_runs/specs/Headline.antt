@@ -87,10 +87,10 @@ TakenStaysAway {W} {D} {F} link disk file = (mail : Mail) (state : State) (devic
     → (is_delivered is.after.rows id ≡ true) × (is_held mail.account is.after.maildir id ≡ false)
 
 -- the devices show a state that holds a prefix. If messages that are neither held nor were taken away are withdrawn,
--- and the next call shows a beginning of all mail but for some that are held or were taken away, it keeps its
--- promises, and a prefix is held after it; and so on. So it is of what others leave, if they put only messages back
--- that were held or taken away, and after a loss of power, if it can do no harm and all that is held is durable, but
--- perhaps the last
+-- and the next call shows a beginning of all mail but for some that are held or were taken away and meets no odd name,
+-- it keeps its promises, and a prefix is held after it; and so on. So it is of what others leave, if they put only
+-- messages back that were held or taken away, and after a loss of power, if it can do no harm and all that is held is
+-- durable, but perhaps the last
 abbrev pub HoldPrefixes : {W D F : Type 0} → WireGhosts W → DiskGhosts D → FileGhosts F → World Mail → State
     → Devices D F → List (Happening (Call W D F) (Devices D F) AccountMail) → Type 0
 HoldPrefixes link disk file world state devices [] = Shows disk file devices state.account × HoldsAPrefix world state
@@ -101,11 +101,10 @@ HoldPrefixes link disk file world state devices (Called call ∷ later) = Shows 
     IsInOrder next.max_size next.all (IsSafe world.start state) call.settings call.maildrop
     → digits_of call.settings ≡ world.start.account
     → IsCall link disk file InMaildir disk.sound world.start.text devices call
-    → (is : IsPromised link disk file world.start state devices call)
-    × (IsDurableFront world.start state (selected_of world) → IsDurableFront world.start
-    (state_with world.start (with_left world.start state is.left) call.vanished is.after) (selected_of next))
-    × HoldPrefixes link disk file next
-    (state_with world.start (with_left world.start state is.left) call.vanished is.after) call.after later)
+    → (disk.maildir call.after.store).odd ≡ [] → (is : IsPromised link disk file world.start state devices call)
+    × let new = state_with world.start (with_left world.start state is.left) call.vanished is.after in
+    (IsDurableFront world.start state (selected_of world) → IsDurableFront world.start new (selected_of next))
+    × HoldPrefixes link disk file next new call.after later)
 HoldPrefixes link disk file world state devices (Left left account ∷ later) = Shows disk file devices state.account
     × HoldsAPrefix world state × (Shows disk file left account → IsBetween world.start state.account account
     → HoldsNoMore world.start state account

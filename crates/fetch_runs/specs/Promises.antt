@@ -2,14 +2,14 @@
 -- show any messages, in any order, and each call may have other limits: what stays is that a unique-id names one text.
 use Rattle.std.specs.Prelude.{◌≡◌, ◌⊎◌, ◌<◌, ◌-◌, ◌&&◌, ◌||◌, ℕ, Bool, true, false, not, List, [], ◌∷◌, ◌++◌, map}
 use Rattle.std.specs.Prelude.{length, Some, slice_get, None, is_none}
-use Rattle.std.specs.List.{AllByRecursion, count_by, filter}
+use Rattle.std.specs.List.{AllByRecursion, count_by, filter, list_any}
 use Rattle.pop3_wire.specs.{World.Message, declared.command.Command.Command, declared.command.Command.TheVariants.Dele}
 use Rattle.mail_terms.specs.{Distinct.AreDistinct, Text.IsWhole}
 use Rattle.mail_terms.specs.UniqueId.{is_legal_id, has_id}
 use Rattle.rc_file.specs.declared.settings.Settings.{Settings}
 use Rattle.fetch_record.specs.Record.{is_delivered}
 use Rattle.fetch_rules.specs.Wanted.{at_most, is_within, own_skip}
-use Rattle.mail_store.specs.FileName.{is_held, name_of, stem_of}
+use Rattle.mail_store.specs.FileName.{is_held, name_of, names_id, stem_of}
 use Rattle.mail_store.specs.{Maildir.file, Mboxrd.entry_of, Settling.MayBeLeft}
 use Rattle.fetch_session.specs.{declared.report.Outcome.TheVariants.Ended, declared.report.Report.Report}
 use Rattle.fetch_runs.specs.Accounts.{AccountMail, copies, has_named, message_ids, without_flags}
@@ -88,11 +88,11 @@ DeletesOneOf maildrop Is (Dele number) = (0 < number) × (message : Message)
     × (slice_get maildrop (number - 1) ≡ Some message) × Is message.uid
 DeletesOneOf maildrop Is _ = Unit {0}
 
--- an uncut session that knows the messages of such ids retrieved what it wants of the maildrop: as many as its limit
--- says of those that it has no reason to skip. These are of this kind, and so are those that it knows
-abbrev pub FetchesWanted : {W S F : Type 0} → Call W S F → (List ℕ → Bool) → (Message → Type 0) → Type 0
-FetchesWanted call is_known Is = call.report.outcome ≡ Ended → let wanted = at_most call.settings.max_count
-    (filter (λ (m : Message). is_none (own_skip call.settings is_known m.uid m.size)) call.maildrop)
+-- an uncut session that met such odd names and knows messages of such ids retrieved what it wants of the maildrop: as
+-- many as its limit says of those that it has no reason to skip. These are of this kind, and so are those that it knows
+abbrev pub FetchesWanted : {W S F : Type 0} → Call W S F → (odd known : List ℕ → Bool) → (Message → Type 0) → Type 0
+FetchesWanted call is_odd is_known Is = call.report.outcome ≡ Ended → let wanted = at_most call.settings.max_count
+    (filter (λ (m : Message). is_none (own_skip call.settings (is_odd m.uid) is_known m.uid m.size)) call.maildrop)
     in (call.report.retrieved ≡ length wanted)
     × AllByRecursion Is (filter (λ (m : Message). is_known m.uid) call.maildrop ++ wanted)
 
@@ -119,8 +119,9 @@ pub record IsNew {W S F : Type 0} (mail : Mail) (before : AccountMail) (call : C
 -- file is lost, only files of new messages come, and what is recorded stays so
 pub record Promises {W S F : Type 0} (mail : Mail) (state : State) (call : Call W S F) (sent : List ℕ)
     (after : AccountMail) : Type 0 where
-  pub wanted : FetchesWanted call (λ id. is_delivered state.account.rows id || is_held mail.account
-      state.account.maildir id) (λ m. IsSafe mail (state_with mail state call.vanished after) m.uid)
+  pub wanted : FetchesWanted call (λ id. list_any (names_id mail.account id) after.maildir.odd)
+      (λ id. is_delivered state.account.rows id || is_held mail.account state.account.maildir id)
+      (λ m. IsSafe mail (state_with mail state call.vanished after) m.uid)
   pub deletes : SendsOnly (DeletesOneOf call.maildrop (IsSafe mail (state_with mail state call.vanished after))) sent
   pub retrieved : call.report.outcome ≡ Ended → call.report.retrieved ≡ count_by is_retr deletes.commands
   pub came : List Message
@@ -130,7 +131,7 @@ pub record Promises {W S F : Type 0} (mail : Mail) (state : State) (call : Call 
   pub recorded : (id : List ℕ) → is_delivered state.account.rows id ≡ true → is_delivered after.rows id ≡ true
   pub in_order : (all : List Message) → AllByRecursion (λ (m : Message). is_legal_id m.uid ≡ true) all
       → (front : IsFront mail state all) → ShowsNext call.settings call.maildrop front.done front.rest
-      → (later : IsFront mail (state_with mail state call.vanished after) all)
+      → after.maildir.odd ≡ [] → (later : IsFront mail (state_with mail state call.vanished after) all)
       × (later.done ≡ front.done ++ filter (λ (m : Message). not (has_id (message_ids front.done) m.uid)) came)
 
 -- each message is held once; what is recorded, or is gone from the server, is held or was taken away
@@ -199,7 +200,8 @@ pub record MboxPromises {W S F : Type 0} (base : Base) (before done : List Messa
   pub found : List Message
   pub fetched : call.report.outcome ≡ Ended → (texts : List Message) × (done ≡ (before ++ found) ++ texts)
       × (length texts ≡ call.report.retrieved)
-  pub wanted : FetchesWanted call (is_entered base (before ++ found)) (λ m. is_entered base done m.uid ≡ true)
+  pub wanted : FetchesWanted call (λ id. false) (is_entered base (before ++ found))
+      (λ m. is_entered base done m.uid ≡ true)
   pub deletes : SendsOnly (DeletesOneOf call.maildrop (λ id. is_entered base done id ≡ true)) sent
   pub retrieved : call.report.outcome ≡ Ended → call.report.retrieved ≡ count_by is_retr deletes.commands
   pub vanished : AllByRecursion (λ id. is_entered base done id ≡ true) call.vanished

@@ -15,9 +15,9 @@ use Rattle.mail_terms.specs.Listing.{Item, Joins, UidRow, is_first, is_last}
 use Rattle.mail_terms.specs.{UniqueId.has_id, declared.listing.ScanRow.ScanRow}
 use Rattle.rc_file.specs.declared.settings.Settings.{Settings}
 use Rattle.fetch_record.specs.Record.{Row, is_delivered, marked_all, merged, Intent}
-use Rattle.fetch_rules.specs.Wanted.{wanted}
+use Rattle.fetch_rules.specs.Wanted.{none_odd, wanted}
 use Rattle.mail_store.specs.Maildir.{Maildir, File}
-use Rattle.mail_store.specs.FileName.{is_held, mail_file}
+use Rattle.mail_store.specs.FileName.{is_held, is_odd, mail_file}
 use Rattle.mail_store.specs.{Held.flags_of, Mboxrd.entry_of}
 use Rattle.fetch_session.specs.declared.fault.Fault.TheVariants.{StoreRefused, SeenRefused, NoMemory}
 use Rattle.fetch_session.specs.{declared.fault.Why.TheVariants.Refused, declared.report.Outcome.Outcome}
@@ -106,7 +106,8 @@ merged_rows account before effect = merged before.rows effect.listing
 
 -- the messages that are fetched, with their numbers
 abbrev pub wanted_at : Settings → List ℕ → AccountMail → Effect → List (ℕ × Item)
-wanted_at settings account before effect = wanted settings (merged_rows account before effect) effect.listing
+wanted_at settings account before effect =
+    wanted settings (is_odd account before.maildir) (merged_rows account before effect) effect.listing
 
 -- the ids of numbered messages
 abbrev pub ids_wanted : List (ℕ × Item) → List (List ℕ)
@@ -275,7 +276,7 @@ mbox_rows before effect = merged (settled effect.listing before).rows effect.lis
     (none_held effect.listing) effect.now
 
 abbrev pub mbox_wanted : Settings → MboxMail → Effect → List (ℕ × Item)
-mbox_wanted settings before effect = wanted settings (mbox_rows before effect) effect.listing
+mbox_wanted settings before effect = wanted settings none_odd (mbox_rows before effect) effect.listing
 
 -- the entries of these texts
 abbrev pub entries : List (List ℕ) → List ℕ

@@ -20,8 +20,8 @@ use Rattle.mail_store.specs.declared.file.flat_file.FlatFile.{Ghosts as FileGhos
 use Rattle.fetch_session.specs.declared.account.Store.TheVariants.{Maildir as InMaildir, Mboxrd as InMbox}
 use Rattle.fetch_session.specs.Target.{held_flags, stores_of, target_of, Stores, in_maildir, kind_of, with_maildir}
 use Rattle.fetch_session.specs.Target.{AfterTakingIn, AsFiles, Target, AsEntries, closed_file, closed_rows_in, Kind}
-use Rattle.fetch_session.specs.Target.{Files, Entries, in_mbox, mbox_of}
-use Rattle.mail_store.specs.Held.{flags_asked, flags_of, flags_sought}
+use Rattle.fetch_session.specs.Target.{Files, Entries, in_mbox, mbox_of, odd_in}
+use Rattle.mail_store.specs.Held.{AreById, flags_asked, flags_of, flags_sought}
 use Rattle.fetch_rules.specs.Laws.{FetchesAsked, FetchesFirsts}
 use Rattle.mail_terms.proofs.ListLemmas.{all_append}
 use Rattle.fetch_session.proofs.SceneLemmas.{all_weaker, read_keeps, steady_keeps, not_whole}
@@ -35,6 +35,7 @@ use Rattle.fetch_session.specs.Readiness.{merged_in, AreAsHeld, ChecksStore, Has
 use Rattle.fetch_session.specs.Readiness.{Readies, ChecksIdle}
 use Rattle.fetch_session.specs.Record.{FileReadAs, IsSecured, ReadsRecord, Keeps, Merges, Steady, record_state_in}
 use Rattle.fetch_rules.specs.Plan.{IsQuiet, fetches, planned, step_of}
+use Rattle.fetch_rules.specs.Wanted.{none_odd}
 use Rattle.mail_store.specs.FlatFile.{Stored, holding}
 use Rattle.fetch_record.specs.{RecordFile.file_of, Intents.closed_rows}
 use Rattle.rc_file.specs.declared.settings.Settings.{Settings}
@@ -331,15 +332,16 @@ found_is : (read_all : Bool) (target : Target) (store store' : Stores) (items : 
     (found : Found) → MergesAsk → IsRecord was.rows → FindsIn read_all target was store items (Ok found) store'
     → (merged (closed_rows found.stored was.rows was.intent) items found.held.items now ≡ merged_in target store was items now)
     × (found.held.items ≡ flags_found read_all target was.rows store items) × SettlesStore target was items store store'
-    × AreDurable target was.rows items store
-found_is read_all (AsFiles account) store store' items now was found law is_record (held, stored, same, durable) = (
+    × AreDurable target was.rows items store × (found.odd.items ≡ map (λ (item : Item). odd_in target store item.uid) items)
+found_is read_all (AsFiles account) store store' items now was found law is_record (held, stored, same, durable, odd) = (
   rw (stored, not_whole was.rows was.intent, held) (merged_found read_all account store.maildir was.rows items now law is_record),
   held,
   same,
   durable,
+  odd,
 )
-found_is read_all AsEntries store store' items now was found law is_record (bytes, is, stored, settled, goes_on, held) =
-    (rw (stored, is, held) refl, held, (bytes, is, settled, goes_on), tt)
+found_is read_all AsEntries store store' items now was found law is_record (bytes, is, stored, settled, goes_on, held, odd) =
+    (rw (stored, is, held) refl, held, (bytes, is, settled, goes_on), tt, odd)
 
 -- ---- nothing was planned
 
@@ -410,6 +412,7 @@ module _ {D F : Type 0} (disk : DiskGhosts D) (files : FileGhosts F) (was place 
       × (found.held.items ≡ flags_found settings.read_all (target_of was account) loaded.rows store items)
       × SettlesStore (target_of was account) state items store (stores_of disk files place)
       × AreDurable (target_of was account) loaded.rows items store
+      × (found.odd.items ≡ map (λ (item : Item). odd_in (target_of was account) store item.uid) items)
   is = found_is settings.read_all (target_of was account) store (stores_of disk files place) items now state found law is_record finds
 
   as_now : here ≡ merged_in (target_of was account) store state items now
@@ -484,7 +487,8 @@ module _ {D F : Type 0} (disk : DiskGhosts D) (files : FileGhosts F) (was place 
 
   pub ready : {safe : Type 0} (plan : Ready) {after : List Row} → HeldIsDelivered → MarkedIsDelivered
       → FetchesAsked settings after plan.steps.items items → Merges (files.stored from) state (none_open here) (Ok tt) (files.stored f)
-      → after ≡ here → plan.held.items ≡ found.held.items → plan.steps.items ≡ planned settings after items now
+      → after ≡ here → plan.held.items ≡ found.held.items → ((is_odd : List ℕ → Bool)
+      → found.odd.items ≡ map (λ (item : Item). is_odd item.uid) items → plan.steps.items ≡ planned settings is_odd after items now)
       → (safe → IsSafeFile files f × IsSafeStore files place)
       → ReadiesDurably disk files safe was from settings (target_of was account) items now store (Ok plan) after place f
   ready plan {after} delivers marks asked merges rows_are flags_are steps_are firm = record {
@@ -495,7 +499,7 @@ module _ {D F : Type 0} (disk : DiskGhosts D) (files : FileGhosts F) (was place 
           ∙ found_as_held (target_of was account) store settings loaded.rows after plan.steps.items items
           (not_before delivers marks found.stored loaded.rows loaded.intent items found.held.items now after rows_are) asked;
       rows = rows_are ∙ as_now;
-      steps = steps_are;
+      steps = steps_are _ is.4;
       durable = inr is.3;
       saved = rw rows_are merges.1;
       file_count = merges.0;
@@ -516,9 +520,14 @@ all_have_rows law rows items held now after is = recursion_from_All (λ (item : 
 
 -- ---- what is ready if the store needn't be asked what it holds
 
-pub planned_length : (settings : Settings) (rows : List Row) (items : List Item) (now : ℕ)
-    → length (planned settings rows items now) ≡ length items
-planned_length settings rows items now = length-map (numbered _) (step_of settings rows items now) ∙ length-enumerate_from 1 _
+pub planned_length : (settings : Settings) (is_odd : List ℕ → Bool) (rows : List Row) (items : List Item) (now : ℕ)
+    → length (planned settings is_odd rows items now) ≡ length items
+planned_length settings is_odd rows items now =
+    length-map (numbered _) (step_of settings is_odd rows items now) ∙ length-enumerate_from 1 _
+
+-- flags that go by ids are as many as the messages
+pub by_ids_length : (items : List Item) (flags : List Bool) → AreById items flags → length flags ≡ length items
+by_ids_length items flags (test, are) = ap length are ∙ length-map items (λ (item : Item). test item.uid)
 
 -- steps that fetch nothing ask for the same, whatever is held
 pub quiet_same : (steps : List Step) (items : List Item) (xs ys : List Bool) → All IsQuiet steps
@@ -594,7 +603,7 @@ module _ {D F : Type 0} (disk : DiskGhosts D) (files : FileGhosts F) (account : 
         stood = read_keeps _ _ stood;
         held = quiet_same _ _ _ _ (rw are idle.quiet) counted (flags_length _ _ _);
         rows = sym merged_same;
-        steps = cc;
+        steps = are ∙ idle.planned _;
         durable = inl (rw are idle.quiet, kept);
         saved = saved;
         file_count = count;
@@ -674,8 +683,9 @@ pub rest_has_plan : (settings : Settings) (items : List Item) (now : ℕ) (seen 
     → IfOk r (λ ready. ready.steps.items ≡ steps) → IfOk r (λ ready. length ready.held.items ≡ length items)
     → IfOk r (λ ready. HasPlan settings items now ready seen)
 rest_has_plan settings items now seen (Ok ready) steps law idle same held = record {
-  steps = cc;
-  lengths = (cc (planned_length settings seen.rows items now), held);
+  is_odd = none_odd;
+  steps = same ∙ idle.planned none_odd;
+  lengths = (ap length (same ∙ idle.planned none_odd) ∙ planned_length settings none_odd seen.rows items now, held);
   rows = recursion_from_All _ items (λ k d inside. law seen.rows _ (idle.known k d inside));
   closed = idle.closed;
 }

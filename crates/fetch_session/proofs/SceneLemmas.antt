@@ -246,6 +246,7 @@ pub gained_none : (m : Maildir) → Gained m m []
 gained_none m = record {
   came = sym (append-nil m.files);
   taken = refl;
+  odd = refl;
   there = refl;
   none_begun =
       λ none_begun. none_begun;
@@ -281,6 +282,7 @@ brings_on (AsFiles _) _ _ a b c first second =
     simp flat_map-append (record {
       came = simp (second.came, first.came, append_assoc);
       taken = cc;
+      odd = cc;
       there = cc;
       none_begun = λ none_begun. second.none_begun (first.none_begun none_begun);
       failures = omega (arith, first.failures, second.failures);

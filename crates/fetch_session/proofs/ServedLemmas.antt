@@ -41,7 +41,7 @@ use Rattle.fetch_session.specs.Served.{refused_in, HasText, Succeeds, IsStored, 
 use Rattle.fetch_session.specs.Scene.{Scene, Stops}
 use Rattle.fetch_session.specs.Session.{Dealt, Keeping, LeavesLink, Noted, Proceeds, SessionIn, outcome_of}
 use Rattle.fetch_session.specs.Tail.{tail, turns_of_tail as tail_turns}
-use Rattle.fetch_session.specs.Target.{Target, AsFiles, AsEntries, Stores, closed_file, held_flags}
+use Rattle.fetch_session.specs.Target.{Target, AsFiles, AsEntries, Stores, closed_file, held_flags, odd_in}
 use Rattle.fetch_session.specs.Task.{Done, IsAnswered, Task, deleting, fetching, file_from, files_in, files_of}
 use Rattle.fetch_session.specs.Task.{replies_of, stores, tasks_in, tasks_of, tasks_planned, texts_in, done_texts}
 use Rattle.fetch_session.specs.Task.{turns_in, turns_of}
@@ -510,15 +510,16 @@ module _ (settings : Settings) (target : Target) (items : List Item) (now : ℕ)
   each_by : (is_there : Item → Bool) → ((item : Item) → held_flags target store (item ∷ []) ≡ is_there item ∷ [])
       → held_flags target store items ≡ map is_there items
       → AllByRecursion (Did (Contains said) (HasText target new)) (tasks_ahead settings target items now store rows)
-      → AllByRecursion (IsStored target store said new) (retrieved (planned settings rows items now) items)
+      → AllByRecursion (IsStored target store said new) (retrieved (planned settings (odd_in target store) rows items now) items)
   each_by is_there one all did =
-      each_fetched _ _ (IsStored target store said new) (step_of settings rows items now) (λ _. refl) (stored_by _ one) 1 items
+      each_fetched _ _ (IsStored target store said new) (step_of settings (odd_in target store) rows items now) (λ _. refl)
+      (stored_by _ one) 1 items
       (all_front _ _ _ (rw all at did))
 
 each_stored : (settings : Settings) (target : Target) (items : List Item) (now : ℕ) (store : Stores) (rows : List Row)
     (said : List (Turn × WholeReply)) (new : Stores)
     → AllByRecursion (Did (Contains said) (HasText target new)) (tasks_ahead settings target items now store rows)
-    → AllByRecursion (IsStored target store said new) (retrieved (planned settings rows items now) items)
+    → AllByRecursion (IsStored target store said new) (retrieved (planned settings (odd_in target store) rows items now) items)
 each_stored settings (AsFiles account) items now store rows said new did =
     each_by settings (AsFiles account) items now store rows said new (λ item. is_held account store.maildir item.uid)
     (λ item. refl) refl did
@@ -540,8 +541,8 @@ all_brought AsEntries was items old mid new dones (bytes, there_is, same, may) b
     × Contains texts text) dones each (λ p there. there)
     (λ text there. (closed_file was.intent items bytes, done_texts dones, brings.content ∙ rw same refl, there))
 
-module _ (fetch_wanted : (settings : Settings) (rows : List Row) (listing : List Item) (now : ℕ)
-    → retrieved (planned settings rows listing now) listing ≡ wanted settings rows listing) where
+module _ (fetch_wanted : (settings : Settings) (is_odd : List ℕ → Bool) (rows : List Row) (listing : List Item) (now : ℕ)
+    → retrieved (planned settings is_odd rows listing now) listing ≡ wanted settings is_odd rows listing) where
   ended_stores : (settings : Settings) (target : Target) (now : ℕ) (link : Link) (before : Keeping) (mid : Place)
       (link' : Link) (after : Keeping) (notes : Noted) (ended : Unit {0})
       → Dealt settings target now (at link []) before (Ok ended) mid after notes
@@ -562,8 +563,9 @@ module _ (fetch_wanted : (settings : Settings) (rows : List Row) (listing : List
         last = last;
         talked = rw carried.prepared.place_is at all.went.talked;
         each = subst (λ (rs : List Row). AllByRecursion (IsStored target before.store said after.store)
-            (wanted settings rs dealt.items)) carried.prepared.rows
-            (subst (AllByRecursion (IsStored target before.store said after.store)) (fetch_wanted settings carried.mid.rows dealt.items now)
+            (wanted settings (odd_in target before.store) rs dealt.items)) carried.prepared.rows
+            (subst (AllByRecursion (IsStored target before.store said after.store))
+            (fetch_wanted settings (odd_in target before.store) carried.mid.rows dealt.items now)
             (each_stored settings target dealt.items now before.store carried.mid.rows said after.store
             (subst (AllByRecursion (Did (Contains said) (HasText target after.store))) (sym all.all)
             (all_brought target carried.prepared.was dealt.items before.store carried.mid.store after.store all.dones
@@ -571,8 +573,8 @@ module _ (fetch_wanted : (settings : Settings) (rows : List Row) (listing : List
       }
 
 pub store_all : CutsHaveCauses → ConversationsArePaced → OneMeaning
-    → ((settings : Settings) (rows : List Row) (listing : List Item) (now : ℕ)
-    → retrieved (planned settings rows listing now) listing ≡ wanted settings rows listing) → GoodSessionsStoreAll
+    → ((settings : Settings) (is_odd : List ℕ → Bool) (rows : List Row) (listing : List Item) (now : ℕ)
+    → retrieved (planned settings is_odd rows listing now) listing ≡ wanted settings is_odd rows listing) → GoodSessionsStoreAll
 store_all causes paced one fetch_wanted settings target now link before report link' after done = (
   λ served. by_outcome served report.outcome refl,
   λ ended. by_result ended done.result done.proceeds done.leaves done.reports.outcome_is,

@@ -1,7 +1,7 @@
 -- How the parts of a session make the whole, also of one that changes nothing, and what of it is durable.
 use Rattle.std.proofs.Common.{◌≡◌, ◌≢◌, ◌⊎◌, ℕ, List, [], ◌∷◌, ◌++◌, Option, None, Some, Result, Ok, Err, refl, sym, ap}
 use Rattle.std.proofs.Common.{subst, ◌∙◌, inl, inr, append_assoc, length, ⊎_elim, Bool, false, append-nil, All, take}
-use Rattle.std.proofs.Common.{option_map}
+use Rattle.std.proofs.Common.{map, option_map}
 use Rattle.std.proofs.{lemmas.List.append-nil, lemmas.Grind.flat_map-append, lemmas.List.Elements.recursion_from_All}
 use Rattle.std.proofs.lemmas.Option.{none-some, same_Some}
 use Rattle.std.specs.List.{flat_map, AllByRecursion}
@@ -31,7 +31,7 @@ use Rattle.fetch_session.specs.Durable.{may_leave_in}
 use Rattle.fetch_session.specs.Target.{Target, AsFiles, AsEntries, Stores, kind_of, stores_of, target_of, AfterTakingIn}
 use Rattle.fetch_session.specs.Target.{IsSoundMaildir, IsSoundMbox, in_maildir, in_mbox, is_sound, no_maildir}
 use Rattle.fetch_session.specs.Target.{with_maildir, maildir_of, mbox_of, held_flags, closed_file, none_held}
-use Rattle.fetch_session.specs.Target.{closed_rows_in}
+use Rattle.fetch_session.specs.Target.{closed_rows_in, odd_in}
 use Rattle.fetch_session.specs.Task.{Task, Done, ids_in, marked_ids, done_texts, ids_ahead, says, tasks_planned}
 use Rattle.fetch_session.proofs.SceneLemmas.{is_there, not_whole, till_front, read_keeps, all_on, fell_before, fell_on, marked_on}
 use Rattle.pop3_wire.specs.Link.{Link}
@@ -440,7 +440,7 @@ files_session disk file store (InMbox device') digits Did A B C kind met never =
 
 -- no file is taken from an mboxrd file
 none_left : (left : Maildir) → WereTaken no_maildir left → left ≡ no_maildir
-none_left left taken = let none = is_none taken.gone left.files taken.files in taken.is ∙ rw (none.0, none.1) refl
+none_left left taken = let none = is_none taken.gone left.files taken.files in taken.is ∙ rw (none.0, none.1, taken.odd refl) refl
   where
     is_none : (gone files : List File) → IsWithout [] gone files → (gone ≡ []) × (files ≡ [])
     is_none [] [] _ = (refl, refl)
@@ -522,7 +522,8 @@ carried {D} {F} disk files {safe} {settings} {target} {items} {now} {place} {sto
     )
   where
     quiet_or : (All IsQuiet ready.steps.items × IsFileKept after file file') ⊎ AreDurable target is.was.rows items store
-        → (All IsQuiet (planned settings after items now) × IsFileKept after file file') ⊎ AreDurable target is.was.rows items store
+        → (All IsQuiet (planned settings (odd_in target store) after items now) × IsFileKept after file file')
+        ⊎ AreDurable target is.was.rows items store
     quiet_or (inl (quiet, kept)) = inl (subst (λ (ss : List Step). All IsQuiet ss) is.steps quiet, kept)
     quiet_or (inr durable) = inr durable
 
@@ -547,20 +548,22 @@ carried {D} {F} disk files {safe} {settings} {target} {items} {now} {place} {sto
 
 -- ---- what a preview says
 
-pub previews_are : (settings : Settings) (rows rows' : List Row) (items : List Item) (held : List Bool) (now : ℕ) (steps : List Step)
-    → rows' ≡ merged rows items held now → steps ≡ planned settings rows' items now
-    → message_previews settings rows' now steps items held ≡ previews_of settings (merged rows items held now) items held now
-previews_are settings rows rows' items held now steps rows_are steps_are =
+pub previews_are : (settings : Settings) (is_odd : List ℕ → Bool) (rows rows' : List Row) (items : List Item)
+    (held : List Bool) (now : ℕ) (steps : List Step)
+    → rows' ≡ merged rows items held now → steps ≡ planned settings is_odd rows' items now
+    → message_previews settings rows' now steps items held ≡ previews_of settings is_odd (merged rows items held now) items held now
+previews_are settings is_odd rows rows' items held now steps rows_are steps_are =
     ap (λ (ss : List Step). message_previews settings rows' now ss items held) steps_are
-    ∙ ap (λ (r : List Row). previews_of settings r items held now) rows_are
+    ∙ ap (λ (r : List Row). previews_of settings is_odd r items held now) rows_are
 
 -- ---- an mboxrd file that was only looked at
 
 pub judged_good : (intent : Option Intent) (old : Stored) (items : List Item) (found : Found) (new : Stored)
-    → JudgesMbox intent items old (Ok found.stored) new → found.held.items ≡ none_held items → LooksAtMbox intent old items (Ok found) new
-judged_good intent old items _ _ (is, same) held = record {
+    → JudgesMbox intent items old (Ok found.stored) new → found.held.items ≡ none_held items → found.odd.items ≡ none_held items
+    → LooksAtMbox intent old items (Ok found) new
+judged_good intent old items _ _ (is, same) held odd = record {
   left = holding old (closed_file intent items is.0);
-  asks = (is.0, is.1, is.2, refl, is.3, held);
+  asks = (is.0, is.1, is.2, refl, is.3, held, odd);
   same = cc;
   count = cc;
 }
@@ -615,17 +618,24 @@ found_in : (target : Target) (store store' : Stores) (items : List Item) (was : 
     → (closed_rows found.stored was.rows was.intent ≡ closed_rows_in target store was items)
     × (found.held.items ≡ held_flags target store items)
     × ((left : Stores) × SettlesStore target was items store left) × HoldsTheSame target store store'
-found_in (AsFiles account) store store' items was found is =
-    (rw is.1 (not_whole was.rows was.intent), is.0, (store, refl), ap (λ (s : Stores). counted_as store.maildir.failures s.maildir) is.2)
+    × (found.odd.items ≡ map (λ (item : Item). odd_in target store item.uid) items)
+found_in (AsFiles account) store store' items was found is = (
+  rw is.1 (not_whole was.rows was.intent),
+  is.0,
+  (store, refl),
+  ap (λ (s : Stores). counted_as store.maildir.failures s.maildir) is.2,
+  is.3,
+)
 found_in AsEntries store store' items was found looks =
     let asks = looks.asks in
-    (rw (asks.2, asks.1), asks.5, (record store { mbox = looks.left }, (asks.0, asks.1, asks.3, asks.4)), looks.same)
+    (rw (asks.2, asks.1), asks.5, (record store { mbox = looks.left }, (asks.0, asks.1, asks.3, asks.4)), looks.same, asks.6)
 
 pub work_preview : (settings : Settings) (target : Target) (items : List Item) (now : ℕ) (store : Stores)
     (file read : Stored) (loaded : Loaded) (store' : Stores) (found : Found) (told : List MessagePreview)
     → FileReadAs file.content loaded → read ≡ file → LooksIn target loaded.intent store items (Ok found) store'
-    → told ≡ previews_of settings (merged (closed_rows found.stored loaded.rows loaded.intent) items found.held.items
-    now) items found.held.items now
+    → ((is_odd : List ℕ → Bool) → found.odd.items ≡ map (λ (item : Item). is_odd item.uid) items
+    → told ≡ previews_of settings is_odd (merged (closed_rows found.stored loaded.rows loaded.intent) items found.held.items
+    now) items found.held.items now)
     → PreviewsMerged settings target items now (keeping store file) told × ChangesNothing target (keeping store file) (keeping store' read)
 work_preview settings target items now store file _ loaded store' found _ stood same looks is =
     let there = found_in target store store' items (record_state_in loaded) found looks in (
@@ -634,7 +644,7 @@ work_preview settings target items now store file _ loaded store' found _ stood 
         stood = read_keeps _ _ stood;
         left = there.2.0;
         settles = there.2.1;
-        told_is = cc;
+        told_is = let by = is (odd_in target store) there.4 in cc;
       },
       (there.3, cc),
     )

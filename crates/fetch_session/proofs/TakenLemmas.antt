@@ -18,25 +18,25 @@ use Rattle.fetch_session.specs.Session.{Dealt, Keeping, Noted, Proceeds, keeps_f
 use Rattle.fetch_session.specs.Store.{Gained, RefusesText}
 use Rattle.fetch_session.specs.Target.{AsFiles, Stores}
 
--- some files came after the others, and none was taken
+-- some files came after the others, none was taken, and the same names are odd
 abbrev Grew : Maildir → Maildir → Type 0
-Grew old new = (came : List File) × (new.files ≡ old.files ++ came) × (new.taken ≡ old.taken)
+Grew old new = (came : List File) × (new.files ≡ old.files ++ came) × (new.taken ≡ old.taken) × (new.odd ≡ old.odd)
 
 grew_none : (old new : Maildir) → new ≡ old → Grew old new
-grew_none old _ same = rw same ([], sym (append-nil old.files), refl)
+grew_none old _ same = rw same ([], sym (append-nil old.files), refl, refl)
 
 grew : (old new : Maildir) (files : List File) → Gained old new files → Grew old new
-grew _ _ files is = (files, is.came, is.taken)
+grew _ _ files is = (files, is.came, is.taken, is.odd)
 
 grew_on : (a b c : Maildir) → Grew a b → Grew b c → Grew a c
-grew_on a b c (xs, came, taken) (ys, come, took) = (xs ++ ys, cc (append_assoc a.files xs ys), cc)
+grew_on a b c (xs, came, taken, odd) (ys, come, took, still) = (xs ++ ys, cc (append_assoc a.files xs ys), cc, cc)
 
 refused_grew : (old : Maildir) (stem text : List ℕ) (rest : Rest) (fault : Fault) (new : Maildir)
     → RefusesText old stem rest text fault new → Grew old new
 refused_grew old _ _ _ _ new (inl (_, _, same)) = grew_none _ _ same
-refused_grew old _ _ _ _ _ (inr (_, inl none)) = rw none ([], sym (append-nil old.files), refl)
+refused_grew old _ _ _ _ _ (inr (_, inl none)) = rw none ([], sym (append-nil old.files), refl, refl)
 refused_grew _ stem text _ _ _ (inr (_, inr (_, (is_named, one)))) =
-    rw one (record (sized_file stem text) { is_named = is_named } ∷ [], refl, refl)
+    rw one (record (sized_file stem text) { is_named = is_named } ∷ [], refl, refl, refl)
 
 pub unready_same : (fault : Fault) (old : Maildir) (file : Stored) (new : Maildir) (file' : Stored)
     → UnreadyCause fault old file new file' → new.files ≡ old.files
@@ -48,7 +48,7 @@ unready_grew : (fault : Fault) (old : Maildir) (file : Stored) (new : Maildir) (
 unready_grew SeenRefused old _ new _ is = grew_none _ _ is.1
 unready_grew (BadSeen _) old _ new _ is = grew_none _ _ is.1
 unready_grew (StoreRefused Missing) old _ new _ is = grew_none _ _ is.1
-unready_grew (StoreRefused Refused) old _ _ _ is = rw is ([], sym (append-nil old.files), refl)
+unready_grew (StoreRefused Refused) old _ _ _ is = rw is ([], sym (append-nil old.files), refl, refl)
 unready_grew NoMemory old _ new _ is = grew_none _ _ is
 unready_grew _ _ _ _ _ never = absurd never
 

@@ -36,7 +36,8 @@ use Rattle.fetch_session.specs.Mbox.{MarksEntry, RefusesEntry, SettlesIntent, in
 -- ---- what storing a text leaves
 
 pub gained_file : (old new : Maildir) (f : File) → new ≡ with_file old f → Gained old new (f ∷ [])
-gained_file _ _ f is = rw is (record { came = refl; taken = refl; there = refl; none_begun = λ _. refl; failures = omega arith })
+gained_file _ _ f is =
+    rw is (record { came = refl; taken = refl; odd = refl; there = refl; none_begun = λ _. refl; failures = omega arith })
 
 pub not_grown : (old new : Maildir) (name : List ℕ) → old.begun ≡ None → new ≡ old → MayGain name old new
 not_grown _ _ _ none_begun is = rw is (record { none_begun = none_begun; came = inl refl })
@@ -214,13 +215,13 @@ settled_is (Some _) _ _ _ _ (was, some, whole, now) = inr (was, some, whole, now
 
 pub asks_ok : (intent : Option Intent) (old mid new : Stored) (stored : Bool) (items : List Item) (found : Found)
     → SettlesIntent intent items old (Ok stored) mid → ChecksMbox {T = Unit {0}} mid (Ok tt) new → found.stored ≡ stored
-    → found.held.items ≡ none_held items → AsksMbox intent old items (Ok found) new
-asks_ok intent old mid new stored items found settles ((bytes, goes_on), same) stored_is flags =
+    → found.held.items ≡ none_held items → found.odd.items ≡ none_held items → AsksMbox intent old items (Ok found) new
+asks_ok intent old mid new stored items found settles ((bytes, goes_on), same) stored_is flags odd =
     elim (settled_is intent items old mid stored settles) [
       | inl (none, is) ↦ none_some mid.content bytes (same_content is ∙ none) goes_on.0
       | inr (was, some, whole, now) ↦ (
           let closed : closed_file intent items was ≡ bytes = cc (rw now at goes_on.0) in
-          (was, some, stored_is ∙ whole, same ∙ now, rw closed goes_on.1, flags)
+          (was, some, stored_is ∙ whole, same ∙ now, rw closed goes_on.1, flags, odd)
           )
     ]
 

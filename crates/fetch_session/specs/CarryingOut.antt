@@ -11,14 +11,15 @@ use Rattle.fetch_session.specs.{declared.report.ReportLine.ReportLine, declared.
 use Rattle.fetch_session.specs.Task.{Task, says, tasks_planned}
 use Rattle.fetch_session.specs.Readiness.{AreDurable, IsFileKept, SettlesStore, Unready, merged_in}
 use Rattle.fetch_session.specs.Record.{Keeps, Steady}
-use Rattle.fetch_session.specs.Target.{Target, Stores, held_flags}
+use Rattle.fetch_session.specs.Target.{Target, Stores, held_flags, odd_in}
 use Rattle.fetch_session.specs.declared.report.Skips.{Skips}
 use Rattle.fetch_session.specs.Report.{none_skipped, skips_planned}
 use Rattle.fetch_session.specs.Scene.{Scene, scene, Does}
 
 -- what a session does once its record is ready: the planned tasks, then QUIT
 abbrev pub tasks_ahead : Settings → Target → List Item → ℕ → Stores → List Row → List Task
-tasks_ahead settings target items now store rows = tasks_planned (planned settings rows items now) items
+tasks_ahead settings target items now store rows = tasks_planned
+    (planned settings (odd_in target store) rows items now) items
     (held_flags target store items) ++ says quit ∷ []
 
 -- the record was read, merged with the listing and saved. Nothing is to be fetched or deleted and the record's file
@@ -29,8 +30,8 @@ pub record Prepared (settings : Settings) (target : Target) (items : List Item) 
   pub was : RecordState
   pub stood : Keeps file.content was
   pub rows : mid.rows ≡ merged_in target store was items now
-  pub durable : (All IsQuiet (planned settings mid.rows items now) × IsFileKept mid.rows file mid.file)
-      ⊎ AreDurable target was.rows items store
+  pub durable : (All IsQuiet (planned settings (odd_in target store) mid.rows items now)
+      × IsFileKept mid.rows file mid.file) ⊎ AreDurable target was.rows items store
   pub saved : Steady mid.file.content (none_open mid.rows)
   pub file_count : mid.file.failures ≡ file.failures
   pub place_is : mid.place ≡ place
@@ -52,7 +53,7 @@ pub record Carried (settings : Settings) (target : Target) (items : List Item) (
   pub mid : Scene
   pub prepared : Prepared settings target items now place store file lines mid
   pub does : Does target (tasks_ahead settings target items now store mid.rows) mid result new
-  pub skips : skipped ≡ skips_planned settings mid.rows items now
+  pub skips : skipped ≡ skips_planned settings (odd_in target store) mid.rows items now
 
 -- the listing's steps were prepared and carried out, or as far as went well
 abbrev pub Carries : Settings → Target → List Item → ℕ → Place → Stores → Stored → List ReportLine

@@ -1,5 +1,5 @@
 -- What a listener is told of a session's plan.
-use Rattle.std.specs.Prelude.{◌≡◌, ◌⊎◌, ℕ, List, [], ◌∷◌, ◌++◌, length, Ok}
+use Rattle.std.specs.Prelude.{◌≡◌, ◌⊎◌, ℕ, Bool, List, [], ◌∷◌, ◌++◌, length, Ok}
 use Rattle.mail_terms.specs.Listing.{Item}
 use Rattle.mail_store.specs.declared.file.flat_file.FlatFile.{Ghosts as FileGhosts}
 use Rattle.mail_store.specs.declared.maildir.disk.MaildirDisk.{Ghosts as DiskGhosts}
@@ -11,7 +11,7 @@ use Rattle.fetch_record.specs.Record.{Row, RecordState}
 use Rattle.fetch_rules.specs.{Plan.planned, declared.plans.Step.Step}
 use Rattle.fetch_session.specs.Account.{Holding, digits_of}
 use Rattle.fetch_session.specs.{Readiness.merged_in, Record.Keeps, Report.skips_planned, Session.Enters_with}
-use Rattle.fetch_session.specs.Target.{AfterTakingIn, is_sound, stores_of, target_of}
+use Rattle.fetch_session.specs.Target.{AfterTakingIn, is_sound, odd_in, stores_of, target_of}
 use Rattle.fetch_session.specs.{declared.account.Store.Store, declared.report.Report.Report}
 use Rattle.fetch_session.specs.declared.report.Skips.{Skips}
 
@@ -21,23 +21,25 @@ passed_over report = record { all = report.skipped; left_out = report.left_out }
 
 -- it is what is planned for each message of a listing, by rows of the record, of which this holds; so many are listed,
 -- and these are passed over
-pub record IsPlanned (settings : Settings) (now total : ℕ) (skipped : Skips) (Known : List Item → List Row → Type 0)
-    (plan : List Step) : Type 0 where
+pub record IsPlanned (settings : Settings) (now total : ℕ) (skipped : Skips)
+    (Known : List Item → List Row → List Step → Type 0) (plan : List Step) : Type 0 where
   pub items : List Item
+  pub is_odd : List ℕ → Bool
   pub rows : List Row
-  pub known : Known items rows
+  pub known : Known items rows plan
   pub total_is : total ≡ length items
-  pub skips : skipped ≡ skips_planned settings rows items now
-  pub is : plan ≡ planned settings rows items now
+  pub skips : skipped ≡ skips_planned settings is_odd rows items now
+  pub is : plan ≡ planned settings is_odd rows items now
 
 -- if the store and the record's file are sound, these rows are those of the record that was read, once the listing was
--- merged into it
-abbrev pub AreMerged : {D F : Type 0} → DiskGhosts D → FileGhosts F → List ℕ → ℕ → Store D F → F → Store D F → F
-    → List Item → List Row → Type 0
-AreMerged disk files account now store file store' file' items rows =
+-- merged into it, and the plan goes by what is odd in the store
+abbrev pub AreMerged : {D F : Type 0} → DiskGhosts D → FileGhosts F → Settings → List ℕ → ℕ → Store D F → F
+    → Store D F → F → List Item → List Row → List Step → Type 0
+AreMerged disk files settings account now store file store' file' items rows plan =
     is_sound disk files store' → files.sound file' → AfterTakingIn (stores_of disk files store) (λ left.
     (was : RecordState) × Keeps (files.stored file).content was
-    × (rows ≡ merged_in (target_of store account) left was items now))
+    × (rows ≡ merged_in (target_of store account) left was items now)
+    × (plan ≡ planned settings (odd_in (target_of store account) left) rows items now))
 
 -- it is the listing that the server gave
 abbrev pub IsServersListing : Settings → Link → Link → List Item → Type 0
@@ -48,9 +50,10 @@ IsServersListing settings link link' items = (mid : Place) × Enters_with settin
 abbrev pub IsPlanOf : {W D F : Type 0} → WireGhosts W → DiskGhosts D → FileGhosts F → ℕ → Holding D F → W → Holding D F
     → W → Report → List Step → Type 0
 IsPlanOf link disk files now old wire new wire' report plan =
-    IsPlanned old.settings now report.total (passed_over report) (λ items rows.
+    IsPlanned old.settings now report.total (passed_over report) (λ items rows steps.
     (link.sound wire' → IsServersListing old.settings (link.history wire) (link.history wire') items)
-    × AreMerged disk files (digits_of old.settings) now old.store old.file new.store new.file items rows) plan
+    × AreMerged disk files old.settings (digits_of old.settings) now old.store old.file new.store new.file items rows
+    steps) plan
 
 -- a listener was told of no plan, or of one of which this holds
 abbrev pub HearsOne : {L : Type 0} → (L → List (List Step) → L → Type 0) → (List Step → Type 0) → L

@@ -87,14 +87,15 @@ MboxSessions {W} {D} {F} link disk files = (now : ℕ) (old new : Holding D F) (
     (link.history wire') (mbox_account_files (mbox_of files new.store) (files.stored new.file)))
     × DurableSession files old.store old.file session new.store new.file)
 
--- each file that was there before a session is there after it, and others may have come; it takes none away
+-- each file that was there before a session is there after it, and others may have come; it takes none away, and the
+-- same names are odd
 abbrev pub SessionsKeepFiles : Type 0
 SessionsKeepFiles = (settings : Settings) (account : List ℕ) (now : ℕ) (link : Link) (before : AccountFiles)
     (report : Report)
     (link' : Link) (after : AccountFiles)
     → Session settings account now link before report link' after
     → (came : List File) × (after.maildir.files ≡ before.maildir.files ++ came)
-    × (after.maildir.taken ≡ before.maildir.taken)
+    × (after.maildir.taken ≡ before.maildir.taken) × (after.maildir.odd ≡ before.maildir.odd)
 
 -- the files that came are durable, but perhaps the last, whose name may not be; and of each message that the record
 -- shows as delivered and didn't before a durable file is there

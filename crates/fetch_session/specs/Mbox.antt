@@ -53,7 +53,7 @@ abbrev pub AsksMbox : Option Intent → Stored → List Item → Result Found Fa
 AsksMbox intent old items (Ok found) new = (was : List ℕ) × (old.content ≡ Some was)
     × (found.stored ≡ is_stored intent items was)
     × (new ≡ holding old (closed_file intent items was)) × MayGoOn (closed_file intent items was)
-    × (found.held.items ≡ none_held items)
+    × (found.held.items ≡ none_held items) × (found.odd.items ≡ none_held items)
 AsksMbox intent old items (Err (StoreRefused Missing)) new = (old.content ≡ None) × (new ≡ old)
 AsksMbox intent old items (Err (StoreRefused Refused)) new = (new.failures ≡ old.failures + 1)
     × IsSettledAtMost intent items old new

@@ -8,7 +8,8 @@ use Rattle.rc_file.specs.declared.settings.Settings.{Settings}
 use Rattle.fetch_record.specs.Record.{Row, Intent, RecordState}
 use Rattle.fetch_rules.specs.Plan.{planned}
 use Rattle.mail_store.specs.FlatFile.{Stored, file_refused}
-use Rattle.mail_store.specs.{Held.flags_of, Maildir.Maildir, Mboxrd.MayGoOn}
+use Rattle.mail_store.specs.{Maildir.Maildir, Mboxrd.MayGoOn}
+use Rattle.mail_store.specs.Held.{flags_of, odd_flags}
 use Rattle.fetch_session.specs.{declared.fault.Cut.Cut, declared.fault.Fault.Fault, declared.readiness.Found.Found}
 use Rattle.fetch_session.specs.declared.fault.Fault.TheVariants.{NoMemory, StoreRefused}
 use Rattle.fetch_session.specs.declared.fault.Why.TheVariants.{Missing, NotMbox, Refused}
@@ -18,7 +19,7 @@ use Rattle.fetch_session.specs.Fault.{cut_of, fault_of}
 use Rattle.fetch_session.specs.{MessagePreview.message_previews, Record.Keeps}
 use Rattle.fetch_session.specs.Readiness.{CausesUnready, FindsRefused, SettlesStore, merged_in}
 use Rattle.fetch_session.specs.Session.{Keeping, Enters_with, LeavesLink, outcome_of}
-use Rattle.fetch_session.specs.Target.{Target, AsFiles, AsEntries, Stores, closed_file, held_flags, is_stored}
+use Rattle.fetch_session.specs.Target.{Target, AsFiles, AsEntries, Stores, closed_file, held_flags, is_stored, odd_in}
 
 -- ---- nothing changes
 
@@ -59,16 +60,16 @@ pub record LooksAtMbox (intent : Option Intent) (old : Stored) (items : List Ite
 
 abbrev pub LooksIn : Target → Option Intent → Stores → List Item → Result Found Fault → Stores → Type 0
 LooksIn (AsFiles account) intent old items (Ok found) new = (found.held.items ≡ flags_of account old.maildir items)
-    × (found.stored ≡ false) × (new ≡ old)
+    × (found.stored ≡ false) × (new ≡ old) × (found.odd.items ≡ odd_flags account old.maildir items)
 LooksIn (AsFiles account) intent old items (Err fault) new = FindsRefused old.maildir fault new.maildir
 LooksIn AsEntries intent old items result new = LooksAtMbox intent old.mbox items result new.mbox
 
 -- ---- what a preview says
 
 -- what a preview says of a listing once the record has these rows
-abbrev pub previews_of : Settings → List Row → List Item → List Bool → ℕ → List MessagePreview
-previews_of settings rows items flags now = message_previews settings rows now
-    (planned settings rows items now) items flags
+abbrev pub previews_of : Settings → (List ℕ → Bool) → List Row → List Item → List Bool → ℕ → List MessagePreview
+previews_of settings is_odd rows items flags now = message_previews settings rows now
+    (planned settings is_odd rows items now) items flags
 
 -- the record's file stands for a record; with what a session would find in the store, and settle there, it gives this
 -- preview of the listing
@@ -78,7 +79,7 @@ pub record PreviewsMerged (settings : Settings) (target : Target) (items : List 
   pub stood : Keeps old.file.content was
   pub left : Stores
   pub settles : SettlesStore target was items old.store left
-  pub told_is : told ≡ previews_of settings (merged_in target old.store was items now) items
+  pub told_is : told ≡ previews_of settings (odd_in target old.store) (merged_in target old.store was items now) items
       (held_flags target old.store items) now
 
 -- a session with this listing wouldn't be ready, for this reason; of an mboxrd file it may leave something else

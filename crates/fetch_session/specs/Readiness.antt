@@ -1,6 +1,6 @@
 -- What a session has ready before its first task, or why it isn't ready.
 use Rattle.std.specs.Prelude.{◌≡◌, ◌⊎◌, ◌<◌, ℕ, Bool, true, false, All, List, length, map, not, Option, None, Some}
-use Rattle.std.specs.Prelude.{Result, Ok, Err, Vec}
+use Rattle.std.specs.Prelude.{Result, Ok, Err}
 use Rattle.std.specs.List.{AllByRecursion}
 use Rattle.mail_terms.specs.Listing.{Item}
 use Rattle.fetch_record.specs.Record.{Row, RecordState, IsRecord, Loaded, has_row, is_delivered, none_open}
@@ -13,7 +13,7 @@ use Rattle.rc_file.specs.declared.settings.Settings.{Settings}
 use Rattle.mail_store.specs.FlatFile.{Stored, holding}
 use Rattle.mail_store.specs.Maildir.{AllNamed, Maildir}
 use Rattle.mail_store.specs.{Mboxrd.MayGoOn, declared.fault.StoreFault.StoreFault, MboxCalls.ChecksMbox}
-use Rattle.mail_store.specs.Held.{FoundDurable, flags_asked}
+use Rattle.mail_store.specs.Held.{AreById, FoundDurable, flags_asked, odd_flags}
 use Rattle.fetch_session.specs.declared.fault.Fault.TheVariants.{StoreRefused, SeenRefused, BadSeen, NoMemory}
 use Rattle.fetch_session.specs.declared.fault.Why.TheVariants.{Missing, Refused, NotMbox}
 use Rattle.mail_store.specs.declared.fault.StoreFault.TheVariants as refused
@@ -21,7 +21,7 @@ use Rattle.fetch_session.specs.declared.readiness.Ready.{Ready}
 use Rattle.fetch_session.specs.Mbox.{AsksMbox, IsSettledAtMost}
 use Rattle.fetch_session.specs.Record.{Keeps, Steady, Misread, FileReadAs}
 use Rattle.fetch_session.specs.Target.{Kind, Files, Entries, Target, AsFiles, AsEntries, Stores, closed_file}
-use Rattle.fetch_session.specs.Target.{held_flags}
+use Rattle.fetch_session.specs.Target.{held_flags, odd_in}
 use Rattle.fetch_session.specs.Target.{in_maildir, none_held, closed_rows_in}
 
 -- a folder isn't there, or a call was refused, or memory ran out
@@ -48,13 +48,17 @@ flags_found read_all (AsFiles account) rows store items =
     flags_asked read_all account store.maildir items (are_undelivered rows items)
 flags_found read_all AsEntries rows store items = none_held items
 
--- which of the messages that were asked for are held was found, and the files of those that aren't delivered are
--- durable; or why not
-abbrev pub FindsHeld : {Z : Type 0} → Bool → List ℕ → List Row → Maildir → List Item → Result (Vec Bool Z) Fault
-    → Maildir → Type 0
-FindsHeld read_all account rows old items (Ok flags) new =
-    (flags.items ≡ flags_found read_all (AsFiles account) rows (in_maildir old) items) × (new ≡ old)
-    × AreDurable (AsFiles account) rows items (in_maildir old)
+-- each message has both flags, and the one that says whether it is odd goes by its id
+abbrev pub HasFlags : List Item → Found → Type 0
+HasFlags items found = (length found.held.items ≡ length items) × AreById items found.odd.items
+
+-- which of the messages that were asked for are held was found, the files of those that aren't delivered are durable,
+-- and of which what can't be opened bears the name; or why not
+abbrev pub FindsHeld : Bool → List ℕ → List Row → Maildir → List Item → Result Found Fault → Maildir → Type 0
+FindsHeld read_all account rows old items (Ok found) new =
+    (found.held.items ≡ flags_found read_all (AsFiles account) rows (in_maildir old) items)
+    × (found.stored ≡ false) × (new ≡ old) × AreDurable (AsFiles account) rows items (in_maildir old)
+    × (found.odd.items ≡ odd_flags account old items)
 FindsHeld read_all account rows old items (Err fault) new = FindsRefused old fault new
 
 -- what a store holds was asked of it, after this record was read
@@ -62,6 +66,7 @@ abbrev pub FindsIn : Bool → Target → RecordState → Stores → List Item �
 FindsIn read_all (AsFiles account) was old items (Ok found) new =
     (found.held.items ≡ flags_found read_all (AsFiles account) was.rows old items)
     × (found.stored ≡ false) × (new ≡ old) × AreDurable (AsFiles account) was.rows items old
+    × (found.odd.items ≡ odd_flags account old.maildir items)
 FindsIn read_all (AsFiles account) was old items (Err fault) new = FindsRefused old.maildir fault new.maildir
 FindsIn read_all AsEntries was old items result new = AsksMbox was.intent old.mbox items result new.mbox
 
@@ -77,11 +82,11 @@ merged_in target store was items now = merged (closed_rows_in target store was i
     (held_flags target store items) now
 
 -- what the store holds can change neither the record nor what is done: each listed id is recorded as delivered, the
--- steps that are planned neither fetch nor delete anything, and no intent is open
+-- steps that are planned, whatever is odd, neither fetch nor delete anything, and no intent is open
 pub record IsIdle (settings : Settings) (seen : Loaded) (items : List Item) (now : ℕ) (steps : List Step) : Type 0 where
   pub is_record : IsRecord seen.rows
   pub known : All (λ (item : Item). is_delivered seen.rows item.uid ≡ true) items
-  pub planned : steps ≡ planned settings seen.rows items now
+  pub planned : (is_odd : List ℕ → Bool) → steps ≡ planned settings is_odd seen.rows items now
   pub quiet : All IsQuiet steps
   pub closed : seen.intent ≡ None
 
@@ -124,7 +129,8 @@ AreAsHeld steps items flags held = tasks_planned steps items flags ≡ tasks_pla
 
 -- each listed message has a step of the plan and a flag, and each listed id a row; no intent is open
 pub record HasPlan (settings : Settings) (items : List Item) (now : ℕ) (ready : Ready) (seen : Loaded) : Type 0 where
-  pub steps : ready.steps.items ≡ planned settings seen.rows items now
+  pub is_odd : List ℕ → Bool
+  pub steps : ready.steps.items ≡ planned settings is_odd seen.rows items now
   pub lengths : (length ready.steps.items ≡ length items) × (length ready.held.items ≡ length items)
   pub rows : AllByRecursion (λ (item : Item). has_row seen.rows item.uid ≡ true) items
   pub closed : seen.intent ≡ None
@@ -137,7 +143,7 @@ pub record IsReady (settings : Settings) (target : Target) (items : List Item) (
   pub stood : Keeps file.content was
   pub held : AreAsHeld ready.steps.items items ready.held.items (held_flags target store items)
   pub rows : after ≡ merged_in target store was items now
-  pub steps : ready.steps.items ≡ planned settings after items now
+  pub steps : ready.steps.items ≡ planned settings (odd_in target store) after items now
   pub durable : (All IsQuiet ready.steps.items × IsFileKept after file file') ⊎ AreDurable target was.rows items store
   pub saved : Steady file'.content (none_open after)
   pub file_count : file'.failures ≡ file.failures

@@ -9,8 +9,8 @@ use Rattle.rc_file.specs.declared.settings.Settings.{Settings}
 use Rattle.fetch_record.specs.Record.{Row}
 use Rattle.fetch_rules.specs.Plan.{fetches, planned}
 use Rattle.fetch_rules.specs.{declared.plans.Skip.Skip, declared.plans.Step.Step}
-use Rattle.fetch_rules.specs.declared.plans.Skip.TheVariants.{Delivered as DeliveredBefore, TooLarge, PastLimit}
-use Rattle.fetch_rules.specs.declared.plans.Skip.TheVariants.{SameId}
+use Rattle.fetch_rules.specs.declared.plans.Skip.TheVariants.{Delivered as DeliveredBefore, Obstructed, TooLarge}
+use Rattle.fetch_rules.specs.declared.plans.Skip.TheVariants.{PastLimit, SameId}
 use Rattle.fetch_session.specs.declared.fault.Fault.TheVariants.{StoreRefused, SeenRefused, BadSeen}
 use Rattle.fetch_session.specs.{declared.report.Skips.Skips, declared.report.Report.Report}
 use Rattle.fetch_session.specs.{declared.report.Outcome.Outcome, declared.report.Outcome.TheVariants.Cut}
@@ -67,6 +67,10 @@ skipped_in steps = count_by (λ (step : Step). not (fetches step)) steps
 abbrev pub reason_of : Step → Option Skip
 reason_of step = if step.delete then Some DeliveredBefore else step.skip
 
+abbrev pub is_for_odd : Option Skip → Bool
+is_for_odd (Some Obstructed) = true
+is_for_odd _ = false
+
 abbrev pub is_for_size : Option Skip → Bool
 is_for_size (Some TooLarge) = true
 is_for_size _ = false
@@ -88,6 +92,7 @@ abbrev pub skips_of : List Step → Skips
 skips_of steps = record {
   all = skipped_in steps;
   left_out = record {
+    obstructed = count_reasons is_for_odd steps;
     too_large = count_reasons is_for_size steps;
     past_limit = count_reasons is_for_limit steps;
     repeated = count_reasons is_for_id steps;
@@ -95,8 +100,8 @@ skips_of steps = record {
 }
 
 -- what the plan passes over
-abbrev pub skips_planned : Settings → List Row → List Item → ℕ → Skips
-skips_planned settings rows items now = skips_of (planned settings rows items now)
+abbrev pub skips_planned : Settings → (List ℕ → Bool) → List Row → List Item → ℕ → Skips
+skips_planned settings is_odd rows items now = skips_of (planned settings is_odd rows items now)
 
 abbrev pub none_skipped : Skips
 none_skipped = skips_of []

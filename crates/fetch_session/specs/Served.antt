@@ -19,7 +19,7 @@ use Rattle.fetch_session.specs.Cuts.{ArePlanned, Extends}
 use Rattle.fetch_session.specs.{Opening.SessionOpened, Readiness.merged_in, Task.file_from}
 use Rattle.fetch_session.specs.Record.{Keeps, FileReadAs}
 use Rattle.fetch_session.specs.Session.{Enters_with, Keeping, SessionIn}
-use Rattle.fetch_session.specs.Target.{Target, AsFiles, AsEntries, Stores, held_flags}
+use Rattle.fetch_session.specs.Target.{Target, AsFiles, AsEntries, Stores, held_flags, odd_in}
 
 -- ---- nothing fails
 
@@ -90,7 +90,7 @@ pub record StoresAll (settings : Settings) (target : Target) (now : ℕ) (link :
   pub talked : Talked turns replies mid new
   pub last : link' ≡ new.link
   pub each : AllByRecursion (IsStored target before.store (zip turns replies) after.store)
-      (wanted settings (merged_in target before.store was items now) items)
+      (wanted settings (odd_in target before.store) (merged_in target before.store was items now) items)
 
 -- a law: if nothing fails, a session ends; and one that ended has stored each message that it wants
 abbrev pub GoodSessionsStoreAll : Type 0

@@ -15,10 +15,12 @@ use Rattle.mail_store.specs.Maildir.{Maildir, File, Draft, MayHave, draft, mail,
 use Rattle.fetch_session.specs.declared.fault.Fault.TheVariants.{StoreRefused}
 use Rattle.fetch_session.specs.declared.fault.Why.TheVariants.{Missing, Refused}
 
--- these files came after the others; no other changed or was taken, and the same folders are there
+-- these files came after the others; no other changed or was taken, the same names are odd, and the same folders are
+-- there
 pub record Gained (old new : Maildir) (files : List File) : Type 0 where
   pub came : new.files ≡ old.files ++ files
   pub taken : new.taken ≡ old.taken
+  pub odd : new.odd ≡ old.odd
   pub there : new.there ≡ old.there
   pub none_begun : old.begun ≡ None → new.begun ≡ None
   pub failures : old.failures ≤ new.failures

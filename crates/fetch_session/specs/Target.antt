@@ -5,7 +5,8 @@ use Rattle.fetch_record.specs.Record.{Row, Intent, RecordState}
 use Rattle.fetch_record.specs.Intents.{closed_rows}
 use Rattle.mail_store.specs.declared.maildir.disk.MaildirDisk.{Ghosts as DiskGhosts}
 use Rattle.mail_store.specs.declared.file.flat_file.FlatFile.{Ghosts as FileGhosts}
-use Rattle.mail_store.specs.{FlatFile.Stored, Held.flags_of}
+use Rattle.fetch_rules.specs.Wanted.{none_odd}
+use Rattle.mail_store.specs.{FileName.is_odd, FlatFile.Stored, Held.flags_of}
 use Rattle.mail_store.specs.Maildir.{Maildir, WereTaken}
 use Rattle.mail_store.specs.Settling.{listed_size, stands_whole, settled_file}
 use Rattle.fetch_session.specs.declared.account.Store.{Store}
@@ -33,6 +34,7 @@ no_maildir = record {
   begun = None;
   failures = 0;
   taken = [];
+  odd = [];
 }
 
 abbrev pub no_mbox : Stored
@@ -107,6 +109,11 @@ none_held items = map (λ (item : Item). false) items
 abbrev pub held_flags : Target → Stores → List Item → List Bool
 held_flags (AsFiles account) store items = flags_of account store.maildir items
 held_flags AsEntries store items = none_held items
+
+-- whether what can't be opened bears a name of the id
+abbrev pub odd_in : Target → Stores → List ℕ → Bool
+odd_in (AsFiles account) store = is_odd account store.maildir
+odd_in AsEntries store = none_odd
 
 -- whether the entry of an open intent is whole in a file, by what is listed
 abbrev pub is_stored : Option Intent → List Item → List ℕ → Bool

@@ -4,7 +4,7 @@ use Rattle.std.specs.Prelude.{Option, Some, None, if◌then◌else◌, codes}
 use Rattle.std.specs.{List.count_by, Fmt.decimal}
 use Rattle.rc_file.specs.declared.settings.Settings.{Settings}
 use Rattle.fetch_rules.specs.{Due.seconds_per_day, Plan.fetches, declared.plans.Skip.Skip}
-use Rattle.fetch_rules.specs.declared.plans.Skip.TheVariants.{Delivered, TooLarge, PastLimit, SameId}
+use Rattle.fetch_rules.specs.declared.plans.Skip.TheVariants.{Delivered, Obstructed, TooLarge, PastLimit, SameId}
 use Rattle.fetch_session.specs.declared.preview.Preview.{Preview}
 use Rattle.fetch_session.specs.{declared.message_preview.MessagePreview.MessagePreview, declared.telling.Date.Date}
 use Rattle.fetch_session.specs.Text.{heading, message_text}
@@ -52,6 +52,7 @@ date_text second = date_digits (date_of second)
 -- why a message is passed over, which the store holds or not
 abbrev pub skip_text : Skip → Bool → List ℕ
 skip_text Delivered held = if held then codes "held" else codes "delivered before"
+skip_text Obstructed held = codes "obstructed"
 skip_text TooLarge held = codes "too large"
 skip_text PastLimit held = codes "past the limit of this session"
 skip_text SameId held = codes "same id as an earlier message"

@@ -54,8 +54,9 @@ pub fn carry_out<W: Wire, D: MaildirDisk, F: FlatFile, H: BuildHasher, L: Listen
         × DurableCarries F.FlatFile work.old.store work.old.ledger.file _ _ _ _ _ _ _ _ _ _ _ _ _ _ is
         work.new.store work.new.ledger.file)) }
     ensures heard { HearsOne L.hears (IsPlanned terms.entry.settings.now terms.entry.now (length listing.now)
-        skipped.new (λ items rows. (items ≡ listing.now) × AreMerged D.MaildirDisk F.FlatFile terms.entry.account.now
-        terms.entry.now work.old.store work.old.ledger.file work.new.store work.new.ledger.file items rows))
+        skipped.new (λ items rows plan. (items ≡ listing.now) × AreMerged D.MaildirDisk F.FlatFile
+        terms.entry.settings.now terms.entry.account.now terms.entry.now work.old.store work.old.ledger.file
+        work.new.store work.new.ledger.file items rows plan))
         listener.old listener.new }
 {
     turns_join();

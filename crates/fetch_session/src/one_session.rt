@@ -62,11 +62,12 @@ fn proceed<W: Wire, D: MaildirDisk, F: FlatFile, H: BuildHasher, L: Listener>(
         × DurableProceeds F.FlatFile work.old.store work.old.ledger.file _ _ _ _ _ _ _ _ _ is
         work.new.store work.new.ledger.file)) }
     ensures heard { HearsOne L.hears (IsPlanned terms.entry.settings.now terms.entry.now counts.new.total
-        counts.new.skipped (λ items rows. (W.sound client.new.wire.now → (mid : Place)
+        counts.new.skipped (λ items rows plan. (W.sound client.new.wire.now → (mid : Place)
         × Enters_with terms.entry.settings.now (place_of W.Wire client.old) (Ok items) mid
         × TookWithTail (counts.new.total * step_limit + tail_limit) mid result (place_of W.Wire client.new))
-        × AreMerged D.MaildirDisk F.FlatFile terms.entry.account.now terms.entry.now work.old.store
-        work.old.ledger.file work.new.store work.new.ledger.file items rows)) listener.old listener.new }
+        × AreMerged D.MaildirDisk F.FlatFile terms.entry.settings.now terms.entry.account.now terms.entry.now
+        work.old.store work.old.ledger.file work.new.store work.new.ledger.file items rows plan)) listener.old
+        listener.new }
 {
     conversations_are_paced();
     let listing = enter(work.ledger.alloc, terms.settings, client)?;

@@ -1,5 +1,5 @@
 //! A session that tells what a run would do, and changes nothing.
-ghost use Rattle.std.specs.Prelude.{◌≡◌, [], length, None, IfOk};
+ghost use Rattle.std.specs.Prelude.{◌≡◌, ℕ, Bool, List, [], None, IfOk, map};
 ghost use Rattle.pop3_client.specs.Client.{HasSameLink, link_of, place_of};
 ghost use Rattle.rc_file.specs.Settings.{IsValid};
 ghost use Rattle.mail_store.specs.FileName.{IsAccountText};
@@ -9,10 +9,12 @@ ghost use Rattle.fetch_session.specs.Account.{digits_of};
 ghost use Rattle.fetch_session.specs.Parts.{KeepsBegun};
 ghost use Rattle.fetch_session.specs.Pretend.{JudgesMbox, LooksAtMbox, LooksIn, PreviewsWork, Pretends};
 ghost use Rattle.fetch_session.specs.Pretend.{PreviewsSession, previews_of, preview_told, told_nothing};
+ghost use Rattle.fetch_session.specs.Readiness.{HasFlags};
 ghost use Rattle.fetch_session.specs.Scene.{WhereAllSound};
 ghost use Rattle.fetch_session.specs.Session.{keeping};
-ghost use Rattle.fetch_session.specs.Target.{AfterTakingIn, NoneBegun, is_sound, kind_of, stores_of};
-ghost use Rattle.fetch_session.specs.Target.{target_of};
+ghost use Rattle.mail_store.specs.Maildir.{AfterTaking};
+ghost use Rattle.fetch_session.specs.Target.{AfterTakingIn, AsFiles, NoneBegun, in_maildir, is_sound, kind_of};
+ghost use Rattle.fetch_session.specs.Target.{stores_of, target_of};
 
 use crate::account::{Account, Store};
 use crate::fault::{Cut, Fault};
@@ -23,8 +25,10 @@ use crate::report::Outcome;
 use crate::tail::leave;
 use crate::terms::Terms;
 use crate::work::{Ledger, Work};
-use fetch_rules::{Listing, Seen, plan};
-use mail_store::{AccountId, FlatFile, MaildirDisk, held, listed_size, peek_mbox, peek_settled};
+use fetch_rules::{Listing, Seen, plan_without};
+use mail_store::{
+    AccountId, FlatFile, MaildirDisk, held, listed_size, odd_flags, peek_mbox, peek_settled,
+};
 use pop3_client::Client;
 use pop3_wire::Wire;
 use std::alloc::{AllocError, Global};
@@ -68,13 +72,35 @@ fn look_at_mbox<F: FlatFile, H: BuildHasher>(
     seen: &Seen<H>,
     listing: &Listing,
 ) -> Result<Found, Fault>
-    ensures length { IfOk result (λ found. length found.held.items ≡ length listing.now) }
+    ensures flags { IfOk result (HasFlags listing.now) }
     ensures looks { F.sound mbox.new → F.sound mbox.old
         × LooksAtMbox seen.now.intent (F.stored mbox.old) listing.now result (F.stored mbox.new) }
 {
     let stored = judge_mbox(alloc, mbox, seen, listing)?;
     let held = vec![in alloc; false; listing.len() as usize]?;
-    Ok(Found { held, stored })
+    let odd = vec![in alloc; false; listing.len() as usize]?;
+    Ok(Found { held, odd, stored })
+}
+
+/// What a run would find in a Maildir, which stays as it is.
+fn look_at_maildir<D: MaildirDisk>(
+    alloc: Global,
+    disk: &mut D,
+    account: &AccountId,
+    listing: &Listing,
+) -> Result<Found, Fault>
+    ensures flags { IfOk result (HasFlags listing.now) }
+    ensures looks { D.sound disk.new → D.sound disk.old × AfterTaking (D.maildir disk.old)
+        (λ left. LooksIn (AsFiles account.now) None (in_maildir left) listing.now result
+        (in_maildir (D.maildir disk.new))) }
+{
+    let held = held(alloc, disk, account, listing)?;
+    let odd = odd_flags(alloc, disk, account, listing)?;
+    Ok(Found {
+        held,
+        odd,
+        stored: false,
+    })
 }
 
 /// What a run would find in a store, which stays as it is.
@@ -86,7 +112,7 @@ fn look<D: MaildirDisk, F: FlatFile, H: BuildHasher>(
     listing: &Listing,
 ) -> Result<Found, Fault>
     ensures kind { kind_of store.new ≡ kind_of store.old }
-    ensures length { IfOk result (λ found. length found.held.items ≡ length listing.now) }
+    ensures flags { IfOk result (HasFlags listing.now) }
     ensures stays { is_sound D.MaildirDisk F.FlatFile store.new → is_sound D.MaildirDisk F.FlatFile store.old
         × ((stores_of D.MaildirDisk F.FlatFile store.new).maildir.begun
         ≡ (stores_of D.MaildirDisk F.FlatFile store.old).maildir.begun) }
@@ -96,10 +122,7 @@ fn look<D: MaildirDisk, F: FlatFile, H: BuildHasher>(
         left listing.now result (stores_of D.MaildirDisk F.FlatFile store.new)) }
 {
     match store {
-        Store::Maildir(disk) => Ok(Found {
-            held: held(alloc, disk, account, listing)?,
-            stored: false,
-        }),
+        Store::Maildir(disk) => look_at_maildir(alloc, disk, account, listing),
         Store::Mboxrd(mbox) => look_at_mbox(alloc, mbox, seen, listing),
     }
 }
@@ -113,15 +136,16 @@ fn preview_merged<H: BuildHasher>(
     listing: &Listing,
     found: &Found,
 ) -> Result<Vec<MessagePreview>, AllocError>
-    requires { length found.now.held.items ≡ length listing.now }
-    ensures { IfOk result (λ told. told.items ≡ previews_of terms.entry.settings.now
+    requires { HasFlags listing.now found.now }
+    ensures { (is_odd : List ℕ → Bool) → found.now.odd.items ≡ map (λ item. is_odd item.uid) listing.now
+        → IfOk result (λ told. told.items ≡ previews_of terms.entry.settings.now is_odd
         (merged (closed_rows found.now.stored seen.old.rows seen.old.intent) listing.now found.now.held.items
         terms.entry.now) listing.now found.now.held.items terms.entry.now) }
 {
     let held: &[bool] = &found.held;
     seen.close(found.stored);
     seen.merge(listing, held, terms.now)?;
-    let steps = plan(alloc, terms.settings, seen, listing, terms.now)?;
+    let steps = plan_without(alloc, terms.settings, seen, listing, terms.now, &found.odd)?;
     message_previews(alloc, terms, seen, listing, held, &steps)
 }
 

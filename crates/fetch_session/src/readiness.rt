@@ -16,7 +16,7 @@ ghost use Rattle.fetch_session.specs.Parts.{KeepsBegun};
 ghost use Rattle.fetch_session.specs.Target.{AfterTakingIn, held_flags, is_sound, kind_of, mbox_of, stores_of};
 ghost use Rattle.fetch_session.specs.Target.{target_of};
 ghost use Rattle.fetch_session.specs.Readiness.{AreAsHeld, ChecksStore, FindsHeld, FindsIn, HasPlan, IsIdle};
-ghost use Rattle.fetch_session.specs.Readiness.{ChecksIdle};
+ghost use Rattle.fetch_session.specs.Readiness.{ChecksIdle, HasFlags};
 ghost use Rattle.fetch_session.specs.Readiness.{are_undelivered, flags_found};
 ghost use Rattle.fetch_session.specs.Record.{Gets, ReadsRecord, FileReadAs, Merges, IsLineFault, IsSecured, Steady};
 ghost use Rattle.fetch_session.specs.Record.{bytes_in};
@@ -30,11 +30,11 @@ use crate::work::{Ledger, Work};
 use fetch_rules::{
     Listing, Seen, SeenFault, Step, ask_nothing, delivered_has_row, held_is_delivered,
     known_listings_change_nothing, listed_has_row, marked_is_delivered,
-    merges_ask_only_for_new_ids, only_asked_for_are_fetched, plan, plan_of_known,
+    merges_ask_only_for_new_ids, only_asked_for_are_fetched, plan_of_known, plan_without,
 };
 use mail_store::{
     FlatFile, Folder, MaildirDisk, Query, StoreFault, check_mbox, flush_held, listed_size,
-    peek_mbox, settle_file,
+    odd_flags, peek_mbox, settle_file,
 };
 use std::alloc::{AllocError, Global};
 use std::hash::BuildHasher;
@@ -54,6 +54,8 @@ pub struct Ready {
 pub struct Found {
     /// For each message, whether the store holds it.
     pub held: Vec<bool>,
+    /// For each message, whether what can't be opened bears its name there.
+    pub odd: Vec<bool>,
     /// Whether the entry of the record's open intent is whole in the mboxrd file.
     pub stored: bool,
 }
@@ -130,15 +132,15 @@ fn undelivered<H: BuildHasher>(
 }
 
 /// Asks which of the messages a Maildir holds that the record doesn't show as delivered, or of all if all are
-/// to be read. The files of the former that are held are flushed.
+/// to be read, and of which what can't be opened bears the name. The files of the former that are held are flushed.
 fn find_held<D: MaildirDisk, H: BuildHasher>(
     alloc: Global,
     disk: &mut D,
     seen: &Seen<H>,
     terms: Terms<'_>,
     listing: &Listing,
-) -> Result<Vec<bool>, Fault>
-    ensures length { IfOk result (λ flags. length flags.items ≡ length listing.now) }
+) -> Result<Found, Fault>
+    ensures flags { IfOk result (HasFlags listing.now) }
     ensures finds { D.sound disk.new → D.sound disk.old
         × AfterTaking (D.maildir disk.old) (λ left. FindsHeld terms.entry.settings.now.read_all
         terms.entry.account.now seen.now.rows left listing.now result (D.maildir disk.new)) }
@@ -148,7 +150,13 @@ fn find_held<D: MaildirDisk, H: BuildHasher>(
         all: terms.settings.read_all,
         flags: &flags,
     };
-    Ok(flush_held(alloc, disk, terms.account, listing, asked)?)
+    let held = flush_held(alloc, disk, terms.account, listing, asked)?;
+    let odd = odd_flags(alloc, disk, terms.account, listing)?;
+    Ok(Found {
+        held,
+        odd,
+        stored: false,
+    })
 }
 
 /// Settles the open intent of the record in the mboxrd file, by the size that is listed for its
@@ -181,7 +189,7 @@ fn ask_mbox<F: FlatFile, H: BuildHasher>(
     seen: &Seen<H>,
     listing: &Listing,
 ) -> Result<Found, Fault>
-    ensures length { IfOk result (λ found. length found.held.items ≡ length listing.now) }
+    ensures flags { IfOk result (HasFlags listing.now) }
     ensures asks { F.sound mbox.new → F.sound mbox.old
         × AsksMbox seen.now.intent (F.stored mbox.old) listing.now result (F.stored mbox.new) }
     ensures durable { F.sound mbox.new → Trusted (F.disk mbox.old).now → OnOk result (IsSafeFile F.FlatFile mbox.new) }
@@ -192,7 +200,8 @@ fn ask_mbox<F: FlatFile, H: BuildHasher>(
     let stored = settle(alloc, mbox, seen, listing)?;
     check_mbox(mbox)?;
     let held = vec![in alloc; false; listing.len() as usize]?;
-    Ok(Found { held, stored })
+    let odd = vec![in alloc; false; listing.len() as usize]?;
+    Ok(Found { held, odd, stored })
 }
 
 /// Asks the store which messages it holds. In a Maildir only those are looked up that the record doesn't
@@ -206,7 +215,7 @@ fn ask_store<D: MaildirDisk, F: FlatFile, H: BuildHasher>(
     listing: &Listing,
 ) -> Result<Found, Fault>
     ensures kind { kind_of store.new ≡ kind_of store.old }
-    ensures length { IfOk result (λ found. length found.held.items ≡ length listing.now) }
+    ensures flags { IfOk result (HasFlags listing.now) }
     ensures stays { is_sound D.MaildirDisk F.FlatFile store.new → is_sound D.MaildirDisk F.FlatFile store.old
         × ((stores_of D.MaildirDisk F.FlatFile store.new).maildir.begun
         ≡ (stores_of D.MaildirDisk F.FlatFile store.old).maildir.begun)
@@ -225,10 +234,7 @@ fn ask_store<D: MaildirDisk, F: FlatFile, H: BuildHasher>(
         (may_leave_in F.FlatFile store.new) }
 {
     match store {
-        Store::Maildir(disk) => Ok(Found {
-            held: find_held(alloc, disk, seen, terms, listing)?,
-            stored: false,
-        }),
+        Store::Maildir(disk) => find_held(alloc, disk, seen, terms, listing),
         Store::Mboxrd(mbox) => ask_mbox(alloc, mbox, seen, listing),
     }
 }
@@ -411,7 +417,7 @@ fn prepare_by_store<D: MaildirDisk, F: FlatFile, H: BuildHasher>(
     let found = ask_store(alloc, &mut work.store, &work.ledger.seen, terms, listing)?;
     let Ledger { file, seen, .. } = &mut work.ledger;
     take_in(file, seen, listing, &found, terms.now, is_new)?;
-    let steps = plan(alloc, terms.settings, seen, listing, terms.now)?;
+    let steps = plan_without(alloc, terms.settings, seen, listing, terms.now, &found.odd)?;
     Ok(Ready {
         held: found.held,
         steps,

@@ -3,7 +3,7 @@ ghost use Rattle.std.specs.Prelude.{◌≡◌, ◌≤◌, ◌+◌, ◌++◌, ◌
 ghost use Rattle.std.specs.Vec.{vec_capacity};
 ghost use Rattle.fetch_session.specs.Report.{HasRoom, is_deletion, length_in, takes_back, kept_lines, has_deletions};
 ghost use Rattle.fetch_session.specs.Report.{retrieved_in, length_of, deleted_in, skipped_in, most_bytes, most_lines};
-ghost use Rattle.fetch_session.specs.Report.{Reports, count_reasons, is_for_id, is_for_limit, is_for_size};
+ghost use Rattle.fetch_session.specs.Report.{Reports, count_reasons, is_for_id, is_for_limit, is_for_odd, is_for_size};
 ghost use Rattle.fetch_session.specs.Report.{none_skipped, reason_of, skips_of};
 ghost use Rattle.mail_terms.specs.Listing.{message_limit};
 
@@ -36,6 +36,8 @@ pub enum Outcome {
 /// How many messages that aren't known a session leaves out, by their reasons.
 #[derive(Clone, Copy, Debug, PartialEq, Eq)]
 pub struct LeftOut {
+    /// What can't be opened bears their names in the store.
+    pub obstructed: u32,
     /// Their size is above the limit.
     pub too_large: u32,
     /// As many messages as a session may fetch come before them.
@@ -81,6 +83,7 @@ pub(crate) fn none_skipped() -> Skips
     Skips {
         all: 0,
         left_out: LeftOut {
+            obstructed: 0,
             too_large: 0,
             past_limit: 0,
             repeated: 0,
@@ -182,6 +185,17 @@ fn skipped_in(steps: &[Step]) -> usize
     steps.iter().filter(|step| !step.skip.is_none()).count()
 }
 
+/// How many of these steps pass over a message that is obstructed.
+fn obstructed_in(steps: &[Step]) -> usize
+    ensures value { result ≡ count_reasons is_for_odd steps.now }
+    ensures few { result ≤ length steps.now }
+{
+    steps
+        .iter()
+        .filter(|step| matches!(reason_of(**step), Some(Skip::Obstructed)))
+        .count()
+}
+
 /// How many of these steps pass over a message that is too large.
 fn too_large_in(steps: &[Step]) -> usize
     ensures value { result ≡ count_reasons is_for_size steps.now }
@@ -223,6 +237,7 @@ pub(crate) fn skips_of(steps: &[Step]) -> Skips
     Skips {
         all: skipped_in(steps) as u32,
         left_out: LeftOut {
+            obstructed: obstructed_in(steps) as u32,
             too_large: too_large_in(steps) as u32,
             past_limit: past_limit_in(steps) as u32,
             repeated: repeated_in(steps) as u32,

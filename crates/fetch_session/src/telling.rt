@@ -75,6 +75,7 @@ pub(crate) fn skip_text(skip: Skip, held: bool) -> &'static str
     match skip {
         Skip::Delivered if held => "held",
         Skip::Delivered => "delivered before",
+        Skip::Obstructed => "obstructed",
         Skip::TooLarge => "too large",
         Skip::PastLimit => "past the limit of this session",
         Skip::SameId => "same id as an earlier message",

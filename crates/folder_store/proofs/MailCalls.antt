@@ -43,10 +43,11 @@ left_twice [] = refl
 left_twice (s ∷ ss) = cond_both (is_left s) (s ∷ filter is_left ss) (filter is_left ss) (λ (ts : List MailFile). filter is_left ts ≡ ts)
     (λ here. rw here (ap (λ (ts : List MailFile). s ∷ ts) (left_twice ss))) (λ _. left_twice ss)
 
-pub listed_is : (folder : Folder) (a : Directories) → ((after_listing folder a).entries ≡ filter is_left a.entries)
-    × ((after_listing folder a).there ≡ a.there)
-listed_is New a = (refl, refl)
-listed_is Cur a = (refl, refl)
+pub listed_is : (folder : Folder) (a : Directories) (odd : List (List ℕ))
+    → ((record (after_listing folder a) { odd = odd }).entries ≡ filter is_left a.entries)
+    × ((record (after_listing folder a) { odd = odd }).there ≡ a.there)
+listed_is New a odd = (refl, refl)
+listed_is Cur a odd = (refl, refl)
 
 -- what is left once those that readers took away were taken from the others
 left_without : (ss : List MailFile) → IsWithout (files_at ss) (files_at (filter is_taken ss)) (files_at (filter is_left ss))
@@ -54,22 +55,25 @@ left_without [] = tt
 left_without (s ∷ ss) = ⊎_elim (λ gone. rw gone ([], files_at ss, reached_same (files_at (s ∷ ss)), left_without ss))
     (λ here. rw here (without_more _ _ _ (mail_at s) (mail_at s) (reaches_same (mail_at s)) (left_without ss))) (cases_Bool s.is_gone)
 
-taken_learns : (a : Directories) (new_rests cur_rests : Bool)
-    → Learns a (record (without_taken a) { new_rests = new_rests; cur_rests = cur_rests })
-taken_learns a new_rests cur_rests = record {
+taken_learns : (a : Directories) (new_rests cur_rests : Bool) (odd : List (List ℕ)) → (a.there.new ≡ false → odd ≡ a.odd)
+    → Learns a (record (without_taken a) { new_rests = new_rests; cur_rests = cur_rests; odd = odd })
+taken_learns a new_rests cur_rests odd same = record {
   there = refl;
+  odd = same;
   gone = files_at (filter is_taken a.entries);
   taken = refl;
   left = left_without a.entries;
 }
 
-listed_learns : (folder : Folder) (a : Directories) → Learns a (after_listing folder a)
+listed_learns : (folder : Folder) (a : Directories) (odd : List (List ℕ)) → (a.there.new ≡ false → odd ≡ a.odd)
+    → Learns a (record (after_listing folder a) { odd = odd })
 listed_learns New a = taken_learns a true a.cur_rests
 listed_learns Cur a = taken_learns a a.new_rests true
 
 pub leads_learns : (a b : Directories) → Leads a b → Learns a b
 leads_learns a b l = record {
   there = l.there;
+  odd = λ none. l.odd;
   gone = [];
   taken = l.taken ∙ sym (append-nil a.taken);
   left = files_reached a.entries b.entries l.keeps;
@@ -78,6 +82,7 @@ leads_learns a b l = record {
 pub learns_on : (a b c : Directories) → Learns a b → Learns b c → Learns a c
 learns_on a b c first next = record {
   there = next.there ∙ first.there;
+  odd = λ none. next.odd (ap (λ (f : Folders). f.new) first.there ∙ none) ∙ first.odd none;
   gone = first.gone ++ next.gone;
   taken = next.taken ∙ ap (λ (fs : List File). fs ++ next.gone) first.taken ∙ append_assoc a.taken first.gone next.gone;
   left = without_on first.gone next.gone (files_at a.entries) (files_at b.entries) (files_at c.entries) first.left next.left;
@@ -107,8 +112,9 @@ flushes_leads folder a b (Err fault) (m, v, inr (refused, e)) = rw e (named_lead
 
 pub lists_learns : {A B : Type 0} (folder : Folder) (sought : Sought) (a b : Directories)
     (r : Result (Vec (String A) B) StoreFault) → Then (ListsIn folder sought r) a b → Learns a b
-lists_learns folder sought a b (Ok names) (m, v, (there, told, e)) =
-    rw e (learns_on a m (after_listing folder m) (leads_learns a m (moved_leads a m v)) (listed_learns folder m))
+lists_learns folder sought a b (Ok names) (m, v, (there, told, same, e)) =
+    subst (Learns a) (sym e) (learns_on a m (record (after_listing folder m) { odd = b.odd })
+    (leads_learns a m (moved_leads a m v)) (listed_learns folder m b.odd same))
 lists_learns folder sought a b (Err fault) (m, v, lacks) = leads_learns a b (moved_same a m b v lacks.0)
 
 -- a call that told nothing of the files came after others
@@ -272,11 +278,11 @@ theirs {A} names files each = λ k d inside. each (base (string_bytes (get_or na
 
 pub told_one : {A B T : Type 0} (folder : Folder) (b0 b1 b2 : Directories) (names : Vec (String A) B) (done : T)
     → Then (ListsIn folder All (Ok names)) b0 b1 → Then (FlushesNamesIn folder (Ok done)) b1 b2 → TellsOne b0 folder (Ok names) b2
-told_one {A} folder b0 b1 b2 names done (m1, v1, (there, (order, same, are), e1)) (m2, v2, e2) = (
-  leads_after b0 b1 b2 (lists_learns folder All b0 b1 (Ok names) (m1, v1, (there, (order, same, are), e1)))
+told_one {A} folder b0 b1 b2 names done (m1, v1, (there, (order, same, are), kept, e1)) (m2, v2, e2) = (
+  leads_after b0 b1 b2 (lists_learns folder All b0 b1 (Ok names) (m1, v1, (there, (order, same, are), kept, e1)))
       (flushes_leads folder b1 b2 (Ok done) (m2, v2, e2)),
   (
-    rw (e2, v2.there, e1, (listed_is folder m1).1) there,
+    rw (e2, v2.there, ap (λ (d : Directories). d.there) e1, (listed_is folder m1 b1.odd).1) there,
     theirs names.items (files_at b2.entries) (λ name c. some_named b2.entries name (stay name c)),
   ),
   tt,
@@ -290,7 +296,8 @@ told_one {A} folder b0 b1 b2 names done (m1, v1, (there, (order, same, are), e1)
         (IsPermutation-sym after_listing (bases_told names.items) (told_part (entries_in folder m1.entries) names.items
         (subst (IsPermutation (map name_at (entries_in folder m1.entries))) (sym are) same))) c) in
         let still = some_kept {Will = Touch folder name} (filter is_left m1.entries) m2.entries
-        (rw (e1, (listed_is folder m1).0) at v2.moves) touched (λ s t m is. (m.keeps.title ∙ is.0, still_touches folder s t m is.1)) in
+        (rw (ap (λ (d : Directories). d.entries) e1, (listed_is folder m1 b1.odd).0) at v2.moves) touched
+        (λ s t m is. (m.keeps.title ∙ is.0, still_touches folder s t m is.1)) in
         rw e2 (some_map _ (named_by folder) m2.entries still (λ s is. named_touch folder s name is.0 is.1))
 
 -- ---- what the Maildir of the folders is, once the call was counted
@@ -300,12 +307,12 @@ IsCountAfter r n m = m ≡ (if refuses is_refusal r then n + 1 else n)
 
 -- the same with the files that are left
 abbrev left_in : Directories → Directories → Option Draft → ℕ → Maildir
-left_in a b begun n = record (maildir_in a begun n) { files = files_at b.entries; taken = b.taken }
+left_in a b begun n = record (maildir_in a begun n) { files = files_at b.entries; taken = b.taken; odd = b.odd }
 
 -- this holds of what readers left
 seen : {Does : Maildir → Type 0} (a b : Directories) (begun : Option Draft) (n : ℕ) → Learns a b
     → Does (left_in a b begun n) → AfterTaking (maildir_in a begun n) Does
-seen a b begun n l does = (left_in a b begun n, record { gone = l.gone; files = l.left; is = rw l.taken refl }, does)
+seen a b begun n l does = (left_in a b begun n, record { gone = l.gone; files = l.left; odd = l.odd; is = rw l.taken refl }, does)
 
 left_as : (a b : Directories) (begun : Option Draft) (m k n : ℕ) → Learns a b → m ≡ k
     → maildir_in b begun m ≡ record (left_in a b begun n) { failures = k }
@@ -401,6 +408,7 @@ module _ (b0 b1 b2 : Directories) (content name : List ℕ) (file : MadeFile)
     rw (put_is unknown) (record {
       there = before.there;
       taken = before.taken;
+      odd = before.odd;
       risen = files_at p.0.entries;
       reached = rw before.files (named_same (files_at b0.entries));
       files = map-append mail_at p.0.entries (put_as name file ∷ [])
@@ -425,6 +433,7 @@ module _ (b0 b1 b2 : Directories) (content name : List ℕ) (file : MadeFile)
       rw e (record {
         there = v.there ∙ ap (λ (d : Directories). d.there) (put_is unknown) ∙ before.there;
         taken = v.taken ∙ ap (λ (d : Directories). d.taken) (put_is unknown) ∙ before.taken;
+        odd = v.odd ∙ ap (λ (d : Directories). d.odd) (put_is unknown) ∙ before.odd;
         risen = risen;
         reached = subst (λ (fs : List File). AllZip MayBeNamed fs risen) (files_moved p.0.entries last.0 last.3
             ∙ before.files) (named_files last.0);
@@ -443,6 +452,7 @@ module _ (b0 b1 b2 : Directories) (content name : List ℕ) (file : MadeFile)
         record {
           there = same.there ∙ stands.1.there;
           taken = same.taken ∙ stands.1.taken;
+          odd = same.odd ∙ stands.1.odd;
           risen = stands.1.risen;
           reached = stands.1.reached;
           files = same.files ∙ stands.1.files;
@@ -467,7 +477,7 @@ pub begun_anew : {N : Type 0} (made : N → MadeFile) (a b : Directories) (begun
     × (maildir_in b (Some (draft_begun made (title, file))) n ≡ record (maildir_in a begun n) { begun = Some (draft name []) })
 begun_anew made a b begun title file name n same (m, v, (e, (there, empty))) =
     let h = same_rests_at a m b v e in
-    (rw (sym v.there) there, rw (h.there, h.taken, h.files, same, empty) refl)
+    (rw (sym v.there) there, rw (h.there, h.taken, h.odd, h.files, same, empty) refl)
 
 pub begin_missing : {N : Type 0} (made : N → MadeFile) (a b : Directories) (begun : Option Draft) (n : ℕ) (fault : StoreFault)
     → fault ≡ Missing → Then (MakesDraft made (Err fault)) a b → (a.there.tmp ≡ false) × (maildir_in b begun n ≡ maildir_in a begun n)
@@ -488,17 +498,17 @@ not_added made d title file new n k f up h = ((made new).content, rw (sym (same_
 -- ---- abandon and settle
 
 pub maildir_same : (a b : Directories) (begun : Option Draft) (n : ℕ) → SameFiles a b → maildir_in b begun n ≡ maildir_in a begun n
-maildir_same a b begun n h = rw (h.there, h.taken, h.files) refl
+maildir_same a b begun n h = rw (h.there, h.taken, h.odd, h.files) refl
 
 pub not_settled : (a b : Directories) (d f : Draft) (name : List ℕ) (n k : ℕ) (fault : StoreFault) → k ≡ n + 1 → IsUnknown name a
     → Some d ≡ Some f → PutsDurably {T = Unit {0}} a d.content name (Err fault) b
     → (maildir_in b None k ≡ maildir_refused (dropped (maildir_in a (Some d) n)))
     ⊎ AfterFlushing (maildir_in a (Some d) n) (λ risen. MayHave risen (mail name f.content) (maildir_in b None k))
-not_settled a b d f name n k fault up unknown h (inl none) = inl (rw (none.there, none.taken, none.files, up) refl)
+not_settled a b d f name n k fault up unknown h (inl none) = inl (rw (none.there, none.taken, none.odd, none.files, up) refl)
 not_settled a b d f name n k fault up unknown h (inr put) =
     let came = put unknown in
     let same : d.content ≡ f.content = ap (λ (x : Draft). x.content) (same_Some d f h) in
-    inr (came.1.risen, came.1.reached, (came.0, rw (came.1.there, came.1.taken, came.1.files, up, same) refl))
+    inr (came.1.risen, came.1.reached, (came.0, rw (came.1.there, came.1.taken, came.1.odd, came.1.files, up, same) refl))
 
 -- ---- what a flush of files does to the folders of a Maildir
 
@@ -510,7 +520,7 @@ module _ {A : Type 0} (stems : List (String A)) where
   pub files_flush : (a b : Directories) (begun : Option Draft) (n : ℕ) (done : Bool) → Then (FlushesFiles stems (Ok done)) a b
       → Flushes (maildir_in a begun n) stems (Ok done) (maildir_in b begun n)
   files_flush a b begun n true (m, v, e) =
-      rw (e, v.there, v.taken) (rw (flushed_at m.entries, files_moved a.entries m.entries v.moves) refl)
+      rw (e, v.there, v.taken, v.odd) (rw (flushed_at m.entries, files_moved a.entries m.entries v.moves) refl)
   files_flush a b begun n false (m, v, e) = moved_maildir a m b begun n v e
 
 pub files_refused : {A : Type 0} (stems : List (String A)) (a b : Directories) (begun : Option Draft) (n k : ℕ)

@@ -55,12 +55,13 @@ names_sought (Stems stems) names = filter (is_sought stems.now) names
 abbrev pub AreSought : Sought → List (List ℕ) → List (List ℕ) → Type 0
 AreSought sought names told = (order : List (List ℕ)) × IsPermutation names order × (told ≡ names_sought sought order)
 
--- `list`: the names of the files of a folder that are sought, in any order
+-- `list`: the names of the files of a folder that are sought, in any order; other names may be odd by now
 abbrev pub ListsIn : {A B : Type 0} → Folder → Sought → Result (Vec (String A) B) StoreFault → Directories
     → Directories → Type 0
 ListsIn folder sought (Ok names) old new = (is_there old.there folder ≡ true)
     × AreSought sought (map name_at (entries_in folder old.entries)) (map string_bytes names.items)
-    × (new ≡ after_listing folder old)
+    × (old.there.new ≡ false → new.odd ≡ old.odd)
+    × (new ≡ record (after_listing folder old) { odd = new.odd })
 ListsIn folder sought (Err fault) old new = Lacks old folder fault new
 
 -- `rests`: if the answer is true, the folder has rested since it was last listed
@@ -138,12 +139,14 @@ FlushesFiles stems answer old new = new ≡ old
 pub record SameFiles (old new : Directories) : Type 0 where
   pub there : new.there ≡ old.there
   pub taken : new.taken ≡ old.taken
+  pub odd : new.odd ≡ old.odd
   pub files : files_at new.entries ≡ files_at old.entries
 
 -- these files came after the others, whose names may be durable by now
 pub record BringsFiles (old : Directories) (added : List File) (new : Directories) : Type 0 where
   pub there : new.there ≡ old.there
   pub taken : new.taken ≡ old.taken
+  pub odd : new.odd ≡ old.odd
   pub risen : List File
   pub reached : AllZip MayBeNamed (files_at old.entries) risen
   pub files : files_at new.entries ≡ risen ++ added
@@ -152,11 +155,13 @@ pub record BringsFiles (old : Directories) (added : List File) (new : Directorie
 pub record Leads (old new : Directories) : Type 0 where
   pub there : new.there ≡ old.there
   pub taken : new.taken ≡ old.taken
+  pub odd : new.odd ≡ old.odd
   pub keeps : AllZip KeepsFile old.entries new.entries
 
--- the same, but files that readers took away may be known no longer, except as taken
+-- the same, but files that readers took away may be known no longer, except as taken, and other names may be odd
 pub record Learns (old new : Directories) : Type 0 where
   pub there : new.there ≡ old.there
+  pub odd : old.there.new ≡ false → new.odd ≡ old.odd
   pub gone : List File
   pub taken : new.taken ≡ old.taken ++ gone
   pub left : IsWithout (files_at old.entries) gone (files_at new.entries)

@@ -24,14 +24,15 @@ pub record MailFile : Type 0 where
   pub is_gone : Bool
 
 -- which of the folders are there; the files of `new` and `cur` in the order in which they came; whether `new`, and
--- `cur`, have rested since they were last listed: no file came, went or got another name there; and the files that
--- readers took away, in the order in which that was seen
+-- `cur`, have rested since they were last listed: no file came, went or got another name there; the files that readers
+-- took away, in the order in which that was seen; and names that were last found to be borne by what can't be opened
 pub record Directories : Type 0 where
   pub there : Folders
   pub entries : List MailFile
   pub new_rests : Bool
   pub cur_rests : Bool
   pub taken : List File
+  pub odd : List (List ℕ)
 
 -- what a flush of the names of `new`, or of `cur`, makes durable
 abbrev pub touches_new : MailFile → Bool
@@ -100,6 +101,7 @@ pub record RestsFile (folder : Folder) (s t : MailFile) : Type 0 where
 pub record Moved (old new : Directories) : Type 0 where
   pub there : new.there ≡ old.there
   pub taken : new.taken ≡ old.taken
+  pub odd : new.odd ≡ old.odd
   pub moves : AllZip MovesFile old.entries new.entries
   pub rests : (folder : Folder) → rests_in folder new ≡ true
       → (rests_in folder old ≡ true) × AllZip (RestsFile folder) old.entries new.entries
@@ -108,6 +110,7 @@ pub record Moved (old new : Directories) : Type 0 where
 pub record OneMoves (old : Directories) (front back : List MailFile) (s t : MailFile) (new : Directories) : Type 0 where
   pub there : new.there ≡ old.there
   pub taken : new.taken ≡ old.taken
+  pub odd : new.odd ≡ old.odd
   pub before : old.entries ≡ front ++ s ∷ back
   pub after : new.entries ≡ front ++ t ∷ back
   pub moves : MovesFile s t
@@ -132,6 +135,7 @@ maildir_in d begun failures = record {
   begun = begun;
   failures = failures;
   taken = d.taken;
+  odd = d.odd;
 }
 
 -- folders of which nothing is known
@@ -142,6 +146,7 @@ unknown_directories = record {
   new_rests = false;
   cur_rests = false;
   taken = [];
+  odd = [];
 }
 
 -- a Maildir of which nothing is known; no file is being written and no call was refused

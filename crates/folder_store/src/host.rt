@@ -261,21 +261,48 @@ impl<'a, R: Files + AllocGlobal> HostFolder<'a, R> {
         self.open_regular(name)?.sync_all()
     }
 
-    // Flushes the bytes of a regular file, or of one that a link leads to, and says whether the name is
-    // still there. It is refused if the name stands for anything else.
-    pub(crate) fn sync_if_there(&self, name: &str) -> io::Result<bool> {
+    // Opens a regular file, or one that a link leads to, if the name is still there. It is refused if the name
+    // stands for anything else.
+    fn open_if_there(&self, name: &str) -> io::Result<Option<Noted<'a, R::File>>> {
         let file = match self.open_regular(name) {
             Err(fault) if fault.kind() == ErrorKind::NotFound => {
                 self.check_gone(name)?;
-                return Ok(false);
+                return Ok(None);
             }
             answer => answer?,
         };
         if file.metadata()?.is_dir() {
             return Err(self.paths.refuse(name, IRREGULAR));
         }
-        file.sync_all()?;
-        Ok(true)
+        Ok(Some(file))
+    }
+
+    // Flushes the bytes of such a file, and says whether the name is still there; None if it can't be opened.
+    pub(crate) fn sync_if_there(&self, name: &str) -> io::Result<Option<bool>> {
+        match self.open_if_there(name) {
+            Ok(Some(file)) => {
+                file.sync_all()?;
+                Ok(Some(true))
+            }
+            Ok(None) => Ok(Some(false)),
+            Err(fault) if is_odd(&fault) => {
+                self.system.refusals.forget();
+                Ok(None)
+            }
+            Err(fault) => Err(fault),
+        }
+    }
+
+    // The path of what has a name and can't be opened, and why; None if it can be, or has gone.
+    pub(crate) fn obstruction(&self, name: &str) -> io::Result<Option<Vec<u8>>> {
+        match self.open_if_there(name) {
+            Ok(_) => Ok(None),
+            Err(fault) if is_odd(&fault) => match self.system.refusals.take() {
+                Some(refusal) => Ok(Some(refusal.text(self.system.alloc())?)),
+                None => Err(fault),
+            },
+            Err(fault) => Err(fault),
+        }
     }
 
     // What leads to nothing has gone, or is a link, which is refused.
@@ -316,11 +343,11 @@ impl<'a, R: Files + Clock + AllocGlobal + Clone + Drop> HostFolder<'a, R> {
     }
 
     // The names of the folder's files that are sought. A name that begins with a full stop or isn't UTF-8 is skipped,
-    // and so is a folder. The system is asked what each name stands for only if a folder may be
-    // among them, since that takes longer than all else.
+    // and so is a folder, except in `new`, where it is in the place of a file. The system is asked what each name
+    // stands for only if a folder may be among them, since that takes longer than all else.
     pub(crate) fn read_names(&self, sought: Sought<'_>) -> io::Result<FolderNames> {
         let mut found = list_names(self.system, self.paths.folder_path()?.as_str(), sought)?;
-        if may_hold_folders(&found.folder) {
+        if self.paths.folder != "new" && may_hold_folders(&found.folder) {
             found.names = self.files_among(found.names)?;
         }
         Ok(found)
@@ -332,6 +359,14 @@ impl<'a, R: Files + Clock + AllocGlobal + Clone + Drop> HostFolder<'a, R> {
 /// latter a folder passes for a file, which does no harm: no folder has the name of an id's file.
 fn may_hold_folders(folder: &Metadata) -> bool {
     folder.nlink() != 2
+}
+
+/// Whether what has a name can't be opened because of what it is, or of its rights.
+fn is_odd(fault: &io::Error) -> bool {
+    matches!(
+        fault.kind(),
+        ErrorKind::PermissionDenied | ErrorKind::FilesystemLoop | ErrorKind::NotADirectory
+    ) || (fault.kind() == ErrorKind::Other && fault.raw_os_error().is_none())
 }
 
 /// Whether a name stands for a folder; what has vanished was none.

@@ -4,7 +4,7 @@ ghost use Rattle.std.specs.Prelude.{◌≡◌, ◌<◌, ◌↔◌, IsTrue, Some}
 ghost use Rattle.std.specs.Duration.{as_nanos};
 ghost use Rattle.folder_store.specs.MailFolders.{unknown_directories};
 
-use crate::exact_listing::{ChangeTime, FolderNames};
+use crate::exact_listing::ChangeTime;
 use crate::file_folder::FileFolder;
 use crate::flush_pass::{Found, unsettled};
 use crate::host::{HostFolder, HostNewFile, answer_of};
@@ -43,6 +43,9 @@ pub struct HostFolders<'a, R: Files> {
     cur_folder: ListedFolder<'a, R>,
     /// When the folders were first listed for the present answer, by the clock that never goes back.
     start: Duration,
+    /// The names that were last found to be borne by what can't be opened; and of each the path, and why.
+    odd: Vec<String>,
+    obstructions: Vec<Vec<u8>>,
     /// Whether a call was refused because of what bears the name of a message.
     is_obstructed: bool,
 }
@@ -75,6 +78,8 @@ impl<'a, R: Files + Clock + AllocGlobal + Clone + Drop> HostFolders<'a, R> {
             new_folder: ListedFolder::of_maildir(system, path, "new", mark),
             cur_folder: ListedFolder::of_maildir(system, path, "cur", mark),
             start: Duration::ZERO,
+            odd: Vec::new(system.alloc()),
+            obstructions: Vec::new(system.alloc()),
             is_obstructed: false,
         }
     }
@@ -83,6 +88,11 @@ impl<'a, R: Files + Clock + AllocGlobal + Clone + Drop> HostFolders<'a, R> {
     /// that weren't changed for an hour. What can't be removed stays.
     pub fn sweep(&self, front: &str) {
         self.new_folder.host.sweep(front);
+    }
+
+    /// What bears the name of a message and can't be opened: the path of each, and why.
+    pub fn obstructions(&self) -> &[Vec<u8>] {
+        &self.obstructions
     }
 
     /// Whether a call was refused because of what bears the name of a message.
@@ -141,6 +151,26 @@ impl<'a, R: Files + Clock + AllocGlobal + Clone + Drop> HostFolders<'a, R> {
         Ok(false)
     }
 
+    // Those of a folder's names that lead to files. What can't be opened is noted; `new` is listed before `cur`.
+    fn without_odd(&mut self, folder: Folder, names: Vec<String>) -> io::Result<Vec<String>> {
+        if folder == Folder::New {
+            self.odd.clear();
+            self.obstructions.clear();
+        }
+        let mut files = Vec::with_capacity(self.system.alloc(), names.len())?;
+        for name in names {
+            let obstruction = self.folder_mut(folder).host.obstruction(name.as_str())?;
+            match obstruction {
+                None => files.push(name)?,
+                Some(text) => {
+                    self.odd.push(name)?;
+                    self.obstructions.push(text)?;
+                }
+            }
+        }
+        Ok(files)
+    }
+
     fn folder_mut(&mut self, folder: Folder) -> &mut ListedFolder<'a, R> {
         match folder {
             Folder::New => &mut self.new_folder,
@@ -179,7 +209,7 @@ fn set_of<'b>(alloc: Global, texts: &[&'b str]) -> Result<BTreeSet<&'b str>, All
     Ok(all)
 }
 
-/// Flushes those of a folder's files that have one of these stems.
+/// Flushes those of a folder's files that have one of these stems. What can't be opened is none.
 fn sync_named<R: Files + AllocGlobal>(
     host: &HostFolder<'_, R>,
     names: Vec<String>,
@@ -188,8 +218,9 @@ fn sync_named<R: Files + AllocGlobal>(
 ) -> io::Result<()> {
     for name in names {
         if stems.contains(stem(name.as_str())) {
-            let is_flushed = host.sync_if_there(name.as_str())?;
-            found.push(Found { name, is_flushed })?;
+            if let Some(is_flushed) = host.sync_if_there(name.as_str())? {
+                found.push(Found { name, is_flushed })?;
+            }
         }
     }
     Ok(())
@@ -220,9 +251,14 @@ impl<'a, R: Files + Clock + AllocGlobal + Clone + Drop> MailFolders for HostFold
     fn list(&mut self, folder: Folder, sought: Sought<'_>) -> Result<Vec<String>, StoreFault> {
         let refusals = self.system.refusals;
         let listed = self.folder_mut(folder);
-        let FolderNames { names, folder } = answer_of(refusals, listed.host.read_names(sought))?;
-        listed.change = Some(ChangeTime::of(&folder));
-        Ok(names)
+        let found = answer_of(refusals, listed.host.read_names(sought))?;
+        listed.change = Some(ChangeTime::of(&found.folder));
+        let files = self.without_odd(folder, found.names);
+        answer_of(refusals, files)
+    }
+
+    fn odd(&self) -> &[String] {
+        &self.odd
     }
 
     // The time of change that a listing gives had rested for a step of the clock, so that each later

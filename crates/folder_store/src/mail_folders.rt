@@ -19,7 +19,7 @@ pub enum Sought<'a> {
 /// A file is made without a name in the two, at a place that no other call sees, and then put into
 /// `new` at one step. No call removes a file that has a name.
 pub trait MailFolders {
-    ghost use Rattle.std.specs.Prelude.{◌≡◌, false, true, IfErr, IfOk, Ok};
+    ghost use Rattle.std.specs.Prelude.{◌≡◌, false, true, IfErr, IfOk, Ok, map, string_bytes};
     ghost use Rattle.mail_store.specs.Fault.{IsDeviceFault};
     ghost use Rattle.folder_store.specs.MailFolders.{Directories, Moved};
     ghost use Rattle.folder_store.specs.MailCalls.{ChecksIn, FlushesFiles, FlushesNamesIn, ListsIn, LooksUpNew};
@@ -41,12 +41,16 @@ pub trait MailFolders {
             × Then (ChecksIn folder result) (directories self.old) (directories self.new) }
         ensures fault { IfErr result IsDeviceFault };
 
-    /// Of the names of a folder's files at one moment those that are sought, in any order. Missing if it
-    /// isn't there.
+    /// Of the names of a folder's files at one moment those that are sought, in any order. What can't be opened is no
+    /// file (see `odd`). Missing if the folder isn't there.
     fn list(&mut self, folder: Folder, sought: Sought<'_>) -> Result<Vec<String>, StoreFault>
         ensures lists { sound self.new → sound self.old
             × Then (ListsIn folder sought.entry result) (directories self.old) (directories self.new) }
         ensures fault { IfErr result IsDeviceFault };
+
+    /// The names that the last listing found to be borne by what can't be opened, of those that it sought.
+    fn odd(&self) -> &[String]
+        ensures { sound self.now → map string_bytes result.now ≡ (directories self.now).odd };
 
     /// Whether a folder has rested since it was last listed: no file came, went or got another name
     /// there. False if that isn't known.

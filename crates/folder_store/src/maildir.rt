@@ -82,6 +82,12 @@ impl<'a, R: Files + Clock + AllocGlobal + Clone + Drop> HostMaildir<'a, R> {
         }
     }
 
+    /// What the last call that told names found to bear the name of a message and couldn't open: the path of each, and
+    /// why.
+    pub fn obstructions(&self) -> &[Vec<u8>] {
+        self.folders.obstructions()
+    }
+
     /// Whether a call was refused because of what bears the name of a message.
     pub fn is_obstructed(&self) -> bool {
         self.folders.is_obstructed()
@@ -126,6 +132,10 @@ impl<N: NewFile + Drop, F: MailFolders<File = N> + Drop> MaildirDisk for FolderM
             &mut self.failures,
             told_names(&mut self.folders, Sought::Stems(stems)),
         )
+    }
+
+    fn odd(&self) -> &[String] {
+        self.folders.odd()
     }
 
     fn check(&mut self, folder: Folder) -> Result<(), StoreFault> {

@@ -70,8 +70,8 @@ with_comma first second =
 -- how many messages were left out for each reason
 abbrev pub left_out_text : LeftOut → List ℕ
 left_out_text left =
-    with_comma (with_comma (left_out_reason left.too_large (codes " too large"))
-    (left_out_reason left.past_limit (codes " past the limit")))
+    with_comma (with_comma (with_comma (left_out_reason left.obstructed (codes " obstructed"))
+    (left_out_reason left.too_large (codes " too large"))) (left_out_reason left.past_limit (codes " past the limit")))
     (left_out_reason left.repeated (codes " with a repeated unique-id"))
 
 -- the line on messages that were left out although they aren't known, if there are any

@@ -52,6 +52,9 @@ pub trait Devices<'a> {
     /// nothing to fetch says no.
     fn keeps_rests(&self, store: &Store<Self::Maildir, Self::File>, is_idle: bool) -> bool;
 
+    /// What bears the names of messages in a Maildir and can't be opened: the path of each, and why.
+    fn obstructions<'b>(&self, store: &'b Store<Self::Maildir, Self::File>) -> &'b [Vec<u8>];
+
     /// Whether what bears the name of a message in a Maildir refused the run.
     fn is_obstructed(&self, store: &Store<Self::Maildir, Self::File>) -> bool;
 
@@ -113,6 +116,13 @@ impl<'a, R: Files + Clock + AllocGlobal + Clone + Drop> Devices<'a> for HostDevi
         };
         mbox.drop_ours();
         mbox.keeps_others() || (!is_idle && mbox.has_rests())
+    }
+
+    fn obstructions<'b>(&self, store: &'b Store<Self::Maildir, Self::File>) -> &'b [Vec<u8>] {
+        match store {
+            Store::Maildir(maildir) => maildir.obstructions(),
+            Store::Mboxrd(_) => &[],
+        }
     }
 
     fn is_obstructed(&self, store: &Store<Self::Maildir, Self::File>) -> bool {

@@ -100,6 +100,7 @@ fn close_left_out<E>(told: &Told, errors: &Errors<'_, E>) {
             too_large,
             past_limit,
             repeated,
+            ..
         } = report.left_out;
         errors.close(Subject::LeftOut(Counts {
             too_large: u64::from(too_large),

@@ -69,7 +69,8 @@ fn tell_store_refusal<E: Write>(alloc: Global, settings: &Settings, errors: &mut
 }
 
 /// Writes where is kept what was cut off from an mboxrd file; or what bears the name of a message in a
-/// Maildir and refused the run: else nobody learns why all later runs are refused too.
+/// Maildir and can't be opened, or refused the run: else nobody learns why that message isn't fetched, or why all
+/// later runs are refused too.
 fn tell_store<'a, M: Devices<'a>, E: Write>(
     alloc: Global,
     devices: &M,
@@ -81,6 +82,9 @@ fn tell_store<'a, M: Devices<'a>, E: Write>(
         errors.err.put(b"getmail: what was cut off from the mbox file is kept in ");
         errors.err.put(rests.as_bytes());
         errors.err.put(b"\n");
+    }
+    for obstruction in devices.obstructions(&left.store) {
+        put_reason(alloc, &left.settings, obstruction, errors);
     }
     if devices.is_obstructed(&left.store) {
         tell_store_refusal(alloc, &left.settings, errors);

@@ -41,10 +41,12 @@ fn with_comma(alloc: Global, first: String, second: String) -> Result<String, Al
 fn left_out_text(alloc: Global, left: &LeftOut) -> Result<String, AllocError>
     ensures { IfOk result (λ text. string_bytes text ≡ left_out_text left.now) }
 {
+    let odd = left_out_reason(alloc, left.obstructed, " obstructed")?;
     let large = left_out_reason(alloc, left.too_large, " too large")?;
     let past = left_out_reason(alloc, left.past_limit, " past the limit")?;
     let repeated = left_out_reason(alloc, left.repeated, " with a repeated unique-id")?;
-    let both = with_comma(alloc, large, past)?;
+    let first = with_comma(alloc, odd, large)?;
+    let both = with_comma(alloc, first, past)?;
     with_comma(alloc, both, repeated)
 }
 

@@ -5,7 +5,7 @@ use Rattle.std.specs.Prelude.{bytes_eq}
 use Rattle.std.proofs.lemmas.Bool.{cases_Bool}
 use Rattle.mail_store.specs.declared.maildir.disk.MaildirDisk.{Ghosts as DiskGhosts}
 use Rattle.mail_store.specs.declared.file.flat_file.FlatFile.{Ghosts as FileGhosts}
-use Rattle.mail_store.specs.FileName.{is_held, stem, stem_of}
+use Rattle.mail_store.specs.FileName.{is_held, is_odd, stem, stem_of}
 use Rattle.mail_store.specs.Maildir.{File, IsWithout, Maildir}
 use Rattle.pop3_wire.specs.{World.Message, declared.command.Command.Command, declared.command.Command.TheVariants.Dele}
 use Rattle.pop3_wire.specs.declared.wire.Wire.{Ghosts as WireGhosts}
@@ -56,11 +56,11 @@ its_message messages Is commands front behind number is all =
     (all_back (DeletesOneOf messages Is) front (Dele number ∷ behind) (rw is at all)).0
 
 -- what follows for what is wanted, and what is known also by another test
-wanted_by : {W S F : Type 0} (call : Call W S F) (is_known is_too : List ℕ → Bool) {P Is Too : Message → Type 0}
-    → FetchesWanted call is_known Is → ((id : List ℕ) → is_known id ≡ is_too id) → AllByRecursion P call.maildrop
-    → ((m : Message) → Is m → P m → Too m) → FetchesWanted call is_too Too
-wanted_by call is_known is_too {P = P} {Too = Too} wanted same all by =
-    subst (λ (k : List ℕ → Bool). FetchesWanted call k Too) (λ i id. same id i) (λ ended.
+wanted_by : {W S F : Type 0} (call : Call W S F) (is_odd is_known is_too : List ℕ → Bool) {P Is Too : Message → Type 0}
+    → FetchesWanted call is_odd is_known Is → ((id : List ℕ) → is_known id ≡ is_too id) → AllByRecursion P call.maildrop
+    → ((m : Message) → Is m → P m → Too m) → FetchesWanted call is_odd is_too Too
+wanted_by call is_odd is_known is_too {P = P} {Too = Too} wanted same all by =
+    subst (λ (k : List ℕ → Bool). FetchesWanted call is_odd k Too) (λ i id. same id i) (λ ended.
     let (count, each) = wanted ended in
     (count, all_both _ each (all_append P _ _ (all_filter P _ _ all) (all_at_most P _ _ (all_filter P _ _ all))) by))
 
@@ -86,12 +86,15 @@ keep_mail link disk file drop empty law mail devices fetch no_file no_record acc
             (m, at, rw (← shows'.maildir) (safe_held m.uid safe));
         retrieved = promised.promises.retrieved;
       },
-      wanted_by (as_call drop fetch vanished) (is_held mail.account promised.left) (λ id. false) promised.promises.wanted
+      subst (λ (shown : Maildir). FetchesWanted (as_call drop fetch vanished) (is_odd mail.account shown) (λ id. false)
+          (λ m. copies (disk.maildir fetch.after.store).files (stem_of mail.account m.uid) ≡ m.text ∷ [])) shows'.maildir
+          (wanted_by (as_call drop fetch vanished) (is_odd mail.account promised.after.maildir)
+          (is_held mail.account promised.left) (λ id. false) promised.promises.wanted
           (λ id. rw left_none refl) is.maildrop.each (λ m safe of. elim (kept'.holds m.uid of.legal) [
             | inl none ↦ absurd (true≢false (sym (safe_held m.uid safe)
                 ∙ no_copies (stem_of mail.account m.uid) promised.after.maildir.files none))
             | inr one ↦ rw (← shows'.maildir, of.text) one
-          ]),
+          ])),
     )
 
 -- ---- with an mboxrd file

@@ -33,7 +33,7 @@ use Rattle.fetch_session.specs.Opening.{SessionOpened, opening}
 use Rattle.fetch_session.specs.{CarryingOut.tasks_ahead, Readiness.merged_in}
 use Rattle.fetch_session.specs.Served.{AreAnswered, GoodSessionsStoreAll, refused_in}
 use Rattle.fetch_session.specs.Session.{Keeping, SessionIn, keeping}
-use Rattle.fetch_session.specs.Target.{AsEntries, AsFiles, Stores, Target, held_flags, stores_of, with_maildir}
+use Rattle.fetch_session.specs.Target.{AsEntries, AsFiles, Stores, Target, held_flags, odd_in, stores_of, with_maildir}
 use Rattle.fetch_session.specs.Task.{Task, deleting, fetching, says, tasks_in, tasks_planned, turns_ahead}
 use Rattle.mail_terms.proofs.ListLemmas.{all_append}
 use Rattle.fetch_runs.proofs.Lists.{all_front}
@@ -77,7 +77,8 @@ module _ (name word : List ℕ) (n : ℕ) where
 plan_ahead : (name word : List ℕ) (settings : Settings) (target : Target) (items : List Item) (now : ℕ) (store : Stores) (rows : List Row)
     → IsPlan name word (length items) (Opened 0) (turns_ahead (tasks_ahead settings target items now store rows))
 plan_ahead name word settings target items now store rows =
-    all_steps name word (length items) 0 1 (step_of settings rows items now) (λ message. refl) items (held_flags target store items)
+    all_steps name word (length items) 0 1 (step_of settings (odd_in target store) rows items now) (λ message. refl) items
+    (held_flags target store items)
     (omega arith) (omega arith) (omega arith)
 
 goods : (n : ℕ) (turns : List Turn) (replies : List WholeReply) → AllZip (IsSaid n) turns replies → AllZip IsGood turns replies

@@ -16,6 +16,7 @@ use Rattle.mail_store.specs.declared.file.flat_file.FlatFile.{Ghosts as FileGhos
 use Rattle.fetch_session.specs.{declared.account.Store.Store, declared.report.Outcome.Outcome, Refusal.RefusesByOutcome}
 use Rattle.fetch_session.specs.declared.account.Store.TheVariants.{Maildir as InMaildir, Mboxrd as InMbox}
 use Rattle.fetch_session.specs.Target.{IsSoundMaildir, IsSoundMbox, is_sound}
+use Rattle.mail_store.specs.FileName.{is_odd}
 use Rattle.fetch_session.specs.declared.report.Outcome.TheVariants.{Ended, Cut as WasCut}
 use Rattle.fetch_session.specs.declared.report.Report.{Report}
 use Rattle.fetch_session.specs.Session.{AccountFiles, MboxAccountFiles, Session, MboxSession}
@@ -121,7 +122,10 @@ module _ {M : Type 0} (sound : M → Type 0) (mail : M → DropMail) (honesty : 
   fetches conversations settings account now server loop before report after is_new valid serves session =
       let said = conversations settings account now unused before report loop.link after valid session in
       let follows : (steps : List Step) × FollowsPlan settings steps said.0 =
-      elim said.4 [ inl opens ↦ ([], opens.follows) | inr plan ↦ (planned settings plan.rows plan.items now, plan.follows) ] in
+      elim said.4 [
+        | inl opens ↦ ([], opens.follows)
+        | inr plan ↦ (planned settings (is_odd account before.maildir) plan.rows plan.items now, plan.follows)
+      ] in
       over settings (said.0, said.2, follows.0, follows.1) is_new serves
 
   pub mbox_fetches : MboxSessionsFollowPlans

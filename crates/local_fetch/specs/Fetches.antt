@@ -5,7 +5,7 @@ use Rattle.std.specs.Prelude.{slice_get}
 use Rattle.std.specs.List.{AllByRecursion, count_by}
 use Rattle.mail_store.specs.declared.maildir.disk.MaildirDisk.{Ghosts as DiskGhosts}
 use Rattle.mail_store.specs.declared.file.flat_file.FlatFile.{Ghosts as FileGhosts}
-use Rattle.mail_store.specs.FileName.{is_held, stem_of}
+use Rattle.mail_store.specs.FileName.{is_held, is_odd, stem_of}
 use Rattle.mail_store.specs.Maildir.{Maildir}
 use Rattle.pop3_wire.specs.{World.Message, Honest.HasSent, declared.command.Command.Command}
 use Rattle.pop3_wire.specs.declared.command.Command.TheVariants.{Dele}
@@ -139,7 +139,7 @@ FirstFetchesKeepMail {M} {D} {F} link disk file drop = (mail : Mail) (devices : 
     × (sent : List ℕ) × ((link.history fetch.wire).sent ≡ (link.history (loop_to fetch.server)).sent ++ sent)
     × SendsFor (shown_by drop fetch.server) (λ id. is_held mail.account (disk.maildir fetch.after.store) id ≡ true)
     fetch.report sent
-    × FetchesWanted (as_call drop fetch vanished) (λ id. false)
+    × FetchesWanted (as_call drop fetch vanished) (is_odd mail.account (disk.maildir fetch.after.store)) (λ id. false)
     (λ m. copies (disk.maildir fetch.after.store).files (stem_of mail.account m.uid) ≡ m.text ∷ [])
 
 -- ---- with an mboxrd file
@@ -200,5 +200,5 @@ MboxFirstFetchesKeepMail {M} {D} {F} link disk file drop = (text_of : List ℕ �
     × (fetch.report.outcome ≡ Ended
     → (mail_in (file.stored fetch.after.store).content ≡ mail_in (file.stored devices.store).content ++ entries_of done)
     × ((rows : List Row) × FileStandsFor (file.stored fetch.after.file).content rows None))
-    × (found : List Message) × FetchesWanted (as_call drop fetch vanished) (has_id (message_ids found))
+    × (found : List Message) × FetchesWanted (as_call drop fetch vanished) (λ id. false) (has_id (message_ids found))
     (λ m. has_id (message_ids done) m.uid ≡ true)

@@ -24,14 +24,14 @@ use Rattle.mail_terms.specs.UniqueId.{IsLegalId, HasIdRanges}
 use Rattle.mail_terms.specs.MaildirName.{base, is_colon}
 use Rattle.mail_terms.specs.Listing.{Item, has_item, is_flagged}
 use Rattle.mail_store.specs.FileName.{account_text, is_comma, is_lower_hex_digit, name_of, stem, stem_of, IsAccountText}
-use Rattle.mail_store.specs.FileName.{mail_file, names_id, is_held}
+use Rattle.mail_store.specs.FileName.{mail_file, names_id, is_held, is_odd}
 use Rattle.mail_store.specs.Maildir.{AllNamed, AreReached, AreTheirs, File, IsNamed, IsThere, IsWithout, Maildir}
 use Rattle.mail_store.specs.Maildir.{MayBeNamed, IsAsDurable, WereTaken, bases_told, name_in, names_of, with_file}
 use Rattle.mail_store.specs.declared.maildir.disk.Folder.{Folder}
 use Rattle.mail_store.specs.declared.maildir.disk.Folder.TheVariants.{New, Cur}
 use Rattle.mail_store.specs.MemoryMaildir.{MemoryMail, files_of_folder, shown}
 use Rattle.mail_store.specs.Held.{AreAmong, FoundDurable, HasDurable, HasStem, HasStems, any_name, flags_asked}
-use Rattle.mail_store.specs.Held.{flags_of, flags_sought, is_sought, sought_among}
+use Rattle.mail_store.specs.Held.{flags_of, flags_sought, is_sought, odd_flags, sought_among}
 use Rattle.mail_store.specs.Loss.{with_flushed, flushed_by, is_among}
 use Rattle.mail_terms.proofs.ListLemmas.{any_map, zip_on, zip_same}
 
@@ -263,12 +263,13 @@ without_more [] _ _ f g one are = (one, are)
 without_more (h ∷ gone) _ _ f g one (front, back, are, is) = (f ∷ front, back, (reaches_same f, are), without_more gone _ _ f g one is)
 
 pub none_taken : (maildir : Maildir) → WereTaken maildir maildir
-none_taken maildir = record { gone = []; files = reached_same _; is = rw append-nil refl }
+none_taken maildir = record { gone = []; files = reached_same _; odd = λ none. refl; is = rw append-nil refl }
 
 pub taken_on : (a b c : Maildir) → WereTaken a b → WereTaken b c → WereTaken a c
 taken_on a b c first next = record {
   gone = first.gone ++ next.gone;
   files = without_on _ _ _ _ _ first.files next.files;
+  odd = λ none. next.odd (ap (λ (m : Maildir). m.there.new) first.is ∙ none) ∙ first.odd none;
   is = cc (append_assoc a.taken first.gone next.gone);
 }
 
@@ -283,32 +284,28 @@ same_digits account a b =
 
 -- ---- all names and all items
 
--- the digits in the stems of the names show whether an id is held
-held_by_names : {Z : Type 0} (account : List ℕ) (maildir : Maildir) (found : List ℕ → Bool) (names : List (String Z))
-    → ((q : List ℕ) → found q ≡ any_name account q names) → IsPermutation (names_of maildir.files) (bases_told names)
-    → (uid : List ℕ) → found (encode_lower uid) ≡ is_held account maildir uid
-held_by_names account maildir found names texts told uid =
-    let any = list_any-IsPermutation (names_id account uid) (names_of maildir.files) (bases_told names) told in
-    texts (encode_lower uid) ∙ sym (simp (any_map, stem_base) at any)
+-- if all are asked for
+pub sought_all : (account : List ℕ) (maildir : Maildir) (items : List Item) (flags : List Bool)
+    → flags ≡ map (λ (item : Item). true) items → flags_sought account maildir items flags ≡ flags_of account maildir items
+sought_all account maildir items _ all = rw all (each items)
+  where
+    each : (items : List Item) → flags_sought account maildir items (map (λ (item : Item). true) items) ≡ flags_of account maildir items
+    each [] = refl
+    each (item ∷ items) = rw (each items) refl
 
--- and so which items are
-pub flags_found : {Z : Type 0} (account : List ℕ) (maildir : Maildir) (items : List Item) (found : List ℕ → Bool) (names : List (String Z))
-    → ((q : List ℕ) → found q ≡ any_name account q names) → IsPermutation (names_of maildir.files) (bases_told names)
-    → map (λ (item : Item). found (encode_lower item.uid)) items ≡ flags_of account maildir items
-flags_found account maildir _ found names texts told = simp (held_by_names account maildir found names texts told)
+-- ---- odd names
 
--- and which of those that are asked for
-pub flags_of_many : {Z : Type 0} (account : List ℕ) (maildir : Maildir) (items : List Item) (flags : List Bool)
-    (found : List ℕ → Bool) (names : List (String Z))
-    → ((q : List ℕ) → found q ≡ any_name account q names) → IsPermutation (names_of maildir.files) (bases_told names)
-    → sought_among found items flags ≡ flags_sought account maildir items flags
-flags_of_many _ _ [] _ _ _ _ _ = refl
-flags_of_many _ _ (_ ∷ _) [] _ _ _ _ = refl
-flags_of_many account maildir (item ∷ items) (_ ∷ flags) found names texts told =
-    rw (
-      held_by_names account maildir found names texts told item.uid,
-      flags_of_many account maildir items flags found names texts told,
-    ) refl
+odd_by_names : {Z : Type 0} (account : List ℕ) (maildir : Maildir) (found : List ℕ → Bool) (names : List (String Z))
+    → ((q : List ℕ) → found q ≡ any_name account q names) → map string_bytes names ≡ maildir.odd
+    → (uid : List ℕ) → found (encode_lower uid) ≡ is_odd account maildir uid
+odd_by_names account maildir found names texts told uid =
+    texts (encode_lower uid) ∙ sym (any_map (names_id account uid) string_bytes names) ∙ ap (list_any (names_id account uid)) told
+
+-- the digits in the stems of these names show which of the items are odd
+pub odd_found : {Z : Type 0} (account : List ℕ) (maildir : Maildir) (items : List Item) (found : List ℕ → Bool) (names : List (String Z))
+    → ((q : List ℕ) → found q ≡ any_name account q names) → map string_bytes names ≡ maildir.odd
+    → map (λ (item : Item). found (encode_lower item.uid)) items ≡ odd_flags account maildir items
+odd_found account maildir _ found names texts told = simp (odd_by_names account maildir found names texts told)
 
 -- ---- the names with some stems
 
@@ -471,6 +468,7 @@ pub taken_flushed : {A : Type 0} (stems : List (String A)) (old left : Maildir) 
 taken_flushed stems old left taken = record {
   gone = taken.gone;
   files = reached_without _ _ _ _ taken.files (reached_flushed _ _);
+  odd = taken.odd;
   is = cc;
 }
 

@@ -83,3 +83,7 @@ names_id account uid name = bytes_eq (stem_of account uid) (stem name)
 -- whether a file of `new` or `cur` holds the id
 abbrev pub is_held : List ℕ → Maildir → List ℕ → Bool
 is_held account maildir uid = list_any (λ (f : File). names_id account uid f.name) maildir.files
+
+-- whether what can't be opened bears a name of the id's files
+abbrev pub is_odd : List ℕ → Maildir → List ℕ → Bool
+is_odd account maildir uid = list_any (names_id account uid) maildir.odd

@@ -10,11 +10,19 @@ use Rattle.mail_terms.specs.Listing.{Item}
 use Rattle.mail_store.specs.{declared.fault.StoreFault.StoreFault, Loss.is_among}
 use Rattle.mail_store.specs.declared.fault.StoreFault.TheVariants.{Missing, Refused, NotMbox, NoMemory}
 use Rattle.mail_store.specs.Maildir.{AllNamed, File, IsDurableFile, Maildir, maildir_refused, ListsBoth}
-use Rattle.mail_store.specs.FileName.{is_held, names_id, stem, stem_of}
+use Rattle.mail_store.specs.FileName.{is_held, is_odd, names_id, stem, stem_of}
 
 -- whether the id of each item is held, in order
 abbrev pub flags_of : List ℕ → Maildir → List Item → List Bool
 flags_of account maildir items = map (λ (item : Item). is_held account maildir item.uid) items
+
+-- whether what can't be opened bears a name of the id of each item, in order
+abbrev pub odd_flags : List ℕ → Maildir → List Item → List Bool
+odd_flags account maildir items = map (λ (item : Item). is_odd account maildir item.uid) items
+
+-- each of these flags is what a test says of the item's id
+abbrev pub AreById : List Item → List Bool → Type 0
+AreById items flags = (test : List ℕ → Bool) × (flags ≡ map (λ (item : Item). test item.uid) items)
 
 -- a durable file that holds this id is there
 abbrev pub HasDurable : List ℕ → Maildir → List ℕ → Type 0

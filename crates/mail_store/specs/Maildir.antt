@@ -28,16 +28,16 @@ pub record Folders : Type 0 where
   pub new : Bool
   pub cur : Bool
 
--- what is known of a Maildir: its folders, the files of `new` and `cur` together in the order in
--- which they came, the file that is being written in `tmp`, how many calls were refused, and the
--- files that readers took away, in the order in which that was seen. A file that a reader takes away
--- is among the files until names are told again
+-- what is known of a Maildir: its folders, the files of `new` and `cur` together in the order in which they came, the
+-- file that is being written in `tmp`, how many calls were refused, the files that readers took away, in the order in
+-- which that was seen (until then each is among the files), and names that what can't be opened bears: it is no file
 pub record Maildir : Type 0 where
   pub there : Folders
   pub files : List File
   pub begun : Option Draft
   pub failures : ℕ
   pub taken : List File
+  pub odd : List (List ℕ)
 
 abbrev pub name_in : File → List ℕ
 name_in f = f.name
@@ -130,11 +130,12 @@ IsPart files part = (gone : List File) × IsWithout files gone part
 abbrev pub with_files : List File → Maildir → Maildir
 with_files files old = record old { files = files }
 
--- readers were seen to have taken some files away: what is missing is what `taken` gained
+-- readers were seen to have taken some files away: what is missing is what `taken` gained; and other names may be odd
 pub record WereTaken (old left : Maildir) : Type 0 where
   pub gone : List File
   pub files : IsWithout old.files gone left.files
-  pub is : left ≡ record old { files = left.files; taken = old.taken ++ gone }
+  pub odd : old.there.new ≡ false → left.odd ≡ old.odd
+  pub is : left ≡ record old { files = left.files; taken = old.taken ++ gone; odd = left.odd }
 
 -- this holds of what readers have left since names were last told; names and bytes of other files may have been flushed
 abbrev pub AfterTaking : Maildir → (Maildir → Type 0) → Type 0

@@ -63,6 +63,7 @@ memory_dirs files new_rests cur_rests taken = record {
   new_rests = new_rests;
   cur_rests = cur_rests;
   taken = taken;
+  odd = [];
 }
 
 -- the folder rests only if it did, and the file wasn't and isn't there
@@ -91,6 +92,7 @@ file_moves one files i x y new new' cur cur' taken below is moves in_new in_cur 
     one _ front back (stored_file x) (stored_file y) _ (record {
       there = refl;
       taken = refl;
+      odd = refl;
       before = before;
       after = after;
       moves = moves;

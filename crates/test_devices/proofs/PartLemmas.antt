@@ -15,6 +15,7 @@ module _ (n m : ℕ) (below : n < greatest_count) where
   taken_behind old left taken = record {
     gone = taken.gone;
     files = taken.files;
+    odd = taken.odd;
     is =
         ap (λ (m : Maildir). record m { failures = n }) taken.is;
   }

@@ -98,7 +98,8 @@ impl<D> Fused<D> {
 }
 
 impl<D: MaildirDisk> MaildirDisk for Fused<D> {
-    ghost use Rattle.std.specs.Prelude.{◌≡◌, ◌<◌, false, true, IfErr, IsSome, Ok, OnErr, OnOk, Some, None};
+    ghost use Rattle.std.specs.Prelude.{◌≡◌, ◌<◌, false, true, IfErr, IsSome, Ok, OnErr, OnOk, Some, None, map};
+    ghost use Rattle.std.specs.Prelude.{string_bytes};
     ghost use Rattle.mail_terms.specs.FailureCount.{Tallies, refuses, greatest_count};
     ghost use Rattle.mail_store.specs.Fault.{IsDeviceFault};
     ghost use Rattle.mail_store.specs.Held.{ListsAmong};
@@ -148,6 +149,13 @@ impl<D: MaildirDisk> MaildirDisk for Fused<D> {
         self.pass()?;
         let answer = self.device.names_among(stems);
         self.tally(answer)
+    }
+
+    fn odd(&self) -> &[String]
+        ensures { FusedIsSound D.sound self.now
+            → map string_bytes result.now ≡ (D.maildir (device_of self.now)).odd }
+    {
+        self.device.odd()
     }
 
     fn check(&mut self, folder: Folder) -> Result<(), StoreFault>

@@ -76,7 +76,7 @@ pub struct MemoryFolders {
 pub type MemoryFolderMaildir = FolderMaildir<MemoryFolders, MemoryNewFile>;
 
 impl Model for MemoryFolders {
-    ghost use Rattle.std.specs.Prelude.{map};
+    ghost use Rattle.std.specs.Prelude.{[], map};
     ghost use Rattle.mail_store.specs.Maildir.{all_there};
     ghost use Rattle.folder_store.specs.MailFolders.{Directories, files_at};
     ghost use Rattle.test_devices.specs.MemoryFolders.{stored_file};
@@ -89,6 +89,7 @@ impl Model for MemoryFolders {
       new_rests = m.new_rests;
       cur_rests = m.cur_rests;
       taken = files_at (map stored_file m.taken.items);
+      odd = [];
     } };
 }
 
@@ -395,6 +396,7 @@ impl MemoryFolders {
           new_rests = false;
           cur_rests = false;
           taken = [];
+          odd = [];
         } }
     {
         MemoryFolders {
@@ -529,6 +531,11 @@ impl MailFolders for MemoryFolders {
             Folder::Cur => self.cur_rests = true,
         }
         Ok(names)
+    }
+
+    fn odd(&self) -> &[String] {
+        let _ = self.files.len();
+        &[]
     }
 
     fn rests(&mut self, folder: Folder) -> Result<bool, StoreFault> {

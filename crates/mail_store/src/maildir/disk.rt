@@ -20,8 +20,11 @@ pub enum Folder {
 /// name, and take files away at any moment, also while a call runs. What calls see of a file is its
 /// name before that colon and its bytes, and neither its folder nor its marks; and only those that
 /// tell names see that a file was taken away.
+///
+/// What can't be opened, as a pipe or a file without rights, is no file: its name isn't told. See `odd`.
 pub trait MaildirDisk {
-    ghost use Rattle.std.specs.Prelude.{◌≡◌, ℕ, List, false, true, IfErr, IsSome, Ok, OnErr, OnOk, Some, None};
+    ghost use Rattle.std.specs.Prelude.{◌≡◌, ℕ, List, false, true, IfErr, IsSome, Ok, OnErr, OnOk, Some, None, map};
+    ghost use Rattle.std.specs.Prelude.{string_bytes};
     ghost use Rattle.mail_terms.specs.FailureCount.{Tallies, refuses};
     ghost use Rattle.mail_store.specs.Fault.{is_refusal, IsDeviceFault};
     ghost use Rattle.mail_store.specs.Held.{ListsAmong};
@@ -60,6 +63,10 @@ pub trait MaildirDisk {
             × AfterTaking (maildir self.old) (λ left. ListsAmong left stems.now result (maildir self.new)) }
         ensures fault { IfErr result IsDeviceFault }
         ensures count { Tallies (refuses is_refusal result) (maildir self.old).failures (maildir self.new).failures };
+
+    /// The names that the last call that told names found to be borne by what can't be opened, of those that it sought.
+    fn odd(&self) -> &[String]
+        ensures { sound self.now → map string_bytes result.now ≡ (maildir self.now).odd };
 
     /// Whether a folder is there: Missing if it isn't, else Refused. Its names aren't read or flushed.
     fn check(&mut self, folder: Folder) -> Result<(), StoreFault>

@@ -8,8 +8,8 @@ ghost use Rattle.mail_store.specs.Fault.{is_refusal};
 ghost use Rattle.mail_store.specs.FileName.{stem, is_held};
 ghost use Rattle.mail_terms.specs.Listing.{Item, has_item, is_flagged};
 ghost use Rattle.mail_store.specs.Maildir.{AfterTaking, Maildir};
-ghost use Rattle.mail_store.specs.Held.{Finds, FindsAsked, FindsDurable, FindsFlags, HasStems, any_name, flags_of};
-ghost use Rattle.mail_store.specs.Held.{flags_sought, has_text, sought_among};
+ghost use Rattle.mail_store.specs.Held.{AreById, Finds, FindsAsked, FindsDurable, FindsFlags, HasStems, any_name};
+ghost use Rattle.mail_store.specs.Held.{flags_of, flags_sought, has_text, odd_flags, sought_among};
 
 use crate::account::AccountId;
 use crate::fault::StoreFault;
@@ -28,9 +28,6 @@ pub struct Query<'a> {
     /// those are to be flushed.
     pub flags: &'a [bool],
 }
-
-/// For how many ids at most the names are compared while they are listed; for more all names are kept.
-const MOST_STEMS: usize = 2_000;
 
 /// How many times more it is asked what is held, because readers took away files that were to be flushed.
 const MOST_TIMES: u32 = 8;
@@ -162,7 +159,7 @@ pub fn flags_tell_what_is_held()
 /// there, Refused if the device refused, NoMemory if memory runs out. The Maildir stays as it was,
 /// but for files that readers took away; and if flags are returned, each of its names is durable.
 ///
-/// With m files and n items the time grows as (m + n) log m.
+/// With m files and n items the time grows as (m + n) log n.
 pub fn held<D: MaildirDisk>(
     alloc: Global,
     disk: &mut D,
@@ -175,36 +172,30 @@ pub fn held<D: MaildirDisk>(
     ensures length { IfOk result (λ flags. vec_len flags ≡ length listing.now) }
     ensures fault { result ≢ Err StoreFault.NotMbox }
 {
-    let names = disk.all_names()?;
-    // All of the account's names begin alike, so only what follows is compared.
-    let mut found = BTreeSet::new(alloc);
-    add_digits(&mut found, account.as_str(), &names)?;
-    Ok(flags_of(alloc, &found, listing)?)
+    let all = vec![in alloc; true; listing.len() as usize]?;
+    held_of(alloc, disk, account, listing, &all)
 }
 
-/// As `held`, but only of the items for which a flag is set; the others' flags are false.
-fn held_of_many<D: MaildirDisk>(
+/// Whether what can't be opened bears a name of each item's id, as the last call that told names found. The flags are
+/// in the listing's order.
+pub fn odd_flags<D: MaildirDisk>(
     alloc: Global,
-    disk: &mut D,
+    disk: &D,
     account: &AccountId,
     listing: &Listing,
-    flags: &[bool],
-) -> Result<Vec<bool>, StoreFault>
-    requires { length flags.now ≡ length listing.now }
-    ensures finds { D.sound disk.new → D.sound disk.old × AfterTaking (D.maildir disk.old)
-        (λ left. FindsFlags (flags_sought account.now left listing.now flags.now) left result (D.maildir disk.new)) }
-    ensures count { Tallies (refuses is_refusal result) (D.maildir disk.old).failures (D.maildir disk.new).failures }
-    ensures length { IfOk result (λ flags. vec_len flags ≡ length listing.now) }
-    ensures fault { result ≢ Err StoreFault.NotMbox }
+) -> Result<Vec<bool>, AllocError>
+    ensures flags { D.sound disk.now
+        → IfOk result (λ flags. flags.items ≡ odd_flags account.now (D.maildir disk.now) listing.now) }
+    ensures by_ids { IfOk result (λ flags. AreById listing.now flags.items) }
 {
-    let all = disk.all_names()?;
     let mut found = BTreeSet::new(alloc);
-    add_digits(&mut found, account.as_str(), &all)?;
-    Ok(flags_sought(alloc, &found, listing, flags)?)
+    add_digits(&mut found, account.as_str(), disk.odd())?;
+    flags_of(alloc, &found, listing)
 }
 
-/// As `held_of_many`, for few ids: no name is kept that none of these has.
-fn held_of_few<D: MaildirDisk>(
+/// As `held`, but only of the items for which a flag is set; the others' flags are false. No name is kept that none of
+/// these has.
+fn held_of<D: MaildirDisk>(
     alloc: Global,
     disk: &mut D,
     account: &AccountId,
@@ -244,10 +235,7 @@ pub fn held_asked<D: MaildirDisk>(
     if asked.all {
         return held(alloc, disk, account, listing);
     }
-    if asked.flags.iter().filter(|flag| **flag).count() > MOST_STEMS {
-        return held_of_many(alloc, disk, account, listing, asked.flags);
-    }
-    held_of_few(alloc, disk, account, listing, asked.flags)
+    held_of(alloc, disk, account, listing, asked.flags)
 }
 
 /// As `flush_held`, but asks what is held this many times more.

@@ -38,6 +38,7 @@ impl Model for MemoryMaildir {
         begun = option_map draft_of d.begun;
         failures = d.failures;
         taken = [];
+        odd = [];
       };
       files = map memory_file d.files.items;
     } };
@@ -51,7 +52,7 @@ impl MemoryMaildir {
     /// A Maildir without files.
     pub fn new(alloc: Global) -> MemoryMaildir
         ensures maildir { result ≡ record {
-          maildir = record { there = all_there; files = []; begun = None; failures = 0; taken = [] };
+          maildir = record { there = all_there; files = []; begun = None; failures = 0; taken = []; odd = [] };
           files = [];
         } }
         ensures sound { ⟦<MemoryMaildir as MaildirDisk>⟧.sound result }
@@ -170,6 +171,11 @@ impl MaildirDisk for MemoryMaildir {
             Ok(names) => Ok(names),
             Err(_) => Err(refuse(&mut self.failures)),
         }
+    }
+
+    fn odd(&self) -> &[String] {
+        let _ = self.files.len();
+        &[]
     }
 
     // It takes no memory, so below the greatest count it isn't refused.

@@ -1,75 +1,20 @@
-use Rattle.std.proofs.Common.{◌≡◌, ℕ, ◌+◌, Bool, true, false, ◌&&◌, ◌∙◌, ap, inl, inr, arith, refl, cond, get_or, Option, Some, None, not}
-use Rattle.std.specs.Prelude.{is_none, is_some}
-use Rattle.fetch_rules.specs.{declared.plans.Skip.Skip, Wanted.skip_for, Due.may_delete}
-use mir.Val.{bool_byte}
-use Rattle.std.proofs.lemmas.Bool.{cases_Bool}
-use Rattle.mail_terms.specs.Listing.{Item, is_first, is_last}
-use Rattle.fetch_rules.specs.Plan.{seen_since, is_deleted}
-use Rattle.fetch_rules.proofs.PlanLemmas.{never_due, HasPlanned-more, HasPlanned-all, retrieved-planned, flags_count, flag_at}
+use Rattle.std.proofs.Common.{◌∙◌, ap, false, length, sym}
+use Rattle.std.proofs.lemmas.List.{length-map}
+use Rattle.std.proofs.{lemmas.Result.IfOk-weaker, lemmas.Simd.splat_is_map}
+use Rattle.fetch_rules.specs.Wanted.{none_odd}
+use Rattle.fetch_rules.proofs.PlanLemmas.{retrieved-planned}
 use Rattle.fetch_rules.proofs.plans.plan.Goals as goal
 
-byte_of : (b : Bool) → bool_byte b ≡ cond b 1 0
-byte_of true = refl
-byte_of false = refl
-
-none_by : (skip : Option Skip) (none : Bool) → is_some skip ≡ not none → none ≡ is_none skip
-none_by None true is = refl
-none_by None false is = is
-none_by (Some why) true is = is
-none_by (Some why) false is = refl
-
-pub index-first-requires : goal.index-first-requires
-index-first-requires g c =
-    omega (
-      arith,
-      flags_count (is_first c.args.listing.now) c.args.listing.now c.in_ok-firsts.firsts.items c.in_ok-firsts.ensures,
-    )
-
-pub index-requires : goal.index-requires
-index-requires g c = omega (arith, c.in_ok-lasts.ensures.count)
-
-first : (g : _) (c : goal.After-from-fetched g) (item : Item)
-    → c.index-first.result.now ≡ is_first c.args.listing.now (c.loop-i.i + 1, get_or c.args.listing.now c.loop-i.i item)
-first g c = flag_at (is_first c.args.listing.now) c.args.listing.now c.in_ok-firsts.firsts.items c.loop-i.i
-    c.index-first.result.now c.in_ok-firsts.ensures (omega arith) c.index-first.ensures
-
-alone : (g : _) (c : goal.After-from-fetched g) (item : Item) → may_delete c.args.settings.now ≡ true
-    → (c.index-first.result.now && c.index.result.now)
-    ≡ (is_first c.args.listing.now (c.loop-i.i + 1, get_or c.args.listing.now c.loop-i.i item) && is_last
-    c.args.listing.now (c.loop-i.i + 1, get_or c.args.listing.now c.loop-i.i item))
-alone g c item asked = rw (
-  first g c item,
-  flag_at (is_last c.args.listing.now) c.args.listing.now
-      c.in_ok-lasts.lasts.items c.loop-i.i c.index.result.now (c.in_ok-lasts.ensures.flags asked) (omega arith) c.index.ensures item,
-) refl
-
-skip : (g : _) (c : goal.After-from-fetched g) (item : Item) → c.skip_for-skip.result ≡ skip_for c.args.settings.now c.args.seen.now.rows
-    (is_first c.args.listing.now (c.loop-i.i + 1, get_or c.args.listing.now c.loop-i.i item)) c.is_full-full.result
-    (get_or c.args.listing.now c.loop-i.i item)
-skip g c item = c.skip_for-skip.ensures item ∙ ap (λ (b : Bool). skip_for c.args.settings.now c.args.seen.now.rows b c.is_full-full.result
-    (get_or c.args.listing.now c.loop-i.i item)) (first g c item)
-
-deleted : (g : _) (c : goal.After-from-fetched g) (item : Item)
-    → c.is_done_with-delete.result ≡ is_deleted c.args.settings.now c.args.seen.now.rows c.args.listing.now c.args.now
-    c.is_none.result (c.loop-i.i + 1, get_or c.args.listing.now c.loop-i.i item)
-deleted g c item = c.is_done_with-delete.ensures item ∙ elim (cases_Bool (may_delete c.args.settings.now)) [
-  | inl asked ↦ rw (alone g c item asked) refl
-  | inr never ↦ rw (never_due c.args.settings.now c.args.now
-      (seen_since c.args.seen.now.rows (get_or c.args.listing.now c.loop-i.i item).uid c.args.now) never) refl
-]
-
-pub loop-i-preserved : goal.loop-i-preserved
-loop-i-preserved g c =
-    rw c.in_ok-push.ensures.items (HasPlanned-more _ _ _ _ _ _ _ c.is_full-full.result c.skip_for-skip.result c.is_done_with-delete.result _
-    c.loop-i.invariant (omega arith) c.is_full-full.ensures (skip g c)
-    (λ item. deleted g c item ∙ ap (λ (b : Bool). is_deleted c.args.settings.now c.args.seen.now.rows c.args.listing.now
-    c.args.now b (c.loop-i.i + 1, get_or c.args.listing.now c.loop-i.i item))
-    (none_by c.skip_for-skip.result c.is_none.result c.is_none.ensures))
-    (ap (λ (k : ℕ). c.loop-i.fetched + k) (c.from-fetched.ensures ∙ byte_of c.is_none-in-loop-i.result
-    ∙ ap (λ (b : Bool). cond b 1 0) (none_by c.skip_for-skip.result c.is_none-in-loop-i.result c.is_none-in-loop-i.ensures))))
+pub plan_without-requires : goal.plan_without-requires
+plan_without-requires g c = ap length (c.deref.ensures.value ∙ c.in_ok-none.ensures.items_if_clones_equal (λ y same. same)
+    ∙ splat_is_map c.args.listing.now c.len.result false (sym c.len.ensures.count)) ∙ length-map c.args.listing.now (λ _. false)
 
 pub returns-clause-steps : goal.returns-clause-steps
-returns-clause-steps g c = HasPlanned-all _ _ _ _ _ _ _ c.loop-i.invariant (omega arith)
+returns-clause-steps g c = c.plan_without.ensures none_odd (c.deref.ensures.value
+    ∙ c.in_ok-none.ensures.items_if_clones_equal (λ y same. same)
+    ∙ splat_is_map c.args.listing.now c.len.result false (sym c.len.ensures.count))
 
 pub returns-clause-fetched : goal.returns-clause-fetched
-returns-clause-fetched g c = rw (returns-clause-steps g c) (retrieved-planned c.args.settings.now c.args.seen.now.rows _ c.args.now)
+returns-clause-fetched g c = IfOk-weaker c.plan_without.result _ _
+    (λ steps is. rw is (retrieved-planned c.args.settings.now none_odd c.args.seen.now.rows c.args.listing.now c.args.now))
+    (returns-clause-steps g c)

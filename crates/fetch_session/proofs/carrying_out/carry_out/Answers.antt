@@ -80,8 +80,9 @@ ready_to_do g c =
         ← c.prepare.ensures.store.kind,
         flags_same g.D.MaildirDisk g.F.FlatFile c.prepare.new.work.store account items,
       ) (fresh_firsts account (stores_of g.D.MaildirDisk g.F.FlatFile c.prepare.new.work.store).maildir []
-          (planned c.args.terms.settings.now rows items c.args.terms.now) items
-          (c.only_firsts_are_fetched.ensures c.args.terms.settings.now rows items c.args.terms.now) c.requires.legal);
+          (planned c.args.terms.settings.now c.in_ok-ready.ensures.plans.is_odd rows items c.args.terms.now) items
+          (c.only_firsts_are_fetched.ensures c.args.terms.settings.now c.in_ok-ready.ensures.plans.is_odd rows items
+          c.args.terms.now) c.requires.legal);
       named = λ kept. named_ahead steps items held (subst (λ (ss : List Step). All IsQuiet ss
           ⊎ AllNamed (stores_of g.D.MaildirDisk g.F.FlatFile c.prepare.new.work.store).maildir.files)
           (sym c.deref-2.ensures.value) (c.in_ok-ready.ensures.named kept));
@@ -147,8 +148,9 @@ told : (g : _) (c : After-do_steps g) (store : Store g.row.D.Denot g.row.F.Denot
     → (is_sound g.D.MaildirDisk g.F.FlatFile store → g.F.FlatFile.sound file
     → is_sound g.D.MaildirDisk g.F.FlatFile c.prepare.new.work.store × g.F.FlatFile.sound c.prepare.new.work.ledger.file)
     → HearsOne g.L.Listener.hears (IsPlanned c.args.terms.settings.now c.args.terms.now (length c.args.listing.now) c.skips_of.result
-    (λ items rows. (items ≡ c.args.listing.now) × AreMerged g.D.MaildirDisk g.F.FlatFile c.args.terms.account.now c.args.terms.now
-    c.args.work.now.store c.args.work.now.ledger.file store file items rows)) c.args.listener.now c.do_steps.new.listener
+    (λ items rows plan. (items ≡ c.args.listing.now) × AreMerged g.D.MaildirDisk g.F.FlatFile c.args.terms.settings.now
+    c.args.terms.account.now c.args.terms.now c.args.work.now.store c.args.work.now.ledger.file store file items rows plan))
+    c.args.listener.now c.do_steps.new.listener
 told g c store file back =
     let settings = c.args.terms.settings.now in
     let items = c.args.listing.now in
@@ -156,13 +158,22 @@ told g c store file back =
     let rows = c.prepare.new.work.ledger.seen.rows in
     heard_then g.L.Listener.hears g.met.L.Listener.hears_on _ _ _ _ (heard_as g.L.Listener.hears _ _ _ _ (λ plan is. record {
       items = items;
+      is_odd = c.in_ok-ready.ensures.plans.is_odd;
       rows = rows;
       known = (
         refl,
         λ d f.
             let before = back d f in
-            let ready = (c.in_ok-ready.ensures.readies before.0 before.1).2 in
-            (ready.0, ready.1, (ready.2.readies.was, ready.2.readies.stood, ready.2.readies.rows)),
+            let ready = (c.in_ok-ready.ensures.readies before.0 before.1).2 in (
+              ready.0,
+              ready.1,
+              (
+                ready.2.readies.was,
+                ready.2.readies.stood,
+                ready.2.readies.rows,
+                is ∙ c.deref-2.ensures.value ∙ ready.2.readies.steps,
+              ),
+            ),
       );
       total_is = refl;
       skips = c.skips_of.ensures ∙ ap skips_of (c.deref.ensures.value ∙ c.in_ok-ready.ensures.plans.steps);

@@ -68,6 +68,7 @@ returns-clause-link g c = link_on_tail (omega (arith, c.len-counts.ensures.count
 pub returns-clause-heard : goal.returns-clause-heard
 returns-clause-heard g c = heard_as g.L.Listener.hears _ _ _ _ (λ plan is. record {
   items = is.items;
+  is_odd = is.is_odd;
   rows = is.rows;
   known = (
     λ w.

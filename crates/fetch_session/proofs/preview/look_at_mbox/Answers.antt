@@ -1,4 +1,4 @@
-use Rattle.std.proofs.Common.{false, sym, ◌∙◌}
+use Rattle.std.proofs.Common.{false, rules, sym, ◌∙◌}
 use Rattle.std.proofs.lemmas.Simd.{splat_is_map}
 use Rattle.fetch_session.proofs.TalkLemmas.{err_is}
 use Rattle.fetch_session.proofs.SessionLemmas.{judged_bad, judged_full, judged_good}
@@ -11,10 +11,27 @@ returns-in_err-stored-clause-looks g c = rw (err_is c.from_residual.ensures.1) (
 pub returns-clause-looks : goal.returns-clause-looks
 returns-clause-looks g c = λ d. let judges = c.in_ok-stored.ensures d in (
   judges.0,
-  judged_good c.args.seen.now.intent _ c.args.listing.now (record { held = c.in_ok-held.held; stored = c.in_ok-stored.stored }) _ judges.1
+  judged_good c.args.seen.now.intent _ c.args.listing.now
+      (record { held = c.in_ok-held.held; odd = c.in_ok-odd.odd; stored = c.in_ok-stored.stored }) _ judges.1
       (c.in_ok-held.ensures.items_if_clones_equal (λ y same. same)
-      ∙ splat_is_map c.args.listing.now c.len.result false (sym c.len.ensures.count)),
+      ∙ splat_is_map c.args.listing.now c.len.result false (sym c.len.ensures.count))
+      (c.in_ok-odd.ensures.items_if_clones_equal (λ y same. same)
+      ∙ splat_is_map c.args.listing.now c.len-2.result false (sym c.len-2.ensures.count)),
 )
+
+pub returns-clause-flags : goal.returns-clause-flags
+returns-clause-flags g c = (
+  search rules,
+  (
+    λ uid. false,
+    c.in_ok-odd.ensures.items_if_clones_equal (λ y same. same)
+        ∙ splat_is_map c.args.listing.now c.len-2.result false (sym c.len-2.ensures.count),
+  ),
+)
+
+pub returns-in_err-odd-clause-looks : goal.returns-in_err-odd-clause-looks
+returns-in_err-odd-clause-looks g c = rw (err_is c.from_residual-in_err-odd.ensures.1) (λ d. let judges = c.in_ok-stored.ensures d in
+    (judges.0, judged_full c.args.seen.now.intent _ c.args.listing.now c.in_ok-stored.stored _ judges.1))
 
 pub returns-in_err-held-clause-looks : goal.returns-in_err-held-clause-looks
 returns-in_err-held-clause-looks g c = rw (err_is c.from_residual-in_err-held.ensures.1) (λ d. let judges = c.in_ok-stored.ensures d in

@@ -1,4 +1,4 @@
-use Rattle.std.proofs.Common.{false, sym, refl, ◌∙◌, ℕ, List, Option, None, Some}
+use Rattle.std.proofs.Common.{false, rules, sym, refl, ◌∙◌, ℕ, List, Option, None, Some}
 use Rattle.std.proofs.{lemmas.Result.err_from_is_err_and, lemmas.Simd.splat_is_map}
 use Rattle.fetch_record.specs.Record.{Intent}
 use Rattle.mail_store.specs.Durable.{Trusted, MayLeave}
@@ -26,9 +26,21 @@ returns-clause-asks g c = λ kept.
     let checks = c.in_ok-check_mbox.ensures.checks kept in
     and_so (c.in_ok-stored.ensures.settles checks.0)
     (λ sound settles. asks_ok c.args.seen.now.intent _ _ _ c.in_ok-stored.stored c.args.listing.now
-    (record { held = c.in_ok-held.held; stored = c.in_ok-stored.stored }) settles checks.1 refl
+    (record { held = c.in_ok-held.held; odd = c.in_ok-odd.odd; stored = c.in_ok-stored.stored }) settles checks.1 refl
     (c.in_ok-held.ensures.items_if_clones_equal (λ y same. same)
-    ∙ splat_is_map c.args.listing.now c.len.result false (sym c.len.ensures.count)))
+    ∙ splat_is_map c.args.listing.now c.len.result false (sym c.len.ensures.count))
+    (c.in_ok-odd.ensures.items_if_clones_equal (λ y same. same)
+    ∙ splat_is_map c.args.listing.now c.len-2.result false (sym c.len-2.ensures.count)))
+
+pub returns-clause-flags : goal.returns-clause-flags
+returns-clause-flags g c = (
+  search rules,
+  (
+    λ uid. false,
+    c.in_ok-odd.ensures.items_if_clones_equal (λ y same. same)
+        ∙ splat_is_map c.args.listing.now c.len-2.result false (sym c.len-2.ensures.count),
+  ),
+)
 
 pub returns-clause-durable : goal.returns-clause-durable
 returns-clause-durable g c = λ kept trust.
@@ -54,6 +66,9 @@ returns-in_err-check_mbox-clause-leaves g c = checked g (goal.at.returns-in_err-
 
 pub returns-in_err-held-clause-leaves : goal.returns-in_err-held-clause-leaves
 returns-in_err-held-clause-leaves g c = checked g (goal.at.returns-in_err-held-clause-leaves g c).After-check_mbox
+
+pub returns-in_err-odd-clause-leaves : goal.returns-in_err-odd-clause-leaves
+returns-in_err-odd-clause-leaves g c = checked g (goal.at.returns-in_err-odd-clause-leaves g c).After-check_mbox
 
 pub returns-clause-leaves : goal.returns-clause-leaves
 returns-clause-leaves g c = checked g (goal.at.returns-clause-leaves g c).After-check_mbox

@@ -1,21 +1,26 @@
 use Rattle.std.proofs.Common.{ap, inl, inr, length, refl, sym, ◌∙◌, Ok, Err}
 use Rattle.fetch_session.proofs.{TalkLemmas.err_is, SceneLemmas.read_keeps}
 use Rattle.fetch_session.specs.{Record.record_state_in, Target.target_of}
-use Rattle.fetch_session.proofs.ReadyLemmas.{planned_length, all_have_rows, asked, found_as_held, not_before, not_found, ready, unready}
+use Rattle.fetch_session.proofs.ReadyLemmas.{all_have_rows, asked, by_ids_length, found_as_held, not_before, not_found}
+use Rattle.fetch_session.proofs.ReadyLemmas.{planned_length, ready, unready}
 use Rattle.fetch_session.proofs.readiness.prepare_by_store.Goals as goal
 
+pub plan_without-requires : goal.plan_without-requires
+plan_without-requires g c = ap length c.deref.ensures.value ∙ by_ids_length _ _ c.in_ok-found.ensures.flags.1
+
 pub returns-clause-plans : goal.returns-clause-plans
-returns-clause-plans g c = record {
-  steps = c.in_ok-steps.ensures.steps;
-  lengths = (
-    ap length c.in_ok-steps.ensures.steps
-        ∙ planned_length c.args.terms.settings.now c.take_in.new.seen.rows c.args.listing.now c.args.terms.now,
-    c.in_ok-found.ensures.length,
-  );
-  rows = all_have_rows c.listed_has_row.ensures _ c.args.listing.now _ c.args.terms.now c.take_in.new.seen.rows
-      c.in_ok-take_in.ensures.rows;
-  closed = c.in_ok-take_in.ensures.closed;
-}
+returns-clause-plans g c =
+    let by = c.in_ok-found.ensures.flags.1 in let steps = c.in_ok-steps.ensures by.0 (c.deref.ensures.value ∙ by.1) in record {
+      is_odd = by.0;
+      steps = steps;
+      lengths = (
+        ap length steps ∙ planned_length c.args.terms.settings.now by.0 c.take_in.new.seen.rows c.args.listing.now c.args.terms.now,
+        c.in_ok-found.ensures.flags.0,
+      );
+      rows = all_have_rows c.listed_has_row.ensures _ c.args.listing.now _ c.args.terms.now c.take_in.new.seen.rows
+          c.in_ok-take_in.ensures.rows;
+      closed = c.in_ok-take_in.ensures.closed;
+    }
 
 pub returns-clause-held : goal.returns-clause-held
 returns-clause-held g c = λ d.
@@ -24,8 +29,9 @@ returns-clause-held g c = λ d.
     let was = c.args.work.now.ledger.seen in
     let rows = c.take_in.new.seen.rows in
     let steps = c.in_ok-steps.steps.items in
-    let only_asked = rw (sym c.in_ok-steps.ensures.steps) at
-    (c.only_asked_for_are_fetched.ensures settings rows c.args.listing.now c.args.terms.now) in (
+    let by = c.in_ok-found.ensures.flags.1 in
+    let only_asked = rw (sym (c.in_ok-steps.ensures by.0 (c.deref.ensures.value ∙ by.1))) at
+    (c.only_asked_for_are_fetched.ensures settings by.0 rows c.args.listing.now c.args.terms.now) in (
       rw stays.2.0 (found_as_held (target_of c.args.work.now.store c.args.terms.account.now) _ settings was.rows rows
           steps c.args.listing.now (not_before c.held_is_delivered.ensures c.marked_is_delivered.ensures c.in_ok-found.found.stored was.rows
           was.intent c.args.listing.now c.in_ok-found.found.held.items c.args.terms.now rows c.in_ok-take_in.ensures.rows) only_asked),
@@ -82,10 +88,12 @@ returns-in_err-steps-clause-readies g c = rw (err_is c.from_residual-in_err-step
 pub returns-clause-readies : goal.returns-clause-readies
 returns-clause-readies g c = λ d f.
     let merges = c.in_ok-take_in.ensures.merges f in
-    let only_asked = rw (sym c.in_ok-steps.ensures.steps) at
-    (c.only_asked_for_are_fetched.ensures c.args.terms.settings.now c.take_in.new.seen.rows c.args.listing.now c.args.terms.now) in
+    let by = c.in_ok-found.ensures.flags.1 in
+    let only_asked = rw (sym (c.in_ok-steps.ensures by.0 (c.deref.ensures.value ∙ by.1))) at
+    (c.only_asked_for_are_fetched.ensures c.args.terms.settings.now by.0 c.take_in.new.seen.rows c.args.listing.now c.args.terms.now) in
     asked (c.in_ok-found.ensures.finds d) merges.0 (λ left finds.
     ready _ _ _ _ _ c.take_in.new.file c.args.terms.account.now _ _ _ left c.args.work.now.ledger.seen
     c.in_ok-found.found (c.requires.stands merges.0) c.merges_ask_only_for_new_ids.ensures c.requires.is_record finds
     _ c.held_is_delivered.ensures c.marked_is_delivered.ensures only_asked merges.1 c.in_ok-take_in.ensures.rows refl
-    c.in_ok-steps.ensures.steps (λ safe. ((c.in_ok-take_in.ensures.durable f safe.1).1, c.in_ok-found.ensures.durable d safe.0)))
+    (λ is_odd are. c.in_ok-steps.ensures is_odd (c.deref.ensures.value ∙ are))
+    (λ safe. ((c.in_ok-take_in.ensures.durable f safe.1).1, c.in_ok-found.ensures.durable d safe.0)))

@@ -1,14 +1,26 @@
-use Rattle.std.proofs.Common.{◌≡◌, List, ℕ, refl, false}
-use Rattle.mail_store.specs.Held.{has_text}
-use Rattle.mail_store.proofs.MaildirLemmas.{flags_found}
+use Rattle.std.proofs.Common.{Bool, List, refl, sym, subst, true, ◌∙◌}
+use Rattle.std.proofs.lemmas.Simd.{splat_is_map}
+use Rattle.mail_store.specs.Held.{FindsFlags}
+use Rattle.mail_store.proofs.MaildirLemmas.{none_taken, sought_all}
+use Rattle.mail_terms.proofs.ErrLemmas.{err_is}
 use Rattle.mail_store.proofs.maildir.held.held.Goals as goal
 
 pub returns-clause-finds : goal.returns-clause-finds
 returns-clause-finds g c = λ k.
-    let lists = c.in_ok-names.ensures.lists k in
-    let told = lists.1 in
-    let none : (q : List ℕ) → has_text c.new-found.result q ≡ false = λ q. rw c.new-found.ensures.empty refl in
-    let flags = rw (flags_found c.args.account.now told.0 c.args.listing.now (has_text c.add_digits.new.found) c.deref.result.now
-    (λ q. rw (c.in_ok-add_digits.ensures q, none q, c.as_str.ensures.text) refl)
-    (rw (← c.deref.ensures.value) at told.2.2)) at c.in_ok-flags_of.ensures.flags in
-    (lists.0, (told.0, told.1, (flags, told.2.4, told.2.0, told.2.1, told.2.3)))
+    let finds = c.held_of.ensures.finds k in
+    let all = c.deref.ensures.value ∙ c.in_ok-all.ensures.items_if_clones_equal (λ y same. same)
+    ∙ splat_is_map c.args.listing.now c.len.result true (sym c.len.ensures.count) in (
+      finds.0,
+      (
+        finds.1.0,
+        finds.1.1,
+        subst (λ (flags : List Bool). FindsFlags flags finds.1.0 c.held_of.result
+            (g.D.MaildirDisk.maildir c.held_of.new.disk))
+            (sought_all c.args.account.now finds.1.0 c.args.listing.now _ all) finds.1.2,
+      ),
+    )
+
+pub returns-in_err-all-clause-finds : goal.returns-in_err-all-clause-finds
+returns-in_err-all-clause-finds g c =
+    let maildir = g.D.MaildirDisk.maildir c.args.disk.now in
+    rw (err_is c.from_residual.ensures.1) (λ k. (k, (maildir, none_taken maildir, refl)))

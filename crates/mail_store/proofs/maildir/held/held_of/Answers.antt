@@ -2,7 +2,7 @@ use Rattle.std.proofs.Common.{◌≡◌, List, ℕ, refl, false}
 use Rattle.mail_store.specs.Held.{has_text}
 use Rattle.mail_store.proofs.MaildirLemmas.{flags_among, none_taken}
 use Rattle.mail_terms.proofs.ErrLemmas.{err_is}
-use Rattle.mail_store.proofs.maildir.held.held_of_few.Goals as goal
+use Rattle.mail_store.proofs.maildir.held.held_of.Goals as goal
 
 pub returns-in_err-stems-clause-finds : goal.returns-in_err-stems-clause-finds
 returns-in_err-stems-clause-finds g c =
