@@ -90,11 +90,9 @@ message_at listing i d inside = get_or-enumerate_from 1 listing i (0, d) inside 
 
 -- ---- what is fetched are the first of the messages that may be
 
-full_is : (max c : ℕ) → not (max == 0) && nat_le max c ≡ true → ((max == 0) ≡ false) × (max ≤ c)
-full_is max c full = (grind (arith, nat_tests), grind (arith, nat_tests))
-
-is_full_by : (max c : ℕ) → (max == 0) ≡ false → max ≤ c → not (max == 0) && nat_le max c ≡ true
-is_full_by max c some full = grind (arith, nat_tests)
+-- a session that is full stays so
+full_more : (settings : Settings) (c d : ℕ) → is_full settings c ≡ true → c ≤ d → is_full settings d ≡ true
+full_more settings c d full more = grind (arith, nat_tests)
 
 module _ (settings : Settings) (is_odd : List ℕ → Bool) (rows : List Row) (listing : List Item) where
   -- those of the first i messages that may be fetched
@@ -114,56 +112,61 @@ module _ (settings : Settings) (is_odd : List ℕ → Bool) (rows : List Row) (l
       (message_at listing i nobody inside)
 
   gets_at : (i : ℕ) → gets (i + 1, get_or listing i nobody)
-      ≡ is_candidate settings is_odd rows listing (i + 1, get_or listing i nobody) && not (is_full settings (before i))
+      ≡ is_candidate settings is_odd rows listing (i + 1, get_or listing i nobody) && not (is_full settings (length (before i)))
   gets_at i = let place : i + 1 - 1 ≡ i = omega arith in
       ap (λ (k : ℕ). is_none (skip_for settings is_odd rows (is_first listing (i + 1, get_or listing i nobody))
-      (is_full settings (before k)) (get_or listing i nobody))) place
-      ∙ passes_for settings is_odd rows (is_first listing (i + 1, get_or listing i nobody)) (is_full settings (before i))
+      (is_full settings (length (before k))) (get_or listing i nobody))) place
+      ∙ passes_for settings is_odd rows (is_first listing (i + 1, get_or listing i nobody)) (is_full settings (length (before i)))
       (get_or listing i nobody)
 
--- what may be left of these if so many were before them
-abbrev left_of : ℕ → ℕ → List Message → List Message
-left_of max c ms = if max == 0 then ms else take (max - c) ms
+module _ (settings : Settings) where
+  -- what may be left of these if so many were before them
+  abbrev left_of : ℕ → List Message → List Message
+  left_of c ms = if settings.max_count == 0 then ms else take (settings.max_count - c) ms
 
-none_left : (max c : ℕ) → left_of max c [] ≡ []
-none_left max c = cond_both (max == 0) [] (take (max - c) []) (λ l. l ≡ []) (λ e. refl) (λ e. take_all (max - c) [] (omega arith))
+  none_left : (c : ℕ) → left_of c [] ≡ []
+  none_left c = cond_both (settings.max_count == 0) [] (take (settings.max_count - c) []) (λ l. l ≡ []) (λ e. refl)
+      (λ e. take_all (settings.max_count - c) [] (omega arith))
 
-left_more : (max c : ℕ) (may : Bool) (m : Message) (ms : List Message)
-    → cond (may && not (not (max == 0) && nat_le max c)) (m ∷ left_of max (c + cond may 1 0) ms) (left_of max (c + cond may 1 0) ms)
-    ≡ left_of max c (cond may (m ∷ ms) ms)
-left_more max c false m ms = ap (λ (k : ℕ). left_of max k ms) (omega arith)
-left_more max c true m ms = elim (cases_Bool (max == 0)) [
-  | inl none ↦ rw none refl
-  | inr some ↦ elim (cases_Bool (nat_le max c)) [
-    | inl full ↦
-        let here : max - c ≡ 0 = grind (arith, nat_tests, full) in
-        let later : max - (c + 1) ≡ 0 = grind (arith, nat_tests, full) in
-        rw (some, full) (ap (λ (k : ℕ). take k ms) later ∙ sym (ap (λ (k : ℕ). take k (m ∷ ms)) here))
-    | inr room ↦
-        let here : max - c ≡ suc (max - (c + 1)) = grind (arith, nat_tests, room) in
-        rw (some, room) (sym (ap (λ (k : ℕ). take k (m ∷ ms)) here))
+  left_more : (c : ℕ) (may : Bool) (m : Message) (ms : List Message) → cond (may && not (is_full settings c))
+      (m ∷ left_of (c + cond may 1 0) ms) (left_of (c + cond may 1 0) ms) ≡ left_of c (cond may (m ∷ ms) ms)
+  left_more c false m ms = ap (λ (k : ℕ). left_of k ms) (omega arith)
+  left_more c true m ms = elim (cases_Bool (settings.max_count == 0)) [
+    | inl none ↦ rw none refl
+    | inr some ↦ elim (cases_Bool (nat_le settings.max_count c)) [
+      | inl full ↦
+          let here : settings.max_count - c ≡ 0 = grind (arith, nat_tests, full) in
+          let later : settings.max_count - (c + 1) ≡ 0 = grind (arith, nat_tests, full) in
+          rw (some, full) (ap (λ (k : ℕ). take k ms) later ∙ sym (ap (λ (k : ℕ). take k (m ∷ ms)) here))
+      | inr room ↦
+          let here : settings.max_count - c ≡ suc (settings.max_count - (c + 1)) = grind (arith, nat_tests, room) in
+          rw (some, room) (sym (ap (λ (k : ℕ). take k (m ∷ ms)) here))
+    ]
   ]
-]
 
--- of a list what passes `gets`, if that is what passes `may` until there are as many as the limit says
-module _ (max : ℕ) (may gets : Message → Bool) (ms : List Message) (d : Message)
-    (at : (i : ℕ) → i < length ms
-    → gets (get_or ms i d) ≡ may (get_or ms i d) && not (not (max == 0) && nat_le max (length (filter may (take i ms))))) where
-  firsts_after : (n i : ℕ) → i + n ≡ length ms
-      → filter gets (drop i ms) ≡ left_of max (length (filter may (take i ms))) (filter may (drop i ms))
-  firsts_after zero i all = rw (drop_all i ms (omega (arith, all))) (sym (none_left max (length (filter may (take i ms)))))
-  firsts_after (suc n) i all =
-      let inside : i < length ms = omega (arith, all) in
-      rw (
-        drop_more ms i d inside,
-        at i inside,
-        firsts_after n (i + 1) (omega (arith, all)),
-        length-filter_more may ms i d inside,
-      ) (left_more max (length (filter may (take i ms))) (may (get_or ms i d)) (get_or ms i d) (filter may (drop (i + 1) ms)))
+  left_all : (ms : List Message) → left_of 0 ms ≡ at_most settings (λ m. m.1.size) ms
+  left_all ms = elim (cases_Bool (settings.max_count == 0)) [
+    | inl none ↦ rw none (sym (take_all _ ms (omega (arith, length-map ms (λ m. m.1.size)))))
+    | inr some ↦ let all : settings.max_count - 0 ≡ settings.max_count = omega arith in rw (some, all) refl
+  ]
 
-  firsts : filter gets ms ≡ at_most max (filter may ms)
-  firsts = let none : max - 0 ≡ max = omega arith in
-      firsts_after (length ms) 0 (omega arith) ∙ ap (λ (k : ℕ). if max == 0 then filter may ms else take k (filter may ms)) none
+  -- of a list what passes `gets`, if that is what passes `may` until a session is full
+  module _ (may gets : Message → Bool) (ms : List Message) (d : Message) (at : (i : ℕ) → i < length ms
+      → gets (get_or ms i d) ≡ may (get_or ms i d) && not (is_full settings (length (filter may (take i ms))))) where
+    firsts_after : (n i : ℕ) → i + n ≡ length ms
+        → filter gets (drop i ms) ≡ left_of (length (filter may (take i ms))) (filter may (drop i ms))
+    firsts_after zero i all = rw (drop_all i ms (omega (arith, all))) (sym (none_left (length (filter may (take i ms)))))
+    firsts_after (suc n) i all =
+        let inside : i < length ms = omega (arith, all) in
+        rw (
+          drop_more ms i d inside,
+          at i inside,
+          firsts_after n (i + 1) (omega (arith, all)),
+          length-filter_more may ms i d inside,
+        ) (left_more (length (filter may (take i ms))) (may (get_or ms i d)) (get_or ms i d) (filter may (drop (i + 1) ms)))
+
+    firsts : filter gets ms ≡ at_most settings (λ m. m.1.size) (filter may ms)
+    firsts = firsts_after (length ms) 0 (omega arith) ∙ left_all (filter may ms)
 
 -- two tests that agree on these keep the same
 agree_on : (p q : Message → Bool) (ms : List Message) → All (λ m. p m ≡ q m) ms → filter p ms ≡ filter q ms
@@ -181,36 +184,36 @@ same_on f g (m ∷ ms) all = rw (All-head (λ m. f m ≡ g m) m ms all, same_on 
 -- ---- a loop over the listing: the steps of the first i messages, and how many of these are fetched
 
 -- so many are fetched of so many that may be
-abbrev pub IsCounted : ℕ → ℕ → ℕ → Type 0
-IsCounted max may fetched = (fetched ≡ may) ⊎ (((max == 0) ≡ false) × (max ≤ fetched) × (max ≤ may))
+abbrev pub IsCounted : Settings → ℕ → ℕ → Type 0
+IsCounted settings may fetched = (fetched ≡ may) ⊎ ((is_full settings fetched ≡ true) × (is_full settings may ≡ true))
 
 pub record HasPlanned (settings : Settings) (is_odd : List ℕ → Bool) (rows : List Row) (listing : List Item) (now i : ℕ) (steps : List Step)
     (fetched : ℕ) : Type 0 where
   pub steps_are : steps ≡ map (step_of settings is_odd rows listing now) (take i (numbered listing))
-  pub count : IsCounted settings.max_count (length (before settings is_odd rows listing i)) fetched
+  pub count : IsCounted settings (length (before settings is_odd rows listing i)) fetched
   pub few : fetched ≤ i
 
-full_same : (max may fetched : ℕ) → IsCounted max may fetched → not (max == 0) && nat_le max fetched ≡ not (max == 0) && nat_le max may
-full_same max may fetched (inl same) = ap (λ (n : ℕ). not (max == 0) && nat_le max n) same
-full_same max may fetched (inr (some, full, past)) = is_full_by max fetched some full ∙ sym (is_full_by max may some past)
+full_same : (settings : Settings) (may fetched : ℕ) → IsCounted settings may fetched → is_full settings fetched ≡ is_full settings may
+full_same settings may fetched (inl same) = ap (is_full settings) same
+full_same settings may fetched (inr (full, past)) = full ∙ sym past
 
-counted_more : (max may fetched : ℕ) (candidate : Bool) → IsCounted max may fetched
-    → IsCounted max (may + cond candidate 1 0) (fetched + cond (candidate && not (not (max == 0) && nat_le max fetched)) 1 0)
-counted_more max may fetched candidate was = elim (cases_Bool (not (max == 0) && nat_le max fetched)) [
-  | inl full ↦
-      let some = full_is max fetched full in
-      let past = full_is max may (sym (full_same max may fetched was) ∙ full) in
-      inr (some.0, omega (arith, some.1), omega (arith, past.1))
+counted_more : (settings : Settings) (may fetched : ℕ) (candidate : Bool) → IsCounted settings may fetched
+    → IsCounted settings (may + cond candidate 1 0) (fetched + cond (candidate && not (is_full settings fetched)) 1 0)
+counted_more settings may fetched candidate was = elim (cases_Bool (is_full settings fetched)) [
+  | inl full ↦ inr (
+    full_more settings fetched _ full (omega arith),
+    full_more settings may _ (sym (full_same settings may fetched was) ∙ full) (omega arith),
+  )
   | inr room ↦ elim was [
     | inl same ↦ inl (rw (room, and-true) (omega (arith, same)))
-    | inr (some, full, past) ↦ absurd (true≢false (sym (is_full_by max fetched some full) ∙ room))
+    | inr (full, past) ↦ absurd (true≢false (sym full ∙ room))
   ]
 ]
 
 pub HasPlanned-more : (settings : Settings) (is_odd : List ℕ → Bool) (rows : List Row) (listing : List Item) (now i : ℕ) (steps : List Step)
     (fetched : ℕ) (full : Bool) (skip : Option Skip) (deleted : Bool) (next : ℕ)
     → HasPlanned settings is_odd rows listing now i steps fetched → i < length listing
-    → full ≡ not (settings.max_count == 0) && nat_le settings.max_count fetched
+    → full ≡ is_full settings fetched
     → ((d : Item) → skip ≡ skip_for settings is_odd rows (is_first listing (i + 1, get_or listing i d)) full (get_or listing i d))
     → ((d : Item) → deleted ≡ is_deleted settings rows listing now (is_none skip) (i + 1, get_or listing i d))
     → next ≡ fetched + cond (is_none skip) 1 0
@@ -224,11 +227,11 @@ HasPlanned-more settings is_odd rows listing now i steps fetched full skip delet
         deleted_is nobody,
         skip_there,
       ) refl;
-      count = subst (λ (n : ℕ). IsCounted settings.max_count n next) (sym (before_more settings is_odd rows listing i inside))
-          (subst (λ (n : ℕ). IsCounted settings.max_count (length (before settings is_odd rows listing i)
+      count = subst (λ (n : ℕ). IsCounted settings n next) (sym (before_more settings is_odd rows listing i inside))
+          (subst (λ (n : ℕ). IsCounted settings (length (before settings is_odd rows listing i)
           + cond (is_candidate settings is_odd rows listing (i + 1, get_or listing i nobody)) 1 0) n)
           (sym (next_is ∙ ap (λ (b : Bool). fetched + cond b 1 0) gets_it))
-          (counted_more settings.max_count (length (before settings is_odd rows listing i)) fetched
+          (counted_more settings (length (before settings is_odd rows listing i)) fetched
           (is_candidate settings is_odd rows listing (i + 1, get_or listing i nobody)) has.count));
       few = grind (arith, has.few, next_is);
     }
@@ -236,8 +239,7 @@ HasPlanned-more settings is_odd rows listing now i steps fetched full skip delet
     place : i + 1 - 1 ≡ i
     place = omega arith
 
-    gets_it : is_none skip ≡ is_candidate settings is_odd rows listing (i + 1, get_or listing i nobody) &&
-        not (not (settings.max_count == 0) && nat_le settings.max_count fetched)
+    gets_it : is_none skip ≡ is_candidate settings is_odd rows listing (i + 1, get_or listing i nobody) && not (is_full settings fetched)
     gets_it = ap (λ (s : Option Skip). is_none s) (skip_is nobody)
         ∙ passes_for settings is_odd rows (is_first listing (i + 1, get_or listing i nobody)) full (get_or listing i nobody)
         ∙ ap (λ (b : Bool). is_candidate settings is_odd rows listing (i + 1, get_or listing i nobody) && not b) as_full
@@ -245,8 +247,8 @@ HasPlanned-more settings is_odd rows listing now i steps fetched full skip delet
     skip_there : skip ≡ skip_of settings is_odd rows listing (i + 1, get_or listing i nobody)
     skip_there = skip_is nobody
         ∙ ap (λ (b : Bool). skip_for settings is_odd rows (is_first listing (i + 1, get_or listing i nobody)) b (get_or listing i nobody))
-        (as_full ∙ full_same settings.max_count (length (before settings is_odd rows listing i)) fetched has.count
-        ∙ ap (λ (k : ℕ). is_full settings (before settings is_odd rows listing k)) (sym place))
+        (as_full ∙ full_same settings (length (before settings is_odd rows listing i)) fetched has.count
+        ∙ ap (λ (k : ℕ). is_full settings (length (before settings is_odd rows listing k))) (sym place))
 
 pub HasPlanned-all : (settings : Settings) (is_odd : List ℕ → Bool) (rows : List Row) (listing : List Item) (now i : ℕ) (steps : List Step)
     (fetched : ℕ) → HasPlanned settings is_odd rows listing now i steps fetched → length listing ≤ i
@@ -286,8 +288,8 @@ first_at : (settings : Settings) (is_odd : List ℕ → Bool) (rows : List Row) 
     → listing ≡ front ++ i ∷ rest → k ≡ length front + 1 → is_none (skip_of settings is_odd rows listing (k, i)) ≡ true
     → (has_item front i.uid ≡ false) × ((settings.read_all || not (is_delivered rows i.uid)) ≡ true)
 first_at settings is_odd rows listing front rest i k is at fetched =
-    let parts = parts_for settings is_odd rows (is_first listing (k, i)) (is_full settings (before settings is_odd rows listing (k - 1)))
-    i fetched in (
+    let full = is_full settings (length (before settings is_odd rows listing (k - 1))) in
+    let parts = parts_for settings is_odd rows (is_first listing (k, i)) full i fetched in (
       rw (is, at, take_at front (i ∷ rest) (length front + 1 - 1) (omega arith)) at
           (not-true (has_item (take (k - 1) listing) i.uid) parts.1),
       asked settings.read_all (is_delivered rows i.uid) (and_parts (not (not settings.read_all && is_delivered rows i.uid))
@@ -477,13 +479,13 @@ all_flags test listing n flags all count are = rw (are, count, ← length-enumer
 
 pub wanted-first : WantedAreFirst
 wanted-first settings is_odd rows listing distinct =
-    firsts settings.max_count (is_candidate settings is_odd rows listing) (gets settings is_odd rows listing) (numbered listing)
+    firsts settings (is_candidate settings is_odd rows listing) (gets settings is_odd rows listing) (numbered listing)
     (0, nobody) (λ i inside.
     let there = message_at listing i nobody (omega (arith, inside, length-enumerate_from 1 listing)) in
     ap (gets settings is_odd rows listing) there ∙ gets_at settings is_odd rows listing i
-    ∙ ap (λ (m : Message). is_candidate settings is_odd rows listing m && not (is_full settings (before settings is_odd rows listing i)))
-    (sym there))
-    ∙ ap (at_most settings.max_count) (agree_on (is_candidate settings is_odd rows listing) own (numbered listing)
+    ∙ ap (λ (m : Message). is_candidate settings is_odd rows listing m
+    && not (is_full settings (length (before settings is_odd rows listing i)))) (sym there))
+    ∙ ap (at_most settings (λ m. m.1.size)) (agree_on (is_candidate settings is_odd rows listing) own (numbered listing)
     (λ k d inside. same (get_or (numbered listing) k d) (are_first listing distinct k d inside)))
   where
     own : Message → Bool

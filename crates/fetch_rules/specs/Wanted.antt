@@ -1,5 +1,5 @@
 -- Which messages of a listing are fetched, and why the others aren't.
-use Rattle.std.specs.Prelude.{◌≡◌, ℕ, Bool, false, not, ◌&&◌, ◌||◌, ◌==◌, ◌-◌, nat_le, List, length, take, filter}
+use Rattle.std.specs.Prelude.{◌≡◌, ℕ, Bool, false, not, ◌&&◌, ◌||◌, ◌==◌, ◌-◌, nat_le, List, length, map, take, filter}
 use Rattle.std.specs.Prelude.{Option, Some, None, is_none, if◌then◌else◌}
 use Rattle.std.specs.Option.{option_or}
 use Rattle.mail_terms.specs.Listing.{Item, HasDistinctIds, numbered, is_first}
@@ -12,9 +12,17 @@ use Rattle.fetch_rules.specs.declared.plans.Skip.TheVariants.{Delivered, Obstruc
 abbrev pub is_within : ℕ → ℕ → Bool
 is_within limit size = limit == 0 || nat_le size limit
 
--- the first elements of a list, as many as the limit says; 0 sets none
-abbrev pub at_most : {X : Type 0} → ℕ → List X → List X
-at_most limit xs = if limit == 0 then xs else take limit xs
+-- whether a session that may fetch so many messages fetches none after them; 0 sets no limit
+abbrev pub is_full : Settings → ℕ → Bool
+is_full settings count = not (settings.max_count == 0) && nat_le settings.max_count count
+
+-- how many of messages of these listed sizes a session fetches if it may fetch all, or more
+abbrev pub fitting : Settings → List ℕ → ℕ
+fitting settings sizes = if settings.max_count == 0 then length sizes else settings.max_count
+
+-- the first of a list of messages, as many as a session fetches if it may fetch all
+abbrev pub at_most : {X : Type 0} → Settings → (X → ℕ) → List X → List X
+at_most settings size messages = take (fitting settings (map size messages)) messages
 
 -- why a message of this id and size isn't fetched, whatever comes before it, if there is a reason and such ids are
 -- known to be delivered; these are fetched if all are to be read. It may be that what can't be opened bears its name
@@ -37,15 +45,11 @@ is_candidate settings is_odd rows listing message =
     is_none (own_skip settings (is_odd message.1.uid) (is_delivered rows) message.1.uid message.1.size)
     && is_first listing message
 
--- whether a session that may fetch these messages fetches none after them; 0 sets no limit
-abbrev pub is_full : Settings → List (ℕ × Item) → Bool
-is_full settings messages = not (settings.max_count == 0) && nat_le settings.max_count (length messages)
-
 -- why a message isn't fetched, if there is a reason
 abbrev pub skip_of : Settings → (List ℕ → Bool) → List Row → List Item → ℕ × Item → Option Skip
 skip_of settings is_odd rows listing message = skip_for settings is_odd rows (is_first listing message)
-    (is_full settings (filter (is_candidate settings is_odd rows listing) (take (message.0 - 1) (numbered listing))))
-    message.1
+    (is_full settings
+    (length (filter (is_candidate settings is_odd rows listing) (take (message.0 - 1) (numbered listing))))) message.1
 
 -- the messages that are fetched
 abbrev pub wanted : Settings → (List ℕ → Bool) → List Row → List Item → List (ℕ × Item)
@@ -55,7 +59,8 @@ wanted settings is_odd rows listing =
 -- a law: if no id occurs twice, they are the first of those that have no reason of their own
 abbrev pub WantedAreFirst : Type 0
 WantedAreFirst = (settings : Settings) (is_odd : List ℕ → Bool) (rows : List Row) (listing : List Item)
-    → HasDistinctIds listing → wanted settings is_odd rows listing ≡ at_most settings.max_count (filter (λ message.
+    → HasDistinctIds listing
+    → wanted settings is_odd rows listing ≡ at_most settings (λ message. message.1.size) (filter (λ message.
     is_none (own_skip settings (is_odd message.1.uid) (is_delivered rows) message.1.uid message.1.size))
     (numbered listing))
 

@@ -1,11 +1,11 @@
 //! Which messages of a listing are fetched, and which are deleted.
 
-ghost use Rattle.std.specs.Prelude.{◌≡◌, ◌==◌, false, not, nat_le, ◌<◌, ◌&&◌, ◌||◌, ◌↔◌, true, length, map, All};
+ghost use Rattle.std.specs.Prelude.{◌≡◌, ◌<◌, false, ◌&&◌, ◌||◌, ◌↔◌, true, length, map, All};
 ghost use Rattle.std.specs.Prelude.{ℕ, Bool, List, IsTrue, HoldsAt, IfOk, None, Some, if◌then◌else◌};
 ghost use Rattle.std.specs.Option.{option_or};
 ghost use Rattle.mail_terms.specs.Listing.{numbered, is_last};
 ghost use Rattle.fetch_record.specs.Record.{is_delivered};
-ghost use Rattle.fetch_rules.specs.Wanted.{none_odd, own_skip, wanted};
+ghost use Rattle.fetch_rules.specs.Wanted.{is_full, none_odd, own_skip, wanted};
 ghost use Rattle.fetch_rules.specs.Due.{is_due, may_delete};
 ghost use Rattle.fetch_rules.specs.Plan.{IsQuiet, seen_since, planned, retrieved};
 
@@ -82,7 +82,7 @@ fn lasts_where_asked(
 
 /// Whether a session that fetched this many messages fetches no more.
 fn is_full(settings: &Settings, fetched: u64) -> bool
-    ensures { result ≡ (not (settings.now.max_count == 0) && nat_le settings.now.max_count fetched) }
+    ensures { result ≡ is_full settings.now fetched }
 {
     settings.max_count != 0 && settings.max_count <= fetched
 }
@@ -126,24 +126,22 @@ fn skip_for(own: Option<Skip>, first: bool, full: bool) -> Option<Skip>
     if first { None } else { Some(Skip::SameId) }
 }
 
-/// Whether the message of number `i + 1` is to be deleted; `alone` says whether no other message has
-/// its id, and `fetched` whether it is fetched.
+/// Whether the message of number `i + 1` is to be deleted if no other message has its id; `fetched` says whether it
+/// is fetched.
 fn is_done_with<H: BuildHasher>(
     settings: &Settings,
     seen: &Seen<H>,
     listing: &Listing,
     now: u64,
-    alone: bool,
     fetched: bool,
     i: u32,
 ) -> bool
     requires { i < length listing.now }
     ensures { HoldsAt (λ item. result ≡ (is_due settings.now now (seen_since seen.now.rows item.uid now)
-        && (is_delivered seen.now.rows item.uid || fetched) && alone)) listing.now i }
+        && (is_delivered seen.now.rows item.uid || fetched))) listing.now i }
 {
     let uid = listing.uid(i);
-    alone
-        && is_due(settings, now, seen.first_seen(uid).unwrap_or(now))
+    is_due(settings, now, seen.first_seen(uid).unwrap_or(now))
         && (seen.is_delivered(uid) || fetched)
 }
 
@@ -198,7 +196,7 @@ pub fn plan_without<H: BuildHasher>(
         let full = is_full(settings, fetched);
         let own = own_skip(settings, seen, listing, odd[i as usize], i);
         let skip = skip_for(own, first, full);
-        let delete = is_done_with(settings, seen, listing, now, alone, skip.is_none(), i);
+        let delete = is_done_with(settings, seen, listing, now, skip.is_none(), i) & alone;
         steps.push(Step {
             number: i + 1,
             skip,

@@ -56,13 +56,14 @@ skip g c is_odd are item = c.skip_for-skip.ensures ∙ rw (
 ) refl
 
 deleted : (g : _) (c : goal.After-from-fetched g) (item : Item)
-    → c.is_done_with-delete.result ≡ is_deleted c.args.settings.now c.args.seen.now.rows c.args.listing.now c.args.now
-    c.is_none.result (c.loop-i.i + 1, get_or c.args.listing.now c.loop-i.i item)
-deleted g c item = c.is_done_with-delete.ensures item ∙ elim (cases_Bool (may_delete c.args.settings.now)) [
+    → (c.is_done_with.result && (c.index-first.result.now && c.index.result.now))
+    ≡ is_deleted c.args.settings.now c.args.seen.now.rows c.args.listing.now c.args.now c.is_none.result
+    (c.loop-i.i + 1, get_or c.args.listing.now c.loop-i.i item)
+deleted g c item = rw (c.is_done_with.ensures item) (elim (cases_Bool (may_delete c.args.settings.now)) [
   | inl asked ↦ rw (alone g c item asked) refl
   | inr never ↦ rw (never_due c.args.settings.now c.args.now
       (seen_since c.args.seen.now.rows (get_or c.args.listing.now c.loop-i.i item).uid c.args.now) never) refl
-]
+])
 
 pub loop-i-init : goal.loop-i-init
 loop-i-init g c = record {
@@ -76,7 +77,7 @@ loop-i-preserved g c =
     ∙ ap (λ (b : Bool). cond b 1 0) (none_by c.skip_for-skip.result c.is_none-in-loop-i.result c.is_none-in-loop-i.ensures)) in
     rw c.in_ok-push.ensures.items (record {
       few = grind (arith, c.loop-i.invariant.few, next_is);
-      has = λ is_odd are. HasPlanned-more _ is_odd _ _ _ _ _ _ c.is_full-full.result c.skip_for-skip.result c.is_done_with-delete.result _
+      has = λ is_odd are. HasPlanned-more _ is_odd _ _ _ _ _ _ c.is_full-full.result c.skip_for-skip.result _ _
           (c.loop-i.invariant.has is_odd are) (omega arith) c.is_full-full.ensures (skip g c is_odd are)
           (λ item. deleted g c item ∙ ap (λ (b : Bool). is_deleted c.args.settings.now c.args.seen.now.rows c.args.listing.now
           c.args.now b (c.loop-i.i + 1, get_or c.args.listing.now c.loop-i.i item))
