@@ -171,7 +171,7 @@ told g c store file back =
                 ready.2.readies.was,
                 ready.2.readies.stood,
                 ready.2.readies.rows,
-                is ∙ c.deref-2.ensures.value ∙ ready.2.readies.steps,
+                is ∙ c.deref-4.ensures.value ∙ ready.2.readies.steps,
               ),
             ),
       );

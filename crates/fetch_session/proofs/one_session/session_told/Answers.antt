@@ -49,6 +49,7 @@ returns-in-Err-clause-counted g c =
 pub returns-in-Err-clause-heard : goal.returns-in-Err-clause-heard
 returns-in-Err-clause-heard g c = rw (← c.account.view_is) (heard_as g.L.Listener.hears _ _ _ _ (λ plan is. record {
   items = is.items;
+  is_odd = is.is_odd;
   rows = is.rows;
   known = (
     λ w.
@@ -66,6 +67,7 @@ returns-in-Err-clause-heard g c = rw (← c.account.view_is) (heard_as g.L.Liste
 pub returns-clause-heard : goal.returns-clause-heard
 returns-clause-heard g c = rw (← c.account.view_is) (heard_as g.L.Listener.hears _ _ _ _ (λ plan is. record {
   items = is.items;
+  is_odd = is.is_odd;
   rows = is.rows;
   known = (
     λ w.
