@@ -1,4 +1,4 @@
-use Rattle.std.proofs.Common.{rules, [], List, ℕ, Ok, Err, inl, inr, arith, refl, sym, subst, ◌∙◌, string_bytes}
+use Rattle.std.proofs.Common.{rules, List, ℕ, Ok, Err, inl, inr, arith, refl, sym, subst, ◌∙◌, string_bytes}
 use Rattle.fetch_record.specs.Record.{RecordState, none_open, marked}
 use Rattle.fetch_session.specs.{Record.Saves, Store.MayGain, Target.AsFiles, Refusal.TookTillCut, Parts.KeepsLink, Report.AddsLines}
 use Rattle.fetch_session.proofs.SceneLemmas.{held_is, all_sound, link_alone}
