@@ -474,19 +474,21 @@ headline link disk file promised = all_hold
           λ f. order_shows_next world.start.text world.max_size (world_without withdrawn world).all f.done f.rest
           call.settings call.maildrop sound'.all f.prefix (in_order (λ id (l, safe). f.is_done id l ∙ safe) order) in (
             promises,
-            λ durable.
-                let (sound'', is', done_is) = withdrawn_leave_fronts world state withdrawn sound durable.is none in
-                promises.in_order (selected_of (world_without withdrawn world)) legal (record {
-                  is = is';
-                  first = durable.first;
-                  last = durable.last;
-                  done = done_is ∙ durable.done;
-                  at_most_one = durable.at_most_one;
-                  named = durable.named;
-                }) (shown is') clear',
-            all_hold (world_without withdrawn world) _ call.after later sound' after_shows after_kept
-                (promises.promises.in_order _ legal (left_front world.start state promises.left kept promises.taken _
-                front') (shown front') clear').0,
+            (
+              λ durable.
+                  let (sound'', is', done_is) = withdrawn_leave_fronts world state withdrawn sound durable.is none in
+                  promises.in_order (selected_of (world_without withdrawn world)) legal (record {
+                    is = is';
+                    first = durable.first;
+                    last = durable.last;
+                    done = done_is ∙ durable.done;
+                    at_most_one = durable.at_most_one;
+                    named = durable.named;
+                  }) (shown is') clear',
+              all_hold (world_without withdrawn world) _ call.after later sound' after_shows after_kept
+                  (promises.promises.in_order _ legal (left_front world.start state promises.left kept promises.taken _
+                  front') (shown front') clear').0,
+            ),
           ),
     )
     all_hold world state devices (Left left account ∷ later) sound shows kept front =

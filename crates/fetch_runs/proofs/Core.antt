@@ -1,12 +1,12 @@
 -- Which messages are wanted, and that a session fetches the next of the selected ones if a prefix of them is done.
 -- Stores don't come in here.
-use Rattle.std.proofs.Common.{◌≡◌, ◌≤◌, ◌<◌, ◌+◌, ◌-◌, ℕ, zero, suc, List, [], ◌∷◌, ◌++◌, Bool, not, ◌&&◌, ◌==◌, length}
+use Rattle.std.proofs.Common.{◌≡◌, ◌≤◌, ◌<◌, ◌+◌, ◌-◌, ℕ, zero, suc, List, [], ◌∷◌, ◌++◌, Bool, not, ◌&&◌, length}
 use Rattle.std.proofs.Common.{take, drop, map, refl, sym, ◌∙◌, ap, arith, append_assoc, take-append-drop}
 use Rattle.std.proofs.Common.{Some, slice_get, inl, inr, true, false}
-use Rattle.std.specs.Prelude.{bytes_eq, if◌then◌else◌, is_none, zip}
+use Rattle.std.specs.Prelude.{bytes_eq, is_none, zip}
 use Rattle.std.specs.List.{filter, enumerate_from, AllByRecursion}
-use Rattle.std.proofs.lemmas.Bool.{cond_both, cases_Bool, false_from_ne_true}
-use Rattle.std.proofs.lemmas.List.{take-map, append-nil, take_all, length-map}
+use Rattle.std.proofs.lemmas.Bool.{cases_Bool, false_from_ne_true}
+use Rattle.std.proofs.lemmas.List.{take-map, take_all, length-map}
 use Rattle.std.proofs.lemmas.List.Elements.{recursion_from_All, filter-append}
 use Rattle.std.proofs.lemmas.List.FromFn.{length-enumerate_from, get_or-enumerate_from}
 use Rattle.std.proofs.lemmas.Option.{same_Some, slice_get-get_or}
@@ -14,7 +14,7 @@ use Rattle.std.proofs.lemmas.Simd.{map-map}
 use Rattle.pop3_wire.specs.World.{Message, IsWorld, maildrop_of}
 use Rattle.mail_terms.specs.Listing.{Item, has_item}
 use Rattle.fetch_record.specs.Record.{Row, is_delivered}
-use Rattle.fetch_rules.specs.Wanted.{WantedAreFirst, at_most, own_skip, wanted}
+use Rattle.fetch_rules.specs.Wanted.{WantedAreFirst, at_most, fitting, own_skip, wanted}
 use Rattle.fetch_rules.proofs.PlanLemmas.{own_passes}
 use Rattle.rc_file.specs.declared.settings.Settings.{Settings}
 use Rattle.mail_store.specs.Maildir.{File, Maildir}
@@ -47,28 +47,32 @@ asked settings is_odd rows = may_fetch settings is_odd (is_delivered rows)
 abbrev pub offered : Settings → (List ℕ → Bool) → List Row → List Message → List Message
 offered settings is_odd rows ms = filter (asked settings is_odd rows) ms
 
+abbrev pub message_size : Message → ℕ
+message_size m = m.size
+
 abbrev pub wants : Settings → (List ℕ → Bool) → List Row → List Message → List Message
-wants settings is_odd rows ms = at_most settings.max_count (offered settings is_odd rows ms)
+wants settings is_odd rows ms = at_most settings message_size (offered settings is_odd rows ms)
 
 abbrev pub offered_by_number : Settings → (List ℕ → Bool) → List Row → List Message → List (ℕ × Message)
 offered_by_number settings is_odd rows ms = filter (λ (q : ℕ × Message). asked settings is_odd rows q.1) (enumerate_from 1 ms)
 
 abbrev pub wants_by_number : Settings → (List ℕ → Bool) → List Row → List Message → List (ℕ × Message)
-wants_by_number settings is_odd rows ms = at_most settings.max_count (offered_by_number settings is_odd rows ms)
+wants_by_number settings is_odd rows ms = at_most settings (λ q. message_size q.1) (offered_by_number settings is_odd rows ms)
 
 abbrev pub snd : ℕ × Message → Message
 snd q = q.1
 
-at_most-map : {X Y : Type 0} (f : X → Y) (n : ℕ) (xs : List X) → at_most n (map f xs) ≡ map f (at_most n xs)
-at_most-map f n xs = grind (arith, take-map)
+at_most-map : {X Y : Type 0} (f : X → Y) (settings : Settings) (size : Y → ℕ) (xs : List X)
+    → at_most settings size (map f xs) ≡ map f (at_most settings (λ x. size (f x)) xs)
+at_most-map f settings size xs = take-map f _ xs ∙ ap (λ sizes. map f (take (fitting settings sizes) xs)) (map-map size f xs)
 
 module _ (settings : Settings) (is_odd : List ℕ → Bool) (rows : List Row) where
   pub wanted_are : WantedAreFirst → {listing : List Item} (ms : List Message) → listing ≡ listing_of ms → Distinct (message_ids ms)
       → wanted settings is_odd rows listing ≡ map num_item (wants_by_number settings is_odd rows ms)
   wanted_are firsts ms e d =
       rw e (firsts settings is_odd rows (listing_of ms) (rw map-map (are_distinct (message_ids ms) d))
-      ∙ ap (at_most settings.max_count) (ap (filter may) (enumerated 1 ms) ∙ filter-map may num_item (enumerate_from 1 ms))
-      ∙ at_most-map num_item settings.max_count (offered_by_number settings is_odd rows ms))
+      ∙ ap (at_most settings (λ q. q.1.size)) (ap (filter may) (enumerated 1 ms) ∙ filter-map may num_item (enumerate_from 1 ms))
+      ∙ at_most-map num_item settings (λ q. q.1.size) (offered_by_number settings is_odd rows ms))
     where
       may : ℕ × Item → Bool
       may message = is_none (own_skip settings (is_odd message.1.uid) (is_delivered rows) message.1.uid message.1.size)
@@ -86,7 +90,7 @@ module _ (settings : Settings) (is_odd : List ℕ → Bool) (rows : List Row) wh
       snds n (m ∷ ms) = grind (arith, snds (n + 1) ms)
 
   pub wants_snd : (ms : List Message) → map snd (wants_by_number settings is_odd rows ms) ≡ wants settings is_odd rows ms
-  wants_snd ms = sym (at_most-map _ _ _) ∙ ap (at_most _) (offered_snd ms)
+  wants_snd ms = sym (at_most-map snd settings message_size _) ∙ ap (at_most settings message_size) (offered_snd ms)
 
 -- ---- each is at its number
 
@@ -100,12 +104,9 @@ are_numbered xs = recursion_from_All _ (enumerate_from 1 xs) (λ k d l.
     let place : 1 + k - 1 ≡ k = omega arith in
     rw get_or-enumerate_from (omega arith, ap (slice_get xs) place ∙ slice_get-get_or xs k _ inside))
 
-pub all_at_most : {X : Type 0} (P : X → Type 0) (n : ℕ) (xs : List X) → AllByRecursion P xs → AllByRecursion P (at_most n xs)
-all_at_most P n xs h = cond_both _ xs (take n xs) (AllByRecursion P) (λ e. h) (λ e. all_take P n xs h)
-
 pub wants_placed : (settings : Settings) (is_odd : List ℕ → Bool) (rows : List Row) (ms : List Message)
     → AllByRecursion (IsNumbered ms) (wants_by_number settings is_odd rows ms)
-wants_placed _ _ _ ms = all_at_most _ _ _ (all_filter _ _ _ (are_numbered ms))
+wants_placed _ _ _ ms = all_take _ _ _ (all_filter _ _ _ (are_numbered ms))
 
 -- ---- texts
 
@@ -141,15 +142,8 @@ stored_files account maildir (q ∷ qs) = grind (arith, stored_files account mai
 abbrev pub BeginsWith : List Message → List Message → Type 0
 BeginsWith front all = (more : List Message) × (all ≡ front ++ more)
 
--- what comes after the first `limit` of a list; 0 is no limit
-abbrev past_limit : {X : Type 0} → ℕ → List X → List X
-past_limit limit xs = if limit == 0 then [] else drop limit xs
-
-both_parts : {X : Type 0} (limit : ℕ) (xs : List X) → at_most limit xs ++ past_limit limit xs ≡ xs
-both_parts limit xs = grind (arith, append-nil, take-append-drop)
-
-pub begins : {X : Type 0} (n limit : ℕ) (xs : List X) → take n (at_most limit xs) ++ (drop n (at_most limit xs) ++ past_limit limit xs) ≡ xs
-begins n limit xs = rw (← append_assoc, take-append-drop) (both_parts limit xs)
+begins : {X : Type 0} (n k : ℕ) (xs : List X) → take n (take k xs) ++ (drop n (take k xs) ++ drop k xs) ≡ xs
+begins n k xs = rw (← append_assoc, take-append-drop) (take-append-drop k xs)
 
 -- the ids of the second part are distinct, and none is among those of the first
 pub parts_apart : (front rest : List Message) → Distinct (message_ids (front ++ rest))
@@ -253,16 +247,14 @@ module _ {settings : Settings} {is_odd : List ℕ → Bool} {rows : List Row} {d
 
   -- what holds of all messages of the maildrop holds of those that are wanted
   pub all_wanted : (P : Message → Type 0) → AllByRecursion P drop' → AllByRecursion P ws
-  all_wanted P h = all_at_most P _ os (all_filter P _ _ h)
+  all_wanted P h = all_take P _ os (all_filter P _ _ h)
 
   pub distinct_wanted : (n : ℕ) → Distinct (message_ids (take n ws))
-  distinct_wanted n = let distinct = distinct_filter _ _ is.distinct in
-      distinct_take n ws (cond_both _ os (take settings.max_count os)
-      (λ l. Distinct (message_ids l)) (λ e. distinct) (λ e. distinct_take _ os distinct))
+  distinct_wanted n = distinct_take n ws (distinct_take _ os (distinct_filter _ _ is.distinct))
 
   -- if only what is new is read, no message that is wanted is recorded
   pub none_recorded : settings.read_all ≡ false → AllByRecursion (λ (m : Message). is_delivered rows m.uid ≡ false) ws
-  none_recorded only_new = all_at_most _ _ _ (all_map _ (all_passing (asked settings is_odd rows) drop')
+  none_recorded only_new = all_take _ _ _ (all_map _ (all_passing (asked settings is_odd rows) drop')
       (λ m a. grind (arith, sym (own_passes settings (is_odd m.uid) (is_delivered rows) m.uid m.size) ∙ a, only_new)))
 
   -- ---- numbers and texts
@@ -285,7 +277,7 @@ module _ {settings : Settings} {is_odd : List ℕ → Bool} {rows : List Row} {d
   wanted_ids n = rw (wanted_is, ← wants_snd) (simp (take-map, map-map))
 
   pub length_is : length (wanted settings is_odd rows effect.listing) ≡ length ws
-  length_is = rw (wanted_is, length-map, ← wants_snd, length-map) refl
+  length_is = ap length wanted_is ∙ length-map qs num_item ∙ sym (length-map qs snd) ∙ ap length (wants_snd settings is_odd rows drop')
 
   -- ---- what an uncut session wants
 
@@ -299,7 +291,7 @@ module _ {settings : Settings} {is_odd : List ℕ → Bool} {rows : List Row} {d
       → (n : ℕ) {retrieved : ℕ} → length (wanted settings is_odd rows effect.listing) ≤ n
       → retrieved ≡ length (wanted settings is_odd rows effect.listing) → (Is : Message → Type 0)
       → ((m : Message) → has_id (message_ids (take n ws)) m.uid ≡ true → Is m) → ((m : Message) → is_delivered rows m.uid ≡ true → Is m)
-      → let all = at_most settings.max_count (filter (may_fetch settings is_odd is_known) drop') in (retrieved ≡ length all)
+      → let all = at_most settings message_size (filter (may_fetch settings is_odd is_known) drop') in (retrieved ≡ length all)
       × AllByRecursion Is (filter (λ (m : Message). is_known m.uid) drop' ++ all)
   fetches_wanted is_known known n l counted Is got old = rw (asked_as is_known drop' known) (
     counted ∙ length_is,
@@ -344,7 +336,7 @@ module _ {settings : Settings} {is_odd : List ℕ → Bool} {rows : List Row} {d
     some' = offered settings is_odd rows drop'
 
     abbrev behind : ℕ → List Message
-    behind n = drop n (wants settings is_odd rows drop') ++ past_limit settings.max_count some'
+    behind n = drop n (wants settings is_odd rows drop') ++ drop (fitting settings (map message_size some')) some'
 
     undone_offered : (ms : List Message) → AllByRecursion (λ (m : Message). is_delivered rows m.uid ≡ true
         → has_id (message_ids done) m.uid ≡ true) ms → next_in settings.max_size done ms ≡ filter undone (offered settings is_odd rows ms)
@@ -360,7 +352,7 @@ module _ {settings : Settings} {is_odd : List ℕ → Bool} {rows : List Row} {d
     pub added_begins : (n : ℕ) → BeginsWith (added n) rest
     added_begins n = (
       filter undone (behind n) ++ next.0,
-      next.1 ∙ ap (λ l. l ++ next.0) (undone_offered _ known ∙ ap (filter undone) (sym (begins n settings.max_count some'))
+      next.1 ∙ ap (λ l. l ++ next.0) (undone_offered _ known ∙ ap (filter undone) (sym (begins n _ some'))
           ∙ filter-append undone (take n (wants settings is_odd rows drop')) (behind n))
           ∙ append_assoc (added n) (filter undone (behind n)) next.0,
     )

@@ -101,15 +101,13 @@ pub data Happening (Call Devices Account : Type 0) : Type 0 where
   Left : Devices → Account → Happening Call Devices Account
 
 -- the devices show a state with the invariant; if the next of these happens, a call keeps its promises, and they do so
--- after it, and after others or a loss of power. What such a loss takes, if it can do no harm, isn't taken away, but
--- fetched again
+-- after it, and after others or a loss of power. What such a loss takes, if it can do no harm, isn't taken away
 abbrev pub ArePromised : {W D F : Type 0} → WireGhosts W → DiskGhosts D → FileGhosts F → Mail → State → Devices D F
     → List (Happening (Call W D F) (Devices D F) AccountMail) → Type 0
 ArePromised link disk file mail state devices [] = Shows disk file devices state.account × Invariant mail state
 ArePromised link disk file mail state devices (Called call ∷ later) = Shows disk file devices state.account
-    × Invariant mail state × (digits_of call.settings ≡ mail.account
-    → IsCall link disk file InMaildir disk.sound mail.text
-    devices call → (is : IsPromised link disk file mail state devices call)
+    × Invariant mail state × (digits_of call.settings ≡ mail.account → IsCall link disk file InMaildir disk.sound
+    mail.text devices call → (is : IsPromised link disk file mail state devices call)
     × ArePromised link disk file mail (state_with mail (with_left mail state is.left) call.vanished is.after)
     call.after later)
 ArePromised link disk file mail state devices (Left left account ∷ later) = Shows disk file devices state.account

@@ -91,10 +91,9 @@ DeletesOneOf maildrop Is _ = Unit {0}
 -- an uncut session that met such odd names and knows messages of such ids retrieved what it wants of the maildrop: as
 -- many as its limit says of those that it has no reason to skip. These are of this kind, and so are those that it knows
 abbrev pub FetchesWanted : {W S F : Type 0} → Call W S F → (odd known : List ℕ → Bool) → (Message → Type 0) → Type 0
-FetchesWanted call is_odd is_known Is = call.report.outcome ≡ Ended → let wanted = at_most call.settings.max_count
-    (filter (λ (m : Message). is_none (own_skip call.settings (is_odd m.uid) is_known m.uid m.size)) call.maildrop)
-    in (call.report.retrieved ≡ length wanted)
-    × AllByRecursion Is (filter (λ (m : Message). is_known m.uid) call.maildrop ++ wanted)
+FetchesWanted call is_odd is_known Is = call.report.outcome ≡ Ended → let wanted = at_most call.settings (λ m. m.size)
+    (filter (λ (m : Message). is_none (own_skip call.settings (is_odd m.uid) is_known m.uid m.size)) call.maildrop) in
+    (call.report.retrieved ≡ length wanted) × AllByRecursion Is (filter (λ m. is_known m.uid) call.maildrop ++ wanted)
 
 -- what a maildrop has within the session's limit and isn't done is the first of these
 abbrev pub ShowsNext : Settings → List Message → List Message → List Message → Type 0

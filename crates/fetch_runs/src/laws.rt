@@ -120,9 +120,10 @@ pub fn mbox_sessions_lose_nothing()
 /// The statement, for a Maildir: where a unique-id always names one text, after any list of calls of
 /// `session`, each cut at any reply or refused write, over maildrops in any order and under any limits, each
 /// message is in one file, byte for byte with lines ended by LF, or in none; an uncut call leaves out only
-/// what its own limits exclude; DELE was sent only for messages held; no file is lost; and what is recorded
-/// as delivered, or is gone from the server, is held or was taken away. If a server shows the messages of a
-/// list in their order, the first of these are held.
+/// what its own limits exclude, and messages whose names are borne by what can't be opened; DELE was sent only
+/// for messages held; no file is lost; and what is recorded as delivered, or is gone from the server, is held or
+/// was taken away. If a server shows the messages of a list in their order, and no call met such a name, the
+/// first of these are held.
 ///
 /// At any moment, also during a call, a mail reader may move files between `new` and `cur`, change their
 /// marks, and take them away. Between two calls a process may start anew, readers may put messages back, and
@@ -149,10 +150,10 @@ pub fn none_taken()
     ensures { NoneTaken }
 {}
 
-/// The headline: where a server's unique-ids are distinct and persistent and its mail unchanged, after any list
-/// of calls of `session`, each cut at any reply or refused write, the Maildir holds exactly a prefix of the
-/// selected messages in maildrop order, each once, byte for byte with lines ended by LF; an uncut call leaves
-/// out only what its limits exclude; and DELE was sent only for messages held.
+/// The headline: where a server's unique-ids are distinct and persistent, its mail unchanged, and all in the Maildir
+/// can be opened, after any list of calls of `session`, each cut at any reply or refused write, the Maildir holds
+/// exactly a prefix of the selected messages in maildrop order, each once, byte for byte with lines ended by LF; an
+/// uncut call leaves out only what its limits exclude; and DELE was sent only for messages held.
 ///
 /// Each call has its own settings, except for the server, the port, the user name and `max_message_size`. All
 /// that `calls_keep_promises` says of readers, new processes, records that are lost and losses of power is so

@@ -13,8 +13,7 @@ use Rattle.pop3_server.specs.declared.maildrop.Maildrop.{Ghosts as DropGhosts}
 use Rattle.pop3_server.specs.LoopLink.{Loop}
 use Rattle.fetch_runs.specs.Accounts.{AccountMail, copies}
 use Rattle.fetch_runs.specs.Promises.{Call, DeletesOneOf, FetchesWanted, IsSafe, Mail, MboxStarts, state_with}
-use Rattle.fetch_runs.proofs.Core.{all_at_most}
-use Rattle.fetch_runs.proofs.Lists.{all_append, all_back, all_both, all_filter}
+use Rattle.fetch_runs.proofs.Lists.{all_append, all_back, all_both, all_filter, all_take}
 use Rattle.fetch_runs.specs.Calls.{Called, EmptyAccountsHold, with_left}
 use Rattle.local_fetch.specs.Fetches.{FetchesKeepPromises, FirstFetchesKeepMail, as_call, nothing_yet}
 use Rattle.local_fetch.specs.Fetches.{MboxFetchesKeepPromises, MboxFirstFetchesKeepMail}
@@ -62,7 +61,7 @@ wanted_by : {W S F : Type 0} (call : Call W S F) (is_odd is_known is_too : List 
 wanted_by call is_odd is_known is_too {P = P} {Too = Too} wanted same all by =
     subst (λ (k : List ℕ → Bool). FetchesWanted call is_odd k Too) (λ i id. same id i) (λ ended.
     let (count, each) = wanted ended in
-    (count, all_both _ each (all_append P _ _ (all_filter P _ _ all) (all_at_most P _ _ (all_filter P _ _ all))) by))
+    (count, all_both _ each (all_append P _ _ (all_filter P _ _ all) (all_take P _ _ (all_filter P _ _ all))) by))
 
 pub keep_mail : {M D F : Type 0} (link : WireGhosts (Loop M)) (disk : DiskGhosts D) (file : FileGhosts F) (drop : DropGhosts M)
     → EmptyAccountsHold → FetchesKeepPromises link disk file drop → FirstFetchesKeepMail link disk file drop

@@ -47,7 +47,8 @@ pub fn fetches_keep_promises<M: Maildrop, D: MaildirDisk, F: FlatFile>()
 
 /// What the promises come to, for the first call of an account with a Maildir: each message that is no longer on
 /// the server, or that DELE was sent for, is held; and if the call is uncut, it reports as many texts as it sent
-/// RETRs, and each message that the server had is in one file, with its text, unless a limit leaves it out.
+/// RETRs, and each message that the server had is in one file, with its text, unless a limit leaves it out or
+/// what can't be opened bears its name.
 pub fn first_fetches_keep_mail<M: Maildrop, D: MaildirDisk, F: FlatFile>()
     ensures { FirstFetchesKeepMail ⟦<LoopWire<M> as Wire>⟧ D.MaildirDisk F.FlatFile M.Maildrop }
 {
