@@ -191,14 +191,18 @@ told_both sought ss new cur (first, in_new, are_new) (second, in_cur, are_cur) =
 pub looked : {A B : Type 0} (sought : Sought) (b0 b1 b2 b3 : Directories) (new cur : Vec (String A) B) (rests : Bool)
     → Then (ListsIn New sought (Ok new)) b0 b1 → Then (ListsIn Cur sought (Ok cur)) b1 b2
     → Then (TellsRest New (Ok rests)) b2 b3 → IsTrue rests → ListedBoth sought (new, cur) b3
-looked sought b0 b1 b2 b3 new cur rests (m1, v1, s1) (m2, v2, s2) (m3, v3, s3) rested =
-    (record m2 { cur_rests = true }, (rw still.there s1.0, rw same_new s1.1, refl), (s2.0, s2.1, refl), rw s3.0 last)
+looked sought b0 b1 b2 b3 new cur rests (m1, v1, s1) (m2, v2, s2) (m3, v3, s3) rested = (
+  record m2 { cur_rests = true; odd = b2.odd },
+  (rw still.there s1.0, rw same_new s1.1, λ none. refl, refl),
+  (s2.0, s2.1, λ none. refl, refl),
+  rw s3.0 last,
+)
   where
-    last : Moved (after_listing Cur m2) m3
-    last = rw s2.2 at v3
+    last : Moved (record (after_listing Cur m2) { odd = b2.odd }) m3
+    last = subst (λ (d : Directories). Moved d m3) s2.3 v3
 
-    still : Moved (after_listing New m1) m2
-    still = rw s1.2 at v2
+    still : Moved (record (after_listing New m1) { odd = b1.odd }) m2
+    still = subst (λ (d : Directories). Moved d m2) s1.3 v2
 
     -- `new` rested from its own listing to that of `cur`
     same_new : map name_at (entries_in New m2.entries) ≡ map name_at (entries_in New m1.entries)
