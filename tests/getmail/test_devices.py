@@ -121,15 +121,15 @@ class OtherHands(Devices):
         self.check_completed()
 
     def test_folders_beside_the_files(self):
-        """A folder in `new` or `cur` is no message, whatever its name."""
+        """A folder is no message, whatever its name; in `new` it stops the message of that name alone."""
         (self.account.maildir / "new" / self.account.name(*THREE[0])).mkdir()
         (self.account.maildir / "cur" / self.account.name(*THREE[2])).mkdir()
         (self.account.maildir / "cur" / (self.account.name(*THREE[1]) + ":2,S")).write_bytes(THREE[1][1])
         _, commands = self.session()
-        self.assertEqual(commands[:2], ["RETR 1", "RSET"])
+        self.assertEqual(commands, ["RETR 3", "QUIT"])
         (self.account.maildir / "new" / self.account.name(*THREE[0])).rmdir()
         _, commands = self.session()
-        self.assertEqual(commands, ["RETR 1", "RETR 3", "QUIT"])
+        self.assertEqual(commands, ["RETR 1", "QUIT"])
 
     def test_files_of_others(self):
         """Names of other accounts and other forms, names that aren't text, and hidden files are beside those of the

@@ -55,6 +55,7 @@ KINDS = (
     ("a device", make_device, IRREGULAR),
     ("a link to nothing", lambda path: path.symlink_to("nowhere"), "a link that leads nowhere"),
     ("a link to itself", lambda path: path.symlink_to(path.name), "Too many levels of symbolic links"),
+    ("a link to a name too long", lambda path: path.symlink_to("x" * 300), "File name too long"),
     ("a link to a pipe", make_link_to_a_pipe, IRREGULAR),
     ("a link to a folder", lambda path: path.symlink_to("/"), IRREGULAR),
     ("a file without rights", make_unreadable, "Permission denied"),

@@ -29,10 +29,7 @@ class OtherHands(OneAccount):
         return path
 
     def test_a_name_that_vanishes_after_its_folder_was_listed(self):
-        """A reader has given the file another name by the time it is looked at: its message is held all the same. The
-        program looks at each file only if the folder holds folders too."""
-        for part in ("new", "cur"):
-            (self.account.maildir / part / "folder").mkdir()
+        """A reader has given the file another name by the time it is looked at: its message is held all the same."""
         path = self.hold_in_cur(*THREE[0])
         renamed = path.with_name(path.name + "S")
         run, commands = self.session(FROM=path, TO=renamed)
@@ -42,7 +39,6 @@ class OtherHands(OneAccount):
 
     def test_a_file_that_is_removed_after_its_folder_was_listed(self):
         """It can't be flushed before its message is recorded; its message isn't held then, and is fetched."""
-        (self.account.maildir / "cur" / "folder").mkdir()
         path = self.hold_in_cur(*THREE[0])
         self.assertEqual(self.session("-d", FROM=path),
                          (programs.SILENT, ["RETR 1", "DELE 1", "RETR 2", "DELE 2", "RETR 3", "DELE 3", "QUIT"]))

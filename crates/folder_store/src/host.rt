@@ -15,7 +15,6 @@ use mail_store::{Edges, StoreFault};
 use std::alloc::Global;
 use std::fs::{Metadata, OpenFile, OpenOptions};
 use std::io::{self, ErrorKind, Write};
-use std::os::unix::fs::MetadataExt;
 use std::rt::Files;
 use std::time::Clock;
 use system_calls::{Noted, Refusals, System};
@@ -167,18 +166,6 @@ impl<'a, R: Files + AllocGlobal> HostFolder<'a, R> {
         }
     }
 
-    // The names that stand for no folder. What has vanished counts as a file: a reader may have
-    // renamed it.
-    fn files_among(&self, found: Vec<String>) -> io::Result<Vec<String>> {
-        let mut names = Vec::with_capacity(self.system.alloc(), found.len())?;
-        for name in found {
-            if !is_folder(self.look_up(name.as_str()))? {
-                names.push(name)?;
-            }
-        }
-        Ok(names)
-    }
-
     // Notes why the folder isn't used.
     pub(crate) fn refuse_folder(&self, words: &str) {
         self.paths.refuse_folder(words)
@@ -305,6 +292,11 @@ impl<'a, R: Files + AllocGlobal> HostFolder<'a, R> {
         }
     }
 
+    // Whether a name stands for a folder itself.
+    pub(crate) fn is_folder(&self, name: &str) -> bool {
+        matches!(self.look_up(name), Ok(found) if found.is_dir())
+    }
+
     // What leads to nothing has gone, or is a link, which is refused.
     fn check_gone(&self, name: &str) -> io::Result<()> {
         match self.look_up(name) {
@@ -342,40 +334,21 @@ impl<'a, R: Files + Clock + AllocGlobal + Clone + Drop> HostFolder<'a, R> {
         }
     }
 
-    // The names of the folder's files that are sought. A name that begins with a full stop or isn't UTF-8 is skipped,
-    // and so is a folder, except in `new`, where it is in the place of a file. The system is asked what each name
-    // stands for only if a folder may be among them, since that takes longer than all else.
+    // The names of the folder that are sought, whatever they lead to.
     pub(crate) fn read_names(&self, sought: Sought<'_>) -> io::Result<FolderNames> {
-        let mut found = list_names(self.system, self.paths.folder_path()?.as_str(), sought)?;
-        if self.paths.folder != "new" && may_hold_folders(&found.folder) {
-            found.names = self.files_among(found.names)?;
-        }
-        Ok(found)
+        list_names(self.system, self.paths.folder_path()?.as_str(), sought)
     }
-}
-
-/// Whether a folder may hold others. Each of them links to it by its `..`, besides the folder's
-/// name and its own `.`. File systems that count otherwise never answer 2, or always. With the
-/// latter a folder passes for a file, which does no harm: no folder has the name of an id's file.
-fn may_hold_folders(folder: &Metadata) -> bool {
-    folder.nlink() != 2
 }
 
 /// Whether what has a name can't be opened because of what it is, or of its rights.
 fn is_odd(fault: &io::Error) -> bool {
     matches!(
         fault.kind(),
-        ErrorKind::PermissionDenied | ErrorKind::FilesystemLoop | ErrorKind::NotADirectory
+        ErrorKind::PermissionDenied
+            | ErrorKind::FilesystemLoop
+            | ErrorKind::NotADirectory
+            | ErrorKind::InvalidFilename
     ) || (fault.kind() == ErrorKind::Other && fault.raw_os_error().is_none())
-}
-
-/// Whether a name stands for a folder; what has vanished was none.
-fn is_folder(answer: io::Result<Metadata>) -> io::Result<bool> {
-    match answer {
-        Ok(metadata) => Ok(metadata.is_dir()),
-        Err(fault) if fault.kind() == ErrorKind::NotFound => Ok(false),
-        Err(fault) => Err(fault),
-    }
 }
 
 /// What the system answered, or a device in its place. If neither said why, what was refused before isn't

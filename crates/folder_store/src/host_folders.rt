@@ -151,7 +151,8 @@ impl<'a, R: Files + Clock + AllocGlobal + Clone + Drop> HostFolders<'a, R> {
         Ok(false)
     }
 
-    // Those of a folder's names that lead to files. What can't be opened is noted; `new` is listed before `cur`.
+    // Those of a folder's names that lead to files. What can't be opened is noted, but for a folder in `cur`, whose
+    // name no delivery needs. `new` is listed before `cur`.
     fn without_odd(&mut self, folder: Folder, names: Vec<String>) -> io::Result<Vec<String>> {
         if folder == Folder::New {
             self.odd.clear();
@@ -162,6 +163,8 @@ impl<'a, R: Files + Clock + AllocGlobal + Clone + Drop> HostFolders<'a, R> {
             let obstruction = self.folder_mut(folder).host.obstruction(name.as_str())?;
             match obstruction {
                 None => files.push(name)?,
+                Some(_) if folder == Folder::Cur && self.cur_folder.host.is_folder(name.as_str()) =>
+                    {}
                 Some(text) => {
                     self.odd.push(name)?;
                     self.obstructions.push(text)?;
@@ -253,8 +256,10 @@ impl<'a, R: Files + Clock + AllocGlobal + Clone + Drop> MailFolders for HostFold
         let listed = self.folder_mut(folder);
         let found = answer_of(refusals, listed.host.read_names(sought))?;
         listed.change = Some(ChangeTime::of(&found.folder));
-        let files = self.without_odd(folder, found.names);
-        answer_of(refusals, files)
+        match sought {
+            Sought::All => Ok(found.names),
+            Sought::Stems(_) => answer_of(refusals, self.without_odd(folder, found.names)),
+        }
     }
 
     fn odd(&self) -> &[String] {

@@ -6,9 +6,9 @@ use mail_store::{Folder, StoreFault};
 /// Which names a listing tells.
 #[derive(Clone, Copy)]
 pub enum Sought<'a> {
-    /// All.
+    /// All, whatever they lead to: each counts as that of a file, and nothing is opened.
     All,
-    /// Those with one of these stems.
+    /// Those with one of these stems that lead to files: what can't be opened is none (see `MailFolders::odd`).
     Stems(&'a [String]),
 }
 
@@ -41,14 +41,14 @@ pub trait MailFolders {
             × Then (ChecksIn folder result) (directories self.old) (directories self.new) }
         ensures fault { IfErr result IsDeviceFault };
 
-    /// Of the names of a folder's files at one moment those that are sought, in any order. What can't be opened is no
-    /// file (see `odd`). Missing if the folder isn't there.
+    /// Of the names of a folder's files at one moment those that are sought, in any order. Missing if the folder isn't
+    /// there.
     fn list(&mut self, folder: Folder, sought: Sought<'_>) -> Result<Vec<String>, StoreFault>
         ensures lists { sound self.new → sound self.old
             × Then (ListsIn folder sought.entry result) (directories self.old) (directories self.new) }
         ensures fault { IfErr result IsDeviceFault };
 
-    /// The names that the last listing found to be borne by what can't be opened, of those that it sought.
+    /// The names that the last listing by stems found to be borne by what can't be opened, of those that it sought.
     fn odd(&self) -> &[String]
         ensures { sound self.now → map string_bytes result.now ≡ (directories self.now).odd };
 
