@@ -2,28 +2,16 @@
 
 use crate::trouble::{Result, Trouble};
 use fetch_rules::{
-    Dest, Listing, MESSAGE_LIMIT, ScanRow, Seen, Settings, UidRows, is_legal_id, plan,
+    Listing, MESSAGE_LIMIT, ScanRow, Seen, Settings, UidRows, is_legal_id, plan, read_rc,
 };
 use std::alloc::Global;
 use std::hash::RandomState;
 use std::time::{CpuClock, Duration};
 
-/// What the rc file would say: new messages are fetched, and old ones deleted after a week.
-fn settings(alloc: Global) -> Settings {
-    Settings {
-        server: String::new(alloc),
-        port: 110,
-        username: String::new(alloc),
-        password: String::new(alloc),
-        dest: Dest::Maildir(String::new(alloc)),
-        read_all: false,
-        delete: false,
-        delete_after: 7,
-        max_size: 0,
-        max_count: 0,
-        verbose: 1,
-    }
-}
+/// An rc file: only new messages are fetched, and old ones deleted after a week.
+const RC: &[u8] =
+    b"[retriever]\ntype = SimplePOP3Retriever\nserver = s\nusername = u\npassword = p\n\
+    [destination]\ntype = Maildir\npath = m/\n[options]\nread_all = false\ndelete_after = 7\n";
 
 /// The id of a number: sixteen digits, in no order.
 fn id_of(alloc: Global, number: u32) -> Result<Vec<u8>> {
@@ -148,7 +136,8 @@ pub fn time_session(rt: &HostRuntime, count: u32) -> Result<()> {
     let mut seen = Seen::new(rt.alloc(), RandomState::new(rt)?);
     time_reading(rt, &mut seen, &file)?;
     time_merge(rt, &listing, &mut seen)?;
-    time_plan(rt, &settings(rt.alloc()), &listing, &seen)?;
+    let (settings, _warnings) = read_rc(rt.alloc(), RC)?;
+    time_plan(rt, &settings, &listing, &seen)?;
     time_bytes(rt, file.len(), &seen)
 }
 

@@ -1,6 +1,6 @@
 //! Why a call didn't do what was wanted.
 
-use fetch_rules::SeenFault;
+use fetch_rules::{RcFault, SeenFault};
 use mail_store::{EntryFault, StoreFault};
 use mail_terms::ListingFault;
 use std::alloc::{AllocError, AllocFailed};
@@ -63,6 +63,12 @@ impl From<ListingFault> for Trouble {
 
 impl From<SeenFault> for Trouble {
     fn from(_fault: SeenFault) -> Trouble {
+        Trouble::Other
+    }
+}
+
+impl From<RcFault> for Trouble {
+    fn from(_fault: RcFault) -> Trouble {
         Trouble::Other
     }
 }
