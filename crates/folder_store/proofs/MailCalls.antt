@@ -5,8 +5,9 @@ use Rattle.std.proofs.Common.{IsPermutation, IsTrue, IfErr, IfOk, String, Global
 use Rattle.std.proofs.Common.{◌≢◌, suc, Some, append_assoc, append-nil, None, is_some, IfSome}
 use Rattle.mail_store.specs.Maildir.{AfterFlushing, AfterTaking, AreTheirs, Checks, Draft, File}
 use Rattle.mail_store.specs.Maildir.{Folders, IsWithout, Lists, Maildir, MayBeNamed, MayHave, bases_told}
-use Rattle.mail_store.specs.Maildir.{maildir_refused, draft, dropped, is_there, mail, names_of, ListsBoth}
-use Rattle.mail_store.specs.{Held.is_sought, declared.maildir.disk.Folder.Folder, declared.fault.StoreFault.StoreFault}
+use Rattle.mail_store.specs.Maildir.{maildir_refused, draft, dropped, is_there, mail, names_of}
+use Rattle.mail_store.specs.Held.{AreAmong, ListsAmong, is_sought}
+use Rattle.mail_store.specs.{declared.maildir.disk.Folder.Folder, declared.fault.StoreFault.StoreFault}
 use Rattle.mail_store.specs.Loss.{Flushes, with_flushed, flushed_by}
 use Rattle.std.specs.List.{AllByRecursion, AllZip, filter}
 use Rattle.std.proofs.Math.Bool.{or-false, or-true}
@@ -327,12 +328,12 @@ one_lacks there New e = inl e
 one_lacks there Cur e = inr e
 
 -- what was told
-pub told_names : {A B : Type 0} (Told : List (List ℕ) → List (List ℕ) → Type 0) (sought : Sought)
-    → ((names told : List (List ℕ)) → AreSought sought names told → Told names told)
+pub told_names : {A B C : Type 0} (stems : List (String C)) (sought : Sought)
+    → ((names told : List (List ℕ)) → AreSought sought names told → AreAmong stems names told)
     → (a b : Directories) (begun : Option Draft) (n m : ℕ) (r : Result (Vec (String A) B) StoreFault)
     → TellsOfBoth a r b (λ names. ToldBoth sought names.items)
-    → IfErr r IsDeviceFault → IsCountAfter r n m → AfterTaking (maildir_in a begun n) (λ left. ListsBoth Told left r (maildir_in b begun m))
-told_names Told sought is a b begun n m (Ok names) (l, told, _) device k =
+    → IfErr r IsDeviceFault → IsCountAfter r n m → AfterTaking (maildir_in a begun n) (λ left. ListsAmong left stems r (maildir_in b begun m))
+told_names stems sought is a b begun n m (Ok names) (l, told, _) device k =
     seen a b begun n l (
       rw (sym l.there) told.new_is_there,
       rw (sym l.there) told.cur_is_there,
@@ -340,11 +341,11 @@ told_names Told sought is a b begun n m (Ok names) (l, told, _) device k =
       told.named,
       left_as a b begun m n n l k,
     )
-told_names Told sought is a b begun n m (Err Missing) (l, _, missing) device k =
+told_names stems sought is a b begun n m (Err Missing) (l, _, missing) device k =
     let lacks = missing refl in
     seen a b begun n l (rw (sym l.there) (one_lacks b.there lacks.0 lacks.1), left_as a b begun m n n l k)
-told_names Told sought is a b begun n m (Err Refused) (l, _, missing) device k = seen a b begun n l (left_as a b begun m (n + 1) n l k)
-told_names Told sought is a b begun n m (Err _) t device k = absurd (⊎_elim (λ e. cc) (λ e. cc) device)
+told_names stems sought is a b begun n m (Err Refused) (l, _, missing) device k = seen a b begun n l (left_as a b begun m (n + 1) n l k)
+told_names stems sought is a b begun n m (Err _) t device k = absurd (⊎_elim (λ e. cc) (λ e. cc) device)
 
 pub told_those : {A B : Type 0} (a b : Directories) (folder : Folder) (begun : Option Draft) (n m : ℕ)
     (r : Result (Vec (String A) B) StoreFault) → TellsOne a folder r b

@@ -118,14 +118,6 @@ impl<N: NewFile + Drop, F: MailFolders<File = N> + Drop> MaildirDisk for FolderM
         tally(&mut self.failures, told_names_of(&mut self.folders, folder))
     }
 
-    fn all_names(&mut self) -> Result<Vec<String>, StoreFault> {
-        admit(&self.failures)?;
-        tally(
-            &mut self.failures,
-            told_names(&mut self.folders, Sought::All),
-        )
-    }
-
     fn names_among(&mut self, stems: &[String]) -> Result<Vec<String>, StoreFault> {
         admit(&self.failures)?;
         tally(

@@ -213,11 +213,6 @@ theirs_of known New names all told = λ k d inside.
     (Contains-map (λ n. base (string_bytes n)) names name (Contains-get_or names k d inside)))
 theirs_of _ Cur names _ told = λ k d inside. absurd (omega (arith, inside, ap length told, length-map names string_bytes))
 
--- the names tell all that is shown
-pub told_all : {Z : Type 0} (files : List File) (names : List (String Z)) → map string_bytes names ≡ names_of files
-    → IsPermutation (names_of (map shown files)) (bases_told names)
-told_all files names told = rw (bases_shown names files told) (IsPermutation-refl (names_of (map shown files)))
-
 -- ---- files that readers took away
 
 pub reaches_same : (f : File) → IsAsDurable f f

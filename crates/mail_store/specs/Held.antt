@@ -9,7 +9,7 @@ use Rattle.hex.specs.Hex.{encode_lower}
 use Rattle.mail_terms.specs.Listing.{Item}
 use Rattle.mail_store.specs.{declared.fault.StoreFault.StoreFault, Loss.is_among}
 use Rattle.mail_store.specs.declared.fault.StoreFault.TheVariants.{Missing, Refused, NotMbox, NoMemory}
-use Rattle.mail_store.specs.Maildir.{AllNamed, File, IsDurableFile, Maildir, maildir_refused, ListsBoth}
+use Rattle.mail_store.specs.Maildir.{AllNamed, File, IsDurableFile, Maildir, bases_told, maildir_refused, names_of}
 use Rattle.mail_store.specs.FileName.{is_held, is_odd, names_id, stem, stem_of}
 
 -- whether the id of each item is held, in order
@@ -83,10 +83,14 @@ abbrev pub AreAmong : {A : Type 0} → List (String A) → List (List ℕ) → L
 AreAmong stems names told =
     (order : List (List ℕ)) × IsPermutation names order × (told ≡ filter (is_sought stems) order)
 
--- `names_among`: the name of each file of `new` and `cur` that has one of these stems, in any order
+-- `names_among`: the name of each file of `new` and `cur` that has one of these stems, in any order; each is durable
 abbrev pub ListsAmong : {A B C : Type 0} → Maildir → List (String A) → Result (Vec (String B) C) StoreFault → Maildir
     → Type 0
-ListsAmong old stems result new = ListsBoth (AreAmong stems) old result new
+ListsAmong old stems (Ok names) new = (old.there.new ≡ true) × (old.there.cur ≡ true)
+    × AreAmong stems (names_of old.files) (bases_told names.items) × AllNamed old.files × (new ≡ old)
+ListsAmong old stems (Err Missing) new = ((old.there.new ≡ false) ⊎ (old.there.cur ≡ false)) × (new ≡ old)
+ListsAmong old stems (Err Refused) new = new ≡ maildir_refused old
+ListsAmong old stems (Err fault) new = ⊥
 
 -- whether the flag of each item is set and its id's digits pass, in order
 abbrev pub sought_among : (List ℕ → Bool) → List Item → List Bool → List Bool

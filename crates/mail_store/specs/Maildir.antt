@@ -1,7 +1,7 @@
 -- What each call of a Maildir device does, for either outcome, as a relation between the Maildir
 -- before and after the call.
 use Rattle.std.specs.Prelude.{◌≡◌, ℕ, ◌+◌, List, [], ◌∷◌, ◌++◌, map, Bool, false, true, Option, Some, None, option_map}
-use Rattle.std.specs.Prelude.{Result, Ok, Err, ◌⊎◌, Vec, String, string_bytes, IsPermutation, Contains, All}
+use Rattle.std.specs.Prelude.{Result, Ok, Err, ◌⊎◌, Vec, String, string_bytes, Contains, All}
 use Rattle.std.specs.List.{AllByRecursion, AllZip, filter}
 use Rattle.mail_terms.specs.MaildirName.{base}
 use Rattle.mail_store.specs.{declared.fault.StoreFault.StoreFault, declared.maildir.disk.Folder.Folder}
@@ -170,21 +170,6 @@ Lists old folder (Ok names) new =
 Lists old folder (Err Missing) new = (is_there old.there folder ≡ false) × (new ≡ old)
 Lists old folder (Err Refused) new = new ≡ maildir_refused old
 Lists old folder (Err fault) new = ⊥
-
--- the names of the files of `new` and `cur` were told so, and each is durable
-abbrev pub ListsBoth : {A B : Type 0} → (List (List ℕ) → List (List ℕ) → Type 0) → Maildir
-    → Result (Vec (String A) B) StoreFault → Maildir → Type 0
-ListsBoth Told old (Ok names) new =
-    (old.there.new ≡ true) × (old.there.cur ≡ true) × Told (names_of old.files) (bases_told names.items)
-    × AllNamed old.files
-    × (new ≡ old)
-ListsBoth Told old (Err Missing) new = ((old.there.new ≡ false) ⊎ (old.there.cur ≡ false)) × (new ≡ old)
-ListsBoth Told old (Err Refused) new = new ≡ maildir_refused old
-ListsBoth Told old (Err fault) new = ⊥
-
--- `all_names`: the name of each file, in any order
-abbrev pub ListsAllNames : {A B : Type 0} → Maildir → Result (Vec (String A) B) StoreFault → Maildir → Type 0
-ListsAllNames old result new = ListsBoth IsPermutation old result new
 
 -- `check`: the folder is there
 abbrev pub Checks : {T : Type 0} → Maildir → Folder → Result T StoreFault → Maildir → Type 0

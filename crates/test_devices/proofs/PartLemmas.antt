@@ -1,9 +1,9 @@
 -- Files that readers took, behind a fuse too, and bytes that may be left.
-use Rattle.std.proofs.Common.{◌≡◌, ◌+◌, ◌<◌, ℕ, List, [], refl, ap, arith, Result, Ok, Err, Vec, String}
+use Rattle.std.proofs.Common.{◌≡◌, ◌+◌, ◌<◌, ℕ, List, refl, ap, arith, Result, Ok, Err, Vec, String}
 use Rattle.mail_terms.specs.FailureCount.{Tallies, counted_up, greatest_count, refuses}
 use Rattle.mail_store.specs.{declared.fault.StoreFault.StoreFault, declared.maildir.disk.Folder.Folder, Fault.is_refusal}
 use Rattle.mail_store.specs.declared.fault.StoreFault.TheVariants.{Missing, Refused}
-use Rattle.mail_store.specs.Maildir.{AfterTaking, Lists, Maildir, WereTaken, ListsBoth}
+use Rattle.mail_store.specs.{Held.ListsAmong, Maildir.AfterTaking, Maildir.Lists, Maildir.Maildir, Maildir.WereTaken}
 
 -- ---- names that a device told, and its fuse, which has a count of its own
 
@@ -29,13 +29,13 @@ module _ (n m : ℕ) (below : n < greatest_count) where
     lists left folder (Err Refused) count same = rw (same, counted_one count) refl
     lists left folder (Err _) count never = absurd never
 
-    lists_both : (Told : List (List ℕ) → List (List ℕ)
-        → Type 0) (left : Maildir) (r : Result (Vec (String A) B) StoreFault) → Tallies (refuses is_refusal r) n m
-        → ListsBoth Told left r new → ListsBoth Told (record left { failures = n }) r (record new { failures = m })
-    lists_both Told left (Ok names) count (in_new, in_cur, told, named, same) = (in_new, in_cur, told, named, rw (same, count) refl)
-    lists_both Told left (Err Missing) count (lacks, same) = (lacks, rw (same, count) refl)
-    lists_both Told left (Err Refused) count same = rw (same, counted_one count) refl
-    lists_both Told left (Err _) count never = absurd never
+    lists_among : {C : Type 0} (stems : List (String C)) (left : Maildir) (r : Result (Vec (String A) B) StoreFault)
+        → Tallies (refuses is_refusal r) n m → ListsAmong left stems r new
+        → ListsAmong (record left { failures = n }) stems r (record new { failures = m })
+    lists_among stems left (Ok names) count (in_new, in_cur, told, named, same) = (in_new, in_cur, told, named, rw (same, count) refl)
+    lists_among stems left (Err Missing) count (lacks, same) = (lacks, rw (same, count) refl)
+    lists_among stems left (Err Refused) count same = rw (same, counted_one count) refl
+    lists_among stems left (Err _) count never = absurd never
 
     pub fused_lists : (folder : Folder) (r : Result (Vec (String A) B) StoreFault) → Tallies (refuses is_refusal r) n m
         → AfterTaking old (λ left. Lists left folder r new)
@@ -43,8 +43,8 @@ module _ (n m : ℕ) (below : n < greatest_count) where
     fused_lists folder r count (left, taken, does) =
         (record left { failures = n }, taken_behind old left taken, lists left folder r count does)
 
-    pub fused_lists_both : (Told : List (List ℕ) → List (List ℕ) → Type 0) (r : Result (Vec (String A) B) StoreFault)
-        → Tallies (refuses is_refusal r) n m → AfterTaking old (λ left. ListsBoth Told left r new)
-        → AfterTaking (record old { failures = n }) (λ left. ListsBoth Told left r (record new { failures = m }))
-    fused_lists_both Told r count (left, taken, does) =
-        (record left { failures = n }, taken_behind old left taken, lists_both Told left r count does)
+    pub fused_lists_among : {C : Type 0} (stems : List (String C)) (r : Result (Vec (String A) B) StoreFault)
+        → Tallies (refuses is_refusal r) n m → AfterTaking old (λ left. ListsAmong left stems r new)
+        → AfterTaking (record old { failures = n }) (λ left. ListsAmong left stems r (record new { failures = m }))
+    fused_lists_among stems r count (left, taken, does) =
+        (record left { failures = n }, taken_behind old left taken, lists_among stems left r count does)

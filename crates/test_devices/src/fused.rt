@@ -104,7 +104,7 @@ impl<D: MaildirDisk> MaildirDisk for Fused<D> {
     ghost use Rattle.mail_store.specs.Fault.{IsDeviceFault};
     ghost use Rattle.mail_store.specs.Held.{ListsAmong};
     ghost use Rattle.mail_store.specs.Loss.{Flushes};
-    ghost use Rattle.mail_store.specs.Maildir.{AfterTaking, IsThere, Lists, ListsAllNames, Checks, Begins, Adds};
+    ghost use Rattle.mail_store.specs.Maildir.{AfterTaking, IsThere, Lists, Checks, Begins, Adds};
     ghost use Rattle.mail_store.specs.Maildir.{Settles};
     ghost use Rattle.mail_store.specs.Maildir.{dropped, name_begun};
     ghost use Rattle.mail_store.specs.Devices.{DiskDoes, DiskRefuses};
@@ -124,18 +124,6 @@ impl<D: MaildirDisk> MaildirDisk for Fused<D> {
     {
         self.pass()?;
         let answer = self.device.names(folder);
-        self.tally(answer)
-    }
-
-    fn all_names(&mut self) -> Result<Vec<String>, StoreFault>
-        ensures lists { DiskDoes ⟦<Fused<D> as MaildirDisk>⟧ (λ old new.
-            AfterTaking old (λ left. ListsAllNames left result new)) self.old self.new }
-        ensures fault { IfErr result IsDeviceFault }
-        ensures count { Tallies (refuses is_refusal result) (refusals self.old) (refusals self.new) }
-        ensures fuse { Fuses (λ d. (D.maildir d).failures) self.old result self.new }
-    {
-        self.pass()?;
-        let answer = self.device.all_names();
         self.tally(answer)
     }
 

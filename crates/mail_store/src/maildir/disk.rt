@@ -21,7 +21,7 @@ pub enum Folder {
 /// name before that colon and its bytes, and neither its folder nor its marks; and only those that
 /// tell names see that a file was taken away.
 ///
-/// What can't be opened, as a pipe or a file without rights, is no file: its name isn't told. See `odd`.
+/// What can't be opened, as a pipe or a file without rights, is no file: `names_among` doesn't tell its name. See `odd`.
 pub trait MaildirDisk {
     ghost use Rattle.std.specs.Prelude.{◌≡◌, ℕ, List, false, true, IfErr, IsSome, Ok, OnErr, OnOk, Some, None, map};
     ghost use Rattle.std.specs.Prelude.{string_bytes};
@@ -29,7 +29,7 @@ pub trait MaildirDisk {
     ghost use Rattle.mail_store.specs.Fault.{is_refusal, IsDeviceFault};
     ghost use Rattle.mail_store.specs.Held.{ListsAmong};
     ghost use Rattle.mail_store.specs.Loss.{Flushes};
-    ghost use Rattle.mail_store.specs.Maildir.{Maildir, AfterTaking, IsThere, Lists, ListsAllNames, Checks};
+    ghost use Rattle.mail_store.specs.Maildir.{Maildir, AfterTaking, IsThere, Lists, Checks};
     ghost use Rattle.mail_store.specs.Maildir.{Begins, Adds, Settles, dropped, name_begun};
 
     // What is known of the Maildir, and of what a loss of power leaves of it (see `LosesPower`). Whether
@@ -41,7 +41,7 @@ pub trait MaildirDisk {
     ghost sound: { Self → Type 0 };
 
     /// The names of the files of a folder, in any order. While a reader moves files, each name is
-    /// that of a file which is there, in this folder or already in the other one; `all_names` tells
+    /// that of a file which is there, in this folder or already in the other one; `names_among` tells
     /// of every file. Missing if the folder isn't there, else Refused.
     fn names(&mut self, folder: Folder) -> Result<Vec<String>, StoreFault>
         ensures lists { sound self.new → sound self.old
@@ -49,22 +49,15 @@ pub trait MaildirDisk {
         ensures fault { IfErr result IsDeviceFault }
         ensures count { Tallies (refuses is_refusal result) (maildir self.old).failures (maildir self.new).failures };
 
-    /// The names of the files of `new` and `cur`, in any order: each file once, even if a reader
-    /// moves it meanwhile. Missing if `new` or `cur` isn't there, else Refused.
-    fn all_names(&mut self) -> Result<Vec<String>, StoreFault>
-        ensures lists { sound self.new → sound self.old
-            × AfterTaking (maildir self.old) (λ left. ListsAllNames left result (maildir self.new)) }
-        ensures fault { IfErr result IsDeviceFault }
-        ensures count { Tallies (refuses is_refusal result) (maildir self.old).failures (maildir self.new).failures };
-
-    /// As `all_names`, but of these names those alone that have one of these stems (see `stem`).
+    /// Of the names of the files of `new` and `cur` those that have one of these stems (see `stem`), in any order: each
+    /// file once, even if a reader moves it meanwhile. Missing if `new` or `cur` isn't there, else Refused.
     fn names_among(&mut self, stems: &[String]) -> Result<Vec<String>, StoreFault>
         ensures lists { sound self.new → sound self.old
             × AfterTaking (maildir self.old) (λ left. ListsAmong left stems.now result (maildir self.new)) }
         ensures fault { IfErr result IsDeviceFault }
         ensures count { Tallies (refuses is_refusal result) (maildir self.old).failures (maildir self.new).failures };
 
-    /// The names that the last call that told names found to be borne by what can't be opened, of those that it sought.
+    /// The names that the last `names_among` found to be borne by what can't be opened, of those that it sought.
     fn odd(&self) -> &[String]
         ensures { sound self.now → map string_bytes result.now ≡ (maildir self.now).odd };
 
@@ -108,7 +101,7 @@ pub trait MaildirDisk {
         ensures count { Tallies (refuses is_refusal result) (maildir self.old).failures (maildir self.new).failures };
 
     /// Puts the file begun into `new` under this name. No file of `new` or `cur` may have it, with
-    /// whatever marks (see `all_names`). The only fault is Refused: the file is then not there, or there
+    /// whatever marks. The only fault is Refused: the file is then not there, or there
     /// and whole. Either way none is begun afterwards.
     fn settle(&mut self, name: &str) -> Result<(), StoreFault>
         requires begun { sound self.old → IsSome (maildir self.old).begun }

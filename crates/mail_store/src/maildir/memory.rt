@@ -126,7 +126,7 @@ impl MaildirDisk for MemoryMaildir {
     ghost use Rattle.mail_terms.specs.FailureCount.{greatest_count};
     ghost use Rattle.mail_store.specs.Devices.{DiskDoes, DiskRefuses};
     ghost use Rattle.mail_store.specs.Loss.{Flushes};
-    ghost use Rattle.mail_store.specs.Maildir.{Adds, AfterTaking, Begins, Checks, IsThere, Lists, ListsAllNames};
+    ghost use Rattle.mail_store.specs.Maildir.{Adds, AfterTaking, Begins, Checks, IsThere, Lists};
     ghost use Rattle.mail_store.specs.Maildir.{Settles};
     ghost use Rattle.mail_store.specs.Maildir.{dropped, name_begun};
     ghost use Rattle.mail_store.specs.MemoryMaildir.{AddsAlone, BeginsAlone, ChangesOnlyCount, SettlesAlone};
@@ -146,20 +146,6 @@ impl MaildirDisk for MemoryMaildir {
     {
         admit(&self.failures)?;
         match names_of(self.alloc, self.files(folder)) {
-            Ok(names) => Ok(names),
-            Err(_) => Err(refuse(&mut self.failures)),
-        }
-    }
-
-    fn all_names(&mut self) -> Result<Vec<String>, StoreFault>
-        ensures tells { IfOk result (λ names. map string_bytes names.items ≡ names_of self.old.files) }
-        ensures keeps { ChangesOnlyCount self.old self.new }
-        ensures lists { DiskDoes ⟦<MemoryMaildir as MaildirDisk>⟧
-            (λ old new. AfterTaking old (λ left. ListsAllNames left result new)) self.old self.new }
-        ensures refuses { DiskRefuses ⟦<MemoryMaildir as MaildirDisk>⟧ self.old result self.new }
-    {
-        admit(&self.failures)?;
-        match names_of(self.alloc, &self.files) {
             Ok(names) => Ok(names),
             Err(_) => Err(refuse(&mut self.failures)),
         }

@@ -35,7 +35,7 @@ fn told_of_one(alloc: Global, number: usize, step: ReaderStep) -> Result<(usize,
     folders.rests(Folder::New)?;
     folders.rests(Folder::New)?;
     let mut disk = FolderMaildir::over(alloc, folders);
-    let names = disk.all_names()?;
+    let names = disk.names_among(&[String::from_str(alloc, "one")?])?;
     let mut folders = disk.into_folders();
     folders.lose_power(&[MailLeft::Gone])?;
     Ok((names.len(), folders.content_at(0).is_some()))
