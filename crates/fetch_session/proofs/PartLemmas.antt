@@ -23,7 +23,7 @@ use Rattle.fetch_session.specs.Fault.{cut_of, fault_of}
 use Rattle.fetch_session.specs.Refusal.{Took, TookTillCut, TookWithTail, step_limit, tail_limit}
 use Rattle.fetch_session.specs.Durable.{AreLeft, DurableCut, DoesDurably, IsSafeFile, IsSafeStore, IsSafeWork}
 use Rattle.fetch_session.specs.Durable.{IsGrownAtMost, KeepsWork, LeavesFile, may_leave_in}
-use Rattle.fetch_session.specs.Parts.{DoesTasks, RunsTasks, IsReadyFor, KeepsLedger, KeepsLink, KeepsStore}
+use Rattle.fetch_session.specs.Parts.{RunsTasks, IsReadyFor, KeepsLedger, KeepsLink, KeepsStore}
 use Rattle.fetch_session.specs.Parts.{IsReadyForNext, IsWritten, WhereWorkSound, scene_of}
 use Rattle.fetch_session.specs.Record.{Steady, record_state}
 use Rattle.fetch_session.specs.Scene.{TakesTask, scene, Stops}
@@ -373,20 +373,38 @@ module _ {D F H Z : Type 0} {disk : DiskGhosts D} {file : FileGhosts F} where
   )
 
   -- a task that stores nothing
-  pub does_talking : {W : Type 0} (link : WireGhosts W) (account : List ℕ) (task : Task) (client client' : Client W)
-      (work : Work D F H Z) (lines : Vec ReportLine Global) (r : Result (Unit {0}) Cut)
+  pub runs_talking : {W : Type 0} (link : WireGhosts W) (account : List ℕ) (task : Task) (client client' : Client W)
+      (work : Work D F H Z) (lines : Vec ReportLine Global) (r : Result (Unit {0}) Cut) → ids_in task ≡ []
+      → KeepsLink link (TookTillCut (most_of (turns_ahead (task ∷ [])))) client r client' → AddsLines work.ledger.lines 1 lines
       → WhereSound link.sound link.leads_to client.wire.now client'.wire.now
       (TakesTask (target_of work.store account) task (scene_at disk file (place_of link client) work) r
       (scene_at disk file (place_of link client') (record work { ledger = record work.ledger { lines = lines } })))
-      → IsReadyForNext disk file work → DoesTasks link disk file account (task ∷ []) client work r client'
+      → IsReadyForNext disk file work → RunsTasks link disk file account (task ∷ []) client work r client'
       (record work { ledger = record work.ledger { lines = lines } })
-  does_talking link account task client client' work lines r talked ready = all_sound talked (λ d. (d, tt {0})) (λ f. (f, f)) (λ took _ f.
-      let steady = ready.written.steady f in
-      good_task disk (target_of work.store account) task (place_of link client) (place_of link client') work
-      (record work { ledger = record work.ledger { lines = lines } }) r took
-      (keeps_same file work) steady (on_any r steady) (λ safe. on_any r safe) (λ safe. same_left file work.ledger.file safe.0 steady)
-      (λ safe. if_err r (λ cut. nothing_cut disk file (target_of work.store account) task (place_of link client) _ _ cut _
-      work.store work.store work.ledger.file safe.1 (λ left may. may) safe.0 steady)))
+  runs_talking link account task client client' work lines r none talk few talked ready = (
+    record {
+      talk = talk;
+      store = record { lines = few; kind = refl; none_begun = λ d. (d, ready.none_begun d) };
+      durable = λ d f. (f, λ safe. on_any r safe);
+      idle = λ _. (refl, λ d left may. may);
+      next = on_any r (λ later before. record {
+        digits = before.digits;
+        room = omega (arith, before.room, few.0, few.1);
+        ready = record { none_begun = ready.none_begun; written = record { closed = ready.written.closed; steady = ready.written.steady } };
+        legal = rw none at before.legal;
+        rows = rw none at before.rows;
+        free = λ d. rw none at (before.free d);
+        named = λ d. rw none at (before.named d);
+      });
+    },
+    all_sound talked (λ d. (d, tt {0})) (λ f. (f, f)) (λ took _ f.
+        let steady = ready.written.steady f in
+        good_task disk (target_of work.store account) task (place_of link client) (place_of link client') work
+        (record work { ledger = record work.ledger { lines = lines } }) r took
+        (keeps_same file work) steady (on_any r steady) (λ safe. on_any r safe) (λ safe. same_left file work.ledger.file safe.0 steady)
+        (λ safe. if_err r (λ cut. nothing_cut disk file (target_of work.store account) task (place_of link client) _ _ cut _
+        work.store work.store work.ledger.file safe.1 (λ left may. may) safe.0 steady))),
+  )
 
 -- ---- what the look left
 

@@ -13,14 +13,14 @@ use Rattle.fetch_session.specs.{declared.fault.Fault.Fault, declared.fault.Cut.C
 use Rattle.pop3_wire.specs.declared.wire.Wire.{Ghosts as WireGhosts}
 use Rattle.pop3_wire.specs.Place.{Place}
 use Rattle.fetch_session.specs.declared.step.Task.{Task as Planned}
-use Rattle.fetch_session.specs.declared.step.Task.TheVariants.{Store, Reread, Skip, Delete}
+use Rattle.fetch_session.specs.declared.step.Task.TheVariants.{Store, Reread, Skip}
 use Rattle.fetch_session.specs.declared.work.Work.{Work}
 use Rattle.fetch_session.specs.Durable.{AreLeft, DoesDurably, IsSafeFile, IsSafeWork, LeavesFile, LeavesStore}
 use Rattle.fetch_session.specs.Record.{Steady, record_state_in}
 use Rattle.fetch_session.specs.Refusal.{RefusesTillCut, TookTillCut}
 use Rattle.fetch_session.specs.Report.{AddsLines, HasRoom}
 use Rattle.fetch_session.specs.Target.{is_sound, kind_of, stores_of, target_of, NoneBegun}
-use Rattle.fetch_session.specs.Task.{Task, skips, stores, rereads, deletes, ids_ahead, turns_ahead, AreFresh}
+use Rattle.fetch_session.specs.Task.{Task, skips, stores, rereads, ids_ahead, turns_ahead, AreFresh}
 use Rattle.fetch_session.specs.Scene.{Scene, scene, WhereAllSound}
 
 -- the state of a session: where its client is, and what it works on
@@ -53,7 +53,6 @@ abbrev pub task_of : Planned → Task
 task_of (Store number uid) = stores number uid.now
 task_of (Reread number uid) = rereads number uid.now
 task_of (Skip number size) = skips number size
-task_of (Delete number) = deletes number
 
 -- ready for these tasks: there is room for their lines, no file is begun, all is written down, and each id that they
 -- will mark is legal, has a row and isn't held; if there is one, each name in a Maildir is durable
@@ -138,19 +137,12 @@ pub record KeepsSession {W D F H Z : Type 0} (link : WireGhosts W) (disk : DiskG
 
 -- ---- what is done
 
--- these tasks were done, or as far as went well, and if all was safe before, what was done is durable
-abbrev pub DoesTasks : {W D F H Z : Type 0} → WireGhosts W → DiskGhosts D → FileGhosts F → List ℕ → List Task → Client W
-    → Work D F H Z
-    → Result (Unit {0}) Cut → Client W → Work D F H Z → Type 0
-DoesTasks link disk file account tasks client work result client' work' = WhereWorkSound link disk file client work
-    client' work'
-    (λ old new. DoesDurably file (IsSafeWork file work) (target_of work.store account) tasks old result new
-    work'.store work'.ledger.file)
-
--- the same, and what is kept of it
+-- what is kept, and that these tasks were done, or as far as went well; if all was safe before, what was done is
+-- durable
 abbrev pub RunsTasks : {W D F H Z : Type 0} → WireGhosts W → DiskGhosts D → FileGhosts F → List ℕ → List Task → Client W
     → Work D F H Z
     → Result (Unit {0}) Cut → Client W → Work D F H Z → Type 0
 RunsTasks link disk file account tasks client work result client' work' =
     KeepsSession link disk file account tasks client work result client' work'
-    × DoesTasks link disk file account tasks client work result client' work'
+    × WhereWorkSound link disk file client work client' work' (λ old new. DoesDurably file (IsSafeWork file work)
+    (target_of work.store account) tasks old result new work'.store work'.ledger.file)

@@ -1,17 +1,9 @@
 //! What is done with each message.
-ghost use Rattle.std.specs.Prelude.{◌≡◌, ◌∷◌, [], List, length};
-ghost use Rattle.fetch_record.specs.Record.{Row};
+ghost use Rattle.std.specs.Prelude.{◌≡◌, ◌∷◌, ℕ, List, [], length};
 ghost use Rattle.fetch_rules.specs.Plan.{fetches};
-ghost use Rattle.fetch_session.specs.Refusal.{TookTillCut};
-ghost use Rattle.fetch_session.specs.Parts.{DoesTasks, RunsTasks, IsReadyFor, KeepsLink, KeepsSession, task_of};
-ghost use Rattle.fetch_session.specs.Report.{AddsLines, HasRoom};
-ghost use Rattle.fetch_session.specs.Scene.{scene, TakesTask};
-ghost use Rattle.fetch_session.specs.Target.{Stores, Target};
-ghost use Rattle.fetch_session.specs.Task.{deletes, deleting, fetching, tasks_planned};
-ghost use Rattle.mail_store.specs.FlatFile.{Stored};
-ghost use Rattle.pop3_client.specs.Client.{place_of};
-ghost use Rattle.pop3_client.specs.Turns.{dele, most};
-ghost use Rattle.pop3_wire.specs.Link.{WhereSound};
+ghost use Rattle.fetch_session.specs.Parts.{RunsTasks, IsReadyFor, task_of};
+ghost use Rattle.fetch_session.specs.Report.{HasRoom};
+ghost use Rattle.fetch_session.specs.Task.{deleting, fetching, tasks_planned};
 
 use crate::account::Store;
 use crate::appending::take_into_mbox;
@@ -24,11 +16,9 @@ use fetch_rules::{Listing, Step};
 use mail_store::{AccountId, FlatFile, MaildirDisk, one_more_is_held};
 use pop3_client::{Client, conversations_are_paced, turns_join};
 use pop3_wire::Wire;
-use std::alloc::Global;
 use std::hash::BuildHasher;
-use std::vec::Vec;
 
-/// What is done with one message.
+/// What is done first with one message.
 #[derive(Clone, Copy)]
 enum Task<'a> {
     /// Its text is taken, stored and marked.
@@ -37,8 +27,6 @@ enum Task<'a> {
     Reread { number: u32, uid: &'a [u8] },
     /// It is passed over.
     Skip { number: u32, size: u64 },
-    /// It is deleted.
-    Delete { number: u32 },
 }
 
 /// What a step does first with its message, which has this id and size, and which the store holds
@@ -56,25 +44,25 @@ fn first_task<'a>(step: Step, uid: &'a [u8], size: u64, held: bool) -> Task<'a>
     Task::Store { number, uid }
 }
 
-/// Deletes a message.
-fn delete<W: Wire>(
-    alloc: Global,
+/// Deletes the message of a step, if that is planned.
+fn delete<W: Wire, D: MaildirDisk, F: FlatFile, H: BuildHasher>(
     client: &mut Client<'_, W>,
-    lines: &mut Vec<ReportLine>,
-    number: u32,
+    work: &mut Work<D, F, H>,
+    step: Step,
 ) -> Result<(), Cut>
-    requires room { HasRoom lines.old 1 }
-    ensures link { KeepsLink W.Wire (TookTillCut (most (dele number))) client.old result client.new }
-    ensures few { AddsLines lines.old 1 lines.new }
-    ensures deletes { (target : Target) (store : Stores) (file : Stored) (rows : List Row)
-        → WhereSound W.sound W.leads_to client.old.wire.now client.new.wire.now
-        (TakesTask target (deletes number)
-        (scene (place_of W.Wire client.old) store file rows lines.old.items) result
-        (scene (place_of W.Wire client.new) store file rows lines.new.items)) }
+    requires { HasRoom work.old.ledger.lines (length (deleting step.delete step.number)) }
+    ensures { (account : List ℕ)
+        → IsReadyFor D.MaildirDisk F.FlatFile account (deleting step.delete step.number) work.old
+        → RunsTasks W.Wire D.MaildirDisk F.FlatFile account (deleting step.delete step.number) client.old work.old
+        result client.new work.new }
 {
     conversations_are_paced();
-    client.delete(alloc, number)?;
-    note(lines, ReportLine::Deleted { number });
+    if !step.delete {
+        return Ok(());
+    }
+    let number = step.number;
+    client.delete(work.ledger.alloc, number)?;
+    note(&mut work.ledger.lines, ReportLine::Deleted { number });
     Ok(())
 }
 
@@ -86,10 +74,8 @@ fn do_task<W: Wire, D: MaildirDisk, F: FlatFile, H: BuildHasher>(
     task: Task<'_>,
 ) -> Result<(), Cut>
     requires { IsReadyFor D.MaildirDisk F.FlatFile account.now (task_of task ∷ []) work.old }
-    ensures keeps { KeepsSession W.Wire D.MaildirDisk F.FlatFile account.now (task_of task.entry ∷ [])
-        client.old work.old result client.new work.new }
-    ensures does { DoesTasks W.Wire D.MaildirDisk F.FlatFile account.now (task_of task.entry ∷ [])
-        client.old work.old result client.new work.new }
+    ensures { RunsTasks W.Wire D.MaildirDisk F.FlatFile account.now (task_of task.entry ∷ []) client.old work.old
+        result client.new work.new }
 {
     one_more_is_held();
     match task {
@@ -106,39 +92,7 @@ fn do_task<W: Wire, D: MaildirDisk, F: FlatFile, H: BuildHasher>(
             note(&mut work.ledger.lines, ReportLine::Skipped { number, size });
             Ok(())
         }
-        Task::Delete { number } => {
-            delete(work.ledger.alloc, client, &mut work.ledger.lines, number)
-        }
     }
-}
-
-/// Does what a step plans for its message: this task, and then the deletion, if there is one.
-fn do_step<W: Wire, D: MaildirDisk, F: FlatFile, H: BuildHasher>(
-    client: &mut Client<'_, W>,
-    work: &mut Work<D, F, H>,
-    account: &AccountId,
-    step: Step,
-    first: Task<'_>,
-) -> Result<(), Cut>
-    requires { IsReadyFor D.MaildirDisk F.FlatFile account.now
-        (task_of first ∷ deleting step.delete step.number) work.old }
-    ensures { RunsTasks W.Wire D.MaildirDisk F.FlatFile account.now
-        (task_of first.entry ∷ deleting step.delete step.number)
-        client.old work.old result client.new work.new }
-{
-    turns_join();
-    do_task(client, work, account, first)?;
-    if !step.delete {
-        return Ok(());
-    }
-    do_task(
-        client,
-        work,
-        account,
-        Task::Delete {
-            number: step.number,
-        },
-    )
 }
 
 /// What is planned for a listing: a step for each message, and whether the store holds it.
@@ -172,7 +126,8 @@ pub fn do_steps<W: Wire, D: MaildirDisk, F: FlatFile, H: BuildHasher, L: Listene
         let place = i as usize;
         let step = plan.steps[place];
         let first = first_task(step, listing.uid(i), listing.size(i), plan.held[place]);
-        do_step(client, work, account, step, first)?;
+        do_task(client, work, account, first)?;
+        delete(client, work, step)?;
         listener.hear(listing.len(), &work.ledger.lines);
     }
     Ok(())

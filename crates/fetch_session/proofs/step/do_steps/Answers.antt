@@ -2,7 +2,7 @@ use Rattle.std.proofs.Common.{◌≡◌, ◌++◌, ◌∷◌, List, [], drop, Ok
 use Rattle.std.proofs.lemmas.List.{append-nil, drop_all}
 use Rattle.fetch_rules.specs.declared.plans.Step.{Step}
 use Rattle.fetch_session.proofs.TalkLemmas.{err_is}
-use Rattle.fetch_session.specs.Parts.{task_of}
+use Rattle.fetch_session.specs.Parts.{IsReadyFor, task_of}
 use Rattle.fetch_session.specs.Task.{Task, deleting, tasks_planned}
 use Rattle.fetch_session.proofs.ReadyLemmas.{later_at, no_item, step_at, tasks_left}
 use Rattle.fetch_session.proofs.PartLemmas.{runs_before, runs_nothing, goes_on, ready_front}
@@ -13,9 +13,11 @@ pub loop-i-init : goal.loop-i-init
 loop-i-init g c = ([], refl, runs_nothing g.met.W.Wire.leads_same c.requires.ready.ready, g.met.L.Listener.hears_none c.args.listener.now)
 
 -- what is done for the i-th message, and after it
+abbrev deletion : (g : _) → After-first_task-first g → List Task
+deletion g c = let step = step_at c.args.plan.steps.now c.loop-i.i in deleting step.delete step.number
+
 abbrev now : (g : _) → After-first_task-first g → List Task
-now g c = task_of c.first_task-first.result ∷ deleting (step_at c.args.plan.steps.now c.loop-i.i).delete
-    (step_at c.args.plan.steps.now c.loop-i.i).number
+now g c = task_of c.first_task-first.result ∷ deletion g c
 
 abbrev later : (g : _) → After-first_task-first g → List Task
 later g c = later_at c.args.plan.steps.now c.args.plan.listing.now c.args.plan.held.now c.loop-i.i
@@ -30,31 +32,55 @@ split g c =
     (omega (arith, c.loop-i-test.true, c.len-i-end.ensures.count)) c.requires.all_steps c.requires.all_flags
     (c.uid.ensures.value no_item) (c.size.ensures no_item) c.first_task-first.ensures) ∙ sym (append_assoc done (now g c) (later g c))
 
-pub do_step-requires : goal.do_step-requires
-do_step-requires g c =
-    let d = (goal.at.do_step-requires g c).After-first_task-first in
-    let inv = c.loop-i.invariant in
-    ready_front (now g d) (later g d) (inv.2.0.next (now g d ++ later g d) (rw (split g d, append_assoc) at c.requires.ready))
+-- all is ready for that
+ready_now : (g : _) (c : After-first_task-first g)
+    → IsReadyFor g.D.MaildirDisk g.F.FlatFile c.args.account.now (now g c) c.loop-i.work
+ready_now g c = ready_front (now g c) (later g c) (c.loop-i.invariant.2.0.next (now g c ++ later g c)
+    (rw (split g c, append_assoc) at c.requires.ready))
+
+pub do_task-requires : goal.do_task-requires
+do_task-requires g c =
+    let d = (goal.at.do_task-requires g c).After-first_task-first in
+    ready_front (task_of c.first_task-first.result ∷ []) (deletion g d) (ready_now g d)
+
+pub delete-requires : goal.delete-requires
+delete-requires g c =
+    let here = goal.at.delete-requires g c in
+    (c.in_ok-do_task.ensures.0.next (deletion g here.After-first_task-first) (ready_now g here.After-first_task-first)).room
 
 pub loop-i-preserved : goal.loop-i-preserved
 loop-i-preserved g c =
     let d = (goal.at.loop-i-preserved g c).After-first_task-first in
-    let inv = c.loop-i.invariant in (
+    let inv = c.loop-i.invariant in
+    let done = c.in_ok-do_task.ensures in
+    let joins = c.turns_join.ensures in
+    let leads = g.met.W.Wire.leads_on in (
       inv.0 ++ now g d,
       split g d,
-      goes_on c.turns_join.ensures g.met.W.Wire.leads_on inv.0 (now g d) (Ok tt) inv.2 c.in_ok-do_step.ensures,
+      goes_on joins leads inv.0 (now g d) (Ok tt) inv.2 (goes_on joins leads (task_of c.first_task-first.result ∷ [])
+          (deletion g d) (Ok tt) done (c.in_ok-delete.ensures c.args.account.now (done.0.next (deletion g d) (ready_now g d)))),
       g.met.L.Listener.hears_on _ _ _ [] [] inv.3 c.hear.ensures,
     )
 
-pub returns-in_err-do_step : goal.returns-in_err-do_step
-returns-in_err-do_step g c =
-    let d = (goal.at.returns-in_err-do_step g c).After-first_task-first in
+pub returns-in_err-do_task-clause-runs : goal.returns-in_err-do_task-clause-runs
+returns-in_err-do_task-clause-runs g c =
+    let d = (goal.at.returns-in_err-do_task-clause-runs g c).After-first_task-first in
     let inv = c.loop-i.invariant in
-    rw (err_is c.from_residual.ensures.1, split g d) (record {
-      runs = runs_before (inv.0 ++ now g d) (later g d) (goes_on c.turns_join.ensures g.met.W.Wire.leads_on inv.0
-          (now g d) (Err c.in_err-do_step.field-0.0) inv.2 c.in_err-do_step.ensures);
-      heard = inv.3;
-    })
+    rw (err_is c.from_residual.ensures.1, split g d) (runs_before (inv.0 ++ now g d) (later g d)
+    (goes_on c.turns_join.ensures g.met.W.Wire.leads_on inv.0 (now g d) (Err c.in_err-do_task.field-0.0) inv.2
+    (runs_before (task_of c.first_task-first.result ∷ []) (deletion g d) c.in_err-do_task.ensures)))
+
+pub returns-in_err-delete-clause-runs : goal.returns-in_err-delete-clause-runs
+returns-in_err-delete-clause-runs g c =
+    let d = (goal.at.returns-in_err-delete-clause-runs g c).After-first_task-first in
+    let inv = c.loop-i.invariant in
+    let done = c.in_ok-do_task.ensures in
+    let joins = c.turns_join.ensures in
+    let leads = g.met.W.Wire.leads_on in
+    rw (err_is c.from_residual-in_err-delete.ensures.1, split g d) (runs_before (inv.0 ++ now g d) (later g d)
+    (goes_on joins leads inv.0 (now g d) (Err c.in_err-delete.field-0.0) inv.2 (goes_on joins leads
+    (task_of c.first_task-first.result ∷ []) (deletion g d) (Err c.in_err-delete.field-0.0) done
+    (c.in_err-delete.ensures c.args.account.now (done.0.next (deletion g d) (ready_now g d))))))
 
 -- none is left
 all_done : (g : _) (c : After-loop-i g)
