@@ -41,13 +41,13 @@ fn with_comma(alloc: Global, first: String, second: String) -> Result<String, Al
 fn left_out_text(alloc: Global, left: &LeftOut) -> Result<String, AllocError>
     ensures { IfOk result (λ text. string_bytes text ≡ left_out_text left.now) }
 {
-    let odd = left_out_reason(alloc, left.obstructed, " obstructed")?;
+    let obstructed = left_out_reason(alloc, left.obstructed, " obstructed")?;
     let large = left_out_reason(alloc, left.too_large, " too large")?;
     let past = left_out_reason(alloc, left.past_limit, " past the limit")?;
     let repeated = left_out_reason(alloc, left.repeated, " with a repeated unique-id")?;
-    let first = with_comma(alloc, odd, large)?;
-    let both = with_comma(alloc, first, past)?;
-    with_comma(alloc, both, repeated)
+    let two = with_comma(alloc, obstructed, large)?;
+    let three = with_comma(alloc, two, past)?;
+    with_comma(alloc, three, repeated)
 }
 
 /// The line on messages that were left out; empty if there are none.
