@@ -10,6 +10,7 @@ import subprocess
 import unittest
 
 from getmail.account import Account
+from getmail.server import size_of
 from getmail.shared_server import SharedServer
 from harness import programs
 from harness.kernel import LOOPBACK
@@ -84,22 +85,32 @@ class OddFiles(unittest.TestCase):
         """The account is as at first."""
         self.account.record.unlink(missing_ok=True)
         self.server.messages = list(LETTERS)
-        for part in ("new", "cur"):
-            for path in (self.account.maildir / part).iterdir():
-                path.rmdir() if path.is_dir() and not path.is_symlink() else path.unlink()
+        for path in self.paths():
+            path.rmdir() if path.is_dir() and not path.is_symlink() else path.unlink()
+
+    def paths(self):
+        return {path for part in ("new", "cur") for path in (self.account.maildir / part).iterdir()}
+
+    def path_for(self, letter, part, marks=""):
+        return self.account.maildir / part / (self.account.name(*letter) + marks)
 
     def run_getmail(self, *words):
+        self.server.forget()
         done = subprocess.run([self.program, *words], stdin=subprocess.DEVNULL, capture_output=True,
                               env=programs.environment(HOME=str(self.account.home)), timeout=programs.SECONDS, **self.user)
         self.server.wait_for_end()
         return programs.Run(done.returncode, done.stdout, done.stderr)
 
+    def fetched(self):
+        """What the last run sent RETR for."""
+        return [command for command in self.server.commands[1] if command.startswith("RETR")]
+
     def told(self, path, words):
         return f"getmail: u@{LOOPBACK}:{self.server.port}: {path}: {words}\n".encode()
 
-    def states(self):
-        """The rows of the record: whether each id is delivered."""
-        return {uid: state for uid, (_, state) in grammar.record_of(self.account.record.read_bytes()).rows.items()}
+    def undelivered(self):
+        """The unique-ids that the record shows as not delivered."""
+        return {uid for uid, (_, state) in grammar.record_of(self.account.record.read_bytes()).rows.items() if not state}
 
     def check_told(self, path, words):
         """The other messages come one by one, as the limit says, and are deleted; of this one nothing is done."""
@@ -109,38 +120,124 @@ class OddFiles(unittest.TestCase):
             done = self.run_getmail("-q", "-d", *options)
             self.assertEqual(done, programs.Run(0, b"", more + self.told(path, words)))
             self.assertEqual(self.server.messages, [LETTERS[number] for number in numbers])
-            self.assertEqual({uid for uid, state in self.states().items() if not state},
-                             {LETTERS[number][0] for number in numbers})
-        self.assertEqual(os.lstat(path).st_ino, before.st_ino)
-        preview = self.run_getmail("--pretend")
-        self.assertEqual((preview.status, preview.err), (0, self.told(path, words)))
-        self.assertIn(b"obstructed\n", preview.out)
+            self.assertEqual(self.undelivered(), {LETTERS[number][0] for number in numbers})
+        self.assertEqual(self.paths(), {path, *(self.path_for(letter, "new") for letter in LETTERS[1:])})
+        after = os.lstat(path)
+        for what in ("st_ino", "st_mode", "st_size", "st_ctime_ns"):
+            self.assertEqual(getattr(after, what), getattr(before, what))
+
+    def check_all_came(self):
+        self.assertEqual((self.account.held(), self.server.messages), (LETTERS, []))
 
     def test_each_kind(self):
+        """Once it is removed, its message comes."""
         for part, marks in (("new", ""), ("cur", ":2,S")):
             for kind, make, words in KINDS:
                 if part == "cur" and kind == "a folder":
-                    # A folder is no file of a Maildir: there it bears no name that a delivery needs.
+                    # Passed over there: no message is put into `cur`, so it is in the way of none.
                     continue
                 with self.subTest(kind=kind, part=part):
                     self.empty()
-                    path = self.account.maildir / part / (self.account.name(*LETTERS[0]) + marks)
+                    path = self.path_for(LETTERS[0], part, marks)
                     make(path)
                     self.give_away()
                     self.check_told(path, words)
                     os.rmdir(path) if kind == "a folder" else os.unlink(path)
                     self.assertEqual(self.run_getmail("-q", "-d"), programs.SILENT)
-                    self.assertEqual((self.account.held(), self.server.messages), (LETTERS, []))
+                    self.assertEqual(self.fetched(), ["RETR 1"])
+                    self.check_all_came()
+
+    def test_reports(self):
+        """A report and a preview say of the message that it is obstructed."""
+        path = self.path_for(LETTERS[0], "new")
+        os.mkfifo(path)
+        self.give_away()
+        front = f"SimplePOP3Retriever:u@{LOOPBACK}:{self.server.port}:\n".encode()
+        size = b"%d octets" % size_of(LETTERS[0][1])
+        preview = self.run_getmail("--pretend", "-d")
+        self.assertEqual((preview.status, preview.err), (0, self.told(path, IRREGULAR)))
+        self.assertTrue(preview.out.startswith(front + b"msg 1/3 (" + size + b") obstructed\nmsg 2/3 ("))
+        self.assertTrue(preview.out.endswith(b"1 of 3 messages would be fetched, 1 deleted\n"))
+        left_out = self.told("left out", "1 obstructed")
+        for words, err, reason in (((), b"", b""), (("--why",), left_out, b": obstructed")):
+            report = self.run_getmail("-v", "-v", *words)
+            self.assertEqual((report.status, report.err), (0, err + self.told(path, IRREGULAR)))
+            self.assertIn(b"msg 1/3 (" + size + b") skipped" + reason + b"\n", report.out)
+
+    def test_repaired(self):
+        """Once it leads to a file that can be read, its message is held, as if the file had always been there."""
+        def give_rights(path):
+            path.chmod(0o600)
+
+        def make_target(path):
+            (path.parent / "nowhere").write_bytes(LETTERS[0][1])
+
+        kinds = {kind: make for kind, make, _ in KINDS}
+        for kind, repair in (("a file without rights", give_rights), ("a link to nothing", make_target)):
+            with self.subTest(kind=kind):
+                self.empty()
+                path = self.path_for(LETTERS[0], "cur", ":2,S")
+                kinds[kind](path)
+                self.give_away()
+                self.assertEqual(self.run_getmail("-q", "-d").status, 0)
+                repair(path)
+                self.give_away()
+                for _ in LETTERS[1:]:
+                    self.assertEqual(self.run_getmail("-q", "-d"), programs.SILENT)
+                self.check_all_came()
+
+    def test_beside_a_file(self):
+        """A file of the message in the other folder counts, so the message is recorded and deleted, and not looked for
+        again."""
+        path = self.path_for(LETTERS[0], "cur", ":2,S")
+        path.symlink_to("nowhere")
+        self.path_for(LETTERS[0], "new").write_bytes(LETTERS[0][1])
+        self.give_away()
+        self.assertEqual(self.run_getmail("-q", "-d"), programs.Run(0, b"", self.told(path, "a link that leads nowhere")))
+        self.assertEqual(self.server.messages, LETTERS[2:])
+        self.assertEqual(self.run_getmail("-q", "-d"), programs.SILENT)
+        path.unlink()
+        self.check_all_came()
+
+    def test_a_recorded_message(self):
+        """It isn't looked for, so what bears its name neither matters nor is named."""
+        self.give_away()
+        for _ in LETTERS:
+            self.assertEqual(self.run_getmail("-q"), programs.SILENT)
+        path = self.path_for(LETTERS[0], "new")
+        path.unlink()
+        os.mkfifo(path)
+        self.give_away()
+        self.assertEqual(self.run_getmail("-q", "-d"), programs.SILENT)
+        self.assertEqual((self.fetched(), self.server.messages), ([], []))
+
+    def test_unattended(self):
+        """What obstructs messages is named when it is new."""
+        first, second = self.path_for(LETTERS[0], "new"), self.path_for(LETTERS[1], "new")
+        os.mkfifo(first)
+        self.give_away()
+        line = self.told(first, IRREGULAR)
+        left_out = self.told("left out", "1 obstructed, 1 past the limit")
+        self.assertEqual(self.run_getmail("--unattended"), programs.Run(0, b"", left_out + line))
+        self.assertEqual(self.run_getmail("--unattended"), programs.SILENT)
+        self.assertEqual(self.undelivered(), {LETTERS[0][0]})
+        self.empty()
+        os.mkfifo(first)
+        os.mkfifo(second)
+        self.give_away()
+        both = self.run_getmail("--unattended")
+        self.assertEqual((both.status, set(both.err.splitlines(True))), (0, {line, self.told(second, IRREGULAR)}))
+        self.assertEqual(self.run_getmail("--unattended"), programs.SILENT)
 
     def test_a_link_to_a_file_counts(self):
         """It was flushed, so its message is recorded and deleted."""
         elsewhere = self.account.home / "elsewhere"
         elsewhere.write_bytes(LETTERS[0][1])
-        (self.account.maildir / "cur" / (self.account.name(*LETTERS[0]) + ":2,S")).symlink_to(elsewhere)
+        self.path_for(LETTERS[0], "cur", ":2,S").symlink_to(elsewhere)
         self.give_away()
         for _ in LETTERS:
             self.assertEqual(self.run_getmail("-q", "-d"), programs.SILENT)
-        self.assertEqual((self.account.held(), self.server.messages), (LETTERS, []))
+        self.check_all_came()
 
 
 if __name__ == "__main__":
