@@ -1,13 +1,14 @@
 -- What is written of a report before its session's end.
-use Rattle.std.proofs.Common.{◌≡◌, ◌≢◌, ◌⊎◌, ℕ, List, [], ◌∷◌, Option, false, refl, sym, subst, append-nil, inl, inr}
+use Rattle.std.proofs.Common.{◌≡◌, ◌≢◌, ◌⊎◌, ◌∙◌, ℕ, List, [], ◌∷◌, ◌++◌, Option, false, refl, sym, ap, subst, append-nil, inl, inr}
+use Rattle.std.proofs.Common.{flat_map}
 use Rattle.fetch_rules.specs.declared.plans.Step.{Step}
 use Rattle.fetch_session.specs.{Hearing.HearsOne, Report.is_deletion, declared.report.ReportLine.ReportLine}
 use Rattle.fetch_session.specs.declared.report.ReportLine.TheVariants.{Delivered, Held, Skipped, Deleted}
-use Rattle.getmail_setup.specs.{declared.output.Output.Output, Output.Puts}
+use Rattle.getmail_setup.specs.{declared.output.Output.Output, Output.Puts, Output.PutsRest}
 use Rattle.getmail_setup.proofs.OutputLemmas.{puts_both}
 use Rattle.rc_file.specs.declared.settings.Settings.{Settings}
 use Rattle.getmail_program.specs.declared.teller.Teller.{Teller}
-use Rattle.getmail_program.specs.Teller.{StartsTelling, EarlyLine, HasLast, HasSameLinks, StaysClosed, Wrote, WroteMore}
+use Rattle.getmail_program.specs.Teller.{StartsTelling, EarlyLine, HasLast, HasSameLinks, StaysClosed, TellsEarly, Wrote, WroteMore}
 use Rattle.getmail_program.specs.Teller.{WroteText, early_text}
 
 -- a first line, and then lines
@@ -15,6 +16,23 @@ pub early : {O : Type 0} (contents : O → Option (List ℕ)) (settings : Settin
     → StartsTelling contents settings out a → WroteMore contents a b → Puts contents out b.notes.now.written.items b.out.now
 early contents settings out a b begun more =
     rw (more.wrote.kept, begun.kept) (puts_both contents out a.out.now b.out.now begun.first _ begun.puts more.wrote.puts)
+
+-- the whole text after it, or no more
+pub early_or_whole : {O : Type 0} (contents : O → Option (List ℕ)) (settings : Settings) (out : Output O) (a b : Teller O)
+    (written text : List ℕ) (out' : Output O) → StartsTelling contents settings out a → a.verbose ≡ settings.verbose
+    → WroteMore contents a b → written ≡ b.notes.now.written.items → PutsRest contents out written text out'
+    → Puts contents out text out' ⊎ TellsEarly contents settings out out'
+early_or_whole contents settings out a b written text out' begun same more is (inl whole) = inl whole
+early_or_whole contents settings out a b written text out' begun same more is (inr rest) =
+    let told = is ∙ more.wrote.kept ∙ ap (λ (first : List ℕ). first ++ flat_map (early_text a.verbose) more.lines) begun.kept
+    ∙ ap (λ (verbose : ℕ). begun.first ++ flat_map (early_text verbose) more.lines) same in
+    inr (record {
+      first = begun.first;
+      is_first = begun.is_first;
+      lines = more.lines;
+      refused = rest.0;
+      puts = subst (λ (octets : List ℕ). Puts contents out octets out') told rest.1;
+    })
 
 -- what a teller has told that was told of one plan at most
 pub heard_of : {O : Type 0} (contents : O → Option (List ℕ)) (Is : List Step → Type 0) (a b : Teller O)

@@ -1,7 +1,6 @@
 -- What is written of a report while its session runs: its first line, and lines of messages, but no line of a deletion.
-use Rattle.std.specs.Prelude.{◌≡◌, ◌⊎◌, ℕ, false, List, [], ◌∷◌, ◌++◌, Option, flat_map, if◌then◌else◌}
+use Rattle.std.specs.Prelude.{◌≡◌, ◌≢◌, ◌⊎◌, ℕ, false, List, [], ◌∷◌, ◌++◌, Option, None, flat_map, if◌then◌else◌}
 use Rattle.std.proofs.Common.{refl, sym, ap, ◌∙◌, append_assoc, append-nil, subst}
-use Rattle.std.proofs.KnownBytes.{Appends-nil, Appends-trans}
 use Rattle.std.proofs.lemmas.Grind.{flat_map-append}
 use Rattle.rc_file.specs.declared.settings.Settings.{Settings}
 use Rattle.fetch_session.specs.{Reasons.explained_line, Text.heading, Report.is_deletion}
@@ -9,6 +8,7 @@ use Rattle.fetch_rules.specs.declared.plans.Step.{Step}
 use Rattle.fetch_session.specs.declared.report.ReportLine.{ReportLine}
 use Rattle.getmail_program.specs.declared.teller.Teller.{Teller}
 use Rattle.getmail_setup.specs.{declared.output.Output.Output, Output.Puts}
+use Rattle.getmail_setup.proofs.OutputLemmas.{puts_both, puts_none}
 
 -- a line of a report, of a session with this many messages and this plan
 pub record EarlyLine : Type 0 where
@@ -62,6 +62,15 @@ pub record StartsTelling {O : Type 0} (contents : O → Option (List ℕ)) (sett
   pub kept : teller.notes.now.written.items ≡ first
   pub puts : Puts contents out first teller.out.now
 
+-- something of a report was refused: only its first line and lines of messages were written, or a front of them
+pub record TellsEarly {O : Type 0} (contents : O → Option (List ℕ)) (settings : Settings) (out out' : Output O)
+    : Type 0 where
+  pub first : List ℕ
+  pub is_first : (first ≡ []) ⊎ (first ≡ heading settings)
+  pub lines : List EarlyLine
+  pub refused : out'.refusal ≢ None
+  pub puts : Puts contents out (first ++ flat_map (early_text settings.verbose) lines) out'
+
 last_on : (kept : List Step) (ps qs : List (List Step))
     → last_plan kept (ps ++ qs) ≡ last_plan (last_plan kept ps) qs
 last_on kept [] qs = refl
@@ -72,26 +81,15 @@ pub has_last : {O : Type 0} (a b c : Teller O) (ps qs : List (List Step)) → Ha
 has_last a b c ps qs p q = q ∙ ap (λ kept. last_plan kept qs) p ∙ sym (last_on a.notes.now.plan.items ps qs)
 
 pub wrote_none : {O : Type 0} (contents : O → Option (List ℕ)) (a : Teller O) → Wrote contents [] a a
-wrote_none contents a = record {
-  kept = sym (append-nil a.notes.now.written.items);
-  puts = record { whole = λ clean. (clean, Appends-nil (contents a.out.now.writer)); stays = λ _. refl };
-}
+wrote_none contents a =
+    record { kept = sym (append-nil a.notes.now.written.items); puts = puts_none contents a.out.now }
 
 wrote_then : {O : Type 0} (contents : O → Option (List ℕ)) (first second : List ℕ) (a b c : Teller O)
     → Wrote contents first a b
     → Wrote contents second b c → Wrote contents (first ++ second) a c
 wrote_then contents first second a b c p q = record {
   kept = q.kept ∙ ap (λ (bytes : List ℕ). bytes ++ second) p.kept ∙ append_assoc a.notes.now.written.items first second;
-  puts = record {
-    whole = λ clean.
-        let rest = q.puts.whole clean in
-        let begun = p.puts.whole rest.0 in (
-          begun.0,
-          Appends-trans (contents a.out.now.writer) (contents b.out.now.writer)
-              (contents c.out.now.writer) first second begun.1 rest.1,
-        );
-    stays = λ refused. q.puts.stays (λ clean. refused (p.puts.whole clean).0) ∙ p.puts.stays refused;
-  };
+  puts = puts_both contents a.out.now b.out.now c.out.now first second p.puts q.puts;
 }
 
 pub wrote_nothing : {O : Type 0} (contents : O → Option (List ℕ)) (a : Teller O) → WroteMore contents a a

@@ -15,7 +15,7 @@ use Rattle.getmail_program.specs.{declared.ending.Fetched.Fetched, declared.find
 use Rattle.getmail_program.specs.declared.told.Told.{Told}
 use Rattle.getmail_program.specs.declared.told.Told.TheVariants.{Done, Ahead}
 use Rattle.getmail_setup.specs.{declared.errors.Errors.Errors, Output.Puts}
-use Rattle.getmail_program.specs.Reasons.{reason_line, reasons_said}
+use Rattle.getmail_program.specs.{Reasons.reason_line, Reasons.reasons_said, Teller.TellsEarly}
 
 -- ---- what a session says
 
@@ -23,24 +23,23 @@ abbrev pub told_outcome : Told → Outcome
 told_outcome (Done report) = report.outcome
 told_outcome (Ahead preview) = preview.outcome
 
--- a report has the reasons why messages were passed over, if a plan is known
-abbrev pub told_text : Settings → List Step → Told → List ℕ
-told_text settings plan (Done report) = told_report plan report settings
-told_text settings plan (Ahead preview) = preview_text preview settings
-
--- a report's plan is none, or the session's own
-abbrev pub IsOwnPlan : (Report → List Step → Type 0) → Told → List Step → Type 0
-IsOwnPlan IsPlan (Done report) plan = (plan ≡ []) ⊎ IsPlan report plan
-IsOwnPlan IsPlan (Ahead preview) plan = Unit {0}
-
--- what a session said was written to `out`, and nothing else; there are reasons only if they are asked for
-pub record Reported {O : Type 0} (contents : O → Option (List ℕ)) (explains : Bool) (settings : Settings)
-    (IsPlan : Report → List Step → Type 0) (told : Told) (out out' : Output O)
+-- a report was written, and nothing else, or its beginning; its plan, for the reasons why messages were passed over, is
+-- none or the session's own, and none unless it is asked for
+pub record WritesReport {O : Type 0} (contents : O → Option (List ℕ)) (explains : Bool) (settings : Settings)
+    (IsPlan : Report → List Step → Type 0) (report : Report) (out out' : Output O)
     : Type 0 where
   pub plan : List Step
-  pub own : IsOwnPlan IsPlan told plan
+  pub own : (plan ≡ []) ⊎ IsPlan report plan
   pub asked : explains ≡ false → plan ≡ []
-  pub puts : Puts contents out (told_text settings plan told) out'
+  pub puts : Puts contents out (told_report plan report settings) out' ⊎ TellsEarly contents settings out out'
+
+-- what a session said was written to `out`, and nothing else
+abbrev pub Reported : {O : Type 0} → (O → Option (List ℕ)) → Bool → Settings → (Report → List Step → Type 0) → Told
+    → Output O → Output O → Type 0
+Reported contents explains settings IsPlan (Done report) out out' =
+    WritesReport contents explains settings IsPlan report out out'
+Reported contents explains settings IsPlan (Ahead preview) out out' =
+    Puts contents out (preview_text preview settings) out'
 
 -- the plan passes over all that is listed, or nothing was to be done
 abbrev pub is_idle : Told → Bool
@@ -79,11 +78,12 @@ abbrev pub left_out_line : Settings → LeftOut → List ℕ
 left_out_line settings left =
     if length (left_out_text left) == 0 then [] else reason_line settings (codes "left out: " ++ left_out_text left)
 
--- such a line is written if reasons are asked for; a preview tells of each message
-abbrev pub left_out_said : Settings → Bool → Told → List ℕ
-left_out_said settings false told = []
-left_out_said settings true (Done report) = left_out_line settings report.left_out
-left_out_said settings true (Ahead preview) = []
+-- this is said of them: such a line, or that memory ran out for it, if reasons are asked for; a preview tells of each
+-- message
+abbrev pub SaysLeftOut : Settings → Bool → Told → List ℕ → Type 0
+SaysLeftOut settings true (Done report) line =
+    (line ≡ left_out_line settings report.left_out) ⊎ (line ≡ codes "getmail: out of memory\n")
+SaysLeftOut settings asked told line = line ≡ []
 
 -- a session was cut for want of memory, which the line of its fault says
 abbrev pub lacks_memory : Outcome → Bool
@@ -118,9 +118,11 @@ pub record TellsErrors {E : Type 0} (contents : E → Option (List ℕ)) (settin
   pub idle : fetched.is_idle ≡ is_idle told
   pub status : fetched.status ≡ status_when (told_outcome told) refusal
   pub found : Findings
+  pub left_out : List ℕ
+  pub is_left_out : SaysLeftOut settings old.says_why told left_out
   pub said : Puts contents old.err
       (((outcome_line (told_outcome told) ++ reasons_said settings old.says_why (told_outcome told) found)
-      ++ unwritten_line (told_outcome told) refusal) ++ left_out_said settings old.says_why told) new.err
+      ++ unwritten_line (told_outcome told) refusal) ++ left_out) new.err
 
 -- what a session said was written to `out`, and nothing else; and the rest to `err`
 pub record TellsAll {O E : Type 0} (out_contents : O → Option (List ℕ)) (err_contents : E → Option (List ℕ))

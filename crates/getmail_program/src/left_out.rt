@@ -1,9 +1,8 @@
 //! The line on messages that a session left out although they aren't known.
-ghost use Rattle.std.specs.Prelude.{◌≡◌, IfOk};
+ghost use Rattle.std.specs.Prelude.{◌≡◌, ℕ, List, IfOk};
 ghost use Rattle.std.specs.String.{string_bytes};
 ghost use Rattle.getmail_setup.specs.Output.{Puts};
-ghost use Rattle.getmail_program.specs.Telling.{left_out_reason, left_out_line, left_out_said, left_out_text};
-ghost use Rattle.getmail_program.specs.Telling.{with_comma};
+ghost use Rattle.getmail_program.specs.Telling.{SaysLeftOut, left_out_reason, left_out_line, left_out_text, with_comma};
 
 use crate::reason::line_of;
 use crate::told::Told;
@@ -62,21 +61,6 @@ fn left_out_line(alloc: Global, settings: &Settings, left: &LeftOut) -> Result<V
     line_of(alloc, settings, text.as_bytes())
 }
 
-/// What is to be written on messages that were left out.
-fn left_out_said<E>(
-    alloc: Global,
-    settings: &Settings,
-    told: &Told,
-    errors: &Errors<'_, E>,
-) -> Result<Vec<u8>, AllocError>
-    ensures { IfOk result (λ line. line.items ≡ left_out_said settings.now errors.now.says_why told.now) }
-{
-    match (errors.says_why, told) {
-        (true, Told::Done(report)) => left_out_line(alloc, settings, &report.left_out),
-        _ => Ok(Vec::new(alloc)),
-    }
-}
-
 /// Writes how many messages that aren't known a session left out, by their reasons, if there are any and
 /// reasons are to be written.
 pub fn tell_left_out<E: Write>(
@@ -85,13 +69,14 @@ pub fn tell_left_out<E: Write>(
     told: &Told,
     errors: &mut Errors<'_, E>,
 )
-    ensures { Puts E.contents errors.old.err (left_out_said settings.now errors.old.says_why told.now) errors.new.err }
+    ensures { (line : List ℕ) × SaysLeftOut settings.now errors.old.says_why told.now line
+        × Puts E.contents errors.old.err line errors.new.err }
 {
-    match left_out_said(alloc, settings, told, errors) {
-        Ok(line) => errors.err.put(line.as_slice()),
-        Err(_) => {
-            errors.err.put(OUT_OF_MEMORY.as_bytes());
-            errors.err.lack_memory();
-        }
+    match (errors.says_why, told) {
+        (true, Told::Done(report)) => match left_out_line(alloc, settings, &report.left_out) {
+            Ok(line) => errors.err.put(&line),
+            Err(_) => errors.err.put(OUT_OF_MEMORY.as_bytes()),
+        },
+        _ => errors.err.put(b""),
     }
 }

@@ -5,7 +5,7 @@ ghost use Rattle.fetch_session.specs.Hearing.{IsPlanOf};
 ghost use Rattle.fetch_session.specs.Reasons.{told_report};
 ghost use Rattle.fetch_session.specs.Telling.{preview_text};
 ghost use Rattle.getmail_program.specs.Holding.{HoldsSession};
-ghost use Rattle.getmail_setup.specs.Output.{Puts};
+ghost use Rattle.getmail_setup.specs.Output.{Puts, PutsRest};
 ghost use Rattle.getmail_program.specs.Telling.{Reported, is_idle, told_outcome};
 
 use crate::doubt::said_ahead;
@@ -90,7 +90,7 @@ fn put_report<O: Write>(
     out: &mut Output<O>,
 )
     ensures { (start : Output O) → Puts O.contents start written.now out.old
-        → Puts O.contents start (told_report plan.now report.now settings.now) out.new }
+        → PutsRest O.contents start written.now (told_report plan.now report.now settings.now) out.new }
 {
     match told_report(alloc, report, settings, plan) {
         Ok(text) => out.put_rest(written, text.as_bytes()),

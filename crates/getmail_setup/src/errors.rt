@@ -109,7 +109,6 @@ fn tell_cause<E: Write>(
 }
 
 /// Writes the account that a reason is about, if it is known.
-#[tactic(auto, using(crate::proofs::OutputLemmas::puts_six))]
 fn put_account<E: Write>(account: Option<&Settings>, err: &mut Output<E>)
     ensures { Puts E.contents err.old (account_front (option_map (λ settings. settings.now) account.entry)) err.new }
 {
@@ -125,7 +124,6 @@ fn put_account<E: Write>(account: Option<&Settings>, err: &mut Output<E>)
 }
 
 /// Writes a line with these words and a reason.
-#[tactic(auto, using(crate::proofs::OutputLemmas::puts_five))]
 fn tell_reason<E: Write>(
     account: Option<&Settings>,
     words: &str,

@@ -85,7 +85,6 @@ pub fn failure_of<'a>(error: io::Error, failure: Failure<'a>) -> Failure<'a>
 }
 
 /// Writes a text as a line.
-#[tactic(auto, using(crate::proofs::OutputLemmas::puts_three))]
 fn put_text<E: Write>(text: &str, err: &mut Output<E>)
     ensures { Puts E.contents err.old (line_with text.now) err.new }
 {
@@ -118,7 +117,6 @@ fn tell_other_list<E: Write>(list: &str, path: &str, err: &mut Output<E>)
 }
 
 /// Writes the name of a peer: a socket's path, or an address with its port.
-#[tactic(auto, using(crate::proofs::OutputLemmas::puts_three))]
 fn put_peer<E: Write>(server: &str, port: u16, err: &mut Output<E>)
     ensures { Puts E.contents err.old (peer_name server.now port) err.new }
 {
@@ -132,7 +130,6 @@ fn put_peer<E: Write>(server: &str, port: u16, err: &mut Output<E>)
 }
 
 /// Writes the line of a server that takes no connection.
-#[tactic(auto, using(crate::proofs::OutputLemmas::puts_three))]
 fn tell_unconnected<E: Write>(server: &str, port: u16, err: &mut Output<E>)
     ensures { Puts E.contents err.old (unconnected_line server.now port) err.new }
 {

@@ -1,11 +1,10 @@
 //! A writer that remembers whether it refused something.
 ghost use Rattle.std.specs.Prelude.{◌≡◌, ◌≢◌, None, Some, OnOk};
-ghost use Rattle.std.specs.Fmt.{decimal};
 ghost use Rattle.std.specs.Io.KnownBytes.{Appends};
 ghost use Rattle.std.specs.IoError.{error_kind};
-ghost use Rattle.getmail_setup.specs.Output.{Puts, number_text};
+ghost use Rattle.getmail_setup.specs.Output.{Puts, PutsRest, WritesFront, number_text};
 
-use pop3_wire::write_whole;
+use itoa::Buffer;
 use std::io::{self, ErrorKind, Write};
 
 /// Why something wasn't written.
@@ -36,12 +35,24 @@ pub fn refusal_of(error: &io::Error) -> OutputRefusal
     }
 }
 
-/// Writes a number, and flushes the writer.
-fn write_number<W: Write>(writer: &mut W, number: u32) -> io::Result<()>
-    ensures { OnOk result (Appends (W.contents writer.old) (W.contents writer.new) (decimal number)) }
+/// Writes these octets, and flushes the writer. At an error a front of them may be written.
+fn write_octets<W: Write>(writer: &mut W, octets: &[u8]) -> io::Result<()>
+    ensures wrote { OnOk result (Appends (W.contents writer.old) (W.contents writer.new) octets.now) }
+    ensures front { WritesFront (W.contents writer.old) (W.contents writer.new) octets.now }
 {
-    write!(writer, "{number}")?;
-    writer.flush()
+    let mut rest = octets;
+    for _ in 0..u64::MAX {
+        if rest.is_empty() {
+            return writer.flush();
+        }
+        match writer.write(rest) {
+            Ok(0) => return Err(io::Error::from(ErrorKind::WriteZero)),
+            Ok(taken) => rest = &rest[taken..],
+            Err(error) if error.kind() == ErrorKind::Interrupted => {}
+            Err(error) => return Err(error),
+        }
+    }
+    Err(io::Error::from(ErrorKind::Interrupted))
 }
 
 impl<W: Write> Output<W> {
@@ -78,7 +89,7 @@ impl<W: Write> Output<W> {
         if self.refusal.is_some() {
             return;
         }
-        if let Err(error) = write_whole(&mut self.writer, octets) {
+        if let Err(error) = write_octets(&mut self.writer, octets) {
             self.refusal = Some(refusal_of(&error));
         }
     }
@@ -87,13 +98,9 @@ impl<W: Write> Output<W> {
     pub fn put_number(&mut self, number: Option<u32>)
         ensures { Puts W.contents self.old (number_text number) self.new }
     {
-        match (number, self.refusal) {
-            (Some(number), None) => {
-                if let Err(error) = write_number(&mut self.writer, number) {
-                    self.refusal = Some(refusal_of(&error));
-                }
-            }
-            _ => self.put(b""),
+        match number {
+            Some(number) => self.put(Buffer::new().format(number).as_bytes()),
+            None => self.put(b""),
         }
     }
 
@@ -108,11 +115,8 @@ impl<W: Write> Output<W> {
     /// after a refusal nothing is written.
     pub fn put_rest(&mut self, written: &[u8], text: &[u8])
         ensures { (start : Output W) → Puts W.contents start written.now self.old
-            → Puts W.contents start text.now self.new }
+            → PutsRest W.contents start written.now text.now self.new }
     {
-        if self.refusal.is_some() {
-            return;
-        }
         match text.strip_prefix(written) {
             Some(rest) => self.put(rest),
             None => self.refusal = Some(OutputRefusal::Refused),

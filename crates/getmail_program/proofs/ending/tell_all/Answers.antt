@@ -1,5 +1,5 @@
 use Rattle.std.proofs.Common.{◌∙◌, ap}
-use Rattle.getmail_program.specs.Telling.{left_out_said, status_when}
+use Rattle.getmail_program.specs.Telling.{status_when}
 use Rattle.getmail_program.proofs.OutputLemmas.{said}
 use Rattle.getmail_program.proofs.ending.tell_all.Goals as goal
 
@@ -12,6 +12,7 @@ returns-clause-told g c =
       idle = c.is_idle.ensures;
       status = c.status_when-status.ensures.status ∙ ap (λ outcome. status_when outcome c.args.refusal) c.outcome-outcome.ensures;
       found = cut.found;
-      said = said _ _ _ _ _ _ _ (left_out_said c.args.settings.now c.args.errors.now.says_why c.args.told.now)
-          c.tell_left_out.new.errors.err cut unwritten left;
+      left_out = left.0;
+      is_left_out = left.1;
+      said = said _ _ _ _ _ _ _ left.0 c.tell_left_out.new.errors.err cut unwritten left.2;
     }

@@ -1,13 +1,12 @@
-use Rattle.std.proofs.Common.{refl, subst, sym, inl, inr, rules, ◌≡◌, ◌⊎◌, ◌∙◌, ap, Bool, true, false, List, [], if◌then◌else◌}
+use Rattle.std.proofs.Common.{subst, sym, inl, inr, rules, ◌≡◌, ◌⊎◌, ◌∙◌, ap, Bool, true, false, List, [], if◌then◌else◌}
 use Rattle.fetch_session.specs.{Hearing.IsPlanOf, declared.report.Report.Report, Durable.RunsSession, Refusal.IsWithinLimits}
 use Rattle.fetch_rules.specs.declared.plans.Step.{Step}
-use Rattle.getmail_program.specs.{Telling.IsOwnPlan, declared.told.Told.TheVariants.Done}
-use Rattle.getmail_program.proofs.EarlyLemmas.{early, heard_of}
+use Rattle.getmail_program.proofs.EarlyLemmas.{early, early_or_whole, heard_of}
 use Rattle.getmail_program.proofs.told.hold.Goals as goal
 
 -- the plan that is told, if reasons are asked for
 told_plan : (IsPlan : Report → List Step → Type 0) (report : Report) (explains : Bool) (plan kept : List Step)
-    → plan ≡ (if explains then kept else []) → (kept ≡ []) ⊎ IsPlan report kept → IsOwnPlan IsPlan (Done report) plan
+    → plan ≡ (if explains then kept else []) → (kept ≡ []) ⊎ IsPlan report kept → (plan ≡ []) ⊎ IsPlan report plan
 told_plan IsPlan report true plan kept is own = rw is own
 told_plan IsPlan report false plan kept is own = inl is
 
@@ -35,6 +34,8 @@ returns-clause-reported g c =
     ran.ensures.heard in
     let out = c.out-1.given.1 (sym (heard.0.0 ∙ begun.links.0)) in
     let notes = c.notes-2-1.given.1 (sym (heard.0.1 ∙ begun.links.1)) in
+    let written = c.deref-2.ensures.value ∙ ap (λ n. n.written.items) notes in
+    let starts = rw c.settings.ensures.value at begun.begins in
     record {
       plan = c.asked_for-plan.result.now;
       own = told_plan (IsPlanOf g.W.Wire g.D.MaildirDisk g.F.FlatFile c.args.terms.now c.args.account.now
@@ -47,7 +48,8 @@ returns-clause-reported g c =
             | inr own ↦ inr own
           ]));
       asked = λ no. rw no at c.asked_for-plan.ensures;
-      puts = rw (c.settings-settings.ensures.value, ran.ensures.same.settings) at (c.put_report.ensures c.args.out.now
-          (rw (c.deref-2.ensures.value, ap (λ n. n.written.items) notes, out)
-          (early contents _ c.args.out.now c.new-teller.result end begun.begins heard.1)));
+      puts = early_or_whole contents c.args.account.now.settings c.args.out.now c.new-teller.result end _ _ _ starts
+          (begun.verbose ∙ ap (λ s. s.verbose) c.settings.ensures.value) heard.1 written
+          (rw (c.settings-settings.ensures.value, ran.ensures.same.settings) at (c.put_report.ensures c.args.out.now
+          (rw (written, out) (early contents _ c.args.out.now c.new-teller.result end starts heard.1))));
     }

@@ -1,4 +1,4 @@
-use Rattle.std.proofs.Common.{[], refl}
+use Rattle.std.proofs.Common.{refl}
 use Rattle.getmail_program.proofs.told.hold_preview.Goals as goal
 
 pub returns-clause-held : goal.returns-clause-held
@@ -12,9 +12,5 @@ returns-clause-held g c = (
 )
 
 pub returns-clause-reported : goal.returns-clause-reported
-returns-clause-reported g c = record {
-  plan = [];
-  own = tt;
-  asked = λ _. refl;
-  puts = rw (c.settings-settings.ensures.value, c.pretend-preview.ensures.settings) at c.put_preview.ensures;
-}
+returns-clause-reported g c =
+    rw (c.settings-settings.ensures.value, c.pretend-preview.ensures.settings) at c.put_preview.ensures
