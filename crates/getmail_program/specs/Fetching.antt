@@ -49,12 +49,13 @@ pub record HoldsSetup {W D F : Type 0} (link : WireGhosts W) (disk : DiskGhosts 
   pub refusal : Option OutputRefusal
   pub status_is : status ≡ status_when (told_outcome told) refusal
 
--- so it was, or there was none for a failure, which the status tells
-abbrev pub ConnectsAndHolds : {W D F : Type 0} → WireGhosts W → DiskGhosts D → FileGhosts F → Setup → ℕ → Type 0
-ConnectsAndHolds link disk file setup status = ((failure : Failure) × (status ≡ status_of failure))
-    ⊎ HoldsSetup link disk file setup status
+-- there is none for a failure, which the status tells; or an unattended run leaves the account to another one that is
+-- at work
+abbrev pub EndsBefore : Setup → Bool → ℕ → Type 0
+EndsBefore setup is_unattended status =
+    ((is_unattended ≡ true) × (status ≡ 0)) ⊎ ((failure : Failure) × (status ≡ status_of failure))
 
--- so it was; or an unattended run leaves the account to another one that is at work
+-- it was held, or there is none
 abbrev pub Runs : {W D F : Type 0} → WireGhosts W → DiskGhosts D → FileGhosts F → Setup → Bool → ℕ → Type 0
-Runs link disk file setup is_unattended status = ((is_unattended ≡ true) × (status ≡ 0))
-    ⊎ ConnectsAndHolds link disk file setup status
+Runs link disk file setup is_unattended status =
+    EndsBefore setup is_unattended status ⊎ HoldsSetup link disk file setup status

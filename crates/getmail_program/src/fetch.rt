@@ -1,9 +1,9 @@
 //! A run: its setup, the lock, the connection, and one session.
-ghost use Rattle.std.specs.Prelude.{◌≡◌, ◌≤◌, ◌&&◌, not, true};
+ghost use Rattle.std.specs.Prelude.{◌≡◌, ◌≤◌, ◌&&◌, ℕ, List, Option, IfErr, IfOk, not, true};
 ghost use Rattle.rc_file.specs.Settings.{IsValid};
-ghost use Rattle.getmail_setup.specs.Lock.{goes_on};
+ghost use Rattle.getmail_setup.specs.{Lock.goes_on, Places.IsSetUp};
 ghost use Rattle.system_calls.specs.declared.system.System.{System};
-ghost use Rattle.getmail_program.specs.Fetching.{ConnectsAndHolds, HoldsSetup, Runs};
+ghost use Rattle.getmail_program.specs.Fetching.{EndsBefore, HoldsSetup, Runs};
 ghost use Rattle.getmail_program.specs.Starting.{Starts};
 
 use crate::devices::{HostDevices, seconds_now};
@@ -42,8 +42,16 @@ fn draw(random: &impl RandomSource, process: Process) -> io::Result<(RandomState
     Ok((hasher, mark))
 }
 
-/// What a run needs before it connects: the random values, and what the link needs.
+/// The random values of a run, and what its link needs.
 type Prepared = ((RandomState, ProcessMark), Peer);
+
+/// What a run needs before it connects.
+#[derive(Drop)]
+struct Ready {
+    setup: Setup,
+    prepared: Prepared,
+    lock: Lock,
+}
 
 /// Prepares a run, so that nothing is refused for want of memory between the connection and the session.
 fn prepare<'a, R: RandomSource + AllocGlobal>(
@@ -86,32 +94,104 @@ where
     fetch_at(rt, devices, errand, link, &mut out, errors)
 }
 
-/// Connects, runs one session or only shows what it would do, and returns the exit status. A run of which
-/// another one has the lock does neither.
-fn fetch_with<'a, R, O, E>(
-    rt: &'a R,
-    setup: Setup,
-    prepared: Prepared,
-    _lock: &Lock,
+/// Whether an unattended run says nothing of another one that has the lock: not for the first hour.
+fn is_patient(rt: &impl Clock, is_unattended: bool, reasons: &Reasons) -> bool
+    ensures { result ≡ true → is_unattended ≡ true }
+{
+    match (is_unattended, reasons.held_since.get()) {
+        (true, Some(since)) => !is_long_held(since, seconds_now(rt)),
+        _ => false,
+    }
+}
+
+/// Whether nobody waits for what is said. A preview is for somebody.
+pub fn is_unattended(words: &Words) -> bool
+    ensures { result ≡ (words.now.unattended && not words.now.pretend) }
+{
+    words.unattended && !words.pretend
+}
+
+/// Sets a run up from the rc file that the words name, and takes its lock. If it isn't to go on, says why, and returns
+/// the exit status.
+fn get_ready<'a, R, E>(
+    machine: &Machine<'a, R>,
+    words: &Words,
+    errors: &mut Errors<'_, E>,
+) -> Result<Ready, u8>
+where
+    R: Files<File = File> + Env + Clock + RandomSource + AllocGlobal + Clone,
+    E: Write,
+    ensures turn { IfOk result (λ ready. goes_on ready.lock ≡ true) }
+    ensures ok { IfOk result (λ ready. (files : System R) × (home : Option (List ℕ))
+        × IsSetUp (⟦<System<'a, R> as ReadFile>⟧.gave files) home words.now ready.setup) }
+    ensures within { IfErr result (λ status. status ≤ 2) }
+    ensures err { IfErr result (λ status. (files : System R) × Starts (⟦<System<'a, R> as ReadFile>⟧.gave files)
+        (⟦<System<'a, R> as ReadFile>⟧.refused files) EndsBefore words.now status) }
+{
+    let rt = machine.rt;
+    let alloc = rt.alloc();
+    let reasons = errors.reasons;
+    let files = System::new(rt, &reasons.before);
+    let Ok(home) = home(rt) else {
+        return Err(fail(alloc, Failure::NoMemory, None, errors));
+    };
+    let setup = match set_up(rt, &files, home.as_deref(), words, errors) {
+        Ok(setup) => setup,
+        Err(failure) => return Err(fail(alloc, failure, None, errors)),
+    };
+    if let Some(list) = other_list(rt, &setup) {
+        let failure = Failure::OtherList(list.as_str(), setup.paths.record.as_str());
+        return Err(fail(alloc, failure, None, errors));
+    }
+    let prepared = match prepare(rt, machine.process, &setup.settings) {
+        Ok(prepared) => prepared,
+        Err(failure) => return Err(fail(alloc, failure, None, errors)),
+    };
+    let lock = take_lock(rt, &setup, errors);
+    if let Lock::Elsewhere = &lock {
+        if is_patient(rt, is_unattended(words), reasons) {
+            return Err(0);
+        }
+        return Err(fail(alloc, Failure::AtWork, Some(&setup.settings), errors));
+    }
+    Ok(Ready {
+        setup,
+        prepared,
+        lock,
+    })
+}
+
+/// Makes a run ready, connects, and runs one session or only shows what it would do, with the lock held to the end.
+/// Returns the exit status.
+pub fn run<'a, R, O, E>(
+    machine: &Machine<'a, R>,
+    words: &Words,
     out: O,
-    mut errors: Errors<'a, E>,
+    mut errors: Errors<'_, E>,
 ) -> u8
 where
-    R: Net<Stream = TcpStream> + Files + Clock + AllocGlobal + Clone + Drop,
+    R: Net<Stream = TcpStream> + Files<File = File> + Env + Clock + RandomSource + AllocGlobal,
+    R: Clone + Drop,
     O: Write + Drop,
     E: Write + Copy + Drop,
-    requires valid { IsValid setup.settings }
-    requires turn { goes_on _lock.now ≡ true }
     ensures within { result ≤ 2 }
-    ensures holds { ConnectsAndHolds ⟦<Link<'a> as Wire>⟧ ⟦<HostMaildir<'a, R> as MaildirDisk>⟧
-        ⟦<HostFile<'a, HostFolder<'a, R>> as FlatFile>⟧ setup result }
+    ensures starts { (files : System R) × Starts (⟦<System<'a, R> as ReadFile>⟧.gave files)
+        (⟦<System<'a, R> as ReadFile>⟧.refused files) (Runs ⟦<Link<'a> as Wire>⟧
+        ⟦<HostMaildir<'a, R> as MaildirDisk>⟧ ⟦<HostFile<'a, HostFolder<'a, R>> as FlatFile>⟧) words.now result }
 {
-    let Setup {
-        settings,
-        paths,
-        pretends,
-    } = setup;
-    let ((hasher, mark), peer) = prepared;
+    let Ready {
+        setup: Setup {
+            settings,
+            paths,
+            pretends,
+        },
+        prepared: ((hasher, mark), peer),
+        lock: _lock,
+    } = match get_ready(machine, words, &mut errors) {
+        Ok(ready) => ready,
+        Err(status) => return status,
+    };
+    let rt = machine.rt;
     let reasons = errors.reasons;
     let server = settings.server.as_str();
     let stream = match connect(rt, &reasons.before, server, settings.port) {
@@ -130,68 +210,4 @@ where
         pretends,
     };
     fetch_setup(rt, &devices, errand, (link, hasher), out, errors)
-}
-
-/// Whether an unattended run says nothing of another one that has the lock: not for the first hour.
-fn is_patient(rt: &impl Clock, is_unattended: bool, reasons: &Reasons) -> bool
-    ensures { result ≡ true → is_unattended ≡ true }
-{
-    match (is_unattended, reasons.held_since.get()) {
-        (true, Some(since)) => !is_long_held(since, seconds_now(rt)),
-        _ => false,
-    }
-}
-
-/// Whether nobody waits for what is said. A preview is for somebody.
-pub fn is_unattended(words: &Words) -> bool
-    ensures { result ≡ (words.now.unattended && not words.now.pretend) }
-{
-    words.unattended && !words.pretend
-}
-
-/// Sets a run up from the rc file that the words name, takes its lock, which is held to the end, and runs one session
-/// or only shows what it would do. Returns the exit status.
-pub fn run<'a, R, O, E>(
-    machine: &Machine<'a, R>,
-    words: &Words,
-    out: O,
-    mut errors: Errors<'_, E>,
-) -> u8
-where
-    R: Net<Stream = TcpStream> + Files<File = File> + Env + Clock + RandomSource + AllocGlobal,
-    R: Clone + Drop,
-    O: Write + Drop,
-    E: Write + Copy + Drop,
-    ensures within { result ≤ 2 }
-    ensures starts { (files : System R) × Starts (⟦<System<'a, R> as ReadFile>⟧.gave files)
-        (⟦<System<'a, R> as ReadFile>⟧.refused files) (Runs ⟦<Link<'a> as Wire>⟧
-        ⟦<HostMaildir<'a, R> as MaildirDisk>⟧ ⟦<HostFile<'a, HostFolder<'a, R>> as FlatFile>⟧) words.now result }
-{
-    let rt = machine.rt;
-    let alloc = rt.alloc();
-    let reasons = errors.reasons;
-    let files = System::new(rt, &reasons.before);
-    let Ok(home) = home(rt) else {
-        return fail(alloc, Failure::NoMemory, None, &mut errors);
-    };
-    let setup = match set_up(rt, &files, home.as_deref(), words, &mut errors) {
-        Ok(setup) => setup,
-        Err(failure) => return fail(alloc, failure, None, &mut errors),
-    };
-    if let Some(list) = other_list(rt, &setup) {
-        let failure = Failure::OtherList(list.as_str(), setup.paths.record.as_str());
-        return fail(alloc, failure, None, &mut errors);
-    }
-    let prepared = match prepare(rt, machine.process, &setup.settings) {
-        Ok(prepared) => prepared,
-        Err(failure) => return fail(alloc, failure, None, &mut errors),
-    };
-    let lock = take_lock(rt, &setup, &mut errors);
-    if let Lock::Elsewhere = &lock {
-        if is_patient(rt, is_unattended(words), reasons) {
-            return 0;
-        }
-        return fail(alloc, Failure::AtWork, Some(&setup.settings), &mut errors);
-    }
-    fetch_with(rt, setup, prepared, &lock, out, errors)
 }
