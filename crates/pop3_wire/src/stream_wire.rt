@@ -42,7 +42,7 @@ impl<R: Read, W: Write> StreamWire<R, W> {
 }
 
 /// Writes all of the bytes, and flushes the writer; the error is the writer's.
-pub fn write_whole<W: Write>(writer: &mut W, bytes: &[u8]) -> io::Result<()>
+fn write_whole<W: Write>(writer: &mut W, bytes: &[u8]) -> io::Result<()>
     ensures { OnOk result (Appends (W.contents writer.old) (W.contents writer.new) bytes.now) }
 {
     writer.write_all(bytes)?;
