@@ -15,7 +15,7 @@ mod setup;
 mod shown_wire;
 mod words;
 
-pub use connection::{Link, Peer, SILENT, connect, is_socket, link_over, peer_of};
+pub use connection::{Link, Peer, SILENT, connect, link_over, peer_of};
 pub use errors::{Errors, Reasons, fail};
 pub use failure::{Failure, OUT_OF_MEMORY, explain, failure_of, tell};
 pub use in_place::other_list;

@@ -36,7 +36,7 @@ pub use reply::{
     Status, only_one_list_of_lines, only_one_reading, read_status, replies_are_read_as_written,
 };
 pub use stream_wire::StreamWire;
-pub use stuffing::{only_one_body, put_body, put_line, stuff, stuffed_is_body, stuffed_is_read};
+pub use stuffing::{only_one_body, put_line, stuff, stuffed_is_body, stuffed_is_read};
 pub use unstuffer::{
     Fed, Spot, Unstuffer, ends_with_body, holds_no_body, shows_a_beginning, starts_empty,
 };

@@ -25,7 +25,7 @@ pub fn put_line(body: &mut Vec<u8>, line: &[u8]) -> Result<(), WireFault>
 
 /// Appends the body of a text, end mark included. The text's lines end at LF; a last piece without LF
 /// is a line. If memory runs out, a part of it may have been appended.
-pub fn put_body(body: &mut Vec<u8>, text: &[u8]) -> Result<(), WireFault>
+fn put_body(body: &mut Vec<u8>, text: &[u8]) -> Result<(), WireFault>
     ensures ok { IfOk result (λ _. body.new.items ≡ body.old.items ++ stuffed_lines (lines_of_text text.now)) }
     ensures err { IfErr result (λ e. e ≡ WireFault.NoMemory) }
     ensures front { StartsWith body.new.items body.old.items }

@@ -6,6 +6,6 @@ mod masking;
 mod talk;
 mod wire;
 
-pub use command::{commands_hide_passwords, shown_command};
+pub use command::commands_hide_passwords;
 pub use talk::{Said, Talk};
 pub use wire::TracedWire;
