@@ -332,7 +332,8 @@ pub told_names : {A B C : Type 0} (stems : List (String C)) (sought : Sought)
     → ((names told : List (List ℕ)) → AreSought sought names told → AreAmong stems names told)
     → (a b : Directories) (begun : Option Draft) (n m : ℕ) (r : Result (Vec (String A) B) StoreFault)
     → TellsOfBoth a r b (λ names. ToldBoth sought names.items)
-    → IfErr r IsDeviceFault → IsCountAfter r n m → AfterTaking (maildir_in a begun n) (λ left. ListsAmong left stems r (maildir_in b begun m))
+    → IfErr r IsDeviceFault → IsCountAfter r n m
+    → AfterTaking (maildir_in a begun n) (λ left. ListsAmong left stems r (maildir_in b begun m))
 told_names stems sought is a b begun n m (Ok names) (l, told, _) device k =
     seen a b begun n l (
       rw (sym l.there) told.new_is_there,

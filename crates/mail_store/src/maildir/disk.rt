@@ -21,7 +21,7 @@ pub enum Folder {
 /// name before that colon and its bytes, and neither its folder nor its marks; and only those that
 /// tell names see that a file was taken away.
 ///
-/// What can't be opened, as a pipe or a file without rights, is no file: `names_among` doesn't tell its name. See `odd`.
+/// What can't be opened, as a pipe or a file without rights, is no file: `names_among` doesn't tell it. See `odd`.
 pub trait MaildirDisk {
     ghost use Rattle.std.specs.Prelude.{◌≡◌, ℕ, List, false, true, IfErr, IsSome, Ok, OnErr, OnOk, Some, None, map};
     ghost use Rattle.std.specs.Prelude.{string_bytes};
