@@ -199,7 +199,9 @@ class Listings(unittest.TestCase):
             self.check_held(2_000, 2_000)
             reader.join()
 
-    def test_a_link_that_leads_nowhere_is_held(self):
-        (self.maildir / "new" / name_of(1)).symlink_to("nowhere")
-        (self.maildir / "cur" / (name_of(2) + ":2,S")).symlink_to("nowhere")
-        self.check_held(3, 2)
+    def test_a_link_counts_if_it_leads_to_a_file(self):
+        (self.work / "file").touch()
+        for part, name, target in (("new", name_of(1), "nowhere"), ("cur", name_of(2) + ":2,S", "nowhere"),
+                                   ("cur", name_of(3), self.work / "file")):
+            (self.maildir / part / name).symlink_to(target)
+        self.check_held(3, 1)
