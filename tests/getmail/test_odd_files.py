@@ -24,6 +24,10 @@ NOBODY = 65534
 IRREGULAR = "not a regular file"
 
 
+def remove(path):
+    os.rmdir(path) if stat.S_ISDIR(os.lstat(path).st_mode) else os.unlink(path)
+
+
 def make_socket(path):
     """The path of a socket has at most 107 octets."""
     short = path.parent.parent / "s"
@@ -86,7 +90,7 @@ class OddFiles(unittest.TestCase):
         self.account.record.unlink(missing_ok=True)
         self.server.messages = list(LETTERS)
         for path in self.paths():
-            path.rmdir() if path.is_dir() and not path.is_symlink() else path.unlink()
+            remove(path)
 
     def paths(self):
         return {path for part in ("new", "cur") for path in (self.account.maildir / part).iterdir()}
@@ -110,7 +114,8 @@ class OddFiles(unittest.TestCase):
 
     def undelivered(self):
         """The unique-ids that the record shows as not delivered."""
-        return {uid for uid, (_, state) in grammar.record_of(self.account.record.read_bytes()).rows.items() if not state}
+        rows = grammar.record_of(self.account.record.read_bytes()).rows
+        return {uid for uid, (_, state) in rows.items() if state == b"0"}
 
     def check_told(self, path, words):
         """The other messages come one by one, as the limit says, and are deleted; of this one nothing is done."""
@@ -142,7 +147,7 @@ class OddFiles(unittest.TestCase):
                     make(path)
                     self.give_away()
                     self.check_told(path, words)
-                    os.rmdir(path) if kind == "a folder" else os.unlink(path)
+                    remove(path)
                     self.assertEqual(self.run_getmail("-q", "-d"), programs.SILENT)
                     self.assertEqual(self.fetched(), ["RETR 1"])
                     self.check_all_came()
