@@ -205,7 +205,8 @@ class OddFiles(unittest.TestCase):
         self.check_all_came()
 
     def test_a_recorded_message(self):
-        """It isn't looked for, so what bears its name neither matters nor is named."""
+        """It is looked for only by a preview and with `read_all`, which doesn't fetch it again; it is deleted when it is
+        due."""
         self.give_away()
         for _ in LETTERS:
             self.assertEqual(self.run_getmail("-q"), programs.SILENT)
@@ -213,6 +214,12 @@ class OddFiles(unittest.TestCase):
         path.unlink()
         os.mkfifo(path)
         self.give_away()
+        told = self.told(path, IRREGULAR)
+        preview = self.run_getmail("--pretend")
+        self.assertEqual((preview.status, preview.err), (0, told))
+        self.assertIn(b" delivered before\n", preview.out)
+        self.assertEqual(self.run_getmail("-q", "-a"), programs.Run(0, b"", told))
+        self.assertEqual(self.fetched(), ["RETR 2"])
         self.assertEqual(self.run_getmail("-q", "-d"), programs.SILENT)
         self.assertEqual((self.fetched(), self.server.messages), ([], []))
 
