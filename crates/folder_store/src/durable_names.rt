@@ -8,6 +8,9 @@ use crate::file_folder::NewFile;
 use crate::mail_folders::{MailFolders, Sought};
 use mail_store::{Folder, StoreFault};
 
+/// How many times the folders are listed for one answer.
+const MOST_LISTINGS: u32 = 100;
+
 /// The names of `new` and of `cur` that are sought. None if `new` changed meanwhile: a reader may then have moved a
 /// file from the folder that wasn't listed yet to the one that was.
 fn look_at_both<F: MailFolders>(
@@ -37,7 +40,7 @@ pub fn list_both<F: MailFolders>(
         × TellsOfBoth (F.directories folders.old) result (F.directories folders.new) (ListedBoth sought.entry) }
     ensures fault { IfErr result IsDeviceFault }
 {
-    for times in 0..u32::MAX {
+    for times in 0..MOST_LISTINGS {
         if !folders.may_list_again(times) {
             break;
         }

@@ -272,7 +272,7 @@ impl<'a, R: Files + AllocGlobal> HostFolder<'a, R> {
                 Ok(Some(true))
             }
             Ok(None) => Ok(Some(false)),
-            Err(fault) if is_odd(&fault) => {
+            Err(fault) if self.is_odd(name, &fault) => {
                 self.system.refusals.forget();
                 Ok(None)
             }
@@ -284,12 +284,25 @@ impl<'a, R: Files + AllocGlobal> HostFolder<'a, R> {
     pub(crate) fn obstruction(&self, name: &str) -> io::Result<Option<Vec<u8>>> {
         match self.open_if_there(name) {
             Ok(_) => Ok(None),
-            Err(fault) if is_odd(&fault) => match self.system.refusals.take() {
+            Err(fault) if self.is_odd(name, &fault) => match self.system.refusals.take() {
                 Some(refusal) => Ok(Some(refusal.text(self.system.alloc())?)),
-                None => Err(fault),
+                None => Err(io::Error::from(ErrorKind::OutOfMemory)),
             },
             Err(fault) => Err(fault),
         }
+    }
+
+    // Whether a name can't be opened because of what it stands for, or of its rights. If it can't even be looked up,
+    // that is because of the folder.
+    fn is_odd(&self, name: &str, fault: &io::Error) -> bool {
+        let may_be_odd = matches!(
+            fault.kind(),
+            ErrorKind::PermissionDenied
+                | ErrorKind::FilesystemLoop
+                | ErrorKind::NotADirectory
+                | ErrorKind::InvalidFilename
+        ) || (fault.kind() == ErrorKind::Other && fault.raw_os_error().is_none());
+        may_be_odd && self.look_up(name).is_ok()
     }
 
     // Whether a name stands for a folder itself.
@@ -338,17 +351,6 @@ impl<'a, R: Files + Clock + AllocGlobal + Clone + Drop> HostFolder<'a, R> {
     pub(crate) fn read_names(&self, sought: Sought<'_>) -> io::Result<FolderNames> {
         list_names(self.system, self.paths.folder_path()?.as_str(), sought)
     }
-}
-
-/// Whether what has a name can't be opened because of what it is, or of its rights.
-fn is_odd(fault: &io::Error) -> bool {
-    matches!(
-        fault.kind(),
-        ErrorKind::PermissionDenied
-            | ErrorKind::FilesystemLoop
-            | ErrorKind::NotADirectory
-            | ErrorKind::InvalidFilename
-    ) || (fault.kind() == ErrorKind::Other && fault.raw_os_error().is_none())
 }
 
 /// What the system answered, or a device in its place. If neither said why, what was refused before isn't

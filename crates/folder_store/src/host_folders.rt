@@ -18,9 +18,7 @@ use std::rt::Files;
 use std::time::{Clock, Duration};
 use system_calls::System;
 
-/// How many times the folders are listed while readers change them all the time, and for how many seconds.
-const MOST_LISTINGS: u32 = 100;
-
+/// For how many seconds the folders are listed again while readers change them all the time.
 const MOST_SECONDS: u64 = 4;
 
 /// How many times files that are to be flushed are looked up while readers move them.
@@ -46,8 +44,8 @@ pub struct HostFolders<'a, R: Files> {
     /// The names that were last found to be borne by what can't be opened; and of each the path, and why.
     odd: Vec<String>,
     obstructions: Vec<Vec<u8>>,
-    /// Whether a call was refused because of what bears the name of a message.
-    is_obstructed: bool,
+    /// Whether the name that was looked up last is one of what is no file.
+    is_name_taken: bool,
 }
 
 impl<'a, R: Files + AllocGlobal> ListedFolder<'a, R> {
@@ -80,7 +78,7 @@ impl<'a, R: Files + Clock + AllocGlobal + Clone + Drop> HostFolders<'a, R> {
             start: Duration::ZERO,
             odd: Vec::new(system.alloc()),
             obstructions: Vec::new(system.alloc()),
-            is_obstructed: false,
+            is_name_taken: false,
         }
     }
 
@@ -95,9 +93,9 @@ impl<'a, R: Files + Clock + AllocGlobal + Clone + Drop> HostFolders<'a, R> {
         &self.obstructions
     }
 
-    /// Whether a call was refused because of what bears the name of a message.
-    pub fn is_obstructed(&self) -> bool {
-        self.is_obstructed
+    /// Whether a delivery was refused because something that is no file has its name.
+    pub fn is_name_taken(&self) -> bool {
+        self.is_name_taken
     }
 
     /// The path of a folder whose names weren't flushed because the system flushes no folders, if there is
@@ -109,18 +107,16 @@ impl<'a, R: Files + Clock + AllocGlobal + Clone + Drop> HostFolders<'a, R> {
         }
     }
 
-    // Flushes the files with one of these stems that both folders have at one moment. If `new` changed
+    // Flushes the files with one of these stems, which are sought, that both folders have at one moment. If `new` changed
     // while they were listed, a reader may have moved one past the listing: then none counts as found.
-    fn sync_pass(&mut self, stems: &[&str]) -> io::Result<Vec<Found>> {
-        let in_new = self.new_folder.host.read_names(Sought::All)?;
-        let in_cur = self.cur_folder.host.read_names(Sought::All)?;
+    fn sync_pass(&self, sought: Sought<'_>, stems: &[&str]) -> io::Result<Vec<Found>> {
+        let in_new = self.new_folder.host.read_names(sought)?;
+        let in_cur = self.cur_folder.host.read_names(sought)?;
         let now = self.new_folder.host.look_at_folder()?;
         if ChangeTime::of(&in_new.folder) != ChangeTime::of(&now) {
             return Ok(Vec::new(self.system.alloc()));
         }
-        let answer = self.sync_listed(in_new.names, in_cur.names, stems);
-        self.is_obstructed = answer.is_err();
-        answer
+        self.sync_listed(in_new.names, in_cur.names, stems)
     }
 
     // Flushes those that have one of these stems among the files with these names in `new` and in `cur`.
@@ -139,10 +135,10 @@ impl<'a, R: Files + Clock + AllocGlobal + Clone + Drop> HostFolders<'a, R> {
 
     // Flushes the files that have one of these stems. False if one of the stems has none, or readers move
     // its files all the time.
-    fn sync_all_of(&mut self, stems: &[String]) -> io::Result<bool> {
+    fn sync_all_of(&self, stems: &[String]) -> io::Result<bool> {
         let mut left = texts_of(self.system.alloc(), stems)?;
         for _ in 0..MOST_PASSES {
-            let found = self.sync_pass(&left)?;
+            let found = self.sync_pass(Sought::Stems(stems), &left)?;
             left = unsettled(self.system.alloc(), &left, &found)?;
             if left.is_empty() {
                 return Ok(true);
@@ -182,11 +178,11 @@ impl<'a, R: Files + Clock + AllocGlobal + Clone + Drop> HostFolders<'a, R> {
     }
 }
 
-/// Whether the folders are listed once more, after this many times and this long after the first.
-fn may_list_both(times: u32, passed: Duration) -> bool
-    ensures { IsTrue result ↔ (times < 100) × (as_nanos passed < 4_000_000_000) }
+/// Whether the folders are listed once more, this long after the first time.
+fn may_list_both(passed: Duration) -> bool
+    ensures { IsTrue result ↔ as_nanos passed < 4_000_000_000 }
 {
-    times < MOST_LISTINGS && passed < Duration::from_secs(MOST_SECONDS)
+    passed < Duration::from_secs(MOST_SECONDS)
 }
 
 /// Whether a folder has rested, by its time of change when it was last listed and now.
@@ -276,13 +272,15 @@ impl<'a, R: Files + Clock + AllocGlobal + Clone + Drop> MailFolders for HostFold
     }
 
     fn may_list_again(&mut self, times: u32) -> bool {
-        let Ok(now) = self.system.rt.monotonic() else {
-            return times == 0;
+        let may = match self.system.rt.monotonic() {
+            Ok(now) => {
+                if times == 0 {
+                    self.start = now;
+                }
+                may_list_both(now.saturating_sub(self.start))
+            }
+            Err(_) => times == 0,
         };
-        if times == 0 {
-            self.start = now;
-        }
-        let may = may_list_both(times, now.saturating_sub(self.start));
         if !may {
             self.new_folder.host.refuse_folder("changes all the time");
         }
@@ -291,7 +289,7 @@ impl<'a, R: Files + Clock + AllocGlobal + Clone + Drop> MailFolders for HostFold
 
     fn has(&mut self, name: &str) -> Result<bool, StoreFault> {
         let is_file = self.new_folder.host.is_file(name)?;
-        self.is_obstructed = is_file == Some(false);
+        self.is_name_taken = is_file == Some(false);
         Ok(is_file.is_some())
     }
 

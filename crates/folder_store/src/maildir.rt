@@ -88,9 +88,9 @@ impl<'a, R: Files + Clock + AllocGlobal + Clone + Drop> HostMaildir<'a, R> {
         self.folders.obstructions()
     }
 
-    /// Whether a call was refused because of what bears the name of a message.
-    pub fn is_obstructed(&self) -> bool {
-        self.folders.is_obstructed()
+    /// Whether a delivery was refused because something that is no file has its name.
+    pub fn is_name_taken(&self) -> bool {
+        self.folders.is_name_taken()
     }
 
     /// The path of a folder whose names weren't flushed because the system flushes no folders, if there is
