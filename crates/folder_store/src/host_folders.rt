@@ -107,8 +107,8 @@ impl<'a, R: Files + Clock + AllocGlobal + Clone + Drop> HostFolders<'a, R> {
         }
     }
 
-    // Flushes the files with one of these stems, which are sought, that both folders have at one moment. If `new` changed
-    // while they were listed, a reader may have moved one past the listing: then none counts as found.
+    // Flushes the files with one of these stems, all of which are sought, that both folders have at one moment. If
+    // `new` changed while they were listed, a reader may have moved one past the listing: then none counts as found.
     fn sync_pass(&self, sought: Sought<'_>, stems: &[&str]) -> io::Result<Vec<Found>> {
         let in_new = self.new_folder.host.read_names(sought)?;
         let in_cur = self.cur_folder.host.read_names(sought)?;

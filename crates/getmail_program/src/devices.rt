@@ -56,7 +56,7 @@ pub trait Devices<'a> {
     fn obstructions<'b>(&self, store: &'b Store<Self::Maildir, Self::File>) -> &'b [Vec<u8>];
 
     /// Whether what bears the name of a message in a Maildir refused the run.
-    fn is_obstructed(&self, store: &Store<Self::Maildir, Self::File>) -> bool;
+    fn is_name_taken(&self, store: &Store<Self::Maildir, Self::File>) -> bool;
 
     /// The path of a folder whose names weren't flushed because the system flushes no folders, if there is one.
     fn unflushed(
@@ -125,9 +125,9 @@ impl<'a, R: Files + Clock + AllocGlobal + Clone + Drop> Devices<'a> for HostDevi
         }
     }
 
-    fn is_obstructed(&self, store: &Store<Self::Maildir, Self::File>) -> bool {
+    fn is_name_taken(&self, store: &Store<Self::Maildir, Self::File>) -> bool {
         match store {
-            Store::Maildir(maildir) => maildir.is_obstructed(),
+            Store::Maildir(maildir) => maildir.is_name_taken(),
             Store::Mboxrd(_) => false,
         }
     }
