@@ -55,7 +55,7 @@ pub trait Devices<'a> {
     /// What bears the names of messages in a Maildir and can't be opened: the path of each, and why.
     fn obstructions<'b>(&self, store: &'b Store<Self::Maildir, Self::File>) -> &'b [Vec<u8>];
 
-    /// Whether what bears the name of a message in a Maildir refused the run.
+    /// Whether a delivery into a Maildir was refused because something that is no file has its name.
     fn is_name_taken(&self, store: &Store<Self::Maildir, Self::File>) -> bool;
 
     /// The path of a folder whose names weren't flushed because the system flushes no folders, if there is one.

@@ -93,14 +93,14 @@ fn status_when(outcome: Outcome, refusal: Option<OutputRefusal>) -> u8
     }
 }
 
-/// What was written last is how many messages a session left out.
+/// What was written last is how many messages a session left out. What obstructs one is a notice of its own.
 fn close_left_out<E>(told: &Told, errors: &Errors<'_, E>) {
     if let Told::Done(report) = told {
         let LeftOut {
+            obstructed: _,
             too_large,
             past_limit,
             repeated,
-            ..
         } = report.left_out;
         errors.close(Subject::LeftOut(Counts {
             too_large: u64::from(too_large),

@@ -46,7 +46,7 @@ impl<D: Drop, F: Drop> RunEnd<D, F> {
     }
 }
 
-/// Writes the line of a reason, if there is memory for it.
+/// Writes the line of a reason, if there is memory for it. An unattended run tells each once, whatever else it tells.
 fn put_reason<E: Write>(
     alloc: Global,
     settings: &Settings,
@@ -55,6 +55,7 @@ fn put_reason<E: Write>(
 ) {
     if let Ok(line) = line_of(alloc, settings, reason) {
         errors.err.put(line.as_slice());
+        errors.close(Subject::Notice);
     }
 }
 
@@ -82,11 +83,12 @@ fn tell_store<'a, M: Devices<'a>, E: Write>(
         errors.err.put(b"getmail: what was cut off from the mbox file is kept in ");
         errors.err.put(rests.as_bytes());
         errors.err.put(b"\n");
+        errors.close(Subject::Notice);
     }
     for obstruction in devices.obstructions(&left.store) {
         put_reason(alloc, &left.settings, obstruction, errors);
     }
-    if devices.is_obstructed(&left.store) {
+    if devices.is_name_taken(&left.store) {
         tell_store_refusal(alloc, &left.settings, errors);
     }
 }
@@ -117,9 +119,7 @@ fn finish<'a, M: Devices<'a>, E: Write>(
     errors: &mut Errors<'_, E>,
 ) {
     tell_store(alloc, devices, left, rests, errors);
-    errors.close(Subject::Notice);
     tell_unflushed(alloc, devices, left, errors);
-    errors.close(Subject::Notice);
     if !left.fetched.is_idle {
         devices.sweep(&left.settings, &left.store, &left.seen_file);
     }

@@ -65,11 +65,11 @@ fn prepare<'a, R: RandomSource + AllocGlobal>(
     }
 }
 
-/// Runs one session over the machine's files, or only previews it, and returns the exit status. It is apart since the
-/// requirement of `fetch_at` is too large a term where the link's type is known too.
+/// Runs one session over the machine's files, or only previews it, with the lock held, and returns the exit status. It
+/// is apart since the requirement of `fetch_at` is too large a term where the link's type is known too.
 fn fetch_setup<'a, R, E, W, H, O>(
-    rt: &R,
     devices: &HostDevices<'a, R>,
+    _lock: &Lock,
     errand: Errand<'a>,
     link: (W, H),
     out: O,
@@ -81,7 +81,8 @@ where
     W: Wire + Drop,
     H: BuildHasher + Drop,
     O: Write + Drop,
-    requires { IsValid errand.settings }
+    requires valid { IsValid errand.settings }
+    requires turn { goes_on _lock.now ≡ true }
     ensures within { result ≤ 1 }
     ensures holds { HoldsSetup W.Wire ⟦<HostMaildir<'a, R> as MaildirDisk>⟧
         ⟦<HostFile<'a, HostFolder<'a, R>> as FlatFile>⟧ (record {
@@ -90,6 +91,7 @@ where
           pretends = errand.entry.pretends;
         }) result }
 {
+    let rt = devices.for_store.rt;
     let mut out = Output::new(out);
     fetch_at(rt, devices, errand, link, &mut out, errors)
 }
@@ -186,7 +188,7 @@ where
             pretends,
         },
         prepared: ((hasher, mark), peer),
-        lock: _lock,
+        lock,
     } = match get_ready(machine, words, &mut errors) {
         Ok(ready) => ready,
         Err(status) => return status,
@@ -209,5 +211,5 @@ where
         paths: &paths,
         pretends,
     };
-    fetch_setup(rt, &devices, errand, (link, hasher), out, errors)
+    fetch_setup(&devices, &lock, errand, (link, hasher), out, errors)
 }
