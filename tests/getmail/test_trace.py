@@ -143,7 +143,7 @@ class Session(unittest.TestCase):
         *lines, fault, reason = lines_of(run)
         self.assertEqual((run.status, fault), (1, "getmail: destination missing"))
         self.assertRegex(reason, f"{self.account.maildir}/new.*: {NO_MEMBER}$")
-        self.assertIn(f"trace: open {self.account.maildir}/new: {NO_MEMBER}", lines)
+        self.assertIn(f"trace: stat {self.account.maildir}/new: {NO_MEMBER}", lines)
 
     def test_an_rc_file_that_is_not_there(self):
         os.remove(self.account.rcfile)
