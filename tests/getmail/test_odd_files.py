@@ -1,6 +1,6 @@
-"""What bears the name of a message that the record doesn't show, and is no file that can be read, stops nothing but its own
-message: that one is neither fetched nor deleted, no run waits for it, and each one names its path, what is wrong with it and
-the account, without being asked."""
+"""What bears the name of a message, and is no file that can be read, stops nothing but its own message: that one is neither
+fetched nor deleted, no run waits for it, and each one names its path, what is wrong with it and the account, without being
+asked."""
 
 import os
 import shutil
@@ -205,8 +205,8 @@ class OddFiles(unittest.TestCase):
         self.check_all_came()
 
     def test_a_recorded_message(self):
-        """It is looked for only by a preview and with `read_all`, which doesn't fetch it again; it is deleted when it is
-        due."""
+        """It is looked for by a preview and with `read_all`, which neither fetches it again nor deletes it; else it is deleted
+        when it is due."""
         self.give_away()
         for _ in LETTERS:
             self.assertEqual(self.run_getmail("-q"), programs.SILENT)
@@ -218,8 +218,10 @@ class OddFiles(unittest.TestCase):
         preview = self.run_getmail("--pretend")
         self.assertEqual((preview.status, preview.err), (0, told))
         self.assertIn(b" delivered before\n", preview.out)
-        self.assertEqual(self.run_getmail("-q", "-a"), programs.Run(0, b"", told))
-        self.assertEqual(self.fetched(), ["RETR 2"])
+        for words in ((), ("-d",)):
+            self.assertEqual(self.run_getmail("-q", "-a", *words), programs.Run(0, b"", told))
+            self.assertEqual(self.fetched(), ["RETR 2"])
+        self.assertEqual(self.server.messages, LETTERS[:1])
         self.assertEqual(self.run_getmail("-q", "-d"), programs.SILENT)
         self.assertEqual((self.fetched(), self.server.messages), ([], []))
 

@@ -215,7 +215,7 @@ pub HasPlanned-more : (settings : Settings) (is_odd : List ℕ → Bool) (rows :
     → HasPlanned settings is_odd rows listing now i steps fetched → i < length listing
     → full ≡ is_full settings fetched
     → ((d : Item) → skip ≡ skip_for settings is_odd rows (is_first listing (i + 1, get_or listing i d)) full (get_or listing i d))
-    → ((d : Item) → deleted ≡ is_deleted settings rows listing now (is_none skip) (i + 1, get_or listing i d))
+    → ((d : Item) → deleted ≡ is_deleted settings rows listing now skip (i + 1, get_or listing i d))
     → next ≡ fetched + cond (is_none skip) 1 0
     → HasPlanned settings is_odd rows listing now (i + 1) (steps ++ record { number = i + 1; skip = skip; delete = deleted } ∷ []) next
 HasPlanned-more settings is_odd rows listing now i steps fetched full skip deleted next has inside as_full skip_is deleted_is

@@ -1,19 +1,30 @@
 -- What is done with each message of a listing.
-use Rattle.std.specs.Prelude.{◌≡◌, ℕ, Bool, false, ◌&&◌, ◌||◌, List, map, filter, zip, unwrap_or, is_none}
+use Rattle.std.specs.Prelude.{◌≡◌, ℕ, Bool, true, false, not, ◌&&◌, ◌||◌, List, map, filter, zip, unwrap_or}
+use Rattle.std.specs.Prelude.{Option, Some, is_none}
 use Rattle.mail_terms.specs.Listing.{Item, numbered, is_first, is_last}
 use Rattle.fetch_record.specs.Record.{Row, is_delivered, first_seen_of}
-use Rattle.fetch_rules.specs.{Wanted.skip_of, Due.is_due, declared.plans.Step.Step}
+use Rattle.fetch_rules.specs.{Wanted.skip_of, Due.is_due, declared.plans.Skip.Skip, declared.plans.Step.Step}
+use Rattle.fetch_rules.specs.declared.plans.Skip.TheVariants.{Obstructed}
 use Rattle.rc_file.specs.declared.settings.Settings.{Settings}
 
 -- when the id was first seen: now, if it has no row
 abbrev pub seen_since : List Row → List ℕ → ℕ → ℕ
 seen_since rows uid now = unwrap_or (first_seen_of rows uid) now
 
--- whether a message is deleted: it is due, it is known to be delivered or is fetched, and no other
--- message has its id
-abbrev pub is_deleted : Settings → List Row → List Item → ℕ → Bool → ℕ × Item → Bool
-is_deleted settings rows listing now fetched message =
-    is_due settings now (seen_since rows message.1.uid now) && (is_delivered rows message.1.uid || fetched)
+-- whether a message is passed over because what can't be opened bears its name
+abbrev pub is_for_odd : Option Skip → Bool
+is_for_odd (Some Obstructed) = true
+is_for_odd _ = false
+
+-- whether a message that is passed over for this reason, or fetched, may be deleted once it is due: it is known to be
+-- delivered or is fetched, and isn't obstructed
+abbrev pub may_go : Bool → Option Skip → Bool
+may_go delivered skip = (delivered || is_none skip) && not (is_for_odd skip)
+
+-- whether a message is deleted: it is due and may go, and no other message has its id
+abbrev pub is_deleted : Settings → List Row → List Item → ℕ → Option Skip → ℕ × Item → Bool
+is_deleted settings rows listing now skip message =
+    is_due settings now (seen_since rows message.1.uid now) && may_go (is_delivered rows message.1.uid) skip
     && (is_first listing message && is_last listing message)
 
 abbrev pub step_of : Settings → (List ℕ → Bool) → List Row → List Item → ℕ → ℕ × Item → Step
@@ -22,7 +33,7 @@ step_of settings is_odd rows listing now message =
     record {
       number = message.0;
       skip = skip;
-      delete = is_deleted settings rows listing now (is_none skip) message;
+      delete = is_deleted settings rows listing now skip message;
     }
 
 -- whether a step fetches its message

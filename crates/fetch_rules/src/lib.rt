@@ -19,7 +19,9 @@ pub use laws::{
     wanted_are_first,
 };
 pub use mail_terms::{Listing, ListingFault, MESSAGE_LIMIT, ScanRow, UidRows, is_legal_id};
-pub use plans::{SECONDS_PER_DAY, Skip, Step, ask_nothing, plan, plan_of_known, plan_without};
+pub use plans::{
+    SECONDS_PER_DAY, Skip, Step, ask_nothing, may_go, plan, plan_of_known, plan_without,
+};
 pub use rc_file::{
     Dest, Flags, Key, RcFault, Section, Settings, Warning, full_path, override_with, rc_text,
     read_rc, warning_text,

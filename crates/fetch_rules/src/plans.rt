@@ -7,7 +7,7 @@ ghost use Rattle.mail_terms.specs.Listing.{numbered, is_last};
 ghost use Rattle.fetch_record.specs.Record.{is_delivered};
 ghost use Rattle.fetch_rules.specs.Wanted.{is_full, none_odd, own_skip, wanted};
 ghost use Rattle.fetch_rules.specs.Due.{is_due, may_delete};
-ghost use Rattle.fetch_rules.specs.Plan.{IsQuiet, seen_since, planned, retrieved};
+ghost use Rattle.fetch_rules.specs.Plan.{IsQuiet, may_go, seen_since, planned, retrieved};
 
 use crate::occurrence::{are_first, are_last};
 use fetch_record::Seen;
@@ -126,23 +126,30 @@ fn skip_for(own: Option<Skip>, first: bool, full: bool) -> Option<Skip>
     if first { None } else { Some(Skip::SameId) }
 }
 
-/// Whether the message of number `i + 1` is to be deleted if no other message has its id; `fetched` says whether it
-/// is fetched.
+/// Whether a message that is passed over for this reason, or fetched, may be deleted once it is due.
+pub fn may_go(delivered: bool, skip: Option<Skip>) -> bool
+    ensures { result ≡ may_go delivered skip }
+{
+    (delivered || skip.is_none()) && !matches!(skip, Some(Skip::Obstructed))
+}
+
+/// Whether the message of number `i + 1` is to be deleted if no other message has its id; `skip` says why it isn't
+/// fetched, if it isn't.
 fn is_done_with<H: BuildHasher>(
     settings: &Settings,
     seen: &Seen<H>,
     listing: &Listing,
     now: u64,
-    fetched: bool,
+    skip: Option<Skip>,
     i: u32,
 ) -> bool
     requires { i < length listing.now }
     ensures { HoldsAt (λ item. result ≡ (is_due settings.now now (seen_since seen.now.rows item.uid now)
-        && (is_delivered seen.now.rows item.uid || fetched))) listing.now i }
+        && may_go (is_delivered seen.now.rows item.uid) skip)) listing.now i }
 {
     let uid = listing.uid(i);
     is_due(settings, now, seen.first_seen(uid).unwrap_or(now))
-        && (seen.is_delivered(uid) || fetched)
+        && may_go(seen.is_delivered(uid), skip)
 }
 
 /// As `plan_without`, if no flag is set.
@@ -169,10 +176,10 @@ pub fn plan<H: BuildHasher>(
 /// A message is fetched unless it is recorded as delivered and `read_all` is false, its flag in `odd` says
 /// that what can't be opened bears its name, its size is above `max_size`, `max_count` others that may be
 /// fetched come before it, or an earlier one has its id; the first of these reasons is given. A 0 sets no
-/// limit. A message is deleted if it is recorded as delivered or is fetched, no other message has its id,
-/// and `delete` is true or it was first seen `delete_after` days ago or more; a 0 sets no age. An id without
-/// a row is not delivered, and is first seen now. `now` is in seconds since 1970. Takes n log n comparisons
-/// of ids for n messages, and up to three look-ups in the record for each.
+/// limit. One that is passed over for its flag isn't deleted; another is if it is recorded as delivered or is
+/// fetched, no other message has its id, and `delete` is true or it was first seen `delete_after` days ago or
+/// more; a 0 sets no age. An id without a row is not delivered, and is first seen now. `now` is in seconds since
+/// 1970. Takes n log n comparisons of ids for n messages, and up to three look-ups in the record for each.
 pub fn plan_without<H: BuildHasher>(
     alloc: Global,
     settings: &Settings,
@@ -196,7 +203,7 @@ pub fn plan_without<H: BuildHasher>(
         let full = is_full(settings, fetched);
         let own = own_skip(settings, seen, listing, odd[i as usize], i);
         let skip = skip_for(own, first, full);
-        let delete = is_done_with(settings, seen, listing, now, skip.is_none(), i) & alone;
+        let delete = is_done_with(settings, seen, listing, now, skip, i) & alone;
         steps.push(Step {
             number: i + 1,
             skip,

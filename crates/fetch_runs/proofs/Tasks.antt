@@ -2,7 +2,7 @@
 -- wanted; and how many of them a course took, recorded and retrieved.
 use Rattle.std.proofs.Common.{◌≡◌, ◌+◌, ◌-◌, ℕ, Bool, true, false, cond, List, ◌∷◌, ◌++◌, map, zip, Option, Some, refl, sym, ap}
 use Rattle.std.proofs.Common.{append_assoc, length, length-append, arith, rules, take, ◌∙◌, ◌⊎◌, inl, inr, None, Result, Ok, Err, []}
-use Rattle.std.specs.Prelude.{◌&&◌, ◌<◌, slice_get, option_to_list}
+use Rattle.std.specs.Prelude.{◌&&◌, ◌||◌, ◌<◌, not, slice_get, option_to_list}
 use Rattle.std.specs.List.{flat_map, filter, AllByRecursion, enumerate_from, AllZip}
 use Rattle.std.proofs.lemmas.Bool.{or_right, or_left}
 use Rattle.std.proofs.lemmas.List.{append-nil, take_at, take-map, length-map, map-append}
@@ -13,7 +13,7 @@ use Rattle.rc_file.specs.declared.settings.Settings.{Settings}
 use Rattle.fetch_record.specs.Record.{Row, is_delivered, is_of, has_row, with_delivered, marked, marked_all, new_ids}
 use Rattle.fetch_record.specs.Record.{merged, none_open}
 use Rattle.fetch_rules.specs.{Wanted.wanted, declared.plans.Step.Step}
-use Rattle.fetch_rules.specs.Plan.{fetches, step_of}
+use Rattle.fetch_rules.specs.Plan.{fetches, is_for_odd, step_of}
 use Rattle.mail_store.specs.{Maildir.Maildir, Held.flags_of}
 use Rattle.mail_store.specs.FileName.{is_held, is_odd}
 use Rattle.pop3_client.specs.Turns.{quit, IsGood}
@@ -145,6 +145,15 @@ module _ (D : List ℕ → Type 0) (p : Inputs) (delivered : (uid : List ℕ) �
   fit_by false h true n _ _ later _ _ at due gone = ((tt, (at refl, tt)), λ safe. (gone (due refl refl), safe))
   fit_by r h d n _ _ later held listed at due gone = search rules
 
+  gone_parts : (due delivered fetched odd alone : Bool) → due && ((delivered || fetched) && not odd) && alone ≡ true
+      → (alone ≡ true) × (fetched ≡ false → delivered ≡ true)
+  gone_parts due delivered fetched odd alone is = (grind (arith, is), λ none. grind (arith, is, none))
+
+  -- what a step deletes is alone with its id, and is recorded if it isn't fetched
+  deleted_parts : (q : ℕ × Item) → (steps_on p q).delete ≡ true → ((is_first p.items q && is_last p.items q) ≡ true)
+      × (fetches (steps_on p q) ≡ false → is_delivered (rows_on p) q.1.uid ≡ true)
+  deleted_parts q is = gone_parts _ _ (fetches (steps_on p q)) (is_for_odd (steps_on p q).skip) _ is
+
   fit_all : (qs : List (ℕ × Item)) (later : List Task) → AllByRecursion (IsNumbered p.items) qs
       → AreFit (flat_map (tasks_at (steps_on p) (is_held p.account p.maildir)) qs) later
   fit_all [] later at = (tt, λ safe. safe)
@@ -152,8 +161,8 @@ module _ (D : List ℕ → Type 0) (p : Inputs) (delivered : (uid : List ℕ) �
       let more = fit_all qs later at.1 in
       let first = fit_by (fetches (steps_on p q)) (is_held p.account p.maildir q.1.uid) (steps_on p q).delete q.0 q.1.uid
       q.1.size (flat_map (tasks_at (steps_on p) (is_held p.account p.maildir)) qs ++ later) refl
-      (listed_at p.items (q.0 - 1) q.1 at.0.1) (λ is. (q.1, at.0.1, at.0.0, grind (arith, is)))
-      (λ is not. delivered q.1.uid (grind (arith, is, not))) (λ is. rw at.0.1 (is, tt)) in (
+      (listed_at p.items (q.0 - 1) q.1 at.0.1) (λ is. (q.1, at.0.1, at.0.0, (deleted_parts q is).0))
+      (λ is not. delivered q.1.uid ((deleted_parts q is).1 not)) (λ is. rw at.0.1 (is, tt)) in (
         all_append _ _ _ first.0 more.0,
         λ safe. rw append_assoc (first.1 (more.1 safe)),
       )

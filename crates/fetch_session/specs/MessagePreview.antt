@@ -1,17 +1,17 @@
 -- What a run would do with each message of a listing.
-use Rattle.std.specs.Prelude.{ℕ, ◌+◌, ◌*◌, ◌==◌, ◌&&◌, ◌||◌, not, nat_lt, min, Bool, List, [], ◌∷◌, Option, Some, None}
+use Rattle.std.specs.Prelude.{ℕ, ◌+◌, ◌*◌, ◌==◌, ◌&&◌, not, nat_lt, min, Bool, List, [], ◌∷◌, Option, Some, None}
 use Rattle.std.specs.Prelude.{if◌then◌else◌}
 use Rattle.mail_terms.specs.{Listing.Item, Numeral.greatest_size}
 use Rattle.rc_file.specs.declared.settings.Settings.{Settings}
 use Rattle.fetch_record.specs.Record.{Row, is_delivered}
 use Rattle.fetch_rules.specs.{Due.seconds_per_day, declared.plans.Step.Step}
-use Rattle.fetch_rules.specs.Plan.{fetches, seen_since}
+use Rattle.fetch_rules.specs.Plan.{may_go, seen_since}
 use Rattle.fetch_session.specs.declared.message_preview.MessagePreview.{MessagePreview}
 
--- whether the age of a message decides if it is deleted: it is delivered, or will be
+-- whether the age of a message decides if it is deleted
 abbrev pub waits : Settings → Step → Bool → Bool
 waits settings step delivered = not settings.delete
-    && (not (settings.delete_after == 0) && (delivered || fetches step))
+    && (not (settings.delete_after == 0) && may_go delivered step.skip)
 
 -- from when on a message first seen at `since` is deleted, as far as 64 bits go: the last second is the greatest size
 abbrev pub due_second : Settings → ℕ → ℕ

@@ -7,10 +7,10 @@ use Rattle.mail_terms.specs.Numeral.{greatest_size}
 use Rattle.mail_terms.specs.Listing.{Item, message_limit}
 use Rattle.rc_file.specs.declared.settings.Settings.{Settings}
 use Rattle.fetch_record.specs.Record.{Row}
-use Rattle.fetch_rules.specs.Plan.{fetches, planned}
+use Rattle.fetch_rules.specs.Plan.{fetches, is_for_odd, planned}
 use Rattle.fetch_rules.specs.{declared.plans.Skip.Skip, declared.plans.Step.Step}
-use Rattle.fetch_rules.specs.declared.plans.Skip.TheVariants.{Delivered as DeliveredBefore, Obstructed, TooLarge}
-use Rattle.fetch_rules.specs.declared.plans.Skip.TheVariants.{PastLimit, SameId}
+use Rattle.fetch_rules.specs.declared.plans.Skip.TheVariants.{Delivered as DeliveredBefore, TooLarge, PastLimit}
+use Rattle.fetch_rules.specs.declared.plans.Skip.TheVariants.{SameId}
 use Rattle.fetch_session.specs.declared.fault.Fault.TheVariants.{StoreRefused, SeenRefused, BadSeen}
 use Rattle.fetch_session.specs.{declared.report.Skips.Skips, declared.report.Report.Report}
 use Rattle.fetch_session.specs.{declared.report.Outcome.Outcome, declared.report.Outcome.TheVariants.Cut}
@@ -66,10 +66,6 @@ skipped_in steps = count_by (λ (step : Step). not (fetches step)) steps
 -- why a message is passed over, as it is told; one that is deleted was delivered before
 abbrev pub reason_of : Step → Option Skip
 reason_of step = if step.delete then Some DeliveredBefore else step.skip
-
-abbrev pub is_for_odd : Option Skip → Bool
-is_for_odd (Some Obstructed) = true
-is_for_odd _ = false
 
 abbrev pub is_for_size : Option Skip → Bool
 is_for_size (Some TooLarge) = true

@@ -57,7 +57,7 @@ skip g c is_odd are item = c.skip_for-skip.ensures ∙ rw (
 
 deleted : (g : _) (c : goal.After-from-fetched g) (item : Item)
     → (c.is_done_with.result && (c.index-first.result.now && c.index.result.now))
-    ≡ is_deleted c.args.settings.now c.args.seen.now.rows c.args.listing.now c.args.now c.is_none.result
+    ≡ is_deleted c.args.settings.now c.args.seen.now.rows c.args.listing.now c.args.now c.skip_for-skip.result
     (c.loop-i.i + 1, get_or c.args.listing.now c.loop-i.i item)
 deleted g c item = rw (c.is_done_with.ensures item) (elim (cases_Bool (may_delete c.args.settings.now)) [
   | inl asked ↦ rw (alone g c item asked) refl
@@ -73,15 +73,13 @@ loop-i-init g c = record {
 
 pub loop-i-preserved : goal.loop-i-preserved
 loop-i-preserved g c =
-    let next_is = ap (λ (k : ℕ). c.loop-i.fetched + k) (c.from-fetched.ensures ∙ byte_of c.is_none-in-loop-i.result
-    ∙ ap (λ (b : Bool). cond b 1 0) (none_by c.skip_for-skip.result c.is_none-in-loop-i.result c.is_none-in-loop-i.ensures)) in
+    let next_is = ap (λ (k : ℕ). c.loop-i.fetched + k) (c.from-fetched.ensures ∙ byte_of c.is_none.result
+    ∙ ap (λ (b : Bool). cond b 1 0) (none_by c.skip_for-skip.result c.is_none.result c.is_none.ensures)) in
     rw c.in_ok-push.ensures.items (record {
       few = grind (arith, c.loop-i.invariant.few, next_is);
       has = λ is_odd are. HasPlanned-more _ is_odd _ _ _ _ _ _ c.is_full-full.result c.skip_for-skip.result _ _
           (c.loop-i.invariant.has is_odd are) (omega arith) c.is_full-full.ensures (skip g c is_odd are)
-          (λ item. deleted g c item ∙ ap (λ (b : Bool). is_deleted c.args.settings.now c.args.seen.now.rows c.args.listing.now
-          c.args.now b (c.loop-i.i + 1, get_or c.args.listing.now c.loop-i.i item))
-          (none_by c.skip_for-skip.result c.is_none.result c.is_none.ensures)) next_is;
+          (deleted g c) next_is;
     })
 
 pub returns : goal.returns
