@@ -20,7 +20,7 @@ use Rattle.mail_store.specs.declared.file.flat_file.FlatFile.{Ghosts as FileGhos
 use Rattle.fetch_session.specs.declared.account.Store.TheVariants.{Maildir as InMaildir, Mboxrd as InMbox}
 use Rattle.fetch_session.specs.Target.{held_flags, stores_of, target_of, Stores, in_maildir, kind_of, with_maildir}
 use Rattle.fetch_session.specs.Target.{AfterTakingIn, AsFiles, Target, AsEntries, closed_file, closed_rows_in, Kind}
-use Rattle.fetch_session.specs.Target.{Files, Entries, in_mbox, mbox_of, odd_in}
+use Rattle.fetch_session.specs.Target.{Files, Entries, MayBeOdd, in_mbox, mbox_of, odd_in}
 use Rattle.mail_store.specs.Held.{AreById, flags_asked, flags_of, flags_sought}
 use Rattle.fetch_rules.specs.Laws.{FetchesAsked, FetchesFirsts}
 use Rattle.mail_terms.proofs.ListLemmas.{all_append}
@@ -678,18 +678,24 @@ module _ {D F : Type 0} (disk : DiskGhosts D) (files : FileGhosts F) (account : 
 
 -- ---- whatever came of it
 
-pub rest_has_plan : (settings : Settings) (items : List Item) (now : ℕ) (seen : Loaded) (r : Result Ready Fault) (steps : List Step)
-    → ((rows : List Row) (uid : List ℕ) → is_delivered rows uid ≡ true → has_row rows uid ≡ true) → IsIdle settings seen items now steps
+pub rest_has_plan : (kind : Kind) (settings : Settings) (items : List Item) (now : ℕ) (seen : Loaded) (r : Result Ready Fault)
+    (steps : List Step) → ((rows : List Row) (uid : List ℕ) → is_delivered rows uid ≡ true → has_row rows uid ≡ true)
+    → IsIdle settings seen items now steps
     → IfOk r (λ ready. ready.steps.items ≡ steps) → IfOk r (λ ready. length ready.held.items ≡ length items)
-    → IfOk r (λ ready. HasPlan settings items now ready seen)
-rest_has_plan settings items now seen (Ok ready) steps law idle same held = record {
+    → IfOk r (λ ready. HasPlan kind settings items now ready seen)
+rest_has_plan kind settings items now seen (Ok ready) steps law idle same held = record {
   is_odd = none_odd;
+  may_be = none_may_be kind;
   steps = same ∙ idle.planned none_odd;
   lengths = (ap length (same ∙ idle.planned none_odd) ∙ planned_length settings none_odd seen.rows items now, held);
   rows = recursion_from_All _ items (λ k d inside. law seen.rows _ (idle.known k d inside));
   closed = idle.closed;
 }
-rest_has_plan _ _ _ _ (Err _) _ _ _ _ _ = tt
+  where
+    none_may_be : (kind : Kind) → MayBeOdd kind none_odd
+    none_may_be Files = tt
+    none_may_be Entries = refl
+rest_has_plan _ _ _ _ _ (Err _) _ _ _ _ _ = tt
 
 pub rest_held : (r : Result Ready Fault) (target : Target) (steps : List Step) (items : List Item) (new : Stores) → All IsQuiet steps
     → IfOk r (λ ready. ready.steps.items ≡ steps) → IfOk r (λ ready. length ready.held.items ≡ length items)

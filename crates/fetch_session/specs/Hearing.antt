@@ -11,7 +11,7 @@ use Rattle.fetch_record.specs.Record.{Row, RecordState}
 use Rattle.fetch_rules.specs.{Plan.planned, declared.plans.Step.Step}
 use Rattle.fetch_session.specs.Account.{Holding, digits_of}
 use Rattle.fetch_session.specs.{Readiness.merged_in, Record.Keeps, Report.skips_planned, Session.Enters_with}
-use Rattle.fetch_session.specs.Target.{AfterTakingIn, is_sound, odd_in, stores_of, target_of}
+use Rattle.fetch_session.specs.Target.{AfterTakingIn, Kind, MayBeOdd, is_sound, kind_of, odd_in, stores_of, target_of}
 use Rattle.fetch_session.specs.{declared.account.Store.Store, declared.report.Report.Report}
 use Rattle.fetch_session.specs.declared.report.Skips.{Skips}
 
@@ -21,10 +21,11 @@ passed_over report = record { all = report.skipped; left_out = report.left_out }
 
 -- it is what is planned for each message of a listing, by rows of the record, of which this holds; so many are listed,
 -- and these are passed over
-pub record IsPlanned (settings : Settings) (now total : ℕ) (skipped : Skips)
+pub record IsPlanned (kind : Kind) (settings : Settings) (now total : ℕ) (skipped : Skips)
     (Known : List Item → List Row → List Step → Type 0) (plan : List Step) : Type 0 where
   pub items : List Item
   pub is_odd : List ℕ → Bool
+  pub may_be : MayBeOdd kind is_odd
   pub rows : List Row
   pub known : Known items rows plan
   pub total_is : total ≡ length items
@@ -50,7 +51,7 @@ IsServersListing settings link link' items = (mid : Place) × Enters_with settin
 abbrev pub IsPlanOf : {W D F : Type 0} → WireGhosts W → DiskGhosts D → FileGhosts F → ℕ → Holding D F → W → Holding D F
     → W → Report → List Step → Type 0
 IsPlanOf link disk files now old wire new wire' report plan =
-    IsPlanned old.settings now report.total (passed_over report) (λ items rows steps.
+    IsPlanned (kind_of old.store) old.settings now report.total (passed_over report) (λ items rows steps.
     (link.sound wire' → IsServersListing old.settings (link.history wire) (link.history wire') items)
     × AreMerged disk files old.settings (digits_of old.settings) now old.store old.file new.store new.file items rows
     steps) plan

@@ -20,7 +20,7 @@ use Rattle.mail_store.specs.declared.fault.StoreFault.TheVariants as refused
 use Rattle.fetch_session.specs.declared.readiness.Ready.{Ready}
 use Rattle.fetch_session.specs.Mbox.{AsksMbox, IsSettledAtMost}
 use Rattle.fetch_session.specs.Record.{Keeps, Steady, Misread, FileReadAs}
-use Rattle.fetch_session.specs.Target.{Kind, Files, Entries, Target, AsFiles, AsEntries, Stores, closed_file}
+use Rattle.fetch_session.specs.Target.{Kind, Files, Entries, MayBeOdd, Target, AsFiles, AsEntries, Stores, closed_file}
 use Rattle.fetch_session.specs.Target.{held_flags, odd_in}
 use Rattle.fetch_session.specs.Target.{in_maildir, none_held, closed_rows_in}
 
@@ -49,8 +49,9 @@ flags_found read_all (AsFiles account) rows store items =
 flags_found read_all AsEntries rows store items = none_held items
 
 -- each message has both flags, and the one that says whether it is odd goes by its id
-abbrev pub HasFlags : List Item → Found → Type 0
-HasFlags items found = (length found.held.items ≡ length items) × AreById items found.odd.items
+abbrev pub HasFlags : Kind → List Item → Found → Type 0
+HasFlags kind items found = (length found.held.items ≡ length items)
+    × ((by : AreById items found.odd.items) × MayBeOdd kind by.0)
 
 -- which of the messages that were asked for are held was found, the files of those that aren't delivered are durable,
 -- and of which what can't be opened bears the name; or why not
@@ -128,8 +129,10 @@ abbrev pub AreAsHeld : List Step → List Item → List Bool → List Bool → T
 AreAsHeld steps items flags held = tasks_planned steps items flags ≡ tasks_planned steps items held
 
 -- each listed message has a step of the plan and a flag, and each listed id a row; no intent is open
-pub record HasPlan (settings : Settings) (items : List Item) (now : ℕ) (ready : Ready) (seen : Loaded) : Type 0 where
+pub record HasPlan (kind : Kind) (settings : Settings) (items : List Item) (now : ℕ) (ready : Ready) (seen : Loaded)
+    : Type 0 where
   pub is_odd : List ℕ → Bool
+  pub may_be : MayBeOdd kind is_odd
   pub steps : ready.steps.items ≡ planned settings is_odd seen.rows items now
   pub lengths : (length ready.steps.items ≡ length items) × (length ready.held.items ≡ length items)
   pub rows : AllByRecursion (λ (item : Item). has_row seen.rows item.uid ≡ true) items

@@ -115,6 +115,11 @@ abbrev pub odd_in : Target → Stores → List ℕ → Bool
 odd_in (AsFiles account) store = is_odd account store.maildir
 odd_in AsEntries store = none_odd
 
+-- which ids may be odd in a store of this kind: with an mboxrd file none is
+abbrev pub MayBeOdd : Kind → (List ℕ → Bool) → Type 0
+MayBeOdd Files is_odd = Unit {0}
+MayBeOdd Entries is_odd = is_odd ≡ none_odd
+
 -- whether the entry of an open intent is whole in a file, by what is listed
 abbrev pub is_stored : Option Intent → List Item → List ℕ → Bool
 is_stored None items bytes = false

@@ -4,7 +4,7 @@ ghost use Rattle.std.specs.List.{AllByRecursion};
 ghost use Rattle.mail_terms.specs.Listing.{message_limit};
 ghost use Rattle.mail_terms.specs.UniqueId.{IsLegalId};
 ghost use Rattle.mail_store.specs.FileName.{IsAccountText};
-ghost use Rattle.fetch_session.specs.Target.{AfterTakingIn, NoneBegun, target_of};
+ghost use Rattle.fetch_session.specs.Target.{AfterTakingIn, NoneBegun, kind_of, target_of};
 ghost use Rattle.fetch_session.specs.Refusal.{TookWithTail, step_limit, tail_limit};
 ghost use Rattle.fetch_session.specs.Hearing.{AreMerged, HearsOne, IsPlanned};
 ghost use Rattle.fetch_session.specs.Durable.{DurableCarries};
@@ -53,8 +53,8 @@ pub fn carry_out<W: Wire, D: MaildirDisk, F: FlatFile, H: BuildHasher, L: Listen
         new.place new.store new.file new.lines skipped.new)
         × DurableCarries F.FlatFile work.old.store work.old.ledger.file _ _ _ _ _ _ _ _ _ _ _ _ _ _ is
         work.new.store work.new.ledger.file)) }
-    ensures heard { HearsOne L.hears (IsPlanned terms.entry.settings.now terms.entry.now (length listing.now)
-        skipped.new (λ items rows plan. (items ≡ listing.now) × AreMerged D.MaildirDisk F.FlatFile
+    ensures heard { HearsOne L.hears (IsPlanned (kind_of work.old.store) terms.entry.settings.now terms.entry.now
+        (length listing.now) skipped.new (λ items rows plan. (items ≡ listing.now) × AreMerged D.MaildirDisk F.FlatFile
         terms.entry.settings.now terms.entry.account.now terms.entry.now work.old.store work.old.ledger.file
         work.new.store work.new.ledger.file items rows plan))
         listener.old listener.new }

@@ -13,7 +13,7 @@ ghost use Rattle.fetch_session.specs.Durable.{DurableProceeds, RunsSession};
 ghost use Rattle.fetch_session.specs.Parts.{KeepsLink, KeepsStore, WhereWorkSound};
 ghost use Rattle.fetch_session.specs.Report.{most_lines, none_skipped};
 ghost use Rattle.fetch_session.specs.Session.{Enters_with, Proceeds, keeping, noted};
-ghost use Rattle.fetch_session.specs.Target.{AfterTakingIn, NoneBegun, target_of};
+ghost use Rattle.fetch_session.specs.Target.{AfterTakingIn, NoneBegun, kind_of, target_of};
 
 use crate::account::Account;
 use crate::carrying_out::carry_out;
@@ -61,8 +61,8 @@ fn proceed<W: Wire, D: MaildirDisk, F: FlatFile, H: BuildHasher, L: Listener>(
         new.place (keeping new.store new.file) (noted counts.new.total counts.new.skipped new.lines))
         × DurableProceeds F.FlatFile work.old.store work.old.ledger.file _ _ _ _ _ _ _ _ _ is
         work.new.store work.new.ledger.file)) }
-    ensures heard { HearsOne L.hears (IsPlanned terms.entry.settings.now terms.entry.now counts.new.total
-        counts.new.skipped (λ items rows plan. (W.sound client.new.wire.now → (mid : Place)
+    ensures heard { HearsOne L.hears (IsPlanned (kind_of work.old.store) terms.entry.settings.now terms.entry.now
+        counts.new.total counts.new.skipped (λ items rows plan. (W.sound client.new.wire.now → (mid : Place)
         × Enters_with terms.entry.settings.now (place_of W.Wire client.old) (Ok items) mid
         × TookWithTail (counts.new.total * step_limit + tail_limit) mid result (place_of W.Wire client.new))
         × AreMerged D.MaildirDisk F.FlatFile terms.entry.settings.now terms.entry.account.now terms.entry.now

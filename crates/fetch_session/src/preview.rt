@@ -1,5 +1,5 @@
 //! A session that tells what a run would do, and changes nothing.
-ghost use Rattle.std.specs.Prelude.{◌≡◌, ℕ, Bool, List, [], None, IfOk, map};
+ghost use Rattle.std.specs.Prelude.{◌≡◌, ℕ, Bool, List, [], None, IfOk, length, map};
 ghost use Rattle.pop3_client.specs.Client.{HasSameLink, link_of, place_of};
 ghost use Rattle.rc_file.specs.Settings.{IsValid};
 ghost use Rattle.mail_store.specs.FileName.{IsAccountText};
@@ -14,7 +14,8 @@ ghost use Rattle.fetch_session.specs.Scene.{WhereAllSound};
 ghost use Rattle.fetch_session.specs.Session.{keeping};
 ghost use Rattle.mail_store.specs.Maildir.{AfterTaking};
 ghost use Rattle.fetch_session.specs.Target.{AfterTakingIn, AsFiles, NoneBegun, in_maildir, is_sound, kind_of};
-ghost use Rattle.fetch_session.specs.Target.{stores_of, target_of};
+ghost use Rattle.fetch_session.specs.Target.{Entries, Files, stores_of, target_of};
+ghost use Rattle.mail_store.specs.Held.{AreById};
 
 use crate::account::{Account, Store};
 use crate::fault::{Cut, Fault};
@@ -72,7 +73,7 @@ fn look_at_mbox<F: FlatFile, H: BuildHasher>(
     seen: &Seen<H>,
     listing: &Listing,
 ) -> Result<Found, Fault>
-    ensures flags { IfOk result (HasFlags listing.now) }
+    ensures flags { IfOk result (HasFlags Entries listing.now) }
     ensures looks { F.sound mbox.new → F.sound mbox.old
         × LooksAtMbox seen.now.intent (F.stored mbox.old) listing.now result (F.stored mbox.new) }
 {
@@ -89,7 +90,7 @@ fn look_at_maildir<D: MaildirDisk>(
     account: &AccountId,
     listing: &Listing,
 ) -> Result<Found, Fault>
-    ensures flags { IfOk result (HasFlags listing.now) }
+    ensures flags { IfOk result (HasFlags Files listing.now) }
     ensures looks { D.sound disk.new → D.sound disk.old × AfterTaking (D.maildir disk.old)
         (λ left. LooksIn (AsFiles account.now) None (in_maildir left) listing.now result
         (in_maildir (D.maildir disk.new))) }
@@ -112,7 +113,7 @@ fn look<D: MaildirDisk, F: FlatFile, H: BuildHasher>(
     listing: &Listing,
 ) -> Result<Found, Fault>
     ensures kind { kind_of store.new ≡ kind_of store.old }
-    ensures flags { IfOk result (HasFlags listing.now) }
+    ensures flags { IfOk result (HasFlags (kind_of store.old) listing.now) }
     ensures stays { is_sound D.MaildirDisk F.FlatFile store.new → is_sound D.MaildirDisk F.FlatFile store.old
         × ((stores_of D.MaildirDisk F.FlatFile store.new).maildir.begun
         ≡ (stores_of D.MaildirDisk F.FlatFile store.old).maildir.begun) }
@@ -136,7 +137,7 @@ fn preview_merged<H: BuildHasher>(
     listing: &Listing,
     found: &Found,
 ) -> Result<Vec<MessagePreview>, AllocError>
-    requires { HasFlags listing.now found.now }
+    requires { (length found.now.held.items ≡ length listing.now) × AreById listing.now found.now.odd.items }
     ensures { (is_odd : List ℕ → Bool) → found.now.odd.items ≡ map (λ item. is_odd item.uid) listing.now
         → IfOk result (λ told. told.items ≡ previews_of terms.entry.settings.now is_odd
         (merged (closed_rows found.now.stored seen.old.rows seen.old.intent) listing.now found.now.held.items

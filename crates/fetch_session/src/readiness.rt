@@ -14,7 +14,7 @@ ghost use Rattle.fetch_session.specs.Durable.{AreTrusted, IsSafeFile, IsSafeStor
 ghost use Rattle.fetch_session.specs.Durable.{LeavesStore, ReadiesDurably, is_trusted, may_leave_in};
 ghost use Rattle.fetch_session.specs.Parts.{KeepsBegun};
 ghost use Rattle.fetch_session.specs.Target.{AfterTakingIn, held_flags, is_sound, kind_of, mbox_of, stores_of};
-ghost use Rattle.fetch_session.specs.Target.{target_of};
+ghost use Rattle.fetch_session.specs.Target.{Entries, Files, target_of};
 ghost use Rattle.fetch_session.specs.Readiness.{AreAsHeld, ChecksStore, FindsHeld, FindsIn, HasPlan, IsIdle};
 ghost use Rattle.fetch_session.specs.Readiness.{ChecksIdle, HasFlags};
 ghost use Rattle.fetch_session.specs.Readiness.{are_undelivered, flags_found};
@@ -140,7 +140,7 @@ fn find_held<D: MaildirDisk, H: BuildHasher>(
     terms: Terms<'_>,
     listing: &Listing,
 ) -> Result<Found, Fault>
-    ensures flags { IfOk result (HasFlags listing.now) }
+    ensures flags { IfOk result (HasFlags Files listing.now) }
     ensures finds { D.sound disk.new → D.sound disk.old
         × AfterTaking (D.maildir disk.old) (λ left. FindsHeld terms.entry.settings.now.read_all
         terms.entry.account.now seen.now.rows left listing.now result (D.maildir disk.new)) }
@@ -189,7 +189,7 @@ fn ask_mbox<F: FlatFile, H: BuildHasher>(
     seen: &Seen<H>,
     listing: &Listing,
 ) -> Result<Found, Fault>
-    ensures flags { IfOk result (HasFlags listing.now) }
+    ensures flags { IfOk result (HasFlags Entries listing.now) }
     ensures asks { F.sound mbox.new → F.sound mbox.old
         × AsksMbox seen.now.intent (F.stored mbox.old) listing.now result (F.stored mbox.new) }
     ensures durable { F.sound mbox.new → Trusted (F.disk mbox.old).now → OnOk result (IsSafeFile F.FlatFile mbox.new) }
@@ -215,7 +215,7 @@ fn ask_store<D: MaildirDisk, F: FlatFile, H: BuildHasher>(
     listing: &Listing,
 ) -> Result<Found, Fault>
     ensures kind { kind_of store.new ≡ kind_of store.old }
-    ensures flags { IfOk result (HasFlags listing.now) }
+    ensures flags { IfOk result (HasFlags (kind_of store.old) listing.now) }
     ensures stays { is_sound D.MaildirDisk F.FlatFile store.new → is_sound D.MaildirDisk F.FlatFile store.old
         × ((stores_of D.MaildirDisk F.FlatFile store.new).maildir.begun
         ≡ (stores_of D.MaildirDisk F.FlatFile store.old).maildir.begun)
@@ -390,7 +390,8 @@ fn prepare_by_store<D: MaildirDisk, F: FlatFile, H: BuildHasher>(
     requires is_record { IsRecord work.old.ledger.seen.rows }
     ensures store { KeepsBegun D.MaildirDisk F.FlatFile work.old work.new }
     ensures plans { IfOk result
-        (λ ready. HasPlan terms.entry.settings.now listing.now terms.entry.now ready work.new.ledger.seen) }
+        (λ ready. HasPlan (kind_of work.old.store) terms.entry.settings.now listing.now terms.entry.now ready
+        work.new.ledger.seen) }
     ensures held { is_sound D.MaildirDisk F.FlatFile work.new.store → IfOk result (λ ready.
         AreAsHeld ready.steps.items listing.now ready.held.items
         (held_flags (target_of work.old.store terms.entry.account.now)
@@ -435,7 +436,8 @@ pub fn prepare<D: MaildirDisk, F: FlatFile, H: BuildHasher>(
 ) -> Result<Ready, Fault>
     ensures store { KeepsBegun D.MaildirDisk F.FlatFile work.old work.new }
     ensures plans { IfOk result
-        (λ ready. HasPlan terms.entry.settings.now listing.now terms.entry.now ready work.new.ledger.seen) }
+        (λ ready. HasPlan (kind_of work.old.store) terms.entry.settings.now listing.now terms.entry.now ready
+        work.new.ledger.seen) }
     ensures held { is_sound D.MaildirDisk F.FlatFile work.new.store
         → IfOk result (λ ready. AreAsHeld ready.steps.items listing.now
         ready.held.items

@@ -7,7 +7,7 @@ use Rattle.fetch_rules.specs.Plan.{IsQuiet, planned}
 use Rattle.fetch_rules.specs.declared.plans.Step.{Step}
 use Rattle.pop3_client.specs.{Turns.quit, declared.client.Client.Client}
 use Rattle.fetch_session.proofs.TalkLemmas.{err_is}
-use Rattle.fetch_session.specs.Target.{AfterTakingIn, is_sound, stores_of, target_of}
+use Rattle.fetch_session.specs.Target.{AfterTakingIn, is_sound, kind_of, stores_of, target_of}
 use Rattle.fetch_session.specs.Hearing.{AreMerged, HearsOne, IsPlanned}
 use Rattle.fetch_session.proofs.HearingLemmas.{heard_as, heard_then}
 use Rattle.fetch_session.specs.{Durable.DurableCarries, CarryingOut.Carries, declared.fault.Cut.Cut, declared.account.Store.Store}
@@ -147,7 +147,8 @@ stood g c =
 told : (g : _) (c : After-do_steps g) (store : Store g.row.D.Denot g.row.F.Denot) (file : g.row.F.Denot)
     → (is_sound g.D.MaildirDisk g.F.FlatFile store → g.F.FlatFile.sound file
     → is_sound g.D.MaildirDisk g.F.FlatFile c.prepare.new.work.store × g.F.FlatFile.sound c.prepare.new.work.ledger.file)
-    → HearsOne g.L.Listener.hears (IsPlanned c.args.terms.settings.now c.args.terms.now (length c.args.listing.now) c.skips_of.result
+    → HearsOne g.L.Listener.hears (IsPlanned (kind_of c.args.work.now.store) c.args.terms.settings.now c.args.terms.now
+    (length c.args.listing.now) c.skips_of.result
     (λ items rows plan. (items ≡ c.args.listing.now) × AreMerged g.D.MaildirDisk g.F.FlatFile c.args.terms.settings.now
     c.args.terms.account.now c.args.terms.now c.args.work.now.store c.args.work.now.ledger.file store file items rows plan))
     c.args.listener.now c.do_steps.new.listener
@@ -159,6 +160,7 @@ told g c store file back =
     heard_then g.L.Listener.hears g.met.L.Listener.hears_on _ _ _ _ (heard_as g.L.Listener.hears _ _ _ _ (λ plan is. record {
       items = items;
       is_odd = c.in_ok-ready.ensures.plans.is_odd;
+      may_be = c.in_ok-ready.ensures.plans.may_be;
       rows = rows;
       known = (
         refl,

@@ -50,6 +50,7 @@ pub returns-in-Err-clause-heard : goal.returns-in-Err-clause-heard
 returns-in-Err-clause-heard g c = rw (← c.account.view_is) (heard_as g.L.Listener.hears _ _ _ _ (λ plan is. record {
   items = is.items;
   is_odd = is.is_odd;
+  may_be = is.may_be;
   rows = is.rows;
   known = (
     λ w.
@@ -68,6 +69,7 @@ pub returns-clause-heard : goal.returns-clause-heard
 returns-clause-heard g c = rw (← c.account.view_is) (heard_as g.L.Listener.hears _ _ _ _ (λ plan is. record {
   items = is.items;
   is_odd = is.is_odd;
+  may_be = is.may_be;
   rows = is.rows;
   known = (
     λ w.

@@ -4,7 +4,7 @@ use Rattle.fetch_session.specs.Target.{in_maildir}
 use Rattle.fetch_session.proofs.preview.look_at_maildir.Goals as goal
 
 pub returns-clause-flags : goal.returns-clause-flags
-returns-clause-flags g c = (sym c.in_ok-held.held.ok.0 ∙ c.in_ok-held.ensures.length, c.in_ok-odd.ensures.by_ids)
+returns-clause-flags g c = (sym c.in_ok-held.held.ok.0 ∙ c.in_ok-held.ensures.length, (c.in_ok-odd.ensures.by_ids, tt))
 
 pub returns-clause-looks : goal.returns-clause-looks
 returns-clause-looks g c = λ d.

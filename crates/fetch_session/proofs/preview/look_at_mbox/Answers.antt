@@ -1,4 +1,4 @@
-use Rattle.std.proofs.Common.{false, rules, sym, ◌∙◌}
+use Rattle.std.proofs.Common.{false, refl, rules, sym, ◌∙◌}
 use Rattle.std.proofs.lemmas.Simd.{splat_is_map}
 use Rattle.fetch_session.proofs.TalkLemmas.{err_is}
 use Rattle.fetch_session.proofs.SessionLemmas.{judged_bad, judged_full, judged_good}
@@ -23,9 +23,12 @@ pub returns-clause-flags : goal.returns-clause-flags
 returns-clause-flags g c = (
   search rules,
   (
-    λ uid. false,
-    c.in_ok-odd.ensures.items_if_clones_equal (λ y same. same)
-        ∙ splat_is_map c.args.listing.now c.len-2.result false (sym c.len-2.ensures.count),
+    (
+      λ uid. false,
+      c.in_ok-odd.ensures.items_if_clones_equal (λ y same. same)
+          ∙ splat_is_map c.args.listing.now c.len-2.result false (sym c.len-2.ensures.count),
+    ),
+    refl,
   ),
 )
 

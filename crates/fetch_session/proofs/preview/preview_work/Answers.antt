@@ -41,3 +41,6 @@ returns-in_err-preview_merged-clause-previews g c = rw (err_is c.from_residual-i
     asked (c.in_ok-found.ensures.looks d) reads.0 (λ left is.
     not_told c.args.terms.settings.now (target_of c.args.work.now.store c.args.terms.account.now) c.args.listing.now
     c.args.terms.now _ _ _ c.read.new.seen.intent _ c.in_ok-found.found reads.1.2 is))
+
+pub preview_merged-requires : goal.preview_merged-requires
+preview_merged-requires g c = let flags = c.in_ok-found.ensures.flags in (flags.0, flags.1.0)

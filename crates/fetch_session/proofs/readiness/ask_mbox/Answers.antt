@@ -36,9 +36,12 @@ pub returns-clause-flags : goal.returns-clause-flags
 returns-clause-flags g c = (
   search rules,
   (
-    λ uid. false,
-    c.in_ok-odd.ensures.items_if_clones_equal (λ y same. same)
-        ∙ splat_is_map c.args.listing.now c.len-2.result false (sym c.len-2.ensures.count),
+    (
+      λ uid. false,
+      c.in_ok-odd.ensures.items_if_clones_equal (λ y same. same)
+          ∙ splat_is_map c.args.listing.now c.len-2.result false (sym c.len-2.ensures.count),
+    ),
+    refl,
   ),
 )
 

@@ -27,7 +27,7 @@ returns-in_err-odd-clause-finds g c = rw (err_is c.from_residual-in_err-odd.ensu
     (found.0, (found.1.0, found.1.1, found.1.2.0.1)))
 
 pub returns-clause-flags : goal.returns-clause-flags
-returns-clause-flags g c = (sym c.in_ok-held.held.ok.0 ∙ c.in_ok-held.ensures.length, c.in_ok-odd.ensures.by_ids)
+returns-clause-flags g c = (sym c.in_ok-held.held.ok.0 ∙ c.in_ok-held.ensures.length, (c.in_ok-odd.ensures.by_ids, tt))
 
 pub returns-in_err-flags-clause-finds : goal.returns-in_err-flags-clause-finds
 returns-in_err-flags-clause-finds g c = rw (err_is c.from_residual.ensures.1) (λ d.

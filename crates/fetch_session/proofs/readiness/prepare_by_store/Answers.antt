@@ -6,12 +6,13 @@ use Rattle.fetch_session.proofs.ReadyLemmas.{planned_length, ready, unready}
 use Rattle.fetch_session.proofs.readiness.prepare_by_store.Goals as goal
 
 pub plan_without-requires : goal.plan_without-requires
-plan_without-requires g c = ap length c.deref.ensures.value ∙ by_ids_length _ _ c.in_ok-found.ensures.flags.1
+plan_without-requires g c = ap length c.deref.ensures.value ∙ by_ids_length _ _ c.in_ok-found.ensures.flags.1.0
 
 pub returns-clause-plans : goal.returns-clause-plans
 returns-clause-plans g c =
-    let by = c.in_ok-found.ensures.flags.1 in let steps = c.in_ok-steps.ensures by.0 (c.deref.ensures.value ∙ by.1) in record {
+    let by = c.in_ok-found.ensures.flags.1.0 in let steps = c.in_ok-steps.ensures by.0 (c.deref.ensures.value ∙ by.1) in record {
       is_odd = by.0;
+      may_be = c.in_ok-found.ensures.flags.1.1;
       steps = steps;
       lengths = (
         ap length steps ∙ planned_length c.args.terms.settings.now by.0 c.take_in.new.seen.rows c.args.listing.now c.args.terms.now,
@@ -29,7 +30,7 @@ returns-clause-held g c = λ d.
     let was = c.args.work.now.ledger.seen in
     let rows = c.take_in.new.seen.rows in
     let steps = c.in_ok-steps.steps.items in
-    let by = c.in_ok-found.ensures.flags.1 in
+    let by = c.in_ok-found.ensures.flags.1.0 in
     let only_asked = rw (sym (c.in_ok-steps.ensures by.0 (c.deref.ensures.value ∙ by.1))) at
     (c.only_asked_for_are_fetched.ensures settings by.0 rows c.args.listing.now c.args.terms.now) in (
       rw stays.2.0 (found_as_held (target_of c.args.work.now.store c.args.terms.account.now) _ settings was.rows rows
@@ -37,6 +38,10 @@ returns-clause-held g c = λ d.
           was.intent c.args.listing.now c.in_ok-found.found.held.items c.args.terms.now rows c.in_ok-take_in.ensures.rows) only_asked),
       stays.2.1,
     )
+
+pub returns-clause-steady : goal.returns-clause-steady
+returns-clause-steady g c = λ f.
+    let merges = c.in_ok-take_in.ensures.merges f in (merges.0, rw c.in_ok-take_in.ensures.rows merges.1.1)
 
 pub returns-in_err-found-clause-readies : goal.returns-in_err-found-clause-readies
 returns-in_err-found-clause-readies g c = rw (err_is c.from_residual.ensures.1)
@@ -88,7 +93,7 @@ returns-in_err-steps-clause-readies g c = rw (err_is c.from_residual-in_err-step
 pub returns-clause-readies : goal.returns-clause-readies
 returns-clause-readies g c = λ d f.
     let merges = c.in_ok-take_in.ensures.merges f in
-    let by = c.in_ok-found.ensures.flags.1 in
+    let by = c.in_ok-found.ensures.flags.1.0 in
     let only_asked = rw (sym (c.in_ok-steps.ensures by.0 (c.deref.ensures.value ∙ by.1))) at
     (c.only_asked_for_are_fetched.ensures c.args.terms.settings.now by.0 c.take_in.new.seen.rows c.args.listing.now c.args.terms.now) in
     asked (c.in_ok-found.ensures.finds d) merges.0 (λ left finds.
