@@ -18,13 +18,13 @@ is_for_odd _ = false
 
 -- whether a message that is passed over for this reason, or fetched, may be deleted once it is due: it is known to be
 -- delivered or is fetched, and isn't obstructed
-abbrev pub may_go : Bool → Option Skip → Bool
-may_go delivered skip = (delivered || is_none skip) && not (is_for_odd skip)
+abbrev pub may_be_deleted : Bool → Option Skip → Bool
+may_be_deleted delivered skip = (delivered || is_none skip) && not (is_for_odd skip)
 
--- whether a message is deleted: it is due and may go, and no other message has its id
+-- whether a message is deleted: it is due and may be deleted, and no other message has its id
 abbrev pub is_deleted : Settings → List Row → List Item → ℕ → Option Skip → ℕ × Item → Bool
 is_deleted settings rows listing now skip message =
-    is_due settings now (seen_since rows message.1.uid now) && may_go (is_delivered rows message.1.uid) skip
+    is_due settings now (seen_since rows message.1.uid now) && may_be_deleted (is_delivered rows message.1.uid) skip
     && (is_first listing message && is_last listing message)
 
 abbrev pub step_of : Settings → (List ℕ → Bool) → List Row → List Item → ℕ → ℕ × Item → Step

@@ -20,7 +20,7 @@ pub use laws::{
 };
 pub use mail_terms::{Listing, ListingFault, MESSAGE_LIMIT, ScanRow, UidRows, is_legal_id};
 pub use plans::{
-    SECONDS_PER_DAY, Skip, Step, ask_nothing, may_go, plan, plan_of_known, plan_without,
+    SECONDS_PER_DAY, Skip, Step, ask_nothing, may_be_deleted, plan, plan_of_known, plan_without,
 };
 pub use rc_file::{
     Dest, Flags, Key, RcFault, Section, Settings, Warning, full_path, override_with, rc_text,

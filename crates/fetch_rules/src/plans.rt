@@ -7,7 +7,7 @@ ghost use Rattle.mail_terms.specs.Listing.{numbered, is_last};
 ghost use Rattle.fetch_record.specs.Record.{is_delivered};
 ghost use Rattle.fetch_rules.specs.Wanted.{is_full, none_odd, own_skip, wanted};
 ghost use Rattle.fetch_rules.specs.Due.{is_due, may_delete};
-ghost use Rattle.fetch_rules.specs.Plan.{IsQuiet, may_go, seen_since, planned, retrieved};
+ghost use Rattle.fetch_rules.specs.Plan.{IsQuiet, may_be_deleted, seen_since, planned, retrieved};
 
 use crate::occurrence::{are_first, are_last};
 use fetch_record::Seen;
@@ -127,8 +127,8 @@ fn skip_for(own: Option<Skip>, first: bool, full: bool) -> Option<Skip>
 }
 
 /// Whether a message that is passed over for this reason, or fetched, may be deleted once it is due.
-pub fn may_go(delivered: bool, skip: Option<Skip>) -> bool
-    ensures { result ≡ may_go delivered skip }
+pub fn may_be_deleted(delivered: bool, skip: Option<Skip>) -> bool
+    ensures { result ≡ may_be_deleted delivered skip }
 {
     (delivered || skip.is_none()) && !matches!(skip, Some(Skip::Obstructed))
 }
@@ -145,11 +145,11 @@ fn is_done_with<H: BuildHasher>(
 ) -> bool
     requires { i < length listing.now }
     ensures { HoldsAt (λ item. result ≡ (is_due settings.now now (seen_since seen.now.rows item.uid now)
-        && may_go (is_delivered seen.now.rows item.uid) skip)) listing.now i }
+        && may_be_deleted (is_delivered seen.now.rows item.uid) skip)) listing.now i }
 {
     let uid = listing.uid(i);
     is_due(settings, now, seen.first_seen(uid).unwrap_or(now))
-        && may_go(seen.is_delivered(uid), skip)
+        && may_be_deleted(seen.is_delivered(uid), skip)
 }
 
 /// As `plan_without`, if no flag is set.

@@ -120,7 +120,7 @@ pub fn mbox_sessions_lose_nothing()
 /// The statement, for a Maildir: where a unique-id always names one text, after any list of calls of
 /// `session`, each cut at any reply or refused write, over maildrops in any order and under any limits, each
 /// message is in one file, byte for byte with lines ended by LF, or in none; an uncut call leaves out only
-/// what its own limits exclude, and messages whose names are borne by what can't be opened; DELE was sent only
+/// what its own limits exclude, and messages whose file name is taken by what can't be opened; DELE was sent only
 /// for messages held; no file is lost; and what is recorded as delivered, or is gone from the server, is held or
 /// was taken away. If a server shows the messages of a list in their order, and no call met such a name, the
 /// first of these are held.

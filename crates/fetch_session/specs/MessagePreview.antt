@@ -5,13 +5,13 @@ use Rattle.mail_terms.specs.{Listing.Item, Numeral.greatest_size}
 use Rattle.rc_file.specs.declared.settings.Settings.{Settings}
 use Rattle.fetch_record.specs.Record.{Row, is_delivered}
 use Rattle.fetch_rules.specs.{Due.seconds_per_day, declared.plans.Step.Step}
-use Rattle.fetch_rules.specs.Plan.{may_go, seen_since}
+use Rattle.fetch_rules.specs.Plan.{may_be_deleted, seen_since}
 use Rattle.fetch_session.specs.declared.message_preview.MessagePreview.{MessagePreview}
 
 -- whether the age of a message decides if it is deleted
 abbrev pub waits : Settings → Step → Bool → Bool
 waits settings step delivered = not settings.delete
-    && (not (settings.delete_after == 0) && may_go delivered step.skip)
+    && (not (settings.delete_after == 0) && may_be_deleted delivered step.skip)
 
 -- from when on a message first seen at `since` is deleted, as far as 64 bits go: the last second is the greatest size
 abbrev pub due_second : Settings → ℕ → ℕ

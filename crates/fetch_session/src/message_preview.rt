@@ -3,7 +3,7 @@ ghost use Rattle.std.specs.Prelude.{◌≡◌, length, IfOk};
 ghost use Rattle.fetch_session.specs.MessagePreview.{due_of, message_previews};
 
 use crate::terms::Terms;
-use fetch_rules::{Listing, SECONDS_PER_DAY, Seen, Step, may_go};
+use fetch_rules::{Listing, SECONDS_PER_DAY, Seen, Step, may_be_deleted};
 use std::alloc::{AllocError, Global};
 use std::hash::BuildHasher;
 use std::vec::Vec;
@@ -30,7 +30,7 @@ fn due_of<H: BuildHasher>(terms: Terms<'_>, seen: &Seen<H>, step: Step, uid: &[u
     if settings.delete || settings.delete_after == 0 {
         return None;
     }
-    if !may_go(seen.is_delivered(uid), step.skip) {
+    if !may_be_deleted(seen.is_delivered(uid), step.skip) {
         return None;
     }
     let since = seen.first_seen(uid).unwrap_or(terms.now);
