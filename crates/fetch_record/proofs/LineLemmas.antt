@@ -233,3 +233,5 @@ field_number s _ number rest n tail small fits cut none e =
 
 pub no_field : (s : ℕ) (line expected tail : List ℕ) → All (λ byte. byte ≢ s) line → line ≡ expected ++ s ∷ tail → ⊥
 no_field s line _ _ none e = uncut s _ _ (subst (HasNo s) e (recursion_from_All _ line none))
+
+pub ruleset number_laws = (begins_as_numeral, number_found, no_number)

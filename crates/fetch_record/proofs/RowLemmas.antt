@@ -424,3 +424,5 @@ refuses_old _ Base _ _ _ _ has _ = λ n _ _ is. rw (has, is) refl
 refuses_old _ Between _ _ _ other _ _ = absurd (other refl)
 refuses_old _ (Within zero) _ _ _ _ has later = λ n _ _ is. rw (has, later refl, is) refl
 refuses_old _ (Within (suc _)) _ _ _ _ has later = λ n _ _ is. rw (has, later refl, is) refl
+
+pub ruleset mark_laws = (unmarked_none, marked_delivered, mark_changes, has_row_none, none_written)

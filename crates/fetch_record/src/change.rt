@@ -32,7 +32,7 @@ fn is_as_before(place: usize, count: usize, old: bool, new: bool) -> bool
 
 impl<H: BuildHasher> RowMap<H> {
     /// Sets delivered for the id, if it has a row. Returns whether this changed the row.
-    #[tactic(auto, using(crate::proofs::RowLemmas::unmarked_none, crate::proofs::RowLemmas::marked_delivered, crate::proofs::RowLemmas::mark_changes))]
+    #[tactic(auto, using(crate::proofs::RowLemmas::mark_laws))]
     pub(crate) fn mark(&mut self, uid: &[u8]) -> bool
         ensures rows { self.new ≡ marked self.old uid.now }
         ensures changed { OnTrue result (self.new ≢ self.old) }

@@ -31,7 +31,7 @@ fn begins_as_numeral(field: &[u8]) -> bool
 }
 
 /// The 64-bit number that the field is in decimal, without leading zeros.
-#[tactic(auto, using(crate::proofs::LineLemmas::begins_as_numeral, crate::proofs::LineLemmas::number_found, crate::proofs::LineLemmas::no_number))]
+#[tactic(auto, using(crate::proofs::LineLemmas::number_laws))]
 fn read_number(field: &[u8]) -> Option<u64>
     ensures found { IfSome result (λ number. field.now ≡ decimal number) }
     ensures none { IfNone result ((number : ℕ) → number < 2 ^ 64 → field.now ≢ decimal number) }

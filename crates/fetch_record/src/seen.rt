@@ -294,7 +294,7 @@ impl<H: BuildHasher> Seen<H> {
     /// appended to the record's file: empty if none changed. An open intent, which must be this
     /// id's, is ended, and the group then always has the id's row. If memory runs out nothing has
     /// changed.
-    #[tactic(auto, using(crate::proofs::RowLemmas::unmarked_none, crate::proofs::RowLemmas::marked_delivered, crate::proofs::RowLemmas::has_row_none, crate::proofs::RowLemmas::none_written, crate::proofs::MeaningLemmas::none_without_row))]
+    #[tactic(auto, using(crate::proofs::RowLemmas::mark_laws, crate::proofs::MeaningLemmas::none_without_row))]
     pub fn mark_rows(&mut self, uid: &[u8]) -> Result<Vec<u8>, AllocError>
         requires { IsNoneOrOf uid.now self.old.intent }
         ensures after { OnOk result

@@ -648,3 +648,7 @@ durable_cuts _ _ _ _ t = durable_cut _ _ _ _ t
 
 pub durable_replaces : DurableReplaces
 durable_replaces _ _ _ _ t = durable_replace _ _ _ _ t
+
+pub ruleset call_laws = (durable_flushes, durable_appends, durable_cuts, durable_replaces)
+
+pub ruleset look_laws = (all_no_more, all_trust, failed_no_more, durable_trust)

@@ -120,3 +120,5 @@ emptied (m ∷ ms) (b ∷ bs) pre (goes i row rows old mid done all new marked t
 pub left_by_quit : (ms : List Message) (marks : List Bool) (old new : DropMail) (all : Bool) → length marks ≡ length ms
     → old.slots ≡ map Some ms → Empties 0 (rows_with ms marks) old all new → AreLeftByQuit ms marks (there new.slots)
 left_by_quit ms marks old new all same slots empties = let left = emptied ms marks [] empties refl same slots in rw left.1 left.2
+
+pub ruleset removal_laws = (few_left, all_removed, some_refused, others_stay)

@@ -42,3 +42,5 @@ abbrev pub rows_with : List Message → List Bool → List MessageRow
 rows_with [] marks = []
 rows_with (m ∷ ms) [] = []
 rows_with (m ∷ ms) (b ∷ bs) = row_with m b ∷ rows_with ms bs
+
+pub ruleset mark_laws = (same_rows, row_of_mark, row_of_unmark)

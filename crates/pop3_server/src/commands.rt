@@ -225,7 +225,7 @@ fn list_one(alloc: Global, column: Column, rows: &Rows, number: u32) -> Result<V
 }
 
 /// A command in the TRANSACTION state that is answered by the rows alone.
-#[tactic(auto, using(crate::proofs::RowLemmas::same_rows, crate::proofs::RowLemmas::row_of_mark, crate::proofs::RowLemmas::row_of_unmark))]
+#[tactic(auto, using(crate::proofs::RowLemmas::mark_laws))]
 fn answer_by_rows(alloc: Global, rows: &mut Rows, command: &Command) -> Result<Vec<u8>, ServerFault>
     requires { is_about_rows command.now ≡ true }
     ensures ok { IfOk result (λ reply. in_transaction rows.old command.now ≡ Say reply.items (Transaction rows.new)) }

@@ -7,7 +7,7 @@ use crate::maildrop::Maildrop;
 /// Of the messages that are marked at QUIT, at most as many are left as the maildrop's count of
 /// refusals rose by. If the answer is `+OK bye`, it didn't rise; else it did. Messages that aren't
 /// marked stay.
-#[tactic(auto, using(crate::proofs::RemovalLemmas::few_left, crate::proofs::RemovalLemmas::all_removed, crate::proofs::RemovalLemmas::some_refused, crate::proofs::RemovalLemmas::others_stay))]
+#[tactic(auto, using(crate::proofs::RemovalLemmas::removal_laws))]
 pub fn quit_leaves_few()
     ensures few { FewAreLeft }
     ensures all { AllAreRemoved }

@@ -358,3 +358,5 @@ removed_kept faults items left notices place inside is kept = rw is (record {
   few_faults = omega (arith, kept.few_faults, length-remove faults place inside);
   few_notices = kept.few_notices;
 })
+
+pub ruleset line_laws = (line_taken, line_ends, line_odd, text_over)

@@ -200,7 +200,7 @@ impl Memory {
 
     /// What the octets of a file say; nothing, if they aren't those of such a file, from its first line to `end`. Lines
     /// end at LF: with a CR before it, as an editor may put there, a line is another one.
-    #[tactic(auto, using(crate::proofs::MemoryLemmas::line_taken, crate::proofs::MemoryLemmas::line_ends, crate::proofs::MemoryLemmas::line_odd, crate::proofs::MemoryLemmas::text_over))]
+    #[tactic(auto, using(crate::proofs::MemoryLemmas::line_laws))]
     pub fn read(alloc: Global, octets: &[u8]) -> Result<Memory, AllocError>
         ensures { IfOk result (λ memory. memory ≡ told_in octets.now) }
     {

@@ -125,7 +125,7 @@ pub fn durable_files_are_left()
 {}
 
 /// What a crash may leave of a file after each call of its device, whatever it answered.
-#[tactic(auto, using(crate::proofs::DiskLemmas::durable_flushes, crate::proofs::DiskLemmas::durable_appends, crate::proofs::DiskLemmas::durable_cuts, crate::proofs::DiskLemmas::durable_replaces))]
+#[tactic(auto, using(crate::proofs::DiskLemmas::call_laws))]
 pub fn calls_are_durable()
     ensures flushes { DurableFlushes }
     ensures appends { DurableAppends }

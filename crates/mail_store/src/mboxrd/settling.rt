@@ -148,7 +148,7 @@ fn judge(start: u64, behind: u64, len: u64, listed: Option<u64>, rest: &[u8]) ->
 }
 
 /// Looks at what stands at `start` in a file.
-#[tactic(auto, using(crate::proofs::DiskLemmas::all_no_more, crate::proofs::DiskLemmas::all_trust, crate::proofs::DiskLemmas::failed_no_more, crate::proofs::DiskLemmas::durable_trust))]
+#[tactic(auto, using(crate::proofs::DiskLemmas::look_laws))]
 fn look_behind<F: FlatFile>(
     alloc: Global,
     file: &mut F,
