@@ -25,11 +25,10 @@ def doubles():
 
 
 def long_lines():
-    """`rattle fmt` leaves an attribute on one line."""
     for folder, widest in WIDEST.items():
         for path in sorted(TOP.glob(f"crates/*/{folder}/**/*.*t")):
             for number, line in enumerate(path.read_text().splitlines(), 1):
-                if len(line) > widest and not line.lstrip().startswith(("#[", "#![")):
+                if len(line) > widest:
                     yield f"{path.relative_to(TOP)}:{number}: {len(line)} characters"
 
 

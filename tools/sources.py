@@ -10,7 +10,7 @@ from pathlib import Path
 from typing import NamedTuple
 
 TOP = Path(__file__).resolve().parent.parent
-USE = re.compile(r"^\s*(?:ghost )?use Rattle\.(\w+)\.([\w.]+?)(?:\.\{(.*)\}| as (\w+));?$", re.MULTILINE)
+USE = re.compile(r"^\s*(?:ghost )?use Rattle\.([^{;\n]*\{\n.*?^\s*\}|[^;\n]*)", re.MULTILINE | re.DOTALL)
 BEGINS = re.compile(r"(?:(?:pub|opaque|unfoldable) )*(?:abbrev|def|data|record) (?:pub )?(\S+)"
                     r"|(?:(?:pub|opaque|unfoldable) )+(\S+) :")
 WORD = re.compile(r"(?<![.\w'])[A-Za-z_][\w']*")
@@ -31,16 +31,29 @@ class Definitions(NamedTuple):
     lines: dict
 
 
+def paths_in(tree):
+    """The paths that stand in the nested braces of a `use`."""
+    fronts, paths = [""], []
+    for part in re.findall(r"[^{},]*\{|\}|[^{},]+", tree):
+        word = part.strip()
+        if word.endswith("{"):
+            fronts.append(fronts[-1] + word[:-1])
+        elif word == "}":
+            fronts.pop()
+        elif word:
+            paths.append(fronts[-1] + word)
+    return paths
+
+
 def uses_in(text):
-    """What each name that a `use` brings stands for: a crate, a module and the name there."""
+    """What each name that a `use` brings stands for: a crate, a module and the name there, which is empty for a module."""
     uses = {}
-    for crate, module, names, alias in USE.findall(text):
-        if alias:
-            uses[alias] = (crate, module, "")
-        for word in names.split(", ") if names else ():
-            name, _, other = word.partition(" as ")
-            path, _, last = f"{module}.{name}".rpartition(".")
-            uses[other or last] = (crate, path, last)
+    for tree in USE.findall(text):
+        for path in paths_in(tree):
+            path, _, other = path.partition(" as ")
+            crate, _, path = path.partition(".")
+            module, _, last = path.rpartition(".")
+            uses[other or last] = (crate, module, last) if "{" in tree else (crate, path, "")
     return uses
 
 

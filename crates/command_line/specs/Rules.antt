@@ -1,9 +1,10 @@
 -- The rules of options and words, and whether a flag was given.
 use Rattle.std.specs.Prelude.{ℕ, Bool, true, false, List, [], Some, nat_lt}
-use Rattle.clap.specs.Words.{App, Row, Rule, count_of, new_app, new_rule}
-use Rattle.clap.specs.declared.error.kind.ErrorKind.{ErrorKind}
-use Rattle.clap.specs.declared.error.kind.ErrorKind.TheVariants.{DisplayHelp, DisplayVersion}
-use Rattle.clap.specs.declared.builder.action.ArgAction.TheVariants.{Set, Count}
+use Rattle.clap.specs.{
+  Words.{App, Row, Rule, count_of, new_app, new_rule},
+  declared.error.kind.ErrorKind.{ErrorKind, TheVariants.{DisplayHelp, DisplayVersion}},
+  declared.builder.action.ArgAction.TheVariants.{Set, Count},
+}
 
 -- a program of this name, with --version
 abbrev pub program : List ℕ → App

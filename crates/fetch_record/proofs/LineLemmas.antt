@@ -1,23 +1,21 @@
 -- The lines of the record's file: numerals, and how lines are cut.
-use Rattle.std.proofs.Common.{All, Bool, Bor, IfNone, IfSome, List, MatchOption, None, Option, Some, [], ap}
-use Rattle.std.proofs.Common.{append_assoc, ap₂, arith, decimal, drop, false, get_or, if◌then◌else◌, inl, inr, length}
-use Rattle.std.proofs.Common.{lit<, nat_eq, nat_le, nat_lt, refl, subst, sym, take, true, ℕ, ◌&&◌, ◌++◌, ◌+◌, ◌<◌, ◌^◌}
-use Rattle.std.proofs.Common.{◌∙◌, ◌∷◌, ◌≡◌, ◌≢◌, ◌≤◌}
-use Rattle.mail_terms.specs.Numeral.{greatest_size, is_numeral, numeral_value}
-use Rattle.mail_terms.specs.UniqueId.{IsLegalId}
-use Rattle.mail_terms.proofs.IdLemmas.{id_characters}
-use Rattle.std.proofs.lemmas.Bool.{and_parts, cases_eq, leb-true}
-use Rattle.std.proofs.{lemmas.Bool.Decides.Decides-eqb, lemmas.List.Elements.recursion_from_All, lemmas.Slice.Eq.strip_prefix_is}
-use Rattle.std.proofs.lemmas.Fmt.{decimal-digits_value, decimal_digit, decimal_injective, decimal_is_IsNumeral}
-use Rattle.std.proofs.lemmas.Fmt.{first_decimal}
-use Rattle.std.proofs.lemmas.Option.{cond_some, none-some}
-use Rattle.std.proofs.lemmas.Str.Parse.{digit_at}
-use Rattle.std.specs.{Char.is_ascii_digit, Cmp.Lexicographic.pointwise, Str.Parse.digits_value}
-use Rattle.std.specs.List.{AllByRecursion, list_all}
-use Rattle.fetch_record.specs.Record.{Intent, Row}
-use Rattle.fetch_record.specs.RecordFile.{GroupLine, IntentLine, IsRecordLine, Line, RowLine, group_line, intent_line}
-use Rattle.fetch_record.specs.RecordFile.{record_row_line, delivered_octets, record_line}
-use Rattle.mail_terms.proofs.NumeralLemmas.{HasNo, HasNo-decimal, by_test, digits_same, numeral_value-decimal}
+use Rattle.std.{
+  proofs.Common.{All, Bool, Bor, IfNone, IfSome, List, MatchOption, None, Option, Some, [], ap, append_assoc, ap₂, arith, decimal, drop, ℕ},
+  proofs.Common.{false, get_or, if◌then◌else◌, inl, inr, length, lit<, nat_eq, nat_le, nat_lt, refl, subst, sym, take, true, ◌&&◌, ◌++◌},
+  proofs.Common.{◌+◌, ◌<◌, ◌^◌, ◌∙◌, ◌∷◌, ◌≡◌, ◌≢◌, ◌≤◌},
+  proofs.lemmas.{Bool.{and_parts, cases_eq, leb-true, Decides.Decides-eqb}, List.Elements.recursion_from_All, Slice.Eq.strip_prefix_is},
+  proofs.lemmas.{Fmt.{decimal-digits_value, decimal_digit, decimal_injective, decimal_is_IsNumeral, first_decimal}, Str.Parse.digit_at},
+  proofs.lemmas.Option.{cond_some, none-some},
+  specs.{Char.is_ascii_digit, Cmp.Lexicographic.pointwise, Str.Parse.digits_value, List.{AllByRecursion, list_all}},
+}
+use Rattle.mail_terms.{
+  specs.{Numeral.{greatest_size, is_numeral, numeral_value}, UniqueId.IsLegalId},
+  proofs.{IdLemmas.id_characters, NumeralLemmas.{HasNo, HasNo-decimal, by_test, digits_same, numeral_value-decimal}},
+}
+use Rattle.fetch_record.specs.{
+  Record.{Intent, Row},
+  RecordFile.{GroupLine, IntentLine, IsRecordLine, Line, RowLine, group_line, intent_line, record_row_line, delivered_octets, record_line},
+}
 
 -- ---- numerals without leading zeros
 

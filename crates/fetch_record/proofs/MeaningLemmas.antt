@@ -1,31 +1,28 @@
 -- What the bytes of a record's file stand for, and what an appended group or intent does to that: whole, cut short, or
 -- after a loss of power.
-use Rattle.std.proofs.Common.{Bool, List, None, Option, Some, ap, append-nil, append_assoc, ap₂, arith, cond}
-use Rattle.std.proofs.Common.{false, flat_map, get_or, inl, inr, length, length-append, not, refl, subst, suc, sym}
-use Rattle.std.proofs.Common.{true, true≢false, zero, ℕ, ◌++◌, ◌+◌, ◌==◌, ◌||◌, ◌∙◌, ◌∷◌, ◌≡◌, ◌≢◌, map, ne_eqb}
-use Rattle.std.proofs.Common.{◌-◌, ◌<◌, ◌≤◌, ◌⊎◌, []}
-use Rattle.std.proofs.Math.Bool.{or-false, or-true}
-use Rattle.std.proofs.lemmas.Bool.{and_from, and_parts, cases_Bool, cond_both, or_cases, or_left, or_right, eq-eqb}
-use Rattle.std.proofs.lemmas.Bool.{not-false, not-true, or_parts}
-use Rattle.std.proofs.{lemmas.Bool.Decides.eqb_tells, lemmas.List.Concat.flat_map-append}
-use Rattle.std.proofs.lemmas.List.Elements.{All-append, All-from_recursion, All-nil, recursion_from_All, All-map}
-use Rattle.std.proofs.lemmas.List.Folds.{Any-from_list_any, list_any-from_Any, flat_map-map, list_any-append}
-use Rattle.std.specs.List.{AllByRecursion}
-use Rattle.fetch_record.specs.{Intents.IsNoneOrOf, declared.seen.SeenFault.SeenFault}
-use Rattle.fetch_record.specs.Record.{Intent, IntentHasRow, IsIntent, Row, has_row, IsRecord, IsRow}
-use Rattle.fetch_record.specs.RecordFile.{GroupLine, IntentLine, IsRecordLine, Line, One, RowLine, Two, Version, header}
-use Rattle.fetch_record.specs.RecordFile.{record_line, file_of, group_line, group_of, intent_line, record_row_line}
-use Rattle.fetch_record.specs.RecordGrowth.{OneIsRead, OneMeaning, OneRecord, OpenHasRow, AppendedCounts, BytesStand}
-use Rattle.fetch_record.specs.RecordGrowth.{CutIsIgnored, IsGroup, MayFollow, taken_all}
-use Rattle.fetch_record.specs.RecordMeaning.{BeginsWithNoLine, BetweenGroups, ByLines, Ends, Fails, Fault, InBase}
-use Rattle.fetch_record.specs.RecordMeaning.{InGroup, IsCut, Judged, Meaning, Means, Progress, Rows, Stands}
-use Rattle.fetch_record.specs.RecordMeaning.{after_intent, after_line, at_end, counted, delivers, has_bytes}
-use Rattle.fetch_record.specs.RecordMeaning.{has_line_feed, lacks_rows, judged, left_open, line_after, may_take}
-use Rattle.fetch_record.specs.RecordMeaning.{with_taken}
-use Rattle.fetch_record.specs.RecordTorn.{IsPartOf, TornIsIgnoredOrSeen, ends_at_zero}
-use Rattle.fetch_record.specs.declared.seen.SeenFault.TheVariants.{RepeatedId, BadRow}
-use Rattle.fetch_record.proofs.LineLemmas.{text_unique, body, body_text, clean_body, cut_unique, no_line, same_cons}
-use Rattle.fetch_record.proofs.RowLemmas.{fresh}
+use Rattle.std.{
+  proofs.Common.{Bool, List, None, Option, Some, ap, append-nil, append_assoc, ap₂, arith, cond, false, flat_map, get_or, inl, inr, length},
+  proofs.Common.{length-append, not, refl, subst, suc, sym, true, true≢false, zero, ℕ, ◌++◌, ◌+◌, ◌==◌, ◌||◌, ◌∙◌, ◌∷◌, ◌≡◌, ◌≢◌, map, ◌-◌},
+  proofs.Common.{ne_eqb, ◌<◌, ◌≤◌, ◌⊎◌, []},
+  proofs.Math.Bool.{or-false, or-true},
+  proofs.lemmas.Bool.{and_from, and_parts, cases_Bool, cond_both, or_cases, or_left, or_right, eq-eqb, not-false, not-true, or_parts},
+  proofs.lemmas.Bool.Decides.eqb_tells,
+  proofs.lemmas.List.{Concat.flat_map-append, Elements.{All-append, All-from_recursion, All-nil, recursion_from_All, All-map}},
+  proofs.lemmas.List.Folds.{Any-from_list_any, list_any-from_Any, flat_map-map, list_any-append},
+  specs.List.AllByRecursion,
+}
+use Rattle.fetch_record.{
+  specs.{Intents.IsNoneOrOf, declared.seen.SeenFault.{SeenFault, TheVariants.{RepeatedId, BadRow}}},
+  specs.{Record.{Intent, IntentHasRow, IsIntent, Row, has_row, IsRecord, IsRow}, RecordTorn.{IsPartOf, TornIsIgnoredOrSeen, ends_at_zero}},
+  specs.RecordFile.{GroupLine, IntentLine, IsRecordLine, Line, One, RowLine, Two, Version, header, record_line, file_of, group_line},
+  specs.RecordFile.{group_of, intent_line, record_row_line},
+  specs.RecordGrowth.{OneIsRead, OneMeaning, OneRecord, OpenHasRow, AppendedCounts, BytesStand, CutIsIgnored, IsGroup, MayFollow},
+  specs.RecordGrowth.taken_all,
+  specs.RecordMeaning.{BeginsWithNoLine, BetweenGroups, ByLines, Ends, Fails, Fault, InBase, InGroup, IsCut, Judged, Meaning, Means, Rows},
+  specs.RecordMeaning.{Progress, Stands, after_intent, after_line, at_end, counted, delivers, has_bytes, has_line_feed, lacks_rows, judged},
+  specs.RecordMeaning.{left_open, line_after, may_take, with_taken},
+  proofs.{LineLemmas.{text_unique, body, body_text, clean_body, cut_unique, no_line, same_cons}, RowLemmas.fresh},
+}
 use Rattle.mail_terms.proofs.{ListLemmas.both_none, NumeralLemmas.HasNo}
 
 judged_fails : (version : Version) (n : ℕ) (fault : SeenFault) (lines : List Line) → judged version n (Fails fault) lines ≡ Fails fault

@@ -1,31 +1,30 @@
 -- What a merge makes of the rows, and what a record's growth appends to its file.
-use Rattle.std.proofs.Common.{All, Bool, List, [], ap, append-nil, append_assoc, ap₂, arith, bytes_eq, cond, false}
-use Rattle.std.proofs.Common.{filter, get_or, inl, inr, length, map, not, refl, sym, take, take_all, true, true≢false}
-use Rattle.std.proofs.Common.{zip, ℕ, ◌&&◌, ◌++◌, ◌+◌, ◌<◌, ◌||◌, ◌∙◌, ◌∷◌, ◌≡◌, ◌≢◌, ◌≤◌, ◌⊎◌, None, flat_map}
-use Rattle.std.proofs.Common.{length-append, subst, suc, zero, ◌==◌}
-use Rattle.mail_terms.specs.Listing.{Item, has_item, ids_of, is_flagged}
-use Rattle.mail_terms.specs.UniqueId.{has_id}
-use Rattle.mail_terms.proofs.IdLemmas.{nobody, same_from_test, test_from_same}
-use Rattle.std.proofs.Math.Bool.{and-false, or-false, or-true, or_assoc}
-use Rattle.std.proofs.lemmas.Bool.{OnFalse_at, OnTrue_at, and_parts, cases_Bool, cond_both, or_cases, or_from, or_left}
-use Rattle.std.proofs.lemmas.Bool.{or_parts, or_right, true_from_ne_false, and_from, eq-eqb}
-use Rattle.std.proofs.{lemmas.Cmp.nat_list_eq_equiv, lemmas.Slice.Eq.bytes_eq-Decides}
-use Rattle.std.proofs.lemmas.List.{ext_get_or, get_or-map, length-map, map-append, map_more, flat_map_more, length-take, take_more}
-use Rattle.std.proofs.lemmas.List.Elements.{All-from_recursion, recursion_from_All, filter-append}
-use Rattle.std.proofs.lemmas.List.Folds.{Any-from_list_any, list_any-append, list_any_more, map_fixed}
-use Rattle.std.proofs.lemmas.Map.Made.{alike_from_same, is_member-filter, length-le_from_is_member}
-use Rattle.std.proofs.lemmas.Slice.Zip.{get_or-zip, length-zip}
-use Rattle.std.specs.Bool.{OnFalse, OnTrue}
-use Rattle.std.specs.List.{AllByRecursion, IsDistinct, list_any}
+use Rattle.std.{
+  proofs.Common.{All, Bool, List, [], ap, append-nil, append_assoc, ap₂, arith, bytes_eq, cond, false, filter, get_or, inl, inr, length, ℕ},
+  proofs.Common.{map, not, refl, sym, take, take_all, true, true≢false, zip, ◌&&◌, ◌++◌, ◌+◌, ◌<◌, ◌||◌, ◌∙◌, ◌∷◌, ◌≡◌, ◌≢◌, ◌≤◌, ◌⊎◌, suc},
+  proofs.Common.{None, flat_map, length-append, subst, zero, ◌==◌},
+  proofs.Math.Bool.{and-false, or-false, or-true, or_assoc},
+  proofs.lemmas.Bool.{OnFalse_at, OnTrue_at, and_parts, cases_Bool, cond_both, or_cases, or_from, or_left, or_parts, or_right, and_from},
+  proofs.lemmas.Bool.{true_from_ne_false, eq-eqb},
+  proofs.lemmas.{Cmp.nat_list_eq_equiv, Slice.{Eq.bytes_eq-Decides, Zip.{get_or-zip, length-zip}}},
+  proofs.lemmas.List.{ext_get_or, get_or-map, length-map, map-append, map_more, flat_map_more, length-take, take_more},
+  proofs.lemmas.List.Elements.{All-from_recursion, recursion_from_All, filter-append},
+  proofs.lemmas.List.Folds.{Any-from_list_any, list_any-append, list_any_more, map_fixed},
+  proofs.lemmas.Map.Made.{alike_from_same, is_member-filter, length-le_from_is_member},
+  specs.{Bool.{OnFalse, OnTrue}, List.{AllByRecursion, IsDistinct, list_any}},
+}
+use Rattle.mail_terms.{
+  specs.{Listing.{Item, has_item, ids_of, is_flagged}, UniqueId.has_id},
+  proofs.{IdLemmas.{nobody, same_from_test, test_from_same}, ListLemmas.any_map},
+}
+use Rattle.fetch_record.{
+  specs.Record.{IsRecord, IsRow, Row, distinct_ids, has_row, is_delivered, is_of, marked, merged, new_ids, undelivered, with_delivered},
+  specs.Record.with_held,
+  specs.{RecordFile.{changed, Two, record_row_line, written}, RecordGrowth.{MayFollow, Updates, taken_all}},
+  specs.RecordMeaning.{delivers, may_take, with_taken},
+  proofs.RowLemmas.{apart, ids_distinct, is_delivered-at, none_of, rest_of, same_row, uid_of, with_delivered-false, fresh, unmarked},
+}
 use mathlib.Core.List.{map-map}
-use Rattle.fetch_record.specs.Record.{IsRecord, IsRow, Row, distinct_ids, has_row, is_delivered, is_of, marked, merged}
-use Rattle.fetch_record.specs.Record.{new_ids, undelivered, with_delivered, with_held}
-use Rattle.fetch_record.specs.RecordFile.{changed, Two, record_row_line, written}
-use Rattle.fetch_record.specs.RecordGrowth.{MayFollow, Updates, taken_all}
-use Rattle.fetch_record.specs.RecordMeaning.{delivers, may_take, with_taken}
-use Rattle.fetch_record.proofs.RowLemmas.{apart, ids_distinct, is_delivered-at, none_of, rest_of, same_row, uid_of}
-use Rattle.fetch_record.proofs.RowLemmas.{with_delivered-false, fresh, unmarked}
-use Rattle.mail_terms.proofs.ListLemmas.{any_map}
 
 -- ---- the ids of a listing that have no row yet
 

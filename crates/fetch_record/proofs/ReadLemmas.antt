@@ -1,24 +1,22 @@
 -- What was read of a record's file so far, line by line.
-use Rattle.std.proofs.Common.{Bool, List, None, Option, Some, ap, append-nil, append_assoc, ap₂, arith, false, flat_map}
-use Rattle.std.proofs.Common.{length, length-append, refl, suc, sym, true, true≢false, zero, ℕ, ◌++◌, ◌+◌, ◌∙◌, ◌∷◌}
-use Rattle.std.proofs.Common.{◌≡◌, ◌≢◌, ◌-◌, ◌≤◌, All, min, take, []}
-use Rattle.std.proofs.{Math.Seq.take-append_seam, lemmas.List.Concat.flat_map-append}
-use Rattle.std.proofs.lemmas.List.Elements.{All-nil, All-push}
-use Rattle.fetch_record.specs.Lines.{EndsAt, IsPlaced, TakesIntent, TakesRow, after_row, behind_base, is_in_group}
-use Rattle.fetch_record.specs.Lines.{open_behind, open_seen, progress_of, version_of}
-use Rattle.fetch_record.specs.{Outgrown.BeginsWithNoRow, declared.seen.SeenFault.SeenFault, declared.seen.SeenFault.TheVariants.BadRow}
-use Rattle.fetch_record.specs.Record.{Intent, IsIntent, Row, IsRecord, IsRow}
-use Rattle.fetch_record.specs.RecordFile.{GroupLine, IntentLine, IsRecordLine, Line, RowLine, Version, header}
-use Rattle.fetch_record.specs.RecordFile.{record_line, record_row_line}
-use Rattle.fetch_record.specs.RecordMeaning.{BetweenGroups, Fails, Fault, InGroup, Means, Progress, Rows, Stands}
-use Rattle.fetch_record.specs.RecordMeaning.{after_line, counted, lacks_rows, left_open, line_after}
-use Rattle.fetch_record.specs.declared.line.Intent.{Intent as ReadIntent}
-use Rattle.fetch_record.specs.{declared.reading.End.End, declared.reading.Part.Part}
-use Rattle.fetch_record.specs.declared.reading.End.TheVariants.{NoneOpen, Open}
-use Rattle.fetch_record.specs.declared.reading.Part.TheVariants.{Base, Between, Within}
-use Rattle.fetch_record.proofs.LineLemmas.{text_unique, no_line}
-use Rattle.fetch_record.proofs.MeaningLemmas.{rows_no_fault, same_rows, one_meaning, IsBehind, behind_header}
-use Rattle.fetch_record.proofs.MeaningLemmas.{behind_more, behind_fails, means_behind}
+use Rattle.std.proofs.{
+  Common.{Bool, List, None, Option, Some, ap, append-nil, append_assoc, ap₂, arith, false, flat_map, length, length-append, refl, suc, sym},
+  Common.{true, true≢false, zero, ℕ, ◌++◌, ◌+◌, ◌∙◌, ◌∷◌, ◌≡◌, ◌≢◌, ◌-◌, ◌≤◌, All, min, take, []},
+  Math.Seq.take-append_seam,
+  lemmas.List.{Concat.flat_map-append, Elements.{All-nil, All-push}},
+}
+use Rattle.fetch_record.{
+  specs.Lines.{EndsAt, IsPlaced, TakesIntent, TakesRow, after_row, behind_base, is_in_group, open_behind, open_seen, progress_of},
+  specs.Lines.version_of,
+  specs.{Outgrown.BeginsWithNoRow, Record.{Intent, IsIntent, Row, IsRecord, IsRow}},
+  specs.declared.{seen.SeenFault.{SeenFault, TheVariants.BadRow}, line.Intent.Intent as ReadIntent},
+  specs.declared.reading.{End.{End, TheVariants.{NoneOpen, Open}}, Part.{Part, TheVariants.{Base, Between, Within}}},
+  specs.RecordFile.{GroupLine, IntentLine, IsRecordLine, Line, RowLine, Version, header, record_line, record_row_line},
+  specs.RecordMeaning.{BetweenGroups, Fails, Fault, InGroup, Means, Progress, Rows, Stands, after_line, counted, lacks_rows, left_open},
+  specs.RecordMeaning.line_after,
+  proofs.LineLemmas.{text_unique, no_line},
+  proofs.MeaningLemmas.{rows_no_fault, same_rows, one_meaning, IsBehind, behind_header, behind_more, behind_fails, means_behind},
+}
 
 -- ---- the rows that a file's lines begin with, and what follows them
 

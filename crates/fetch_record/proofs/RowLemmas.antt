@@ -1,35 +1,33 @@
 -- The record's rows: their ids and their delivery, as the entries of a map, and as the reader takes them.
-use Rattle.std.proofs.Common.{All, Bool, Global, HoldsAt, IfNone, IfSome, List, None, Option, Some, String, [], ap, ap₂}
-use Rattle.std.proofs.Common.{arith, bytes_eq, cond, false, filter, get_or, inl, inr, is_some, length, length-append}
-use Rattle.std.proofs.Common.{map, not, position, refl, slice_get, string_bytes, subst, suc, sym, take, true}
-use Rattle.std.proofs.Common.{true≢false, zero, ℕ, ◌&&◌, ◌++◌, ◌<◌, ◌==◌, ◌^◌, ◌||◌, ◌∙◌, ◌∷◌, ◌≡◌, ◌≢◌, ◌⊎◌}
-use Rattle.indexmap.proofs.MapLemmas.{absent_from_lookup, insert_entry-absent}
-use Rattle.indexmap.specs.IndexMap.{insert_entry, set_value_at}
-use Rattle.mail_terms.specs.{Distinct.AreDistinct, Listing.Item, UniqueId.IsLegalId}
-use Rattle.mail_terms.proofs.IdLemmas.{same_from_test, test_from_other, test_from_same}
-use Rattle.std.proofs.Math.Bool.{and-not_self, or-false, or-true}
-use Rattle.std.proofs.{Math.Seq.get_or-append_seam, lemmas.Cmp.nat_list_eq_equiv, lemmas.List.Quantifiers.position-Some}
-use Rattle.std.proofs.lemmas.Bool.{and_parts, cases_Bool, cond_both, eq-eqb, eqb-true, false_from_ne_true, or_parts}
-use Rattle.std.proofs.lemmas.Bool.{or_right}
-use Rattle.std.proofs.lemmas.List.{get_or-map, get_or-take, get_or_append_left, length-map, length-take, map-append, take-map}
-use Rattle.std.proofs.lemmas.List.Elements.{All-cons, All-from_recursion, All-head, All-map, All-nil, All-push}
-use Rattle.std.proofs.lemmas.List.Elements.{All-tail, All-take, All-weaker, recursion_from_All}
-use Rattle.std.proofs.lemmas.List.Folds.{Any-from_list_any, list_any_none, map_fixed}
-use Rattle.std.proofs.{lemmas.Map.Keys.IsDistinct-push, lemmas.Slice.Eq.bytes_eq-Decides}
-use Rattle.std.proofs.lemmas.Map.Made.{AllPairs-from_IsDistinct, IsDistinct-from_AllPairs}
-use Rattle.std.proofs.lemmas.Option.{none-some, same_Some}
-use Rattle.std.specs.List.{AllByRecursion, IsDistinct, list_any}
-use Rattle.std.specs.Map.{keys_of, lookup, set_value, values_of}
+use Rattle.std.{
+  proofs.Common.{All, Bool, Global, HoldsAt, IfNone, IfSome, List, None, Option, Some, String, [], ap, ap₂, arith, bytes_eq, cond, false},
+  proofs.Common.{filter, get_or, inl, inr, is_some, length, length-append, map, not, position, refl, slice_get, string_bytes, subst, suc},
+  proofs.Common.{sym, take, true, true≢false, zero, ℕ, ◌&&◌, ◌++◌, ◌<◌, ◌==◌, ◌^◌, ◌||◌, ◌∙◌, ◌∷◌, ◌≡◌, ◌≢◌, ◌⊎◌},
+  proofs.Math.{Bool.{and-not_self, or-false, or-true}, Seq.get_or-append_seam},
+  proofs.lemmas.{Cmp.nat_list_eq_equiv, Bool.{and_parts, cases_Bool, cond_both, eq-eqb, eqb-true, false_from_ne_true, or_parts, or_right}},
+  proofs.lemmas.List.{Quantifiers.position-Some, get_or-map, get_or-take, get_or_append_left, length-map, length-take, map-append},
+  proofs.lemmas.List.{take-map, Folds.{Any-from_list_any, list_any_none, map_fixed}},
+  proofs.lemmas.List.Elements.{All-cons, All-from_recursion, All-head, All-map, All-nil, All-push, All-tail, All-take, All-weaker},
+  proofs.lemmas.List.Elements.recursion_from_All,
+  proofs.lemmas.{Map.{Keys.IsDistinct-push, Made.{AllPairs-from_IsDistinct, IsDistinct-from_AllPairs}}, Slice.Eq.bytes_eq-Decides},
+  proofs.lemmas.Option.{none-some, same_Some},
+  specs.{List.{AllByRecursion, IsDistinct, list_any}, Map.{keys_of, lookup, set_value, values_of}},
+}
+use Rattle.indexmap.{proofs.MapLemmas.{absent_from_lookup, insert_entry-absent}, specs.IndexMap.{insert_entry, set_value_at}}
+use Rattle.mail_terms.{
+  specs.{Distinct.AreDistinct, Listing.Item, UniqueId.IsLegalId},
+  proofs.{IdLemmas.{same_from_test, test_from_other, test_from_same}, ListLemmas.any_map},
+}
+use Rattle.fetch_record.specs.{
+  Lines.{RefusesRow, TakesRow, after_row, is_in_group, version_of},
+  Record.{Intent, IsRecord, IsRow, Row, has_row, is_delivered, is_of, marked, with_delivered, with_held},
+  RecordFile.{changed, marking, written},
+  RecordGrowth.{IsGroup, taken_all},
+  RecordMeaning.delivers,
+  declared.{seen.SeenFault.TheVariants.RepeatedId, reading.Part.{Part, TheVariants.{Base, Between, Within}}, row_map.State.State},
+  Rows.{row_from, row_of_state, rows_of_states, state_in, state_of},
+}
 use mathlib.Core.List.{map-map}
-use Rattle.fetch_record.specs.Lines.{RefusesRow, TakesRow, after_row, is_in_group, version_of}
-use Rattle.fetch_record.specs.Record.{Intent, IsRecord, IsRow, Row, has_row, is_delivered, is_of, marked, with_delivered, with_held}
-use Rattle.fetch_record.specs.RecordFile.{changed, marking, written}
-use Rattle.fetch_record.specs.RecordGrowth.{IsGroup, taken_all}
-use Rattle.fetch_record.specs.{RecordMeaning.delivers, declared.seen.SeenFault.TheVariants.RepeatedId, declared.reading.Part.Part}
-use Rattle.fetch_record.specs.Rows.{row_from, row_of_state, rows_of_states, state_in, state_of}
-use Rattle.fetch_record.specs.declared.reading.Part.TheVariants.{Base, Between, Within}
-use Rattle.fetch_record.specs.declared.row_map.State.{State}
-use Rattle.mail_terms.proofs.ListLemmas.{any_map}
 
 pub with_delivered-false : (row : Row) → with_delivered false row ≡ row
 with_delivered-false row = ap (λ b. record row { delivered = b }) (or-false _)

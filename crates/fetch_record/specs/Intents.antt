@@ -1,9 +1,12 @@
 -- An intent: what was about to be appended to an mboxrd file when the record's file was last saved.
 use Rattle.std.specs.Prelude.{◌≡◌, ◌||◌, true, false, option_map, ℕ, Bool, List, Option, Some, None, if◌then◌else◌}
-use Rattle.fetch_record.specs.Record.{Row, Intent, Loaded, marked}
-use Rattle.fetch_record.specs.RecordFile.{Version, One, Two}
-use Rattle.fetch_record.specs.RecordMeaning.{Means, Rows}
-use Rattle.fetch_record.specs.{Outgrown.IsOutgrown, declared.seen.OwnedIntent.OwnedIntent}
+use Rattle.fetch_record.specs.{
+  Record.{Row, Intent, Loaded, marked},
+  RecordFile.{Version, One, Two},
+  RecordMeaning.{Means, Rows},
+  Outgrown.IsOutgrown,
+  declared.seen.OwnedIntent.OwnedIntent,
+}
 
 abbrev pub intent_from : OwnedIntent → Intent
 intent_from open' = record { uid = open'.uid.items; start = open'.start; len = open'.len }

@@ -1,17 +1,16 @@
 -- The lines of the record's file and the reader's place among them, as the code has them.
 use Rattle.std.specs.Prelude.{◌≡◌, ℕ, zero, suc, ◌≤◌, List, Bool, true, false, Option, Some, None, length, take}
 use Rattle.std.specs.Prelude.{option_map}
-use Rattle.fetch_record.specs.Record.{Row, Intent}
-use Rattle.fetch_record.specs.RecordFile.{Version, One, Two, RowLine, GroupLine, IntentLine, Line as FileLine}
-use Rattle.fetch_record.specs.RecordMeaning.{Progress, InBase, BetweenGroups, InGroup, Stands, Fails, after_line}
-use Rattle.fetch_record.specs.RecordMeaning.{line_after, Means, Rows}
-use Rattle.fetch_record.specs.{Rows.row_from, declared.seen.SeenFault.SeenFault, declared.line.Line.Line}
-use Rattle.fetch_record.specs.declared.line.Line.TheVariants.{Row as TheRow, Group as TheGroup}
-use Rattle.fetch_record.specs.declared.line.Line.TheVariants.{Opening as TheIntent}
-use Rattle.fetch_record.specs.declared.line.Intent.{Intent as ReadIntent}
-use Rattle.fetch_record.specs.{declared.reading.Part.Part, declared.reading.End.End}
-use Rattle.fetch_record.specs.declared.reading.Part.TheVariants.{Base, Between, Within}
-use Rattle.fetch_record.specs.declared.reading.End.TheVariants.{NoneOpen, Open}
+use Rattle.fetch_record.specs.{
+  Record.{Row, Intent},
+  RecordFile.{Version, One, Two, RowLine, GroupLine, IntentLine, Line as FileLine},
+  RecordMeaning.{Progress, InBase, BetweenGroups, InGroup, Stands, Fails, after_line, line_after, Means, Rows},
+  Rows.row_from,
+  declared.seen.SeenFault.SeenFault,
+  declared.line.Line.{Line, TheVariants.{Row as TheRow, Group as TheGroup, Opening as TheIntent}},
+  declared.line.Intent.Intent as ReadIntent,
+  declared.reading.{Part.{Part, TheVariants.{Base, Between, Within}}, End.{End, TheVariants.{NoneOpen, Open}}},
+}
 
 abbrev pub version_of : Bool → Version
 version_of true = One

@@ -1,8 +1,7 @@
 -- When a record's file has grown so much that it is to be written anew: its groups and intents outweigh the rows after
 -- its header.
 use Rattle.std.specs.Prelude.{◌≡◌, ◌≢◌, ◌⊎◌, ℕ, ◌≤◌, ◌<◌, List, ◌++◌, Bool, false, length, flat_map, All, nat_lt}
-use Rattle.fetch_record.specs.Record.{Row, IsRow}
-use Rattle.fetch_record.specs.RecordFile.{Version, header, record_row_line}
+use Rattle.fetch_record.specs.{Record.{Row, IsRow}, RecordFile.{Version, header, record_row_line}}
 
 -- the bytes begin with no row's line
 abbrev pub BeginsWithNoRow : List ℕ → Type 0

@@ -1,10 +1,11 @@
 -- The record: which messages of a maildrop were seen, since when, and whether they were delivered.
 -- A message is known by its unique-id (RFC 1939, section 7, UIDL).
-use Rattle.std.specs.Prelude.{ℕ, ◌<◌, ◌^◌, Bool, false, ◌&&◌, ◌||◌, not, List, [], ◌∷◌, ◌++◌, Option}
-use Rattle.std.specs.Prelude.{Some, None, map, filter, find, All, bytes_eq, option_map, IsTrue}
-use Rattle.std.specs.List.{list_any}
-use Rattle.mail_terms.specs.{UniqueId.IsLegalId, Distinct.AreDistinct}
-use Rattle.mail_terms.specs.Listing.{Item, is_flagged}
+use Rattle.std.specs.{
+  Prelude.{ℕ, ◌<◌, ◌^◌, Bool, false, ◌&&◌, ◌||◌, not, List, [], ◌∷◌, ◌++◌, Option, Some, None, map, filter, find, All},
+  Prelude.{bytes_eq, option_map, IsTrue},
+  List.list_any,
+}
+use Rattle.mail_terms.specs.{UniqueId.IsLegalId, Distinct.AreDistinct, Listing.{Item, is_flagged}}
 
 -- one message: its id, the second since 1970 at which it was first listed, and whether it was delivered
 pub record Row : Type 0 where

@@ -2,8 +2,8 @@
 -- the id, the second at which it was first seen, and 1 if it was delivered, else 0. A group is the
 -- line `+ N` and N rows, which were added to the record, or delivered, since. In version 2 an intent's
 -- line may follow the rows or a group: `!`, the id, and two numbers.
-use Rattle.std.specs.Prelude.{ℕ, ◌≤◌, List, [], ◌∷◌, ◌++◌, Bool, true, false, not, ◌&&◌, if◌then◌else◌}
-use Rattle.std.specs.Prelude.{length, filter, flat_map, codes, Option, Some, None, decimal}
+use Rattle.std.specs.Prelude.{ℕ, ◌≤◌, List, [], ◌∷◌, ◌++◌, Bool, true, false, not, ◌&&◌, if◌then◌else◌, length, codes}
+use Rattle.std.specs.Prelude.{filter, flat_map, Option, Some, None, decimal}
 use Rattle.mail_terms.specs.Listing.{message_limit}
 use Rattle.fetch_record.specs.Record.{Row, IsRow, Intent, IsIntent, is_of}
 

@@ -1,10 +1,12 @@
 -- How a record's file grows by appended groups and intents, and what is kept if an append is cut short.
-use Rattle.std.specs.Prelude.{◌≡◌, ◌≢◌, ◌⊎◌, ℕ, ◌≤◌, List, [], ◌∷◌, ◌++◌, false, Bool, Option, Some, None, length, All}
-use Rattle.std.specs.Prelude.{IsTrue}
+use Rattle.std.specs.Prelude.{◌≡◌, ◌≢◌, ◌⊎◌, ℕ, ◌≤◌, List, [], ◌∷◌, ◌++◌, false, Bool, Option, Some, None, length}
+use Rattle.std.specs.Prelude.{All, IsTrue}
 use Rattle.mail_terms.specs.Listing.{message_limit}
-use Rattle.fetch_record.specs.Record.{Row, Intent, IsRow, IsIntent, IsRecord, IntentHasRow, has_row}
-use Rattle.fetch_record.specs.RecordFile.{Version, One, Two, header, file_of, group_of, intent_line}
-use Rattle.fetch_record.specs.RecordMeaning.{Meaning, Rows, Means, FileStandsFor, may_take, with_taken, has_bytes}
+use Rattle.fetch_record.specs.{
+  Record.{Row, Intent, IsRow, IsIntent, IsRecord, IntentHasRow, has_row},
+  RecordFile.{Version, One, Two, header, file_of, group_of, intent_line},
+  RecordMeaning.{Meaning, Rows, Means, FileStandsFor, may_take, with_taken, has_bytes},
+}
 
 -- the rows after a whole group
 abbrev pub taken_all : List Row → List Row → List Row

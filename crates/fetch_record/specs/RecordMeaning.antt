@@ -3,14 +3,16 @@
 -- now is; in version 2 also one that was. In version 2 an intent's line, whose id has a row, opens an
 -- intent if none is open, and a whole group ends it. A torn end counts for nothing: a last piece
 -- without LF, and a last group that lacks rows, though its rows are judged.
-use Rattle.std.specs.Prelude.{◌≡◌, ◌≢◌, ◌⊎◌, ℕ, zero, suc, ◌+◌, ◌-◌, ◌==◌, List, [], ◌∷◌, ◌++◌, Bool, true, false}
-use Rattle.std.specs.Prelude.{not, ◌&&◌, ◌||◌, if◌then◌else◌, Option, Some, None, length, min, flat_map, All}
-use Rattle.std.specs.List.{list_any}
-use Rattle.fetch_record.specs.Record.{Row, Intent, is_of, has_row, marked}
-use Rattle.fetch_record.specs.RecordFile.{Version, One, Two, header, Line, RowLine, GroupLine, IntentLine, IsRecordLine}
-use Rattle.fetch_record.specs.RecordFile.{record_line}
-use Rattle.fetch_record.specs.declared.seen.SeenFault.{SeenFault}
-use Rattle.fetch_record.specs.declared.seen.SeenFault.TheVariants.{BadHeader, BadRow, RepeatedId}
+use Rattle.std.specs.{
+  Prelude.{◌≡◌, ◌≢◌, ◌⊎◌, ℕ, zero, suc, ◌+◌, ◌-◌, ◌==◌, List, [], ◌∷◌, ◌++◌, Bool, true, false, not, ◌&&◌, ◌||◌, Some},
+  Prelude.{if◌then◌else◌, Option, None, length, min, flat_map, All},
+  List.list_any,
+}
+use Rattle.fetch_record.specs.{
+  Record.{Row, Intent, is_of, has_row, marked},
+  RecordFile.{Version, One, Two, header, Line, RowLine, GroupLine, IntentLine, IsRecordLine, record_line},
+  declared.seen.SeenFault.{SeenFault, TheVariants.{BadHeader, BadRow, RepeatedId}},
+}
 
 -- whether a group's row may mark this row as delivered: in version 1 only if it wasn't before
 abbrev pub may_repeat : Version → Row → Bool

@@ -1,9 +1,13 @@
 -- What a loss of power leaves of a group or an intent that was appended to a record's file.
 use Rattle.std.specs.Prelude.{◌≡◌, ◌≢◌, ◌⊎◌, ℕ, ◌==◌, List, [], ◌∷◌, ◌++◌, Bool, true, false, not, if◌then◌else◌}
 use Rattle.std.specs.Prelude.{Option}
-use Rattle.fetch_record.specs.Record.{Row, Intent}
-use Rattle.fetch_record.specs.{RecordFile.Two, RecordGrowth.Grows, declared.seen.SeenFault.TheVariants.BadRow}
-use Rattle.fetch_record.specs.RecordMeaning.{Rows, Fault, Means, has_bytes, has_line_feed}
+use Rattle.fetch_record.specs.{
+  Record.{Row, Intent},
+  RecordFile.Two,
+  RecordGrowth.Grows,
+  declared.seen.SeenFault.TheVariants.BadRow,
+  RecordMeaning.{Rows, Fault, Means, has_bytes, has_line_feed},
+}
 
 -- at most as many bytes as were appended, each as it was, or zero
 abbrev pub IsPartOf : List ℕ → List ℕ → Type 0

@@ -1,8 +1,6 @@
 -- The record's rows as the reader and the map have them.
-use Rattle.std.specs.Prelude.{ℕ, List, Option, String, string_bytes, map, find, option_map}
-use Rattle.std.specs.Global.{Global}
-use Rattle.fetch_record.specs.Record.{Row, is_of}
-use Rattle.fetch_record.specs.declared.row_map.State.{State}
+use Rattle.std.specs.{Prelude.{ℕ, List, Option, String, string_bytes, map, find, option_map}, Global.Global}
+use Rattle.fetch_record.specs.{Record.{Row, is_of}, declared.row_map.State.State}
 
 -- the row of an id and what is known of its message
 abbrev pub row_from : List ℕ → State → Row

@@ -1,12 +1,15 @@
 //! How a listing changes the rows of a record.
 
-ghost use Rattle.std.specs.Prelude.{◌≡◌, ◌≢◌, ◌⊎◌, ◌≤◌, ◌<◌, ◌++◌, ◌&&◌, ◌||◌, not, ℕ, List, length};
-ghost use Rattle.std.specs.Prelude.{map, take, All, true, false, OnOk, OnErr, IfOk, IsTrue};
-ghost use Rattle.std.specs.Bool.{OnTrue, OnFalse};
-ghost use Rattle.mail_terms.specs.Listing.{message_limit, is_flagged};
-ghost use Rattle.fetch_record.specs.Record.{IsRecord, marked, with_held, new_ids, undelivered, is_delivered};
-ghost use Rattle.fetch_record.specs.RecordFile.{changed, written};
-ghost use Rattle.mail_terms.specs.UniqueId.{IsLegalId, has_id};
+ghost use Rattle.std.specs.{
+  Prelude.{◌≡◌, ◌≢◌, ◌⊎◌, ◌≤◌, ◌<◌, ◌++◌, ◌&&◌, ◌||◌, not, ℕ, List, length, map, take, All, true, false, OnOk, OnErr},
+  Prelude.{IfOk, IsTrue},
+  Bool.{OnTrue, OnFalse},
+};
+ghost use Rattle.mail_terms.specs.{Listing.{message_limit, is_flagged}, UniqueId.{IsLegalId, has_id}};
+ghost use Rattle.fetch_record.specs.{
+  Record.{IsRecord, marked, with_held, new_ids, undelivered, is_delivered},
+  RecordFile.{changed, written},
+};
 
 use crate::line::{group, write_line};
 use crate::row_map::{RowMap, State};

@@ -1,8 +1,9 @@
 //! The fields of a line of the record's file.
 
-ghost use Rattle.std.specs.Prelude.{◌≡◌, ◌≢◌, ◌↔◌, ℕ, List, ◌<◌, ◌≤◌, ◌^◌, ◌∷◌, ◌++◌, length, slice_index, All, IsTrue};
-ghost use Rattle.std.specs.Prelude.{IfSome, IfNone};
-ghost use Rattle.std.specs.Fmt.{decimal};
+ghost use Rattle.std.specs.{
+  Prelude.{◌≡◌, ◌≢◌, ◌↔◌, ℕ, List, ◌<◌, ◌≤◌, ◌^◌, ◌∷◌, ◌++◌, length, slice_index, All, IsTrue, IfSome, IfNone},
+  Fmt.decimal,
+};
 ghost use Rattle.mail_terms.specs.UniqueId.{IsLegalId};
 
 use mail_terms::{is_legal_id, read_numeral};

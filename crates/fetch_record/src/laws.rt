@@ -3,10 +3,11 @@
 
 ghost use Rattle.std.specs.Prelude.{◌≡◌, ℕ, ◌&&◌, ◌||◌, Bool, false, true, List, All, bytes_eq};
 ghost use Rattle.mail_terms.specs.Listing.{Item, has_item, is_flagged};
-ghost use Rattle.fetch_record.specs.Record.{Row, IsRecord, has_row, is_delivered, marked, merged};
-ghost use Rattle.fetch_record.specs.RecordGrowth.{AppendedCounts, BytesStand, CutIsIgnored, OneIsRead, OneMeaning};
-ghost use Rattle.fetch_record.specs.RecordGrowth.{OneRecord, OpenHasRow};
-ghost use Rattle.fetch_record.specs.RecordTorn.{TornIsIgnoredOrSeen};
+ghost use Rattle.fetch_record.specs.{
+  Record.{Row, IsRecord, has_row, is_delivered, marked, merged},
+  RecordGrowth.{AppendedCounts, BytesStand, CutIsIgnored, OneIsRead, OneMeaning, OneRecord, OpenHasRow},
+  RecordTorn.TornIsIgnoredOrSeen,
+};
 
 /// After a merge an id is recorded as delivered if it was before, or is held.
 pub fn held_is_delivered()

@@ -5,15 +5,17 @@
 //! leading zeros; single spaces separate the fields, and LF ends each line. The header of version 1 is
 //! `getmail-seen 1`; it has no intents.
 
-ghost use Rattle.std.specs.Prelude.{◌≡◌, ◌≢◌, ℕ, ◌≤◌, ◌++◌, Bool, List, [], ◌∷◌, length, flat_map, OnOk, IfOk, IfSome};
-ghost use Rattle.std.specs.Prelude.{IfNone};
+ghost use Rattle.std.specs.Prelude.{◌≡◌, ◌≢◌, ℕ, ◌≤◌, ◌++◌, Bool, List, [], ◌∷◌, length, flat_map, OnOk, IfOk};
+ghost use Rattle.std.specs.Prelude.{IfSome, IfNone};
 ghost use Rattle.mail_terms.specs.Listing.{message_limit};
-ghost use Rattle.fetch_record.specs.Record.{Row, Intent as TheIntent, IsRow, IsIntent};
-ghost use Rattle.fetch_record.specs.RecordFile.{header, delivered_octets, record_row_line, group_line, intent_line};
-ghost use Rattle.fetch_record.specs.RecordFile.{written, record_line, IsRecordLine, Line as FileLine};
-ghost use Rattle.fetch_record.specs.RecordMeaning.{BeginsWithNoLine};
-ghost use Rattle.fetch_record.specs.Rows.{row_from};
-ghost use Rattle.fetch_record.specs.Lines.{line_seen, intent_seen};
+ghost use Rattle.fetch_record.specs.{
+  Record.{Row, Intent as TheIntent, IsRow, IsIntent},
+  RecordFile.{header, delivered_octets, record_row_line, group_line, intent_line, written, record_line, IsRecordLine},
+  RecordFile.Line as FileLine,
+  RecordMeaning.BeginsWithNoLine,
+  Rows.row_from,
+  Lines.{line_seen, intent_seen},
+};
 
 use crate::field::{id_before, number_before};
 use crate::row_map::State;

@@ -1,15 +1,16 @@
 //! Reads the record's file, line by line.
 
-ghost use Rattle.std.specs.Prelude.{◌≡◌, ◌≢◌, ◌≤◌, ◌-◌, ◌++◌, ◌==◌, ◌&&◌, not, true, false, ℕ, List, [], length, IfOk};
-ghost use Rattle.std.specs.Prelude.{IfErr, IfSome, IfNone, OnOk};
-ghost use Rattle.fetch_record.specs.Record.{Row, IsRow, IsRecord};
-ghost use Rattle.fetch_record.specs.RecordFile.{Version, header};
-ghost use Rattle.fetch_record.specs.RecordMeaning.{Means, Rows, Fault, has_bytes};
-ghost use Rattle.fetch_record.specs.Outgrown.{RowsThen, IsOutgrown};
-ghost use Rattle.fetch_record.specs.Rows.{row_from};
-ghost use Rattle.fetch_record.specs.Lines.{version_of, intent_seen, open_seen, open_behind};
-ghost use Rattle.fetch_record.specs.Lines.{behind_base, IsPlaced, is_in_group, after_row, TakesRow};
-ghost use Rattle.fetch_record.specs.Lines.{RefusesRow, TakesIntent, RefusesIntent, EndsAt};
+ghost use Rattle.std.specs.Prelude.{◌≡◌, ◌≢◌, ◌≤◌, ◌-◌, ◌++◌, ◌==◌, ◌&&◌, not, true, false, ℕ, List, [], length};
+ghost use Rattle.std.specs.Prelude.{IfOk, IfErr, IfSome, IfNone, OnOk};
+ghost use Rattle.fetch_record.specs.{
+  Record.{Row, IsRow, IsRecord},
+  RecordFile.{Version, header},
+  RecordMeaning.{Means, Rows, Fault, has_bytes},
+  Outgrown.{RowsThen, IsOutgrown},
+  Rows.row_from,
+  Lines.{version_of, intent_seen, open_seen, open_behind, behind_base, IsPlaced, is_in_group, after_row, TakesRow},
+  Lines.{RefusesRow, TakesIntent, RefusesIntent, EndsAt},
+};
 
 use crate::line::{HEADER, Intent, Line, OLDER_HEADER, ReadRow, read_line};
 use crate::row_map::{RowMap, State};

@@ -2,12 +2,13 @@
 //! appearance.
 
 ghost use Rattle.std.specs.Prelude.{◌≡◌, ◌<◌, ◌++◌, [], ◌∷◌, true, false, length, take, OnErr, IfOk, IsTrue, HoldsAt};
-ghost use Rattle.std.specs.Prelude.{IfSome, IfNone};
-ghost use Rattle.std.specs.Prelude.{flat_map, List};
+ghost use Rattle.std.specs.Prelude.{IfSome, IfNone, flat_map, List};
 ghost use Rattle.mail_terms.specs.UniqueId.{IsLegalId};
-ghost use Rattle.fetch_record.specs.Record.{Row, IsRecord, has_row, is_delivered, marked};
-ghost use Rattle.fetch_record.specs.RecordFile.{Two, header, record_row_line};
-ghost use Rattle.fetch_record.specs.Rows.{row_from, rows_of_states, state_in};
+ghost use Rattle.fetch_record.specs.{
+  Record.{Row, IsRecord, has_row, is_delivered, marked},
+  RecordFile.{Two, header, record_row_line},
+  Rows.{row_from, rows_of_states, state_in},
+};
 
 use crate::line::{HEADER, write_line};
 use indexmap::IndexMap;

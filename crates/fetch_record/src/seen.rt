@@ -1,16 +1,17 @@
 //! The record: which messages of a maildrop were seen, since when, and whether they were delivered.
 
-ghost use Rattle.std.specs.Prelude.{◌≡◌, ◌≢◌, ◌&&◌, ◌||◌, ◌↔◌, not, true, All, IsTrue, Some, None, length, OnErr, OnOk};
-ghost use Rattle.std.specs.Prelude.{IfOk, IfErr};
-ghost use Rattle.std.specs.Bool.{OnTrue, OnFalse};
-ghost use Rattle.fetch_record.specs.Record.{IsRecord, IntentHasRow, Loaded, empty, has_row, is_delivered};
-ghost use Rattle.fetch_record.specs.Record.{first_seen_of, marked, merged};
-ghost use Rattle.fetch_record.specs.Intents.{ReadAs, IsNoneOrOf, intent_from, intent_in, has_intent, is_older};
-ghost use Rattle.fetch_record.specs.Intents.{closed_rows};
-ghost use Rattle.fetch_record.specs.Lines.{open_seen, intent_seen, version_of};
-ghost use Rattle.fetch_record.specs.RecordFile.{changed, marking, written, file_of, intent_line};
-ghost use Rattle.fetch_record.specs.RecordMeaning.{Means, Fault};
-ghost use Rattle.fetch_record.specs.RecordGrowth.{Updates};
+ghost use Rattle.std.specs.{
+  Prelude.{◌≡◌, ◌≢◌, ◌&&◌, ◌||◌, ◌↔◌, not, true, All, IsTrue, Some, None, length, OnErr, OnOk, IfOk, IfErr},
+  Bool.{OnTrue, OnFalse},
+};
+ghost use Rattle.fetch_record.specs.{
+  Record.{IsRecord, IntentHasRow, Loaded, empty, has_row, is_delivered, first_seen_of, marked, merged},
+  Intents.{ReadAs, IsNoneOrOf, intent_from, intent_in, has_intent, is_older, closed_rows},
+  Lines.{open_seen, intent_seen, version_of},
+  RecordFile.{changed, marking, written, file_of, intent_line},
+  RecordMeaning.{Means, Fault},
+  RecordGrowth.Updates,
+};
 
 use crate::line::{Intent, row_group, write_intent};
 use crate::row_map::{RowMap, State};

@@ -1,33 +1,32 @@
 -- Loops over a listing, ids that occur once in it, and the plan, item by item with a count of what is fetched.
-use Rattle.std.proofs.Common.{Bool, List, [], ap, append_assoc, arith, cond, false, filter, get_or, inl, inr}
-use Rattle.std.proofs.Common.{length, length-append, map, refl, subst, suc, sym, take, take_all}
-use Rattle.std.proofs.Common.{take_at, true, zero, zip, ℕ, ◌&&◌, ◌++◌, ◌+◌, ◌-◌, ◌<◌, ◌==◌, ◌||◌, ◌∙◌, ◌∷◌, ◌≡◌, ◌≤◌}
-use Rattle.std.proofs.Common.{◌⊎◌, Less, All, Option, Some, None, bytes_eq, drop, if◌then◌else◌, is_none, length-set, nat_cmp, nat_le, not}
-use Rattle.std.proofs.Common.{replicate, set, true≢false, ◌≢◌}
-use Rattle.mail_terms.specs.Listing.{Item, has_item, is_first, numbered, HasDistinctIds, Joins, ids_of, is_last, UidRow}
-use Rattle.mail_terms.specs.{Numbering.IsNumbering, UniqueId.has_id, declared.listing.ScanRow.ScanRow}
-use Rattle.mail_terms.proofs.IdLemmas.{nobody, test_from_other}
+use Rattle.std.{
+  proofs.Common.{Bool, List, [], ap, append_assoc, arith, cond, false, filter, get_or, inl, inr, length, length-append, map, refl, subst},
+  proofs.Common.{suc, sym, take, take_all, take_at, true, zero, zip, ℕ, ◌&&◌, ◌++◌, ◌+◌, ◌-◌, ◌<◌, ◌==◌, ◌||◌, ◌∙◌, ◌∷◌, ◌≡◌, ◌≤◌, ◌⊎◌},
+  proofs.Common.{Less, All, Option, Some, None, bytes_eq, drop, if◌then◌else◌, is_none, length-set, nat_cmp, nat_le, not, replicate, set},
+  proofs.Common.{true≢false, ◌≢◌},
+  proofs.Math.Bool.{and-true, or_comm},
+  proofs.lemmas.Bool.{and_parts, cases_Bool, cond_both, not-true, cases_lt, not_from_false, Decides.{nat_tests, Decides-at}},
+  proofs.lemmas.{Cmp.nat_list_cmp_total, Slice.Eq.bytes_eq-Decides},
+  proofs.lemmas.List.{Filters.length-filter_more, length-take, map_more, drop-set, drop_all, drop_more, ext_get_or, get_or-drop},
+  proofs.lemmas.List.{get_or-map, get_or-take, length-drop, length-map, Elements.{All-head, All-tail}},
+  proofs.lemmas.List.{Folds.{list_any_none, list_any_more}, FromFn.{get_or-enumerate_from, length-enumerate_from}},
+  proofs.lemmas.Map.{Made.AllPairs-from_IsDistinct, Keys.{IsDistinct-from_sorted, sorted_from_all_adjacent}, Text.is_eq-slice_cmp},
+  specs.{Cmp.Lexicographic.slice_cmp, List.enumerate_from, Option.option_or},
+}
+use Rattle.mail_terms.{
+  specs.{Listing.{Item, has_item, is_first, numbered, HasDistinctIds, Joins, ids_of, is_last, UidRow}, Numbering.IsNumbering},
+  specs.{UniqueId.has_id, declared.listing.ScanRow.ScanRow},
+  proofs.IdLemmas.{nobody, test_from_other},
+}
 use Rattle.rc_file.specs.declared.settings.Settings.{Settings}
-use Rattle.std.proofs.Math.Bool.{and-true, or_comm}
-use Rattle.std.proofs.lemmas.Bool.{and_parts, cases_Bool, cond_both, not-true, cases_lt, not_from_false}
-use Rattle.std.proofs.lemmas.Bool.Decides.{nat_tests, Decides-at}
-use Rattle.std.proofs.{lemmas.Cmp.nat_list_cmp_total, lemmas.List.Filters.length-filter_more, lemmas.Map.Made.AllPairs-from_IsDistinct}
-use Rattle.std.proofs.lemmas.List.{length-take, map_more, drop-set, drop_all, drop_more, ext_get_or, get_or-drop}
-use Rattle.std.proofs.lemmas.List.{get_or-map, get_or-take, length-drop, length-map}
-use Rattle.std.proofs.lemmas.List.Elements.{All-head, All-tail}
-use Rattle.std.proofs.lemmas.List.Folds.{list_any_none, list_any_more}
-use Rattle.std.proofs.lemmas.List.FromFn.{get_or-enumerate_from, length-enumerate_from}
-use Rattle.std.proofs.lemmas.Map.Keys.{IsDistinct-from_sorted, sorted_from_all_adjacent}
-use Rattle.std.proofs.{lemmas.Map.Text.is_eq-slice_cmp, lemmas.Slice.Eq.bytes_eq-Decides}
-use Rattle.std.specs.{Cmp.Lexicographic.slice_cmp, List.enumerate_from, Option.option_or}
 use Rattle.fetch_record.specs.Record.{Row, is_delivered}
-use Rattle.fetch_rules.specs.Due.{is_due, may_delete}
-use Rattle.fetch_rules.specs.Laws.{FetchesAsked, FetchesFirsts}
-use Rattle.fetch_rules.specs.Plan.{fetches, is_deleted, planned, retrieved, step_of}
-use Rattle.fetch_rules.specs.Wanted.{WantedAreFirst, at_most, is_candidate, is_full, is_within, none_odd}
-use Rattle.fetch_rules.specs.Wanted.{own_skip, skip_for, skip_of, wanted}
-use Rattle.fetch_rules.specs.{declared.plans.Skip.Skip, declared.plans.Step.Step}
-use Rattle.fetch_rules.specs.declared.plans.Skip.TheVariants.{Delivered, Obstructed, TooLarge, PastLimit, SameId}
+use Rattle.fetch_rules.specs.{
+  Due.{is_due, may_delete},
+  Laws.{FetchesAsked, FetchesFirsts},
+  Plan.{fetches, is_deleted, planned, retrieved, step_of},
+  Wanted.{WantedAreFirst, at_most, is_candidate, is_full, is_within, none_odd, own_skip, skip_for, skip_of, wanted},
+  declared.plans.{Skip.{Skip, TheVariants.{Delivered, Obstructed, TooLarge, PastLimit, SameId}}, Step.Step},
+}
 
 -- a message with its number
 abbrev pub Message : Type 0

@@ -1,10 +1,13 @@
 -- What is done with each message of a listing.
-use Rattle.std.specs.Prelude.{◌≡◌, ℕ, Bool, true, false, not, ◌&&◌, ◌||◌, List, map, filter, zip, unwrap_or}
-use Rattle.std.specs.Prelude.{Option, Some, is_none}
+use Rattle.std.specs.Prelude.{◌≡◌, ℕ, Bool, true, false, not, ◌&&◌, ◌||◌, List, map, filter, zip, unwrap_or, Option}
+use Rattle.std.specs.Prelude.{Some, is_none}
 use Rattle.mail_terms.specs.Listing.{Item, numbered, is_first, is_last}
 use Rattle.fetch_record.specs.Record.{Row, is_delivered, first_seen_of}
-use Rattle.fetch_rules.specs.{Wanted.skip_of, Due.is_due, declared.plans.Skip.Skip, declared.plans.Step.Step}
-use Rattle.fetch_rules.specs.declared.plans.Skip.TheVariants.{Obstructed}
+use Rattle.fetch_rules.specs.{
+  Wanted.skip_of,
+  Due.is_due,
+  declared.plans.{Skip.{Skip, TheVariants.Obstructed}, Step.Step},
+}
 use Rattle.rc_file.specs.declared.settings.Settings.{Settings}
 
 -- when the id was first seen: now, if it has no row

@@ -1,7 +1,9 @@
 -- Which messages of a listing are fetched, and why the others aren't.
-use Rattle.std.specs.Prelude.{◌≡◌, ℕ, Bool, false, not, ◌&&◌, ◌||◌, ◌==◌, ◌-◌, nat_le, List, length, map, take, filter}
-use Rattle.std.specs.Prelude.{Option, Some, None, is_none, if◌then◌else◌}
-use Rattle.std.specs.Option.{option_or}
+use Rattle.std.specs.{
+  Prelude.{◌≡◌, ℕ, Bool, false, not, ◌&&◌, ◌||◌, ◌==◌, ◌-◌, nat_le, List, length, map, take, filter, Option, Some},
+  Prelude.{None, is_none, if◌then◌else◌},
+  Option.option_or,
+}
 use Rattle.mail_terms.specs.Listing.{Item, HasDistinctIds, numbered, is_first}
 use Rattle.fetch_record.specs.Record.{Row, is_delivered}
 use Rattle.rc_file.specs.declared.settings.Settings.{Settings}

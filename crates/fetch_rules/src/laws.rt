@@ -5,9 +5,11 @@
 ghost use Rattle.std.specs.Prelude.{◌≡◌, ℕ, Bool, List, []};
 ghost use Rattle.mail_terms.specs.Listing.{Item, Joins, UidRow};
 ghost use Rattle.fetch_record.specs.Record.{Row};
-ghost use Rattle.fetch_rules.specs.Laws.{FetchesAsked, FetchesFirsts};
-ghost use Rattle.fetch_rules.specs.Plan.{planned, retrieved};
-ghost use Rattle.fetch_rules.specs.Wanted.{WantedAreFirst, wanted};
+ghost use Rattle.fetch_rules.specs.{
+  Laws.{FetchesAsked, FetchesFirsts},
+  Plan.{planned, retrieved},
+  Wanted.{WantedAreFirst, wanted},
+};
 
 use mail_terms::ScanRow;
 use rc_file::Settings;

@@ -1,11 +1,13 @@
 //! Which messages of a listing are the first, and which the last, with their ids. Each call takes
 //! n log n comparisons of ids, or n if the ids ascend, as most servers' do.
 
-ghost use Rattle.std.specs.Prelude.{◌≡◌, map, IfOk};
-ghost use Rattle.std.specs.Bool.{OnTrue};
-ghost use Rattle.std.specs.Cmp.Lexicographic.{slice_cmp};
-ghost use Rattle.std.specs.Ordering.{nat_cmp};
-ghost use Rattle.std.specs.declared.cmp.Ordering.TheVariants.{Less};
+ghost use Rattle.std.specs.{
+  Prelude.{◌≡◌, map, IfOk},
+  Bool.OnTrue,
+  Cmp.Lexicographic.slice_cmp,
+  Ordering.nat_cmp,
+  declared.cmp.Ordering.TheVariants.Less,
+};
 ghost use Rattle.mail_terms.specs.Listing.{HasDistinctIds, numbered, is_first, is_last};
 
 use mail_terms::{IdSet, Listing, id_text};

@@ -1,13 +1,17 @@
 //! Which messages of a listing are fetched, and which are deleted.
 
-ghost use Rattle.std.specs.Prelude.{◌≡◌, ◌<◌, false, ◌&&◌, ◌||◌, ◌↔◌, true, length, map, All};
-ghost use Rattle.std.specs.Prelude.{ℕ, Bool, List, IsTrue, HoldsAt, IfOk, None, Some, if◌then◌else◌};
-ghost use Rattle.std.specs.Option.{option_or};
+ghost use Rattle.std.specs.{
+  Prelude.{◌≡◌, ◌<◌, false, ◌&&◌, ◌||◌, ◌↔◌, true, length, map, All, ℕ, Bool, List, IsTrue, HoldsAt, IfOk, None, Some},
+  Prelude.if◌then◌else◌,
+  Option.option_or,
+};
 ghost use Rattle.mail_terms.specs.Listing.{numbered, is_last};
 ghost use Rattle.fetch_record.specs.Record.{is_delivered};
-ghost use Rattle.fetch_rules.specs.Wanted.{is_full, none_odd, own_skip, wanted};
-ghost use Rattle.fetch_rules.specs.Due.{is_due, may_delete};
-ghost use Rattle.fetch_rules.specs.Plan.{IsQuiet, may_be_deleted, seen_since, planned, retrieved};
+ghost use Rattle.fetch_rules.specs.{
+  Wanted.{is_full, none_odd, own_skip, wanted},
+  Due.{is_due, may_delete},
+  Plan.{IsQuiet, may_be_deleted, seen_since, planned, retrieved},
+};
 
 use crate::occurrence::{are_first, are_last};
 use fetch_record::Seen;

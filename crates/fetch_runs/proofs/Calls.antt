@@ -1,47 +1,50 @@
 -- Each call of `session` is a session over accounts, and lists of calls and what else happens keep what is promised;
 -- what is promised of any list, and the order of the maildrops, give the headlines.
-use Rattle.std.proofs.Common.{◌≡◌, ◌⊎◌, inl, inr, ℕ, true, List, [], ◌∷◌, ◌++◌, refl, sym, ap, subst, ◌∙◌, arith}
-use Rattle.std.proofs.Common.{length, false, Bool, length-append, ◌||◌, map}
-use Rattle.std.proofs.{Math.Logic.⊎_elim, lemmas.Slice.Eq.bytes_eq-Decides, lemmas.List.append-nil, lemmas.List.Folds.flat_map-map}
-use Rattle.pop3_wire.specs.declared.wire.Wire.{Ghosts as WireGhosts}
-use Rattle.mail_store.specs.declared.maildir.disk.MaildirDisk.{Ghosts as DiskGhosts}
-use Rattle.mail_store.specs.declared.file.flat_file.FlatFile.{Ghosts as FileGhosts}
-use Rattle.pop3_wire.specs.World.{Message, IsWorld}
-use Rattle.mail_store.specs.FileName.{IsAccountText, name_of, names_id, stem_of}
-use Rattle.std.specs.{String.string_bytes, List.AllByRecursion}
-use Rattle.mail_store.specs.{Loss.LosesPower, Durable.seen_on, Mboxrd.entry_of}
-use Rattle.mail_store.specs.Maildir.{Maildir, WereTaken}
-use Rattle.fetch_session.specs.{Account.digits_of, Laws.MboxSessions, Record.record_state}
-use Rattle.fetch_session.specs.Session.{account_files, mbox_account_files}
-use Rattle.fetch_runs.specs.Accounts.{AccountMail, files, message_ids, is_selected, without, texts_of, copies, selected, without_flags}
-use Rattle.fetch_runs.specs.Promises.{Mail, State, state_with, IsBetween, Invariant, Call, Devices, AppendsMail, Base}
-use Rattle.fetch_runs.specs.Promises.{HoldsEntries, IsMaildrop, IsSafe, IsFront, ShowsNext, is_safe, IsMboxFront}
-use Rattle.fetch_runs.specs.Sessions.{SessionOverLink, MboxMail}
-use Rattle.fetch_runs.specs.{Steps.holds, Below.Below}
-use Rattle.fetch_runs.specs.Calls.{Called, CallsKeepPromises, EmptyAccountsHold, Left, with_left, IsCall, Shows}
-use Rattle.fetch_runs.specs.Calls.{DurableMboxesAreSafe, MboxCallsKeepPromises, ShowsMbox}
-use Rattle.fetch_runs.proofs.LeftRecords.{LeavesDurably, leaves_durably}
-use Rattle.fetch_runs.proofs.Losses.{all_left_durable, calls_keep_order, calls_keep_safe, durable_is_safe}
-use Rattle.fetch_runs.proofs.Losses.{left_keeps_front, left_keeps_safe, losses_keep_order, losses_leave_kept}
-use Rattle.fetch_runs.proofs.Losses.{others_keep_order, others_keep_safe, front_stays, left_front}
-use Rattle.fetch_runs.proofs.Lists.{left_or_none, all_filter, all_ids_at, all_map, all_front, are_distinct, distinct_filter, distinct_is}
-use Rattle.fetch_runs.proofs.Lists.{front_is, is_some, no_texts, all_at, bytes_self, ids_both, all_mapped, none_or_one, same_held}
-use Rattle.fetch_session.specs.declared.account.Store.TheVariants.{Maildir as InMaildir, Mboxrd as InMbox}
-use Rattle.fetch_runs.proofs.MboxLeft.{Holds, session_left}
-use Rattle.fetch_runs.proofs.MboxPromised.{appends, starts, ends_whole, open_row}
-use Rattle.fetch_runs.specs.Losses.{TrustsMbox, IsFileLeft, IsMboxSafe}
-use Rattle.fetch_runs.proofs.Promised.{IsSession, others_leave_kept, sessions_keep_promises, copies_came}
-use Rattle.fetch_runs.proofs.Promised.{copies_messages, held_copies, named_messages, one_text}
-use Rattle.fetch_runs.proofs.Safety.{texts_stand}
-use Rattle.fetch_runs.proofs.Steps.{mbox_sessions_lose_nothing, sessions_lose_nothing}
-use Rattle.std.proofs.lemmas.Bool.{both_ways, false_from_ne_true, or_left, cases_Bool}
-use Rattle.mail_terms.specs.UniqueId.{is_legal_id, has_id}
+use Rattle.std.{
+  proofs.Common.{◌≡◌, ◌⊎◌, inl, inr, ℕ, true, List, [], ◌∷◌, ◌++◌, refl, sym, ap, subst, ◌∙◌, arith, length, false, Bool, length-append},
+  proofs.Common.{◌||◌, map},
+  proofs.Math.Logic.⊎_elim,
+  proofs.lemmas.{Slice.Eq.bytes_eq-Decides, List.{append-nil, Folds.flat_map-map}},
+  proofs.lemmas.Bool.{both_ways, false_from_ne_true, or_left, cases_Bool},
+  specs.{String.string_bytes, List.AllByRecursion},
+}
+use Rattle.pop3_wire.specs.{declared.wire.Wire.Ghosts as WireGhosts, World.{Message, IsWorld}}
+use Rattle.mail_store.specs.{
+  declared.{maildir.disk.MaildirDisk.Ghosts as DiskGhosts, file.flat_file.FlatFile.Ghosts as FileGhosts},
+  FileName.{IsAccountText, name_of, names_id, stem_of},
+  Loss.LosesPower,
+  Durable.seen_on,
+  Mboxrd.entry_of,
+  Maildir.{Maildir, WereTaken},
+}
+use Rattle.fetch_session.specs.{
+  Account.digits_of,
+  Laws.MboxSessions,
+  Record.record_state,
+  Session.{account_files, mbox_account_files},
+  declared.account.Store.TheVariants.{Maildir as InMaildir, Mboxrd as InMbox},
+}
+use Rattle.fetch_runs.{
+  specs.{Accounts.{AccountMail, files, message_ids, is_selected, without, texts_of, copies, selected, without_flags}, Steps.holds},
+  specs.Promises.{Mail, State, state_with, IsBetween, Invariant, Call, Devices, AppendsMail, Base, HoldsEntries, IsMaildrop, IsSafe},
+  specs.Promises.{IsFront, ShowsNext, is_safe, IsMboxFront},
+  specs.{Sessions.{SessionOverLink, MboxMail}, Below.Below, Losses.{TrustsMbox, IsFileLeft, IsMboxSafe}},
+  specs.Calls.{Called, CallsKeepPromises, EmptyAccountsHold, Left, with_left, IsCall, Shows, DurableMboxesAreSafe, MboxCallsKeepPromises},
+  specs.Calls.ShowsMbox,
+  specs.Headline.{World, IsSound, HoldsAPrefix, EmptyFrontsBegin, NoneTaken, TakenStaysAway, selected_of, MboxFrontsBegin, IsInOrder},
+  specs.Headline.{EntriesMeanTexts, world_without, Headline, MboxHeadline, HoldsAMboxPrefix, IsUnbegun},
+  proofs.{LeftRecords.{LeavesDurably, leaves_durably}, MboxLeft.{Holds, session_left}, Safety.texts_stand},
+  proofs.Losses.{all_left_durable, calls_keep_order, calls_keep_safe, durable_is_safe, left_keeps_front, left_keeps_safe, others_keep_safe},
+  proofs.Losses.{losses_keep_order, losses_leave_kept, others_keep_order, front_stays, left_front},
+  proofs.Lists.{left_or_none, all_filter, all_ids_at, all_map, all_front, are_distinct, distinct_filter, distinct_is, front_is, is_some},
+  proofs.Lists.{no_texts, all_at, bytes_self, ids_both, all_mapped, none_or_one, same_held},
+  proofs.{MboxPromised.{appends, starts, ends_whole, open_row}, Steps.{mbox_sessions_lose_nothing, sessions_lose_nothing}},
+  proofs.Promised.{IsSession, others_leave_kept, sessions_keep_promises, copies_came, copies_messages, held_copies, named_messages},
+  proofs.Promised.one_text,
+  proofs.Core.{next_here, prefix_left, done_legal, done_distinct},
+}
+use Rattle.mail_terms.specs.{UniqueId.{is_legal_id, has_id}, Text.IsWhole}
 use Rattle.fetch_record.specs.Record.{is_delivered}
-use Rattle.fetch_runs.specs.Headline.{World, IsSound, HoldsAPrefix, EmptyFrontsBegin}
-use Rattle.fetch_runs.specs.Headline.{NoneTaken, TakenStaysAway, selected_of, MboxFrontsBegin}
-use Rattle.fetch_runs.specs.Headline.{EntriesMeanTexts, IsInOrder, world_without, Headline, MboxHeadline, HoldsAMboxPrefix, IsUnbegun}
-use Rattle.fetch_runs.proofs.Core.{next_here, prefix_left, done_legal, done_distinct}
-use Rattle.mail_terms.specs.Text.{IsWhole}
 use Rattle.rc_file.specs.declared.settings.Settings.{Settings}
 
 -- ---- with a Maildir

@@ -1,32 +1,27 @@
 -- Which messages are wanted, and that a session fetches the next of the selected ones if a prefix of them is done.
 -- Stores don't come in here.
-use Rattle.std.proofs.Common.{◌≡◌, ◌≤◌, ◌<◌, ◌+◌, ◌-◌, ℕ, zero, suc, List, [], ◌∷◌, ◌++◌, Bool, not, ◌&&◌, length}
-use Rattle.std.proofs.Common.{take, drop, map, refl, sym, ◌∙◌, ap, arith, append_assoc, take-append-drop}
-use Rattle.std.proofs.Common.{Some, slice_get, inl, inr, true, false}
-use Rattle.std.specs.Prelude.{bytes_eq, is_none, zip}
-use Rattle.std.specs.List.{filter, enumerate_from, AllByRecursion}
-use Rattle.std.proofs.lemmas.Bool.{cases_Bool, false_from_ne_true}
-use Rattle.std.proofs.lemmas.List.{take-map, take_all, length-map}
-use Rattle.std.proofs.lemmas.List.Elements.{recursion_from_All, filter-append}
-use Rattle.std.proofs.lemmas.List.FromFn.{length-enumerate_from, get_or-enumerate_from}
-use Rattle.std.proofs.lemmas.Option.{same_Some, slice_get-get_or}
-use Rattle.std.proofs.lemmas.Simd.{map-map}
-use Rattle.pop3_wire.specs.World.{Message, IsWorld, maildrop_of}
-use Rattle.mail_terms.specs.Listing.{Item, has_item}
+use Rattle.std.{
+  proofs.Common.{◌≡◌, ◌≤◌, ◌<◌, ◌+◌, ◌-◌, ℕ, zero, suc, List, [], ◌∷◌, ◌++◌, Bool, not, ◌&&◌, length, take, drop, map, refl, sym, ◌∙◌, ap},
+  proofs.Common.{arith, append_assoc, take-append-drop, Some, slice_get, inl, inr, true, false},
+  proofs.lemmas.{Bool.{cases_Bool, false_from_ne_true}, Option.{same_Some, slice_get-get_or}, Simd.map-map},
+  proofs.lemmas.List.{take-map, take_all, length-map, Elements.{recursion_from_All, filter-append}},
+  proofs.lemmas.List.FromFn.{length-enumerate_from, get_or-enumerate_from},
+  specs.{Prelude.{bytes_eq, is_none, zip}, List.{filter, enumerate_from, AllByRecursion}},
+}
+use Rattle.pop3_wire.specs.{World.{Message, IsWorld, maildrop_of}, declared.command.Command.Command}
+use Rattle.mail_terms.specs.{Listing.{Item, has_item}, UniqueId.{has_id, is_legal_id}}
 use Rattle.fetch_record.specs.Record.{Row, is_delivered}
-use Rattle.fetch_rules.specs.Wanted.{WantedAreFirst, at_most, fitting, own_skip, wanted}
-use Rattle.fetch_rules.proofs.PlanLemmas.{own_passes}
+use Rattle.fetch_rules.{specs.Wanted.{WantedAreFirst, at_most, fitting, own_skip, wanted}, proofs.PlanLemmas.own_passes}
 use Rattle.rc_file.specs.declared.settings.Settings.{Settings}
-use Rattle.mail_store.specs.Maildir.{File, Maildir}
-use Rattle.mail_store.specs.FileName.{is_held, mail_file}
-use Rattle.mail_terms.specs.UniqueId.{has_id, is_legal_id}
-use Rattle.fetch_runs.specs.Accounts.{message_ids, item_of, listing_of, is_selected, selected, without, AccountMail}
-use Rattle.fetch_runs.specs.Sessions.{AreTexts, file_for, is_unheld, Effect, IsHonest, ids_wanted, StoresTexts, MboxMail, MboxStores}
-use Rattle.fetch_runs.proofs.Lists.{filter-map, filter-swap, any_map, all_append, all_map, all_take, all_filter, Distinct, are_distinct}
-use Rattle.fetch_runs.proofs.Lists.{front_is, filter-filter, filter_all, all_both, all_passing, all_front, distinct_is, distinct_take}
-use Rattle.fetch_runs.proofs.Lists.{distinct_filter, ids_both, all_at, all_ids_at, bytes_self, bytes_same, members, other_id}
+use Rattle.mail_store.specs.{Maildir.{File, Maildir}, FileName.{is_held, mail_file}}
+use Rattle.fetch_runs.{
+  specs.Accounts.{message_ids, item_of, listing_of, is_selected, selected, without, AccountMail},
+  specs.Sessions.{AreTexts, file_for, is_unheld, Effect, IsHonest, ids_wanted, StoresTexts, MboxMail, MboxStores},
+  proofs.Lists.{filter-map, filter-swap, any_map, all_append, all_map, all_take, all_filter, Distinct, are_distinct, front_is, filter_all},
+  proofs.Lists.{filter-filter, all_both, all_passing, all_front, distinct_is, distinct_take, distinct_filter, ids_both, all_at, all_ids_at},
+  proofs.Lists.{bytes_self, bytes_same, members, other_id},
+}
 use Rattle.fetch_session.specs.declared.report.Report.{Report}
-use Rattle.pop3_wire.specs.declared.command.Command.{Command}
 
 pub has_listed : {listing : List Item} (ms : List Message) → listing ≡ listing_of ms → (id : List ℕ)
     → has_item listing id ≡ has_id (message_ids ms) id

@@ -1,53 +1,51 @@
 -- Each id that a record's file delivers is legal.
 -- What a session leaves of a record's file, and what a loss of power may leave of that, shows as delivered only what it
 -- showed or could show before, and messages of which a file is there whose name is durable.
-use Rattle.std.proofs.Common.{◌≡◌, inl, inr, ℕ, suc, List, [], ◌∷◌, ◌++◌, true, Option, arith, Bool, zero, ◌+◌}
-use Rattle.std.proofs.Common.{None, Some, ◌⊎◌, false, length, subst, bytes_eq, sym, ⊎_elim, ap, ◌∙◌, Contains}
-use Rattle.std.proofs.Common.{length-append, Result, Ok, Err, refl, All, ◌-◌, ◌%◌, ◌==◌, take, ◌&&◌}
-use Rattle.std.specs.List.{AllByRecursion, list_all, list_any}
-use Rattle.std.proofs.lemmas.Bool.{cond_both, both_ways, cases_Bool, and_parts, or_cases}
-use Rattle.fetch_record.specs.Record.{Row, RecordState, is_delivered, Intent, has_row, marked, marked_all, merged, none_open}
-use Rattle.fetch_session.specs.Record.{Keeps, KeepsRows, record_state}
-use Rattle.mail_terms.specs.UniqueId.{is_legal_id}
-use Rattle.std.proofs.lemmas.List.Elements.{recursion_from_All, Contains-push}
-use Rattle.fetch_record.specs.RecordFile.{Version, Two, Line, RowLine, IsRecordLine, GroupLine, file_of}
-use Rattle.fetch_record.specs.RecordMeaning.{Ends, Fails, Judged, InBase, InGroup, Means, Progress, Rows, Stands, after_intent, after_line}
-use Rattle.fetch_record.specs.RecordMeaning.{counted, judged, may_take, with_taken, BetweenGroups, Fault, FileStandsFor}
-use Rattle.mail_store.specs.{Durable.MayLeave, FlatFile.Stored}
-use mathlib.Core.Logic.{⊎_map}
-use Rattle.std.proofs.{lemmas.Bool.Decides.nat_tests, lemmas.List.Concat.flat_map-append, lemmas.List.Folds.list_any_at}
-use Rattle.std.proofs.lemmas.List.{append-nil, append_cancel_left}
-use Rattle.std.proofs.lemmas.Slice.Eq.{bytes_eq-Decides}
-use Rattle.fetch_record.specs.RecordGrowth.{AppendedCounts, OneMeaning, OneRecord}
-use Rattle.fetch_record.specs.RecordTorn.{IsPartOf, TornIsIgnoredOrSeen, ends_at_zero}
-use Rattle.fetch_record.specs.declared.seen.SeenFault.TheVariants.{BadRow}
+use Rattle.std.{
+  proofs.Common.{◌≡◌, inl, inr, ℕ, suc, List, [], ◌∷◌, ◌++◌, true, Option, arith, Bool, zero, ◌+◌, None, Some, ◌⊎◌, false, length, subst},
+  proofs.Common.{bytes_eq, sym, ⊎_elim, ap, ◌∙◌, Contains, length-append, Result, Ok, Err, refl, All, ◌-◌, ◌%◌, ◌==◌, take, ◌&&◌},
+  proofs.lemmas.{Bool.{cond_both, both_ways, cases_Bool, and_parts, or_cases, Decides.nat_tests}, Slice.Eq.bytes_eq-Decides},
+  proofs.lemmas.List.{Elements.{recursion_from_All, Contains-push}, Concat.flat_map-append, Folds.list_any_at, append-nil},
+  proofs.lemmas.List.append_cancel_left,
+  specs.List.{AllByRecursion, list_all, list_any},
+}
+use Rattle.fetch_record.specs.{
+  Record.{Row, RecordState, is_delivered, Intent, has_row, marked, marked_all, merged, none_open},
+  RecordFile.{Version, Two, Line, RowLine, IsRecordLine, GroupLine, file_of},
+  RecordMeaning.{Ends, Fails, Judged, InBase, InGroup, Means, Progress, Rows, Stands, after_intent, after_line, counted, judged, may_take},
+  RecordMeaning.{with_taken, BetweenGroups, Fault, FileStandsFor},
+  RecordGrowth.{AppendedCounts, OneMeaning, OneRecord},
+  RecordTorn.{IsPartOf, TornIsIgnoredOrSeen, ends_at_zero},
+  declared.seen.SeenFault.TheVariants.BadRow,
+}
+use Rattle.fetch_session.{
+  specs.{Record.{Keeps, KeepsRows, record_state}, Laws.LeavesDurable, Store.RefusesText, CarryingOut.{Carried, Carries, tasks_ahead}},
+  specs.Durable.{AreLeft, DurableCarried, DurableCarries, IsRecordUntouched, Durably, LeavesFile, IsGrownAtMost, LeavesMerged, UnlessQuiet},
+  specs.Durable.{DurableProceeds, DurableSession, DurableUnready, IsSafeFile},
+  specs.declared.{fault.Cut.Cut, report.{Report.Report, Skips.Skips}, account.Store.TheVariants.Maildir as InMaildir},
+  specs.{Readiness.{AreDurable, IsMerged, IsMergedAtMost, IsAnew, IsFileKept}, Target.{AsFiles, in_maildir}},
+  specs.{Scene.{Does, FileNotSaved, NoFile, Scene, Stops, Went, scene}, Session.{Keeping, Proceeds, Session, account_files, keeps_files}},
+  specs.Task.{Done, Task, file_from, files_in, files_of, ids_ahead, ids_in, marked_ids, stores, tasks_of},
+  proofs.{TakenLemmas.unready_same, SessionLemmas.quiet_ids},
+}
+use Rattle.mail_terms.specs.{UniqueId.is_legal_id, Listing.{Item, is_flagged}}
+use Rattle.mail_store.specs.{
+  Durable.MayLeave,
+  FlatFile.Stored,
+  FileName.{IsAccountText, is_held, is_odd, names_id, sized_file, stem, stem_of},
+  Held.{HasDurable, flags_of},
+  Maildir.{AllNamed, File, IsNamed, Maildir},
+  Settling.{MayBeLeft, block_size, is_lost},
+  declared.file.flat_file.FlatFile.Ghosts as FileGhosts,
+}
 use Rattle.fetch_rules.specs.Plan.{IsQuiet, planned}
-use Rattle.fetch_session.specs.Durable.{AreLeft, DurableCarried, DurableCarries, IsRecordUntouched, Durably, LeavesFile}
-use Rattle.fetch_session.specs.Durable.{IsGrownAtMost, LeavesMerged, DurableProceeds, DurableSession, UnlessQuiet, DurableUnready}
-use Rattle.fetch_session.specs.Durable.{IsSafeFile}
-use Rattle.fetch_session.specs.{Laws.LeavesDurable, Store.RefusesText, declared.fault.Cut.Cut, declared.report.Report.Report}
-use Rattle.fetch_session.specs.CarryingOut.{Carried, Carries, tasks_ahead}
-use Rattle.fetch_session.specs.Readiness.{AreDurable, IsMerged, IsMergedAtMost, IsAnew, IsFileKept}
-use Rattle.fetch_session.specs.Scene.{Does, FileNotSaved, NoFile, Scene, Stops, Went, scene}
-use Rattle.fetch_session.specs.Session.{Keeping, Proceeds, Session, account_files, keeps_files}
-use Rattle.fetch_session.specs.Target.{AsFiles, in_maildir}
-use Rattle.fetch_session.specs.Task.{Done, Task, file_from, files_in, files_of, ids_ahead, ids_in, marked_ids, stores}
-use Rattle.fetch_session.specs.Task.{tasks_of}
-use Rattle.fetch_session.specs.declared.account.Store.TheVariants.{Maildir as InMaildir}
-use Rattle.fetch_session.specs.declared.report.Skips.{Skips}
-use Rattle.mail_store.specs.FileName.{IsAccountText, is_held, is_odd, names_id, sized_file, stem, stem_of}
-use Rattle.mail_store.specs.Held.{HasDurable, flags_of}
-use Rattle.mail_store.specs.Maildir.{AllNamed, File, IsNamed, Maildir}
-use Rattle.mail_store.specs.Settling.{MayBeLeft, block_size, is_lost}
-use Rattle.mail_store.specs.declared.file.flat_file.FlatFile.{Ghosts as FileGhosts}
-use Rattle.mail_terms.specs.Listing.{Item, is_flagged}
-use Rattle.pop3_wire.specs.Link.{Link}
-use Rattle.pop3_wire.specs.Place.{Place, at}
+use Rattle.pop3_wire.specs.{Link.Link, Place.{Place, at}}
 use Rattle.rc_file.specs.declared.settings.Settings.{Settings}
-use Rattle.fetch_runs.specs.Accounts.{has_named, AccountMail}
-use Rattle.fetch_runs.specs.{Losses.TrustsRecord, Steps.holds, Below.Below}
-use Rattle.fetch_runs.proofs.Lists.{bytes_same, all_append, both_none, same_held, same_rows}
-use Rattle.fetch_session.proofs.{TakenLemmas.unready_same, SessionLemmas.quiet_ids}
+use Rattle.fetch_runs.{
+  specs.{Accounts.{has_named, AccountMail}, Losses.TrustsRecord, Steps.holds, Below.Below},
+  proofs.Lists.{bytes_same, all_append, both_none, same_held, same_rows},
+}
+use mathlib.Core.Logic.{⊎_map}
 
 abbrev AreLegal : List Row → Type 0
 AreLegal rows = AllByRecursion (λ (row : Row). is_legal_id row.uid ≡ true) rows

@@ -1,30 +1,29 @@
 -- What was got splits into replies in one way only, so what was read is what an honest server said of its maildrop.
-use Rattle.std.proofs.Common.{◌≡◌, ◌-◌, ◌+◌, ◌<◌, ℕ, take_while, List, [], ◌∷◌, ◌++◌, Bool, rules, length, map, get_or, refl, sym, ◌∙◌, ap}
-use Rattle.std.proofs.Common.{arith, Ok, Result, Option, Contains, inl, inr, append_assoc, Some, None}
-use Rattle.std.specs.List.{All, AllByRecursion, AllZip, HoldsAt, enumerate_from, filter, flat_map}
-use Rattle.std.specs.{Char.is_ascii_digit, Str.Parse.digits_value}
-use Rattle.std.proofs.lemmas.Bool.{cond-true, cond-false}
-use Rattle.std.proofs.{lemmas.Bool.Decides.eqb_tells, lemmas.List.Splits.slice_split-cons_yes, lemmas.List.Sorted.Contains-permutation}
-use Rattle.std.proofs.lemmas.List.{ext_get_or, length-map, get_or-map, get_or_default, append-nil, append_cancel_left}
-use Rattle.std.proofs.lemmas.List.Elements.{All-from_recursion, recursion_from_All}
-use Rattle.std.proofs.lemmas.List.FromFn.{length-enumerate_from, get_or-enumerate_from}
-use Rattle.pop3_wire.specs.declared.command.Command.TheVariants.{Stat, Retr, UidlAll, ListAll, User, Pass}
-use Rattle.pop3_wire.specs.{declared.fault.WireFault.WireFault, World.Message, declared.command.Command.Command}
-use Rattle.pop3_wire.specs.declared.reply.Status.TheVariants.{Positive, Negative}
-use Rattle.pop3_wire.specs.Line.{IsLine, ended, OneLine}
-use Rattle.pop3_wire.specs.Body.{IsContent, unstuffed}
-use Rattle.mail_terms.specs.declared.listing.ScanRow.{ScanRow}
-use Rattle.pop3_wire.specs.Reply.{IsFirstLine, without_space, indicator}
-use Rattle.pop3_wire.specs.Fields.{is_space, number_and_size, number_and_id}
-use Rattle.pop3_wire.specs.Honest.{SaysAnything, fields, IsUidRow, IsScanRow, UidRowsHaveFields, ScanRowsHaveFields}
-use Rattle.pop3_wire.specs.Honest.{ListsAll, Grants, no_marks, Reply, Replies}
-use Rattle.mail_terms.specs.Listing.{Item, UidRow}
-use Rattle.fetch_runs.specs.Accounts.{item_of, listing_of}
-use Rattle.pop3_wire.specs.Reading.{WholeReply, body_bytes, reply_bytes, HasListing, OneListOfLines, GivesCount}
-use Rattle.pop3_wire.specs.Reading.{has_body, IsBodyIf, IsReplyTo, OneReading}
-use Rattle.fetch_runs.specs.Sessions.{IsGoodReply, AreGood, AreGranted, HonestIsGranted, IsListed, IsNumbered, Retrieves}
-use Rattle.fetch_runs.specs.Below.{Below}
-use Rattle.pop3_wire.proofs.BodyLemmas.{two_statuses}
+use Rattle.std.{
+  proofs.Common.{◌≡◌, ◌-◌, ◌+◌, ◌<◌, ℕ, take_while, List, [], ◌∷◌, ◌++◌, Bool, rules, length, map, get_or, refl, sym, ◌∙◌, ap, arith, Ok},
+  proofs.Common.{Result, Option, Contains, inl, inr, append_assoc, Some, None},
+  proofs.lemmas.Bool.{cond-true, cond-false, Decides.eqb_tells},
+  proofs.lemmas.List.{Splits.slice_split-cons_yes, Sorted.Contains-permutation, ext_get_or, length-map, get_or-map, get_or_default},
+  proofs.lemmas.List.{append-nil, append_cancel_left, Elements.{All-from_recursion, recursion_from_All}},
+  proofs.lemmas.List.FromFn.{length-enumerate_from, get_or-enumerate_from},
+  specs.{List.{All, AllByRecursion, AllZip, HoldsAt, enumerate_from, filter, flat_map}, Char.is_ascii_digit, Str.Parse.digits_value},
+}
+use Rattle.pop3_wire.{
+  specs.declared.{command.Command.{TheVariants.{Stat, Retr, UidlAll, ListAll, User, Pass}, Command}, fault.WireFault.WireFault},
+  specs.declared.reply.Status.TheVariants.{Positive, Negative},
+  specs.{World.Message, Line.{IsLine, ended, OneLine}, Body.{IsContent, unstuffed}, Reply.{IsFirstLine, without_space, indicator}},
+  specs.Fields.{is_space, number_and_size, number_and_id},
+  specs.Honest.{SaysAnything, fields, IsUidRow, IsScanRow, UidRowsHaveFields, ScanRowsHaveFields, ListsAll, Grants, no_marks, Reply},
+  specs.Honest.Replies,
+  specs.Reading.{WholeReply, body_bytes, reply_bytes, HasListing, OneListOfLines, GivesCount, has_body, IsBodyIf, IsReplyTo, OneReading},
+  proofs.BodyLemmas.two_statuses,
+}
+use Rattle.mail_terms.specs.{declared.listing.ScanRow.ScanRow, Listing.{Item, UidRow}}
+use Rattle.fetch_runs.specs.{
+  Accounts.{item_of, listing_of},
+  Sessions.{IsGoodReply, AreGood, AreGranted, HonestIsGranted, IsListed, IsNumbered, Retrieves},
+  Below.Below,
+}
 
 -- a reply's body is what follows its first line
 body_is : OneLine → (reply : WholeReply) (first body : List ℕ) → IsLine reply.first → SaysAnything Positive first

@@ -1,30 +1,26 @@
 -- Lists and what holds of each element; ids of messages; what a record says of an id; and what is left of an id's files
 -- once readers took some away.
-use Rattle.std.proofs.Common.{◌≡◌, ℕ, List, [], ◌∷◌, ◌++◌, Bool, true, false, ◌&&◌, ◌||◌, length, take, drop, map, refl, ap, arith, ◌∙◌}
-use Rattle.std.proofs.Common.{take-append-drop, ◌≢◌, ◌≤◌, ◌<◌, inl, zero, suc, cond, sym, ◌⊎◌, Some, Option}
-use Rattle.std.specs.List.{filter, list_any, AllByRecursion}
-use Rattle.std.specs.Prelude.{bytes_eq, slice_get}
-use Rattle.std.proofs.{Math.Bool.or-false, Math.Logic.⊎_elim, lemmas.List.Kept.AllPairs-cons, lemmas.Option.same_Some}
-use Rattle.std.proofs.lemmas.Bool.{both_ways, or_cases, or_left, or_right, false_from_ne_true}
-use Rattle.std.proofs.lemmas.Bool.Decides.{same_from_decides, Decides-like}
-use Rattle.std.proofs.lemmas.List.{take_at, map-append, take-take, nil_from_length}
-use Rattle.std.proofs.lemmas.List.Folds.{list_any-append, list_any_at, list_any_none}
-use Rattle.std.proofs.lemmas.Slice.Eq.{bytes_eq-Decides}
+use Rattle.std.{
+  proofs.Common.{◌≡◌, ℕ, List, [], ◌∷◌, ◌++◌, Bool, true, false, ◌&&◌, ◌||◌, length, take, drop, map, refl, ap, arith, ◌∙◌, ◌≢◌, ◌≤◌, ◌<◌},
+  proofs.Common.{take-append-drop, inl, zero, suc, cond, sym, ◌⊎◌, Some, Option},
+  proofs.Math.{Bool.or-false, Logic.⊎_elim},
+  proofs.lemmas.List.{Kept.AllPairs-cons, take_at, map-append, take-take, nil_from_length},
+  proofs.lemmas.List.Folds.{list_any-append, list_any_at, list_any_none},
+  proofs.lemmas.{Option.same_Some, Slice.Eq.bytes_eq-Decides},
+  proofs.lemmas.Bool.{both_ways, or_cases, or_left, or_right, false_from_ne_true, Decides.{same_from_decides, Decides-like}},
+  specs.{List.{filter, list_any, AllByRecursion}, Prelude.{bytes_eq, slice_get}},
+}
 use Rattle.pop3_wire.specs.World.{Message}
 pub use Rattle.mail_terms.proofs.ListLemmas.{all_append, all_back, all_front, any_map, both_none}
 pub use Rattle.mail_terms.proofs.IdLemmas.{same_from_test as bytes_same}
-use Rattle.mail_terms.specs.{Distinct.AreDistinct, UniqueId.has_id}
-use Rattle.mail_terms.specs.Listing.{Item, has_item, is_flagged}
-use Rattle.fetch_record.specs.Record.{RecordState, Row, has_row, is_delivered, marked, merged, marked_all}
-use Rattle.fetch_record.specs.RecordGrowth.{OneRecord}
-use Rattle.mail_store.specs.FileName.{is_held, names_id, stem, stem_of}
-use Rattle.mail_store.specs.Held.{flags_of}
-use Rattle.mail_store.specs.Maildir.{AreReached, File, IsPart, Maildir}
-use Rattle.fetch_session.specs.Record.{Keeps, KeepsRows}
-use Rattle.fetch_runs.specs.Accounts.{copies, message_ids, texts_of}
-use Rattle.fetch_runs.specs.Below.{Below}
-use Rattle.fetch_session.specs.Target.{none_held}
-use Rattle.fetch_record.proofs.MergeLemmas.{has_id-kept}
+use Rattle.mail_terms.specs.{Distinct.AreDistinct, UniqueId.has_id, Listing.{Item, has_item, is_flagged}}
+use Rattle.fetch_record.{
+  specs.{Record.{RecordState, Row, has_row, is_delivered, marked, merged, marked_all}, RecordGrowth.OneRecord},
+  proofs.MergeLemmas.has_id-kept,
+}
+use Rattle.mail_store.specs.{FileName.{is_held, names_id, stem, stem_of}, Held.flags_of, Maildir.{AreReached, File, IsPart, Maildir}}
+use Rattle.fetch_session.specs.{Record.{Keeps, KeepsRows}, Target.none_held}
+use Rattle.fetch_runs.specs.{Accounts.{copies, message_ids, texts_of}, Below.Below}
 
 pub filter-filter : {X : Type 0} (p q : X → Bool) (xs : List X) → filter p (filter q xs) ≡ filter (λ x. q x && p x) xs
 filter-filter p q [] = refl

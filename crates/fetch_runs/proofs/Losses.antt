@@ -1,30 +1,31 @@
 -- A loss of power between two calls leaves a state with the invariant, if what is recorded or gone is durable; and calls and
 -- others keep that.
-use Rattle.std.proofs.Common.{◌≡◌, ◌⊎◌, inl, inr, ℕ, List, [], ◌∷◌, ◌++◌, true, false, length, Option, refl, sym, ◌∙◌, arith, bytes_eq}
-use Rattle.std.proofs.Common.{⊎_elim, Bool, ap, subst, map, append_assoc, ◌≤◌, ◌<◌, not, ◌||◌, ◌&&◌}
-use Rattle.mail_store.specs.Durable.{Disk, MayLeave}
-use Rattle.std.specs.List.{AllByRecursion, filter, list_any}
-use Rattle.std.proofs.lemmas.Bool.{both_ways, cases_Bool, or_left, or_right, or_cases, and_from}
-use Rattle.std.proofs.lemmas.List.{append-nil, append_cancel_left, nil_from_length, length-map}
-use Rattle.std.proofs.{lemmas.List.Elements.filter-append, lemmas.List.Folds.list_any-append}
+use Rattle.std.{
+  proofs.Common.{◌≡◌, ◌⊎◌, inl, inr, ℕ, List, [], ◌∷◌, ◌++◌, true, false, length, Option, refl, sym, ◌∙◌, arith, bytes_eq, ⊎_elim, Bool},
+  proofs.Common.{ap, subst, map, append_assoc, ◌≤◌, ◌<◌, not, ◌||◌, ◌&&◌},
+  proofs.lemmas.Bool.{both_ways, cases_Bool, or_left, or_right, or_cases, and_from},
+  proofs.lemmas.List.{append-nil, append_cancel_left, nil_from_length, length-map, Elements.filter-append, Folds.list_any-append},
+  specs.List.{AllByRecursion, filter, list_any},
+}
+use Rattle.mail_store.specs.{
+  Durable.{Disk, MayLeave},
+  FileName.{is_held, name_of, names_id, stem, stem_of},
+  Loss.{AreLeftAs, LosesPower},
+  Maildir.{AllNamed, AreReached, File, IsDurableFile, IsWithout, Maildir, WereTaken, file},
+  declared.file.flat_file.FlatFile.Ghosts as FileGhosts,
+}
 use Rattle.mail_terms.specs.UniqueId.{has_id, is_legal_id}
 use Rattle.pop3_wire.specs.World.{Message}
-use Rattle.mail_store.specs.FileName.{is_held, name_of, names_id, stem, stem_of}
-use Rattle.mail_store.specs.Loss.{AreLeftAs, LosesPower}
-use Rattle.mail_store.specs.Maildir.{AllNamed, AreReached, File, IsDurableFile, IsWithout, Maildir, WereTaken, file}
-use Rattle.mail_store.specs.declared.file.flat_file.FlatFile.{Ghosts as FileGhosts}
-use Rattle.fetch_record.specs.Record.{Intent, is_delivered}
-use Rattle.fetch_record.specs.RecordMeaning.{FileStandsFor}
-use Rattle.fetch_runs.specs.Accounts.{AccountMail, copies, has_named, without_flags, message_ids}
-use Rattle.fetch_runs.specs.Promises.{IsBetween, Mail, State, is_safe, state_with, IsFront, Invariant, Promises, ShowsNext, Call}
-use Rattle.fetch_runs.proofs.{Promised.IsSession, Safety.served_session, State.came_too}
-use Rattle.fetch_runs.specs.Sessions.{IsHonest, Leaves, StoresTexts, wanted_at}
-use Rattle.fetch_runs.specs.Losses.{DurableAccountsAreSafe, DurableFrontsBegin, IsCrashSafe, IsDurableFront}
-use Rattle.fetch_runs.specs.Losses.{IsDurableFor, IsFlushedFor, TrustsRecord, KeepsDurable, is_durable}
-use Rattle.fetch_runs.proofs.LeftRecords.{LeavesDurably, all_named, kept_legal}
-use Rattle.fetch_runs.proofs.Lists.{fewer_copies, held_some, part_copies, reached_copies, some_held, all_append, all_both, all_filter}
-use Rattle.fetch_runs.proofs.Lists.{all_front, all_ids_at, all_map, bytes_same, same_rows, all_at, ids_both, members, all_back, none_or_one}
-use Rattle.fetch_runs.specs.Below.{Below}
+use Rattle.fetch_record.specs.{Record.{Intent, is_delivered}, RecordMeaning.FileStandsFor}
+use Rattle.fetch_runs.{
+  specs.{Accounts.{AccountMail, copies, has_named, without_flags, message_ids}, Sessions.{IsHonest, Leaves, StoresTexts, wanted_at}},
+  specs.{Promises.{IsBetween, Mail, State, is_safe, state_with, IsFront, Invariant, Promises, ShowsNext, Call}, Below.Below},
+  specs.Losses.{DurableAccountsAreSafe, DurableFrontsBegin, IsCrashSafe, IsDurableFront, IsDurableFor, IsFlushedFor, TrustsRecord},
+  specs.Losses.{KeepsDurable, is_durable},
+  proofs.{Promised.IsSession, Safety.served_session, State.came_too, LeftRecords.{LeavesDurably, all_named, kept_legal}},
+  proofs.Lists.{fewer_copies, held_some, part_copies, reached_copies, some_held, all_append, all_both, all_filter, all_front, all_ids_at},
+  proofs.Lists.{all_map, bytes_same, same_rows, all_at, ids_both, members, all_back, none_or_one},
+}
 
 -- ---- files whose names are durable
 

@@ -1,47 +1,44 @@
 -- What a loss of power may leave of an account with an mboxrd file holds entries, also after a session that was cut.
-use Rattle.std.proofs.Common.{◌≡◌, ◌⊎◌, inl, inr, ℕ, true, false, List, [], ◌∷◌, ◌++◌, length, take, refl, sym, ap, subst, ◌∙◌}
-use Rattle.std.proofs.Common.{All, Option, None, Some, Result, Ok, Err, append_assoc, append-nil, ⊎_elim}
-use Rattle.std.proofs.{Math.Seq.take-append_seam, lemmas.Option.same_Some}
+use Rattle.std.proofs.{
+  Common.{◌≡◌, ◌⊎◌, inl, inr, ℕ, true, false, List, [], ◌∷◌, ◌++◌, length, take, refl, sym, ap, subst, ◌∙◌, All, Option, None, Some, Ok},
+  Common.{Result, Err, append_assoc, append-nil, ⊎_elim},
+  Math.Seq.take-append_seam,
+  lemmas.Option.same_Some,
+}
 use Rattle.mail_terms.specs.Listing.{Item}
-use Rattle.pop3_wire.specs.{Link.Link, World.Message}
-use Rattle.pop3_wire.specs.Place.{Place, at}
+use Rattle.pop3_wire.specs.{Link.Link, World.Message, Place.{Place, at}}
 use Rattle.pop3_client.specs.Texts.{body_text}
 use Rattle.rc_file.specs.Settings.{IsValid}
 use Rattle.fetch_record.specs.Record.{Intent, RecordState, Row, has_row, is_delivered, marked, none_open}
-use Rattle.fetch_rules.specs.Plan.{IsQuiet, planned}
-use Rattle.fetch_rules.specs.Wanted.{none_odd}
-use Rattle.mail_store.specs.Durable.{MayLeave, seen_on}
-use Rattle.mail_store.specs.{FlatFile.Stored, Mboxrd.entry_of, Settling.MayBeLeft}
-use Rattle.mail_store.specs.declared.file.flat_file.FlatFile.{Ghosts as FileGhosts}
-use Rattle.mail_store.proofs.DiskLemmas.{may_arrive, may_now}
-use Rattle.mail_store.proofs.SettlingLemmas.{all_left}
-use Rattle.fetch_session.specs.Durable.{AreTrusted, DurableCarries, IsCutLeft, IsEntryLeft, IsGrownAtMost, IsSafeFile}
-use Rattle.fetch_session.specs.Durable.{DurableKept, Durably, LeavesSettled, LeavesStore, DurableProceeds, DurableSession, UnlessQuiet}
-use Rattle.fetch_session.specs.Durable.{DurableUnready}
-use Rattle.fetch_session.specs.{Mbox.intent_of, Report.Reports, declared.fault.Cut.Cut, declared.report.ReportLine.ReportLine}
-use Rattle.fetch_session.specs.CarryingOut.{Carried, Carries, tasks_ahead}
-use Rattle.fetch_session.specs.Readiness.{AreDurable, IsFileKept, IsMerged, IsMergedAtMost, merged_in}
-use Rattle.fetch_session.specs.Record.{Keeps, record_state, with_open}
-use Rattle.fetch_session.specs.Scene.{EntryNotSaved, NoEntry, Scene, Stops, scene}
-use Rattle.fetch_session.specs.Session.{Enters_with, LeavesLink, MboxAccountFiles, MboxSession, Noted, Proceeds, SessionIn, keeps_entries}
-use Rattle.fetch_session.specs.Session.{mbox_account_files, outcome_of}
-use Rattle.fetch_session.specs.Target.{AsEntries, Stores, closed_file, in_mbox, mail_in}
-use Rattle.fetch_session.specs.declared.account.Store.TheVariants.{Mboxrd as InMbox}
-use Rattle.fetch_session.specs.declared.report.Skips.{Skips}
-use Rattle.fetch_runs.specs.{Below.Below, Steps.mbox_holds}
-use Rattle.fetch_runs.specs.Losses.{TrustsMbox, IsMboxSafe}
-use Rattle.fetch_runs.specs.Promises.{Base, Call, Devices, HoldsEntries, IsMaildrop, IsMboxFront, IsOpenFor, ShowsNext, Stands}
-use Rattle.fetch_runs.specs.Sessions.{MboxMail, Served, entry_intent, settled}
-use Rattle.fetch_runs.proofs.LeftRecords.{grown_reads}
-use Rattle.fetch_runs.proofs.Lists.{delivered_unheld, same_held}
-use Rattle.fetch_runs.proofs.MboxPromised.{bytes_of, ends_whole, entered, front_after, holds_after, next_is, open_row, opened_after}
-use Rattle.fetch_runs.proofs.MboxPromised.{settled_is}
-use Rattle.fetch_runs.proofs.MboxState.{LeavesWhole, bytes_after, bytes_settled, carried_starts, mbox_figures, mbox_inputs, mid_content}
-use Rattle.fetch_runs.proofs.MboxState.{same_looked, whole_in, whole_refused, whole_unsaved}
-use Rattle.fetch_runs.proofs.Steps.{mbox_honest, retrieved_is}
-use Rattle.fetch_runs.proofs.Talk.{Planned, session_spoke}
-use Rattle.fetch_runs.proofs.Tasks.{Starts, rows_after}
-use Rattle.fetch_runs.proofs.Turns.{Course, effect_of}
+use Rattle.fetch_rules.specs.{Plan.{IsQuiet, planned}, Wanted.none_odd}
+use Rattle.mail_store.{
+  specs.{Durable.{MayLeave, seen_on}, FlatFile.Stored, Mboxrd.entry_of, Settling.MayBeLeft},
+  specs.declared.file.flat_file.FlatFile.Ghosts as FileGhosts,
+  proofs.{DiskLemmas.{may_arrive, may_now}, SettlingLemmas.all_left},
+}
+use Rattle.fetch_session.specs.{
+  Durable.{AreTrusted, DurableCarries, IsCutLeft, IsEntryLeft, IsGrownAtMost, IsSafeFile, DurableKept, Durably, LeavesSettled, LeavesStore},
+  Durable.{DurableProceeds, DurableSession, UnlessQuiet, DurableUnready},
+  Mbox.intent_of,
+  Report.Reports,
+  declared.{fault.Cut.Cut, report.{ReportLine.ReportLine, Skips.Skips}, account.Store.TheVariants.Mboxrd as InMbox},
+  CarryingOut.{Carried, Carries, tasks_ahead},
+  Readiness.{AreDurable, IsFileKept, IsMerged, IsMergedAtMost, merged_in},
+  Record.{Keeps, record_state, with_open},
+  Scene.{EntryNotSaved, NoEntry, Scene, Stops, scene},
+  Session.{Enters_with, LeavesLink, MboxAccountFiles, MboxSession, Noted, Proceeds, SessionIn, keeps_entries, mbox_account_files},
+  Session.outcome_of,
+  Target.{AsEntries, Stores, closed_file, in_mbox, mail_in},
+}
+use Rattle.fetch_runs.{
+  specs.{Below.Below, Steps.mbox_holds, Losses.{TrustsMbox, IsMboxSafe}, Sessions.{MboxMail, Served, entry_intent, settled}},
+  specs.Promises.{Base, Call, Devices, HoldsEntries, IsMaildrop, IsMboxFront, IsOpenFor, ShowsNext, Stands},
+  proofs.{LeftRecords.grown_reads, Lists.{delivered_unheld, same_held}, Steps.{mbox_honest, retrieved_is}, Talk.{Planned, session_spoke}},
+  proofs.MboxPromised.{bytes_of, ends_whole, entered, front_after, holds_after, next_is, open_row, opened_after, settled_is},
+  proofs.MboxState.{LeavesWhole, bytes_after, bytes_settled, carried_starts, mbox_figures, mbox_inputs, mid_content, same_looked, whole_in},
+  proofs.MboxState.{whole_refused, whole_unsaved},
+  proofs.{Tasks.{Starts, rows_after}, Turns.{Course, effect_of}},
+}
 
 -- ---- accounts like one that holds entries
 

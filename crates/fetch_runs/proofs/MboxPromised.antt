@@ -1,33 +1,30 @@
 -- With an mboxrd file, each session that reads only what is new appends entries and keeps its promises.
-use Rattle.std.proofs.Common.{subst, not, length, None, Option, Some, map, ◌⊎◌, slice_get, zero, ◌≡◌, inl, inr, ℕ, List}
-use Rattle.std.proofs.Common.{[], ◌∷◌, ◌++◌, true, false, refl, sym, ◌∙◌, ap, suc, ◌||◌, take, arith, append_assoc}
-use Rattle.std.specs.Prelude.{bytes_eq, ◌↔◌}
-use Rattle.std.specs.List.{AllByRecursion, count_by, filter}
-use Rattle.std.proofs.lemmas.Bool.{both_ways, false_from_ne_true, or_left, or_right, or_parts}
-use Rattle.std.proofs.lemmas.List.{append-nil, map-append, take_all}
-use Rattle.std.proofs.Math.Bool.{or-false, or_assoc}
-use Rattle.std.proofs.Math.Logic.{⊎_elim, ⊎_map}
+use Rattle.std.{
+  proofs.Common.{subst, not, length, None, Option, Some, map, ◌⊎◌, slice_get, zero, ◌≡◌, inl, inr, ℕ, List, [], ◌∷◌, ◌++◌, true, false, ap},
+  proofs.Common.{refl, sym, ◌∙◌, suc, ◌||◌, take, arith, append_assoc},
+  proofs.lemmas.{Bool.{both_ways, false_from_ne_true, or_left, or_right, or_parts}, Grind.flat_map-append, Option.same_Some},
+  proofs.lemmas.List.{append-nil, map-append, take_all, Folds.flat_map-map},
+  proofs.Math.{Bool.{or-false, or_assoc}, Logic.{⊎_elim, ⊎_map}},
+  specs.{Prelude.{bytes_eq, ◌↔◌}, List.{AllByRecursion, count_by, filter}},
+}
 use Rattle.mail_terms.specs.{UniqueId.has_id, Listing.Item}
-use Rattle.mail_store.specs.Mboxrd.{entry_of}
-use Rattle.mail_store.specs.Settling.{MayBeLeft, listed_size}
-use Rattle.mail_store.proofs.SettlingLemmas.{all_left, part_left}
-use Rattle.std.proofs.{lemmas.Grind.flat_map-append, lemmas.Option.same_Some, lemmas.List.Folds.flat_map-map}
-use Rattle.fetch_runs.specs.Sessions.{AreTexts, Effect, IsHonest, SendsOnly, IsBegun, Served, is_retr, MboxMail, settled, mbox_rows}
-use Rattle.fetch_runs.specs.Sessions.{mbox_wanted, entries, IsBroken, MboxLeaves, MboxStores, entries_of, MboxSessionOverLink}
-use Rattle.fetch_record.specs.Record.{Intent, marked, is_delivered, Row, has_row, marked_all}
-use Rattle.fetch_record.specs.RecordMeaning.{FileStandsFor}
+use Rattle.mail_store.{specs.{Mboxrd.entry_of, Settling.{MayBeLeft, listed_size}}, proofs.SettlingLemmas.{all_left, part_left}}
+use Rattle.fetch_runs.{
+  specs.Sessions.{AreTexts, Effect, IsHonest, SendsOnly, IsBegun, Served, is_retr, MboxMail, settled, mbox_rows, mbox_wanted, entries},
+  specs.Sessions.{IsBroken, MboxLeaves, MboxStores, entries_of, MboxSessionOverLink},
+  specs.{Accounts.message_ids, Below.Below},
+  specs.Promises.{IsOf, IsMaildrop, ShowsNext, Call, Base, is_entered, IsOpenFor, Stands, HoldsEntries, IsMboxFront, MboxPromises},
+  specs.Promises.{MboxStarts, AppendsMail},
+  proofs.{Promised.sends_such, Safety.mbox_served_session},
+  proofs.Core.{BeginsWith, next_in, added, added_begins, prefix_after, all_added, parts_apart, IsNumbered, num_item, Fetch, all_wanted, qs},
+  proofs.Core.{distinct_wanted, fetches_wanted, wanted_is, taken_is, texts_are, wanted_ids, none_recorded, wants, wants_placed, has_listed},
+  proofs.Core.{length_is, mbox_fetched},
+  proofs.Lists.{all_ids_at, distinct_filter, filter_all, other_id, bytes_self, Distinct, distinct_is, are_distinct, all_map, all_take},
+  proofs.Lists.{all_append, all_back, all_mapped, members, ids_both, bytes_swap, delivered_unheld, delivered_one, delivered_all},
+}
+use Rattle.fetch_record.specs.{Record.{Intent, marked, is_delivered, Row, has_row, marked_all}, RecordMeaning.FileStandsFor}
 use Rattle.pop3_wire.specs.World.{Message}
-use Rattle.fetch_runs.specs.{Accounts.message_ids, Below.Below}
-use Rattle.fetch_runs.specs.Promises.{IsOf, IsMaildrop, ShowsNext, Call, Base, is_entered, IsOpenFor, Stands}
-use Rattle.fetch_runs.specs.Promises.{HoldsEntries, IsMboxFront, MboxPromises, MboxStarts, AppendsMail}
-use Rattle.fetch_runs.proofs.{Promised.sends_such, Safety.mbox_served_session}
 use Rattle.fetch_rules.specs.Wanted.{none_odd}
-use Rattle.fetch_runs.proofs.Core.{BeginsWith, next_in, added, added_begins, prefix_after, all_added, parts_apart, IsNumbered, num_item}
-use Rattle.fetch_runs.proofs.Core.{Fetch, all_wanted, distinct_wanted, fetches_wanted, wanted_is, taken_is, texts_are, wanted_ids}
-use Rattle.fetch_runs.proofs.Core.{none_recorded, qs, wants, wants_placed, has_listed, length_is, mbox_fetched}
-use Rattle.fetch_runs.proofs.Lists.{all_ids_at, distinct_filter, filter_all, other_id, bytes_self, Distinct}
-use Rattle.fetch_runs.proofs.Lists.{distinct_is, are_distinct, all_map, all_take, all_append, all_back, all_mapped}
-use Rattle.fetch_runs.proofs.Lists.{members, ids_both, bytes_swap, delivered_unheld, delivered_one, delivered_all}
 use Rattle.fetch_session.specs.{Target.none_held, declared.report.Outcome.TheVariants.Ended}
 
 -- ---- distinct lists of messages

@@ -1,40 +1,37 @@
 -- What a session leaves of an account with an mboxrd file: the texts that its tasks appended, and the intent of the next one.
-use Rattle.std.proofs.Common.{◌≡◌, ◌+◌, ℕ, true, false, List, ◌∷◌, ◌++◌, map, Option, Some, refl, sym, ap, append_assoc}
-use Rattle.std.proofs.Common.{arith, take, ◌∙◌, ⊎_elim, ◌⊎◌, inl, inr, None, Result, Ok, Err, []}
-use Rattle.std.specs.List.{AllByRecursion}
-use Rattle.std.proofs.lemmas.List.{append-nil, take_at, length-map, map-append}
-use Rattle.std.proofs.{lemmas.List.Concat.flat_map-append, lemmas.Simd.map-map, lemmas.Option.same_Some}
+use Rattle.std.{
+  proofs.Common.{◌≡◌, ◌+◌, ℕ, true, false, List, ◌∷◌, ◌++◌, map, Option, Some, refl, sym, ap, append_assoc, arith, take, ◌∙◌, ⊎_elim, ◌⊎◌},
+  proofs.Common.{inl, inr, None, Result, Ok, Err, []},
+  proofs.lemmas.{List.{append-nil, take_at, length-map, map-append, Concat.flat_map-append}, Simd.map-map, Option.same_Some},
+  specs.List.AllByRecursion,
+}
 use Rattle.mail_terms.specs.Listing.{Item}
 use Rattle.rc_file.specs.declared.settings.Settings.{Settings}
 use Rattle.fetch_record.specs.Record.{Row, marked, RecordState, none_open, Intent}
-use Rattle.fetch_session.specs.Task.{Task, stores, rereads, Done, IsAnswered, tasks_of, texts_in, done_texts}
-use Rattle.fetch_session.specs.Target.{Stores, no_maildir, AsEntries, mail_in, closed_file, closed_rows_in}
+use Rattle.fetch_session.{
+  specs.{Task.{Task, stores, rereads, Done, IsAnswered, tasks_of, texts_in, done_texts}, CarryingOut.{Carried, tasks_ahead as tasks_for}},
+  specs.{Target.{Stores, no_maildir, AsEntries, mail_in, closed_file, closed_rows_in}, Record.{Keeps, Steady, record_state, with_open}},
+  specs.declared.{fault.{Cut.Cut, Fault.{Fault, TheVariants.{SeenRefused, NoMemory, StoreRefused}}}, report.Report.Report},
+  specs.{Scene.{Scene, Went, Fell, NoEntry, Stops, Does, EntryNotSaved}, Session.{outcome_of, Keeping, Noted, Proceeds}},
+  specs.{Readiness.{IsSettledBy, SettlesStore}, Laws.{SteadyFilesKeep, UnsavedFilesKeep}},
+  specs.Mbox.{IsTakenBack, RefusesAgain, RefusesEntry, intent_of},
+  proofs.TextLemmas.same_content,
+}
 use Rattle.pop3_wire.specs.Reading.{WholeReply}
-use Rattle.fetch_runs.specs.Sessions.{MboxLeaves, MboxStores, IsBroken, settled, entries, bytes_at}
-use Rattle.fetch_runs.proofs.Turns.{found_in, found_by, text_found, Course, course}
-use Rattle.fetch_runs.proofs.Turns.{course_proceeded, stored_done, found_of}
-use Rattle.fetch_runs.proofs.Turns.{course_stopped, course_does, begun_of, effect_of}
-use Rattle.fetch_runs.proofs.Lists.{at_length, mapped_at, same_held as same_record}
-use Rattle.fetch_runs.specs.{Below.Below, Steps.mbox_holds}
-use mathlib.Core.Logic.{⊎_map}
+use Rattle.fetch_runs.{
+  specs.{Sessions.{MboxLeaves, MboxStores, IsBroken, settled, entries, bytes_at}, Below.Below, Steps.mbox_holds},
+  proofs.Turns.{found_in, found_by, text_found, Course, course, course_proceeded, stored_done, found_of, course_stopped, course_does},
+  proofs.Turns.{begun_of, effect_of},
+  proofs.{Lists.{at_length, mapped_at, same_held as same_record}, State.{CourseLeads, by_course}},
+  proofs.Tasks.{key, fetched_in, fetched, IsRight, Inputs, rows_on, tasks_on, messages_on, texts_by, count, same_length, rows_after, Part},
+  proofs.Tasks.{right_part, wanted_are, records_part, is_ended, Starts, or_less, Tally, not_ended, tally_begun, tally_number, tally_none},
+  proofs.Tasks.{tally_recorded, mid_rows, mid_keeps, part_all, tally_all, part_done, tally_no_line, full_found, tally_spare, tally_old},
+  proofs.Tasks.{tally_new, full_rows},
+}
 use Rattle.mail_store.specs.{FlatFile.Stored, Mboxrd.entry_of}
 use Rattle.pop3_client.specs.Texts.{body_text}
-use Rattle.fetch_session.specs.{declared.fault.Cut.Cut, declared.fault.Fault.Fault, declared.report.Report.Report}
-use Rattle.fetch_session.specs.declared.fault.Fault.TheVariants.{SeenRefused, NoMemory, StoreRefused}
-use Rattle.fetch_session.specs.CarryingOut.{Carried, tasks_ahead as tasks_for}
-use Rattle.fetch_session.specs.Record.{Keeps, Steady, record_state, with_open}
-use Rattle.fetch_session.specs.Scene.{Scene, Went, Fell, NoEntry, Stops, Does, EntryNotSaved}
-use Rattle.fetch_session.specs.Session.{outcome_of, Keeping, Noted, Proceeds}
-use Rattle.fetch_session.specs.Readiness.{IsSettledBy, SettlesStore}
-use Rattle.fetch_session.specs.Laws.{SteadyFilesKeep, UnsavedFilesKeep}
-use Rattle.fetch_session.specs.Mbox.{IsTakenBack, RefusesAgain, RefusesEntry, intent_of}
+use mathlib.Core.Logic.{⊎_map}
 use Rattle.fetch_session.specs.declared.fault.Why.TheVariants as why
-use Rattle.fetch_runs.proofs.Tasks.{key, fetched_in, fetched, IsRight, Inputs, rows_on, tasks_on, messages_on, texts_by, count}
-use Rattle.fetch_runs.proofs.Tasks.{same_length, rows_after, Part, right_part, wanted_are, records_part, is_ended, Starts}
-use Rattle.fetch_runs.proofs.Tasks.{or_less, Tally, not_ended, tally_begun, tally_number, tally_recorded, tally_none, mid_rows, mid_keeps}
-use Rattle.fetch_runs.proofs.Tasks.{part_all, tally_all, part_done, tally_no_line, full_found, tally_spare, tally_old, tally_new, full_rows}
-use Rattle.fetch_runs.proofs.State.{CourseLeads, by_course}
-use Rattle.fetch_session.proofs.TextLemmas.{same_content}
 
 -- the file was only looked at
 pub same_looked : (old new : Stores) (fault : Fault) → RefusesAgain old fault new → new.mbox.content ≡ old.mbox.content

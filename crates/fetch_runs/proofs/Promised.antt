@@ -1,33 +1,31 @@
 -- One session of an account with a Maildir, from a state with the invariant, keeps its promises and leaves a state with the
 -- invariant, and so do others.
-use Rattle.std.proofs.Common.{◌≡◌, ◌⊎◌, inl, inr, ◌-◌, ℕ, List, [], ◌∷◌, ◌++◌, Bool, true, false, length, map, refl}
-use Rattle.std.proofs.Common.{sym, subst, ◌∙◌, ap, ap₂, arith, not, cond, ◌&&◌, ◌||◌, take, drop}
-use Rattle.std.specs.Prelude.{bytes_eq, ◌↔◌}
-use Rattle.std.specs.List.{AllByRecursion, count_by, filter}
-use Rattle.std.proofs.lemmas.Bool.{cases_Bool, both_ways, or_left, or_right, or_cases, and_parts, false_from_ne_true, not-true}
-use Rattle.std.proofs.lemmas.List.{append-nil, map-append}
-use Rattle.std.proofs.lemmas.List.Elements.{filter-append}
-use Rattle.std.proofs.Math.Logic.{⊎_elim, ⊎_map}
-use Rattle.mail_terms.specs.UniqueId.{is_legal_id, has_id}
-use Rattle.mail_terms.specs.Listing.{Item, has_item}
-use Rattle.pop3_wire.specs.{World.Message, declared.command.Command.Command, declared.command.Command.TheVariants.Dele}
+use Rattle.std.{
+  proofs.Common.{◌≡◌, ◌⊎◌, inl, inr, ◌-◌, ℕ, List, [], ◌∷◌, ◌++◌, Bool, true, false, length, map, refl, sym, subst, ◌∙◌, ap, ap₂, arith},
+  proofs.Common.{not, cond, ◌&&◌, ◌||◌, take, drop},
+  proofs.lemmas.Bool.{cases_Bool, both_ways, or_left, or_right, or_cases, and_parts, false_from_ne_true, not-true},
+  proofs.lemmas.List.{append-nil, map-append, Elements.filter-append},
+  proofs.Math.Logic.{⊎_elim, ⊎_map},
+  specs.{Prelude.{bytes_eq, ◌↔◌}, List.{AllByRecursion, count_by, filter}},
+}
+use Rattle.mail_terms.specs.{UniqueId.{is_legal_id, has_id}, Listing.{Item, has_item}, MaildirName.base}
+use Rattle.pop3_wire.specs.{World.Message, declared.command.Command.{Command, TheVariants.Dele}}
 use Rattle.fetch_record.specs.Record.{is_delivered, Row}
-use Rattle.mail_store.specs.Maildir.{File, file as file_of}
-use Rattle.mail_terms.specs.MaildirName.{base}
-use Rattle.mail_store.specs.FileName.{names_id, name_of, stem, is_held, is_odd, stem_of, IsAccountText}
-use Rattle.fetch_runs.specs.Accounts.{message_ids, item_of, listing_of, texts_of, AccountMail, copies, files, has_named, without_flags}
-use Rattle.fetch_runs.specs.Sessions.{Effect, Leaves, StoresTexts, IsHonest, wanted_at, merged_rows, ids_wanted}
-use Rattle.fetch_runs.specs.Sessions.{SendsOnly, IsBegun, Served, SessionOverLink, is_retr}
-use Rattle.fetch_runs.specs.Below.{Below}
-use Rattle.fetch_runs.specs.Promises.{Mail, IsOf, IsMaildrop, State, is_safe, IsSafe, state_with, DeletesOneOf}
-use Rattle.fetch_runs.specs.Promises.{ShowsNext, IsFront, Promises, Invariant, Call, IsBetween}
-use Rattle.fetch_runs.proofs.Core.{added, added_begins, prefix_after, Fetch, all_wanted, distinct_wanted, texts_are, taken_is, wanted_ids}
-use Rattle.fetch_runs.proofs.Core.{none_recorded, fetches_wanted, IsLegal, wants, stored_files, message_file, has_listed, fetched, order}
-use Rattle.fetch_runs.proofs.Lists.{ids_both, ids_filtered, any_filter, same_tests, is_some, Distinct, distinct_is, each_text, all_map}
-use Rattle.fetch_runs.proofs.Lists.{all_filter, all_take, all_append, all_at, all_both, all_ids_at, all_passing, members, no_texts}
-use Rattle.fetch_runs.proofs.Lists.{has_texts, texts_filtered, taken_more, delivered_marked, delivered_merged, marks_stay, mapped_at}
+use Rattle.mail_store.specs.{Maildir.{File, file as file_of}, FileName.{names_id, name_of, stem, is_held, is_odd, stem_of, IsAccountText}}
+use Rattle.fetch_runs.{
+  specs.{Accounts.{message_ids, item_of, listing_of, texts_of, AccountMail, copies, files, has_named, without_flags}, Below.Below},
+  specs.Sessions.{Effect, Leaves, StoresTexts, IsHonest, wanted_at, merged_rows, ids_wanted, SendsOnly, IsBegun, Served, SessionOverLink},
+  specs.Sessions.is_retr,
+  specs.Promises.{Mail, IsOf, IsMaildrop, State, is_safe, IsSafe, state_with, DeletesOneOf, ShowsNext, IsFront, Promises, Invariant, Call},
+  specs.Promises.IsBetween,
+  proofs.Core.{added, added_begins, prefix_after, Fetch, all_wanted, distinct_wanted, texts_are, taken_is, wanted_ids, none_recorded},
+  proofs.Core.{fetches_wanted, IsLegal, wants, stored_files, message_file, has_listed, fetched, order},
+  proofs.Lists.{ids_both, ids_filtered, any_filter, same_tests, is_some, Distinct, distinct_is, each_text, all_map, all_filter, all_take},
+  proofs.Lists.{all_append, all_at, all_both, all_ids_at, all_passing, members, no_texts, has_texts, texts_filtered, taken_more, mapped_at},
+  proofs.Lists.{delivered_marked, delivered_merged, marks_stay},
+  proofs.Safety.served_session,
+}
 use Rattle.fetch_session.specs.declared.report.Outcome.TheVariants.{Ended}
-use Rattle.fetch_runs.proofs.Safety.{served_session}
 
 -- ---- held
 

@@ -1,43 +1,38 @@
 -- What a session sent and left is safe, whatever its server says; and what an honest one makes of it.
-use Rattle.std.proofs.Common.{◌≡◌, inl, inr, ◌≤◌, ◌<◌, ◌-◌, ℕ, suc, Bool, true, false, List, ◌∷◌, ◌++◌, map, take}
-use Rattle.std.proofs.Common.{zip, length, refl, sym, ap, ◌∙◌, arith, append_assoc, length-take, get_or-take, ◌⊎◌}
-use Rattle.std.proofs.Common.{Some, slice_get, slice_set, zero, subst, None, []}
-use Rattle.std.specs.Prelude.{bytes_eq, is_none}
-use Rattle.std.specs.List.{filter, AllByRecursion}
-use Rattle.std.proofs.lemmas.Bool.{or_cases, and_parts, cases_Bool, true≢false, both_ways}
-use Rattle.std.proofs.lemmas.List.{append-nil, map-append, take-map, length-map, take_all}
-use Rattle.std.proofs.{lemmas.List.Elements.filter-append, lemmas.Grind.flat_map-append}
-use Rattle.std.proofs.lemmas.List.Folds.{list_any_at, flat_map-map}
-use Rattle.std.proofs.lemmas.Option.{slice_get_within, get_or_from_slice_get, same_Some, slice_get-map}
-use Rattle.std.proofs.Math.Logic.{⊎_elim, ⊎_map}
-use Rattle.mail_terms.specs.Listing.{Item, numbered, is_first}
-use Rattle.fetch_rules.specs.Wanted.{none_odd, skip_of, wanted}
-use Rattle.fetch_rules.proofs.PlanLemmas.{parts_for}
+use Rattle.std.{
+  proofs.Common.{◌≡◌, inl, inr, ◌≤◌, ◌<◌, ◌-◌, ℕ, suc, Bool, true, false, List, ◌∷◌, ◌++◌, map, take, zip, length, refl, sym, ap, ◌∙◌, ◌⊎◌},
+  proofs.Common.{arith, append_assoc, length-take, get_or-take, Some, slice_get, slice_set, zero, subst, None, []},
+  proofs.lemmas.{Bool.{or_cases, and_parts, cases_Bool, true≢false, both_ways}, Grind.flat_map-append},
+  proofs.lemmas.List.{append-nil, map-append, take-map, length-map, take_all, Elements.filter-append, Folds.{list_any_at, flat_map-map}},
+  proofs.lemmas.Option.{slice_get_within, get_or_from_slice_get, same_Some, slice_get-map},
+  proofs.Math.Logic.{⊎_elim, ⊎_map},
+  specs.{Prelude.{bytes_eq, is_none}, List.{filter, AllByRecursion}, Option.option_map},
+}
+use Rattle.mail_terms.specs.{Listing.{Item, numbered, is_first}, UniqueId.has_id, Text.IsWhole}
+use Rattle.fetch_rules.{specs.Wanted.{none_odd, skip_of, wanted}, proofs.PlanLemmas.parts_for}
 use Rattle.rc_file.specs.declared.settings.Settings.{Settings}
 use Rattle.fetch_record.specs.Record.{Row, is_delivered}
-use Rattle.mail_store.specs.FileName.{is_held, is_odd, mail_file}
-use Rattle.mail_store.specs.Mboxrd.{entry_of, MboxFile, EntryAddsText}
-use Rattle.mail_terms.specs.{UniqueId.has_id, Text.IsWhole}
-use Rattle.fetch_runs.specs.Accounts.{AccountMail, without_flags, item_of, listing_of}
-use Rattle.fetch_runs.specs.Sessions.{Effect, StoresTexts, file_for, is_unheld, ids_wanted, wanted_at, merged_rows}
-use Rattle.fetch_runs.specs.Sessions.{IsHonest, AreTexts, IsBegun, SendsOnly, ReadsReplies, Served, IsNumbered, Leaves}
-use Rattle.fetch_runs.specs.Sessions.{Retrieves, SessionOverLink, MboxMail, settled, mbox_rows, mbox_wanted, entries}
-use Rattle.fetch_runs.specs.Sessions.{IsBroken, MboxStores, MboxLeaves, AsksForNone, MboxSessionOverLink}
-use Rattle.pop3_wire.specs.{declared.command.Command.Command, World.Message, Reading.WholeReply, Place.at}
-use Rattle.pop3_wire.specs.declared.command.Command.TheVariants.{Dele, User, Pass, Stat, UidlAll, ListAll, Rset, Retr}
-use Rattle.fetch_runs.specs.Steps.{IsAmong, WasFetched, DeletesAllowed, StandsAfter, IsIn, AddsTexts, AppendsMessages}
-use Rattle.fetch_runs.specs.Steps.{BringsMessages, IsSafeSession, MboxIsSafe}
-use Rattle.fetch_runs.specs.Below.{Below}
-use Rattle.fetch_runs.proofs.Core.{IsNumbered as IsPlaced, are_numbered, fetched, mbox_fetched, order}
-use Rattle.std.specs.Option.{option_map}
-use Rattle.pop3_wire.specs.Honest.{Grants, Replies, no_marks, Honest}
-use Rattle.fetch_runs.proofs.Listed.{honest_is_granted, listing_is_maildrop, texts_are_messages}
-use Rattle.fetch_runs.proofs.Lists.{all_map, all_both, all_filter, all_passing, bytes_same, bytes_self, taken_more, all_ids_at}
-use Rattle.fetch_runs.proofs.Lists.{delivered_marked, delivered_merged, delivered_unheld, all_back, all_take, all_mapped}
-use Rattle.mail_store.specs.Maildir.{File}
-use Rattle.fetch_session.specs.{declared.report.Outcome.TheVariants.Ended, declared.report.Report.Report}
-use Rattle.fetch_runs.proofs.Turns.{text_found}
-use Rattle.fetch_session.proofs.TextLemmas.{text_whole}
+use Rattle.mail_store.specs.{FileName.{is_held, is_odd, mail_file}, Mboxrd.{entry_of, MboxFile, EntryAddsText}, Maildir.File}
+use Rattle.fetch_runs.{
+  specs.{Accounts.{AccountMail, without_flags, item_of, listing_of}, Below.Below},
+  specs.Sessions.{Effect, StoresTexts, file_for, is_unheld, ids_wanted, wanted_at, merged_rows, IsHonest, AreTexts, IsBegun, SendsOnly},
+  specs.Sessions.{ReadsReplies, Served, IsNumbered, Leaves, Retrieves, SessionOverLink, MboxMail, settled, mbox_rows, mbox_wanted, entries},
+  specs.Sessions.{IsBroken, MboxStores, MboxLeaves, AsksForNone, MboxSessionOverLink},
+  specs.Steps.{IsAmong, WasFetched, DeletesAllowed, StandsAfter, IsIn, AddsTexts, AppendsMessages, BringsMessages, IsSafeSession},
+  specs.Steps.MboxIsSafe,
+  proofs.{Core.{IsNumbered as IsPlaced, are_numbered, fetched, mbox_fetched, order}, Turns.text_found},
+  proofs.Listed.{honest_is_granted, listing_is_maildrop, texts_are_messages},
+  proofs.Lists.{all_map, all_both, all_filter, all_passing, bytes_same, bytes_self, taken_more, all_ids_at, delivered_marked, all_back},
+  proofs.Lists.{delivered_merged, delivered_unheld, all_take, all_mapped},
+}
+use Rattle.pop3_wire.specs.{
+  declared.command.Command.{Command, TheVariants.{Dele, User, Pass, Stat, UidlAll, ListAll, Rset, Retr}},
+  World.Message,
+  Reading.WholeReply,
+  Place.at,
+  Honest.{Grants, Replies, no_marks, Honest},
+}
+use Rattle.fetch_session.{specs.declared.report.{Outcome.TheVariants.Ended, Report.Report}, proofs.TextLemmas.text_whole}
 
 -- ---- one message of an id
 

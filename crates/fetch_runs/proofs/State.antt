@@ -1,35 +1,33 @@
 -- What a session leaves of an account with a Maildir, for each way that its tasks can take.
-use Rattle.std.proofs.Common.{◌≡◌, ℕ, false, List, ◌∷◌, ◌++◌, map, Option, refl, sym, ap, append_assoc}
-use Rattle.std.proofs.Common.{arith, ◌∙◌, ⊎_elim, ◌⊎◌, inl, inr, None, Result, Ok, Err, []}
-use Rattle.std.proofs.lemmas.List.{append-nil, map-append}
-use Rattle.std.proofs.lemmas.List.Concat.{flat_map-append}
+use Rattle.std.proofs.{
+  Common.{◌≡◌, ℕ, false, List, ◌∷◌, ◌++◌, map, Option, refl, sym, ap, append_assoc, arith, ◌∙◌, ⊎_elim, ◌⊎◌, inl, inr, None, Result, Ok},
+  Common.{Err, []},
+  lemmas.List.{append-nil, map-append, Concat.flat_map-append},
+}
 use Rattle.mail_terms.specs.Listing.{Item}
 use Rattle.rc_file.specs.declared.settings.Settings.{Settings}
 use Rattle.fetch_record.specs.Record.{Row, marked, none_open}
-use Rattle.mail_store.specs.Maildir.{Maildir, File}
-use Rattle.mail_store.specs.{FileName.stem_of, FlatFile.Stored}
-use Rattle.fetch_session.specs.Task.{Task, stores, Done, files_in, files_of, file_from}
-use Rattle.fetch_session.specs.Target.{AsFiles, in_maildir, Target, Stores}
+use Rattle.mail_store.specs.{Maildir.{Maildir, File}, FileName.stem_of, FlatFile.Stored}
+use Rattle.fetch_session.{
+  specs.{Task.{Task, stores, Done, files_in, files_of, file_from}, Target.{AsFiles, in_maildir, Target, Stores}, Record.KeepsRows},
+  specs.declared.fault.{Cut.Cut, Fault.TheVariants.StoreRefused},
+  specs.declared.report.{Outcome.TheVariants.Cut as WasCut, ReportLine.ReportLine, Report.Report},
+  specs.{Store.RefusesText, CarryingOut.{Unprepared, Carried, Carries}},
+  specs.Scene.{Scene, scene, Went, Fell, NoFile, FileNotSaved, Stops, Does},
+  specs.Session.{outcome_of, Keeping, Noted, Proceeds, AccountFiles, keeping, keeps_files},
+  proofs.TakenLemmas.unready_same,
+}
 use Rattle.pop3_wire.specs.{Reading.WholeReply, declared.command.Command.Command}
-use Rattle.fetch_runs.specs.Sessions.{StopsAtList, StoresTexts as Did}
-use Rattle.fetch_runs.proofs.Turns.{deleted_by, text_found, Course, course, SessionCourse, Idle}
-use Rattle.fetch_runs.proofs.Turns.{Deals, course_carried, course_carries, course_proceeded, stored_done, found_of}
-use Rattle.fetch_runs.proofs.Turns.{spare_in, course_stopped, course_does, begun_of, effect_of}
-use Rattle.fetch_runs.proofs.Lists.{same_rows}
-use Rattle.fetch_runs.specs.{Below.Below, Accounts.without_flags, Steps.holds}
+use Rattle.fetch_runs.{
+  specs.{Sessions.{StopsAtList, StoresTexts as Did}, Below.Below, Accounts.without_flags, Steps.holds},
+  proofs.Turns.{deleted_by, text_found, Course, course, SessionCourse, Idle, Deals, course_carried, course_carries, course_proceeded},
+  proofs.Turns.{stored_done, found_of, spare_in, course_stopped, course_does, begun_of, effect_of},
+  proofs.Lists.same_rows,
+  proofs.Tasks.{tasks_ahead, Inputs, rows_on, count, rows_after, records_part, files_part, is_ended, Starts, Tally, tally_begun, mid_rows},
+  proofs.Tasks.{tally_number, tally_none, mid_keeps, tally_all, tally_no_line, tally_spare, tally_old, tally_new, full_rows},
+}
 use mathlib.Core.Logic.{⊎_map}
-use Rattle.fetch_session.specs.{declared.fault.Cut.Cut, declared.fault.Fault.TheVariants.StoreRefused}
-use Rattle.fetch_session.specs.declared.report.Outcome.TheVariants.{Cut as WasCut}
-use Rattle.fetch_session.specs.{declared.report.ReportLine.ReportLine, Record.KeepsRows, Store.RefusesText, declared.report.Report.Report}
-use Rattle.fetch_session.specs.CarryingOut.{Unprepared, Carried, Carries}
-use Rattle.fetch_session.specs.Scene.{Scene, scene, Went, Fell, NoFile, FileNotSaved, Stops, Does}
-use Rattle.fetch_session.specs.Session.{outcome_of, Keeping, Noted, Proceeds, AccountFiles, keeping, keeps_files}
 use Rattle.fetch_session.specs.declared.fault.Why.TheVariants as why
-use Rattle.fetch_runs.proofs.Tasks.{tasks_ahead, Inputs, rows_on, count}
-use Rattle.fetch_runs.proofs.Tasks.{rows_after, records_part, files_part, is_ended, Starts}
-use Rattle.fetch_runs.proofs.Tasks.{Tally, tally_begun, tally_number, tally_none, mid_rows, mid_keeps}
-use Rattle.fetch_runs.proofs.Tasks.{tally_all, tally_no_line, tally_spare, tally_old, tally_new, full_rows}
-use Rattle.fetch_session.proofs.TakenLemmas.{unready_same}
 
 -- ---- of a session
 

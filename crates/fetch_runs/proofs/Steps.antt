@@ -1,33 +1,39 @@
 -- A session of the code is a step: what its link gained and what it left, together.
-use Rattle.std.proofs.Common.{◌≡◌, inl, inr, ℕ, true, List, ◌∷◌, ◌++◌, length, refl, sym, ap, ◌∙◌, ◌⊎◌, Ok, Err, []}
-use Rattle.std.specs.Prelude.{bytes_eq, ◌↔◌}
-use Rattle.std.specs.List.{AllByRecursion, count_by, flat_map}
-use Rattle.std.proofs.lemmas.Bool.{both_ways, or_right}
-use Rattle.std.proofs.{lemmas.List.append-nil, lemmas.List.Folds.list_any-append, lemmas.Grind.flat_map-append}
-use Rattle.mail_terms.specs.{Listing.Item, UniqueId.has_id}
+use Rattle.std.{
+  proofs.Common.{◌≡◌, inl, inr, ℕ, true, List, ◌∷◌, ◌++◌, length, refl, sym, ap, ◌∙◌, ◌⊎◌, Ok, Err, []},
+  proofs.lemmas.{Bool.{both_ways, or_right}, List.{append-nil, Folds.list_any-append}, Grind.flat_map-append},
+  specs.{Prelude.{bytes_eq, ◌↔◌}, List.{AllByRecursion, count_by, flat_map}},
+}
+use Rattle.mail_terms.{specs.{Listing.Item, UniqueId.has_id}, proofs.ListLemmas.both_none}
 use Rattle.rc_file.specs.declared.settings.Settings.{Settings}
 use Rattle.fetch_record.specs.Record.{Row, RecordState}
-use Rattle.fetch_runs.specs.Sessions.{IsBegun, SendsOnly, BeginsOne, Leaves, SessionOverLink, is_retr, tail_behind}
-use Rattle.fetch_runs.specs.Sessions.{AsksForNoMessage, IsHonest, MboxSessionOverLink, Served, mbox_wanted}
-use Rattle.pop3_wire.specs.{World.Message, declared.command.Command.Command, Honest.HasSent, Place.at, Link.Link}
+use Rattle.fetch_runs.{
+  specs.Sessions.{IsBegun, SendsOnly, BeginsOne, Leaves, SessionOverLink, is_retr, tail_behind, AsksForNoMessage, IsHonest, Served},
+  specs.Sessions.{MboxSessionOverLink, mbox_wanted},
+  specs.{Steps.{holds, IsStep, SessionsLoseNothing, IsMboxStep, MboxSessionsLoseNothing, mbox_holds}, Below.Below},
+  proofs.{Lists.{all_map, bytes_self, all_back}, Talk.{name_of, word_of, Spoke, session_spoke, Planned, idle_said, is_tail_for}},
+  proofs.Turns.{Course, course, SessionCourse, Idle, Deals, begun_of, IsOfTask, begins_of, deleted_in, deleted_by, effect_of, tail_for},
+  proofs.Turns.{course_proceeded, found_by, found_in},
+  proofs.Tasks.{IsRight, found_all, count, is_ended, tally_numbers, tally_right},
+  proofs.MboxState.{MboxLeads, Rests, course_leaves, mbox_figures, mbox_inputs},
+  proofs.{State.{CourseLeads, Leads, course_leads, figures, inputs}, Safety.{session_holds, mbox_session_holds, session_honest}},
+}
+use Rattle.pop3_wire.specs.{
+  World.Message,
+  declared.command.Command.{Command, TheVariants.{Dele, User, Pass, Stat, UidlAll, ListAll, Retr}},
+  Honest.HasSent,
+  Place.at,
+  Link.Link,
+}
 use Rattle.mail_store.specs.{FlatFile.Stored, Maildir.Maildir}
-use Rattle.pop3_wire.specs.declared.command.Command.TheVariants.{Dele, User, Pass, Stat, UidlAll, ListAll, Retr}
-use Rattle.fetch_runs.specs.Steps.{holds, IsStep, SessionsLoseNothing, IsMboxStep, MboxSessionsLoseNothing, mbox_holds}
-use Rattle.fetch_runs.specs.Below.{Below}
-use Rattle.fetch_runs.proofs.Lists.{all_map, bytes_self, all_back}
-use Rattle.fetch_session.specs.{declared.report.Outcome.TheVariants.Ended, Report.retrieved_in, declared.report.Report.Report}
-use Rattle.fetch_session.specs.Task.{Task, deletes, Done, report_lines}
-use Rattle.fetch_session.specs.Record.{Keeps, KeepsRows}
-use Rattle.fetch_session.specs.Session.{MboxAccountFiles, keeps_files, outcome_of, Keeping, keeps_entries, SessionIn}
-use Rattle.fetch_session.specs.Target.{AsFiles, AsEntries, mail_in, no_maildir, Target}
-use Rattle.fetch_runs.proofs.Talk.{name_of, word_of, Spoke, session_spoke, Planned, idle_said, is_tail_for}
-use Rattle.fetch_runs.proofs.Turns.{Course, course, SessionCourse, Idle, Deals, begun_of, IsOfTask, begins_of, deleted_in}
-use Rattle.fetch_runs.proofs.Turns.{deleted_by, effect_of, tail_for, course_proceeded, found_by, found_in}
-use Rattle.fetch_runs.proofs.Tasks.{IsRight, found_all, count, is_ended, tally_numbers, tally_right}
-use Rattle.fetch_runs.proofs.MboxState.{MboxLeads, Rests, course_leaves, mbox_figures, mbox_inputs}
-use Rattle.fetch_runs.proofs.State.{CourseLeads, Leads, course_leads, figures, inputs}
-use Rattle.fetch_runs.proofs.Safety.{session_holds, mbox_session_holds, session_honest}
-use Rattle.mail_terms.proofs.ListLemmas.{both_none}
+use Rattle.fetch_session.specs.{
+  declared.report.{Outcome.TheVariants.Ended, Report.Report},
+  Report.retrieved_in,
+  Task.{Task, deletes, Done, report_lines},
+  Record.{Keeps, KeepsRows},
+  Session.{MboxAccountFiles, keeps_files, outcome_of, Keeping, keeps_entries, SessionIn},
+  Target.{AsFiles, AsEntries, mail_in, no_maildir, Target},
+}
 
 -- ---- deletions
 

@@ -1,56 +1,57 @@
 -- The opening of a session, and all that a session said, as commands and replies: each session is one conversation, by
 -- its plan or of the opening alone.
-use Rattle.std.proofs.Common.{◌≡◌, inl, inr, ℕ, List, ◌∷◌, ◌++◌, map, Result, Ok, Err, ◌⊎◌, true, None, Some, refl}
-use Rattle.std.proofs.Common.{sym, ap, ◌∙◌, append_assoc, Bool, Option, ◌≤◌, ◌+◌, length, arith, rules, take}
-use Rattle.std.proofs.Common.{ap₂, ⊎_elim, map-id, subst, cond, false, subst₂, []}
-use Rattle.std.specs.List.{flat_map, count_by, AllByRecursion, AllZip, enumerate_from}
-use Rattle.pop3_wire.specs.{Link.Link, declared.command.Command.Command, Honest.HasSent, declared.reply.Status.TheVariants.Positive}
-use Rattle.pop3_wire.specs.Place.{Place, at}
-use Rattle.pop3_wire.specs.Reading.{WholeReply, reply_bytes}
-use Rattle.pop3_wire.specs.declared.command.Command.TheVariants.{User, Pass, Stat, UidlAll, ListAll, Quit}
-use Rattle.mail_terms.specs.Listing.{Item, Joins, UidRow}
+use Rattle.std.{
+  proofs.Common.{◌≡◌, inl, inr, ℕ, List, ◌∷◌, ◌++◌, map, Result, Ok, Err, ◌⊎◌, true, None, Some, refl, sym, ap, ◌∙◌, append_assoc, Bool},
+  proofs.Common.{Option, ◌≤◌, ◌+◌, length, arith, rules, take, ap₂, ⊎_elim, map-id, subst, cond, false, subst₂, []},
+  proofs.lemmas.List.{append-nil, append_cancel_left, Concat.{flat_map-append, flat_map_single}, Folds.flat_map-map, Sums.sum_by-append},
+  specs.{List.{flat_map, count_by, AllByRecursion, AllZip, enumerate_from}, String.string_bytes},
+}
+use Rattle.pop3_wire.specs.{
+  Link.Link,
+  declared.{command.Command.{Command, TheVariants.{User, Pass, Stat, UidlAll, ListAll, Quit}}, reply.Status.TheVariants.Positive},
+  declared.note.Asked.TheVariants.Greeting as ByGreeting,
+  Honest.HasSent,
+  Place.{Place, at},
+  Reading.{WholeReply, reply_bytes},
+  Fields.number_and_size,
+  Reply.{indicator, without_space},
+}
+use Rattle.mail_terms.{
+  specs.{Listing.{Item, Joins, UidRow}, Credential.is_credential, declared.listing.ScanRow.ScanRow},
+  proofs.ListLemmas.both_none,
+}
 use Rattle.rc_file.specs.{declared.settings.Settings.Settings, Settings.IsValid}
-use Rattle.mail_store.specs.FileName.{is_held, is_odd}
-use Rattle.mail_store.specs.FlatFile.{Stored}
-use Rattle.fetch_session.specs.{declared.fault.Cut.Cut, declared.report.ReportLine.ReportLine, declared.report.Skips.Skips, Fault.fault_of}
-use Rattle.fetch_session.specs.Task.{Task, stores, rereads, Done, tasks_of, says, turns_in, turns_of}
-use Rattle.fetch_session.specs.Task.{IsAnswered, tasks_planned, report_lines, lines_in}
-use Rattle.fetch_session.specs.CarryingOut.{tasks_ahead, Carried, Carries, Prepared}
-use Rattle.fetch_session.specs.Scene.{Scene, scene, Does}
-use Rattle.fetch_session.specs.Session.{Keeping, Dealt, Proceeds, LeavesLink, Enters_with, SessionIn, keeps_entries, keeps_files}
-use Rattle.fetch_session.specs.Target.{Target, AsFiles, AsEntries, Stores, odd_in}
-use mathlib.Core.Logic.{⊎_map}
-use Rattle.std.proofs.lemmas.List.{append-nil, append_cancel_left}
-use Rattle.std.proofs.lemmas.List.Concat.{flat_map-append, flat_map_single}
-use Rattle.pop3_client.specs.Turns.{Turn, quit, IsBody, IsGood, greeting, rset}
-use Rattle.fetch_runs.specs.Sessions.{BeginsOne, ReadsReplies, Retrieves, IsListed, TalkedWith as IsTalked, tail_behind, SaysOnly, is_retr}
-use Rattle.fetch_runs.specs.Conversations.{Conversation, plan_turns, Converses, plan_commands, IsTail as IsTailOf, IsFrontOfPlan}
-use Rattle.fetch_runs.specs.Conversations.{is_retrieval, retrieved_by, FollowsPlan, MboxSessionsFollowPlans, EndsInOpening, SpeaksByPlan}
-use Rattle.fetch_runs.specs.Conversations.{SessionsAreConversations, step_commands}
+use Rattle.mail_store.specs.{FileName.{is_held, is_odd}, FlatFile.Stored}
+use Rattle.fetch_session.specs.{
+  declared.{fault.{Cut.Cut, Fault.{Fault, TheVariants.Refused}}, report.{ReportLine.ReportLine, Skips.Skips, Report.Report}},
+  Fault.fault_of,
+  Task.{Task, stores, rereads, Done, tasks_of, says, turns_in, turns_of, IsAnswered, tasks_planned, report_lines, lines_in},
+  CarryingOut.{tasks_ahead, Carried, Carries, Prepared},
+  Scene.{Scene, scene, Does},
+  Session.{Keeping, Dealt, Proceeds, LeavesLink, Enters_with, SessionIn, keeps_entries, keeps_files},
+  Target.{Target, AsFiles, AsEntries, Stores, odd_in},
+  Tail.{tail, turns_of_tail as tail_turns},
+  Opening.{opening, SessionOpened, Enters},
+  Report.is_text_taken,
+}
+use Rattle.pop3_client.specs.{
+  Turns.{Turn, quit, IsBody, IsGood, greeting, rset},
+  declared.fault.ClientFault.ClientFault,
+  Conversation.{Talked, Talks},
+}
+use Rattle.fetch_runs.{
+  specs.{Sessions.{BeginsOne, ReadsReplies, Retrieves, IsListed, TalkedWith as IsTalked, tail_behind, SaysOnly, is_retr}, Below.Below},
+  specs.Conversations.{Conversation, plan_turns, Converses, plan_commands, IsTail as IsTailOf, IsFrontOfPlan, is_retrieval, retrieved_by},
+  specs.Conversations.{FollowsPlan, MboxSessionsFollowPlans, EndsInOpening, SpeaksByPlan, SessionsAreConversations, step_commands},
+  proofs.Lists.{all_append, all_back, all_front},
+  proofs.Turns.{Course, SessionCourse, Idle, Deals, course_does, course_carried, course_carries, course_dealt, course_proceeded, found_of},
+  proofs.Turns.{begun_of, IsOfTask, number_found, number_of, effect_of, said_in, commands_in, CanBeSaid, begins_any, begins_one, Commanded},
+  proofs.Turns.{commanded, IsCommand, replies_read, each_found, IsPlain, plain_ahead, said_tasks, commands_tasks, of_tasks, fronted, Goes},
+  proofs.Turns.{goes_tail, goes_broke, conversation, Took, tail_for, Ahead, ahead_cut, tailed, all_done, ahead_stopped},
+}
 use Rattle.fetch_record.specs.Record.{Row}
-use Rattle.fetch_rules.specs.Plan.{planned, step_of}
-use Rattle.fetch_rules.specs.Wanted.{none_odd}
-use Rattle.fetch_rules.specs.declared.plans.Step.{Step}
-use Rattle.pop3_client.specs.declared.fault.ClientFault.{ClientFault}
-use Rattle.pop3_client.specs.Conversation.{Talked, Talks}
-use Rattle.fetch_session.specs.Tail.{tail, turns_of_tail as tail_turns}
-use Rattle.std.proofs.{lemmas.List.Folds.flat_map-map, lemmas.List.Sums.sum_by-append}
-use Rattle.pop3_wire.specs.Fields.{number_and_size}
-use Rattle.pop3_wire.specs.Reply.{indicator, without_space}
-use Rattle.mail_terms.specs.{Credential.is_credential, declared.listing.ScanRow.ScanRow}
-use Rattle.fetch_session.specs.Opening.{opening, SessionOpened, Enters}
-use Rattle.pop3_wire.specs.declared.note.Asked.TheVariants.{Greeting as ByGreeting}
-use Rattle.fetch_session.specs.{declared.fault.Fault.Fault, declared.fault.Fault.TheVariants.Refused, Report.is_text_taken}
-use Rattle.fetch_runs.proofs.Lists.{all_append, all_back, all_front}
-use Rattle.fetch_runs.specs.Below.{Below}
-use Rattle.std.specs.String.{string_bytes}
-use Rattle.fetch_session.specs.declared.report.Report.{Report}
-use Rattle.fetch_runs.proofs.Turns.{Course, SessionCourse, Idle, Deals, course_does, course_carried, course_carries, course_dealt}
-use Rattle.fetch_runs.proofs.Turns.{course_proceeded, found_of, begun_of, IsOfTask, number_found, number_of, effect_of, said_in}
-use Rattle.fetch_runs.proofs.Turns.{commands_in, CanBeSaid, begins_any, begins_one, Commanded, commanded, IsCommand}
-use Rattle.fetch_runs.proofs.Turns.{replies_read, each_found, IsPlain, plain_ahead, said_tasks, commands_tasks, of_tasks, fronted, Goes}
-use Rattle.fetch_runs.proofs.Turns.{goes_tail, goes_broke, conversation, Took, tail_for, Ahead, ahead_cut, tailed, all_done, ahead_stopped}
-use Rattle.mail_terms.proofs.ListLemmas.{both_none}
+use Rattle.fetch_rules.specs.{Plan.{planned, step_of}, Wanted.none_odd, declared.plans.Step.Step}
+use mathlib.Core.Logic.{⊎_map}
 
 -- ---- The opening of a session, as the law over accounts reads it.
 

@@ -1,41 +1,38 @@
 -- The tasks of a plan, and those of them that were done: what they retrieved, stored, recorded and deleted, beside what was
 -- wanted; and how many of them a course took, recorded and retrieved.
-use Rattle.std.proofs.Common.{◌≡◌, ◌+◌, ◌-◌, ℕ, Bool, true, false, cond, List, ◌∷◌, ◌++◌, map, zip, Option, Some, refl, sym, ap}
-use Rattle.std.proofs.Common.{append_assoc, length, length-append, arith, rules, take, ◌∙◌, ◌⊎◌, inl, inr, None, Result, Ok, Err, []}
-use Rattle.std.specs.Prelude.{◌&&◌, ◌||◌, ◌<◌, not, slice_get, option_to_list}
-use Rattle.std.specs.List.{flat_map, filter, AllByRecursion, enumerate_from, AllZip}
-use Rattle.std.proofs.lemmas.Bool.{or_right, or_left}
-use Rattle.std.proofs.lemmas.List.{append-nil, take_at, take-map, length-map, map-append}
-use Rattle.std.proofs.{lemmas.List.Concat.flat_map-append, lemmas.List.Sums.sum_by-append, lemmas.Simd.map-map}
-use Rattle.std.proofs.lemmas.List.Folds.{flat_map-map, list_any_at}
+use Rattle.std.{
+  proofs.Common.{◌≡◌, ◌+◌, ◌-◌, ℕ, Bool, true, false, cond, List, ◌∷◌, ◌++◌, map, zip, Option, Some, refl, sym, ap, append_assoc, length},
+  proofs.Common.{length-append, arith, rules, take, ◌∙◌, ◌⊎◌, inl, inr, None, Result, Ok, Err, []},
+  proofs.lemmas.{Bool.{or_right, or_left}, Simd.map-map, Option.{slice_get_within, get_or_from_slice_get}},
+  proofs.lemmas.List.{append-nil, take_at, take-map, length-map, map-append, Concat.flat_map-append, Sums.sum_by-append},
+  proofs.lemmas.List.Folds.{flat_map-map, list_any_at},
+  specs.{Prelude.{◌&&◌, ◌||◌, ◌<◌, not, slice_get, option_to_list}, List.{flat_map, filter, AllByRecursion, enumerate_from, AllZip}},
+}
 use Rattle.mail_terms.specs.Listing.{Item, has_item, numbered, is_first, is_last, is_flagged}
 use Rattle.rc_file.specs.declared.settings.Settings.{Settings}
-use Rattle.fetch_record.specs.Record.{Row, is_delivered, is_of, has_row, with_delivered, marked, marked_all, new_ids}
-use Rattle.fetch_record.specs.Record.{merged, none_open}
-use Rattle.fetch_rules.specs.{Wanted.wanted, declared.plans.Step.Step}
-use Rattle.fetch_rules.specs.Plan.{fetches, is_for_odd, step_of}
-use Rattle.mail_store.specs.{Maildir.Maildir, Held.flags_of}
-use Rattle.mail_store.specs.FileName.{is_held, is_odd}
-use Rattle.pop3_client.specs.Turns.{quit, IsGood}
-use Rattle.fetch_session.specs.Task.{Task, says, stores, rereads, deletes, fetching, deleting, tasks_in, tasks_planned, Done, IsAnswered}
-use Rattle.fetch_session.specs.Task.{turns_in, tasks_of, files_in, files_of, lines_in, report_lines, ids_ahead, task_in, ids_in, marked_ids}
-use Rattle.fetch_session.specs.Target.{AsFiles, in_maildir, Target}
+use Rattle.fetch_record.specs.Record.{Row, is_delivered, is_of, has_row, with_delivered, marked, marked_all, new_ids, merged, none_open}
+use Rattle.fetch_rules.specs.{Wanted.wanted, declared.plans.Step.Step, Plan.{fetches, is_for_odd, step_of}}
+use Rattle.mail_store.specs.{Maildir.Maildir, Held.flags_of, FileName.{is_held, is_odd}}
+use Rattle.pop3_client.specs.{Turns.{quit, IsGood}, Texts.body_text}
+use Rattle.fetch_session.specs.{
+  Task.{Task, says, stores, rereads, deletes, fetching, deleting, tasks_in, tasks_planned, Done, IsAnswered, turns_in, tasks_of, files_in},
+  Task.{files_of, lines_in, report_lines, ids_ahead, task_in, ids_in, marked_ids},
+  Target.{AsFiles, in_maildir, Target},
+  Report.{is_text_taken, retrieved_in},
+  declared.{fault.Cut.Cut, report.Outcome.TheVariants.Cut as WasCut},
+  Session.outcome_of,
+  Record.{Keeps, Steady},
+  Scene.{Scene, Went, Fell},
+}
 use Rattle.pop3_wire.specs.Reading.{WholeReply}
-use Rattle.fetch_session.specs.Report.{is_text_taken, retrieved_in}
-use Rattle.fetch_runs.specs.Sessions.{file_for, is_unheld, ids_wanted, IsUnsaved, settled}
-use Rattle.fetch_runs.proofs.Turns.{found_in, found_by, deleted_in, deleted_by, number_found, text_found, Course}
-use Rattle.fetch_runs.proofs.Turns.{course, stored_done, found_of, nothing_found, number_of}
-use Rattle.fetch_runs.proofs.Lists.{bytes_self, bytes_same, all_append, all_front, all_map, marks_stay}
-use Rattle.fetch_runs.specs.Below.{Below}
+use Rattle.fetch_runs.{
+  specs.{Sessions.{file_for, is_unheld, ids_wanted, IsUnsaved, settled}, Below.Below},
+  proofs.Turns.{found_in, found_by, deleted_in, deleted_by, number_found, text_found, Course, course, stored_done, found_of, nothing_found},
+  proofs.Turns.number_of,
+  proofs.{Lists.{bytes_self, bytes_same, all_append, all_front, all_map, marks_stay}, Core.{IsNumbered, are_numbered}},
+}
 use mathlib.Core.Logic.{⊎_map}
-use Rattle.pop3_client.specs.Texts.{body_text}
-use Rattle.fetch_session.specs.{declared.fault.Cut.Cut, Session.outcome_of}
-use Rattle.fetch_session.specs.declared.report.Outcome.TheVariants.{Cut as WasCut}
-use Rattle.fetch_session.specs.Record.{Keeps, Steady}
-use Rattle.fetch_session.specs.Scene.{Scene, Went, Fell}
 use Rattle.fetch_session.specs.CarryingOut as Session
-use Rattle.std.proofs.lemmas.Option.{slice_get_within, get_or_from_slice_get}
-use Rattle.fetch_runs.proofs.Core.{IsNumbered, are_numbered}
 
 -- the tasks of an account with a Maildir
 abbrev pub tasks_ahead : Settings → List ℕ → List Item → ℕ → Maildir → List Row → List Task

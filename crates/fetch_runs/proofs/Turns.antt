@@ -1,41 +1,52 @@
 -- How far a session came after its listing, and what it sent and read then: the turns of its tasks, their commands and
 -- replies, and what the link gained, for each way in which the tasks may end.
-use Rattle.std.proofs.Common.{◌≡◌, inl, inr, ℕ, List, ◌∷◌, ◌++◌, map, Result, Ok, Err, ◌⊎◌, true, None, Some, refl, sym}
-use Rattle.std.proofs.Common.{ap, ◌∙◌, append_assoc, ◌<◌, ◌^◌, Bool, Option, ◌≤◌, ◌+◌, length, arith, rules, cond, []}
-use Rattle.std.specs.List.{flat_map, count_by, AllByRecursion, AllZip, enumerate_from}
-use Rattle.pop3_wire.specs.{Link.Link, declared.command.Command.Command, Line.ended, CommandLine.HasNumbers, Body.Body}
-use Rattle.pop3_wire.specs.Place.{Place, at}
-use Rattle.pop3_wire.specs.Reading.{WholeReply, body_bytes, has_body, IsBodyIf}
-use Rattle.pop3_wire.specs.declared.command.Command.TheVariants.{Retr, Dele}
-use Rattle.pop3_client.specs.{Texts.body_text, declared.fault.ClientFault.ClientFault}
+use Rattle.std.{
+  proofs.Common.{◌≡◌, inl, inr, ℕ, List, ◌∷◌, ◌++◌, map, Result, Ok, Err, ◌⊎◌, true, None, Some, refl, sym, ap, ◌∙◌, append_assoc, ◌<◌, []},
+  proofs.Common.{◌^◌, Bool, Option, ◌≤◌, ◌+◌, length, arith, rules, cond},
+  proofs.lemmas.List.{append-nil, append_cancel_left, map-append, Concat.flat_map-append, Folds.flat_map-map, Sums.sum_by-append},
+  proofs.lemmas.Bool.true≢false,
+  specs.{List.{flat_map, count_by, AllByRecursion, AllZip, enumerate_from}, Prelude.{◌-◌, slice_get, option_to_list}},
+}
+use Rattle.pop3_wire.specs.{
+  Link.Link,
+  declared.command.Command.{Command, TheVariants.{Retr, Dele}},
+  Line.ended,
+  CommandLine.HasNumbers,
+  Body.Body,
+  Place.{Place, at},
+  Reading.{WholeReply, body_bytes, has_body, IsBodyIf},
+  Commands.{line_of, can_be_sent, octets_of},
+  Honest.{HasSent, BeginsNext},
+}
+use Rattle.pop3_client.specs.{
+  Texts.body_text,
+  declared.fault.ClientFault.ClientFault,
+  Turns.{Turn, asking, retr, dele, quit, IsBody, IsGood, turn_bytes},
+  Conversation.{Talked, Talks, Broke, IsFrontOfNext},
+}
 use Rattle.mail_terms.specs.Listing.{Item}
 use Rattle.rc_file.specs.declared.settings.Settings.{Settings}
 use Rattle.mail_store.specs.{FileName.stem_of, FlatFile.Stored}
-use Rattle.fetch_session.specs.{declared.fault.Cut.Cut, declared.report.ReportLine.ReportLine, declared.report.Skips.Skips}
-use Rattle.fetch_session.specs.Task.{Task, stores, rereads, deletes, Done, tasks_of, says, skips, turns_in, turns_of}
-use Rattle.fetch_session.specs.Task.{replies_of, IsAnswered, tasks_planned, task_in, report_lines, delivered}
-use Rattle.fetch_session.specs.{Store.RefusesText, Fault.fault_of, declared.fault.Fault.TheVariants.StoreRefused}
-use Rattle.fetch_session.specs.CarryingOut.{tasks_ahead, Carried, Carries}
-use Rattle.fetch_session.specs.Scene.{Scene, scene, NoFile, Stops, Does}
-use Rattle.fetch_session.specs.Session.{Keeping, Noted, Dealt, Proceeds, outcome_of}
-use Rattle.fetch_session.specs.Target.{Target, AsFiles, AsEntries, Stores, odd_in}
-use mathlib.Core.Logic.{⊎_map}
-use Rattle.std.proofs.lemmas.List.{append-nil, append_cancel_left, map-append}
-use Rattle.std.proofs.{lemmas.List.Concat.flat_map-append, lemmas.Bool.true≢false, lemmas.List.Folds.flat_map-map}
-use Rattle.pop3_wire.specs.Commands.{line_of, can_be_sent, octets_of}
-use Rattle.pop3_wire.specs.Honest.{HasSent, BeginsNext}
-use Rattle.pop3_client.specs.Turns.{Turn, asking, retr, dele, quit, IsBody, IsGood, turn_bytes}
-use Rattle.fetch_runs.specs.Sessions.{BeginsOne, AreGood, Retrieves, Effect, tail_behind, is_retr}
-use Rattle.fetch_runs.specs.Conversations.{SentBehind, Conversation}
+use Rattle.fetch_session.specs.{
+  declared.fault.{Cut.Cut, Fault.TheVariants.StoreRefused},
+  declared.report.{ReportLine.ReportLine, Skips.Skips, Outcome.TheVariants.{Ended, Cut as WasCut}},
+  Task.{Task, stores, rereads, deletes, Done, tasks_of, says, skips, turns_in, turns_of, replies_of, IsAnswered, tasks_planned, task_in},
+  Task.{report_lines, delivered},
+  Store.RefusesText,
+  Fault.fault_of,
+  CarryingOut.{tasks_ahead, Carried, Carries},
+  Scene.{Scene, scene, NoFile, Stops, Does},
+  Session.{Keeping, Noted, Dealt, Proceeds, outcome_of},
+  Target.{Target, AsFiles, AsEntries, Stores, odd_in},
+  Tail.{tail, turns_of_tail as tail_turns, TalksTailBy, TalksTail, WentOn},
+}
+use Rattle.fetch_runs.{
+  specs.{Sessions.{BeginsOne, AreGood, Retrieves, Effect, tail_behind, is_retr}, Conversations.{SentBehind, Conversation}, Below.Below},
+  proofs.Lists.{all_append, both_none},
+}
 use Rattle.fetch_record.specs.Record.{Row}
 use Rattle.fetch_rules.specs.{Plan.step_of, declared.plans.Step.Step}
-use Rattle.pop3_client.specs.Conversation.{Talked, Talks, Broke, IsFrontOfNext}
-use Rattle.fetch_session.specs.Tail.{tail, turns_of_tail as tail_turns, TalksTailBy, TalksTail, WentOn}
-use Rattle.std.specs.Prelude.{◌-◌, slice_get, option_to_list}
-use Rattle.fetch_session.specs.declared.report.Outcome.TheVariants.{Ended, Cut as WasCut}
-use Rattle.fetch_runs.proofs.Lists.{all_append, both_none}
-use Rattle.fetch_runs.specs.Below.{Below}
-use Rattle.std.proofs.lemmas.List.Sums.{sum_by-append}
+use mathlib.Core.Logic.{⊎_map}
 use Rattle.fetch_session.specs.declared.fault.Why.TheVariants as why
 
 -- the joined listing; the tasks that were completed, whatever happened to the record's file; the task that

@@ -1,11 +1,9 @@
 -- What an account holds between sessions. A reader that moves files between `new` and `cur` or changes their
 -- marks changes nothing here.
 -- The messages of a maildrop: their ids, their listing, and which of them are selected.
-use Rattle.std.specs.Prelude.{◌&&◌, ℕ, Bool, List, map, bytes_eq, not}
-use Rattle.std.specs.List.{filter, list_any}
+use Rattle.std.specs.{Prelude.{◌&&◌, ℕ, Bool, List, map, bytes_eq, not}, List.{filter, list_any}}
 use Rattle.fetch_record.specs.Record.{Row}
-use Rattle.mail_store.specs.Maildir.{File, Maildir, file}
-use Rattle.mail_store.specs.FileName.{names_id, stem}
+use Rattle.mail_store.specs.{Maildir.{File, Maildir, file}, FileName.{names_id, stem}}
 use Rattle.mail_terms.specs.{UniqueId.has_id, Listing.Item}
 use Rattle.fetch_rules.specs.Wanted.{is_within}
 use Rattle.pop3_wire.specs.World.{Message}

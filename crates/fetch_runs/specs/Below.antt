@@ -1,20 +1,27 @@
 -- What is taken from the laws of the crates below.
 use Rattle.std.specs.Prelude.{◌≡◌, ◌&&◌, ◌||◌, ℕ, Bool, List, bytes_eq}
-use Rattle.pop3_wire.specs.Honest.{FrontsAreAsked, OneListOfCommands, ScanRowsHaveFields, UidRowsHaveFields}
-use Rattle.pop3_wire.specs.{Line.OneLine, Stuffed.OneBody}
-use Rattle.pop3_wire.specs.Reading.{OneListOfLines, OneReading}
+use Rattle.pop3_wire.specs.{
+  Honest.{FrontsAreAsked, OneListOfCommands, ScanRowsHaveFields, UidRowsHaveFields},
+  Line.OneLine,
+  Stuffed.OneBody,
+  Reading.{OneListOfLines, OneReading},
+}
 use Rattle.pop3_client.specs.Conversation.{ConversationsArePaced, TurnsJoin}
-use Rattle.mail_terms.specs.Listing.{Item, has_item, is_flagged}
-use Rattle.mail_terms.specs.MaildirName.{base}
+use Rattle.mail_terms.specs.{Listing.{Item, has_item, is_flagged}, MaildirName.base}
 use Rattle.rc_file.specs.declared.settings.Settings.{Settings}
-use Rattle.fetch_record.specs.Record.{Row, has_row, is_delivered, marked, merged}
-use Rattle.fetch_record.specs.RecordGrowth.{AppendedCounts, OneMeaning, OneRecord, OpenHasRow}
-use Rattle.fetch_record.specs.RecordTorn.{TornIsIgnoredOrSeen}
-use Rattle.fetch_rules.specs.Plan.{planned, retrieved}
-use Rattle.fetch_rules.specs.Wanted.{WantedAreFirst, wanted}
-use Rattle.mail_store.specs.FileName.{IsAccountText, NamesAreBases, NamesHaveStems, StemsDiffer, account_text, is_held}
-use Rattle.mail_store.specs.FileName.{stem}
-use Rattle.mail_store.specs.{Held.flags_of, Maildir.Maildir, Mboxrd.EntryAddsText, Settling.LeftoversAreSettled}
+use Rattle.fetch_record.specs.{
+  Record.{Row, has_row, is_delivered, marked, merged},
+  RecordGrowth.{AppendedCounts, OneMeaning, OneRecord, OpenHasRow},
+  RecordTorn.TornIsIgnoredOrSeen,
+}
+use Rattle.fetch_rules.specs.{Plan.{planned, retrieved}, Wanted.{WantedAreFirst, wanted}}
+use Rattle.mail_store.specs.{
+  FileName.{IsAccountText, NamesAreBases, NamesHaveStems, StemsDiffer, account_text, is_held, stem},
+  Held.flags_of,
+  Maildir.Maildir,
+  Mboxrd.EntryAddsText,
+  Settling.LeftoversAreSettled,
+}
 use Rattle.fetch_session.specs.Laws.{SessionsAreDurable, SessionsKeepFiles, SteadyFilesKeep, UnsavedFilesKeep}
 
 pub record Below : Type 0 where

@@ -1,27 +1,30 @@
 -- Calls of `session`, and what others do between them, over the account's devices: what is promised of any list of
 -- these. Nobody has to know what a session does.
-use Rattle.std.specs.Prelude.{◌≡◌, ℕ, true, List, [], ◌∷◌, ◌++◌, Option, false}
-use Rattle.std.specs.List.{AllByRecursion}
-use Rattle.pop3_wire.specs.World.{Message}
-use Rattle.pop3_wire.specs.declared.wire.Wire.{Ghosts as WireGhosts}
+use Rattle.std.specs.{Prelude.{◌≡◌, ℕ, true, List, [], ◌∷◌, ◌++◌, Option, false}, List.AllByRecursion}
+use Rattle.pop3_wire.specs.{World.Message, declared.wire.Wire.Ghosts as WireGhosts}
 use Rattle.mail_terms.specs.UniqueId.{is_legal_id}
 use Rattle.rc_file.specs.{Settings.IsValid, declared.settings.Settings.Settings}
 use Rattle.fetch_record.specs.{Record.Intent, RecordMeaning.FileStandsFor}
-use Rattle.mail_store.specs.{Durable.MayLeave, Loss.LosesPower}
-use Rattle.mail_store.specs.FileName.{is_held, stem_of}
-use Rattle.mail_store.specs.Maildir.{Maildir, WereTaken}
-use Rattle.mail_store.specs.declared.file.flat_file.FlatFile.{Ghosts as FileGhosts}
-use Rattle.mail_store.specs.declared.maildir.disk.MaildirDisk.{Ghosts as DiskGhosts}
-use Rattle.fetch_session.specs.Account.{Holding, IsSameAccount, digits_of}
-use Rattle.fetch_session.specs.{Durable.RunsSession, declared.account.Store.Store, declared.report.Report.Report}
-use Rattle.fetch_session.specs.declared.account.Store.TheVariants.{Maildir as InMaildir, Mboxrd as InMbox}
-use Rattle.fetch_runs.specs.Accounts.{AccountMail, copies, files}
-use Rattle.fetch_runs.specs.Sessions.{Served, MboxMail}
-use Rattle.fetch_runs.specs.Promises.{Call, Devices, IsBetween, IsMaildrop, Invariant, Mail, Promises, ShowsNext, State}
-use Rattle.fetch_runs.specs.Promises.{is_safe, state_with, AppendsMail, Base, HoldsEntries}
-use Rattle.fetch_runs.specs.Losses.{TrustsMbox, IsCrashSafe, IsDurableFront, IsFileLeft, IsMboxSafe, KeepsDurable}
-use Rattle.fetch_runs.specs.Losses.{KeepsFronts, TrustsRecord}
-use Rattle.fetch_session.specs.Target.{mail_in}
+use Rattle.mail_store.specs.{
+  Durable.MayLeave,
+  Loss.LosesPower,
+  FileName.{is_held, stem_of},
+  Maildir.{Maildir, WereTaken},
+  declared.{file.flat_file.FlatFile.Ghosts as FileGhosts, maildir.disk.MaildirDisk.Ghosts as DiskGhosts},
+}
+use Rattle.fetch_session.specs.{
+  Account.{Holding, IsSameAccount, digits_of},
+  Durable.RunsSession,
+  declared.{account.Store.{Store, TheVariants.{Maildir as InMaildir, Mboxrd as InMbox}}, report.Report.Report},
+  Target.mail_in,
+}
+use Rattle.fetch_runs.specs.{
+  Accounts.{AccountMail, copies, files},
+  Sessions.{Served, MboxMail},
+  Promises.{Call, Devices, IsBetween, IsMaildrop, Invariant, Mail, Promises, ShowsNext, State, is_safe, state_with},
+  Promises.{AppendsMail, Base, HoldsEntries},
+  Losses.{TrustsMbox, IsCrashSafe, IsDurableFront, IsFileLeft, IsMboxSafe, KeepsDurable, KeepsFronts, TrustsRecord},
+}
 
 -- ---- one call
 

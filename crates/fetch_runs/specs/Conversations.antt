@@ -1,25 +1,30 @@
 -- The commands of a session's plan, and which of them are sent.
 -- The conversation of one session: the turns that were completed, the one that was begun after them, and the tail.
-use Rattle.std.specs.Prelude.{◌≡◌, ◌⊎◌, ℕ, Bool, List, [], ◌∷◌, ◌++◌, if◌then◌else◌, true, false, map, None, Some}
-use Rattle.std.specs.List.{flat_map, count_by, AllZip}
-use Rattle.pop3_wire.specs.{declared.command.Command.Command, Honest.HasSent, Link.Link}
-use Rattle.pop3_wire.specs.declared.command.Command.TheVariants.{User, Pass, Stat, UidlAll, ListAll, Retr, Dele, Rset}
-use Rattle.pop3_wire.specs.declared.command.Command.TheVariants.{Quit}
-use Rattle.fetch_rules.specs.declared.plans.Step.{Step}
-use Rattle.std.specs.String.{string_bytes}
-use Rattle.pop3_wire.specs.Reading.{WholeReply, reply_bytes}
+use Rattle.std.specs.{
+  Prelude.{◌≡◌, ◌⊎◌, ℕ, Bool, List, [], ◌∷◌, ◌++◌, if◌then◌else◌, true, false, map, None, Some},
+  List.{flat_map, count_by, AllZip},
+  String.string_bytes,
+}
+use Rattle.pop3_wire.specs.{
+  declared.command.Command.{Command, TheVariants.{User, Pass, Stat, UidlAll, ListAll, Retr, Dele, Rset, Quit}},
+  Honest.HasSent,
+  Link.Link,
+  Reading.{WholeReply, reply_bytes},
+}
+use Rattle.fetch_rules.specs.{declared.plans.Step.Step, Plan.{fetches, planned}}
 use Rattle.pop3_client.specs.Turns.{Turn, asking, greeting, retr, IsGood}
 use Rattle.mail_terms.specs.Listing.{Item}
 use Rattle.fetch_record.specs.Record.{Row, merged}
 use Rattle.mail_store.specs.{FileName.is_odd, Held.flags_of}
-use Rattle.fetch_session.specs.{Record.KeepsRows, declared.fault.Fault.TheVariants.StoreRefused}
-use Rattle.fetch_rules.specs.Plan.{fetches, planned}
+use Rattle.fetch_session.specs.{
+  Record.KeepsRows,
+  declared.fault.{Fault.TheVariants.StoreRefused, Why.TheVariants.Refused},
+  declared.report.{Outcome.{Outcome, TheVariants.{Ended, Cut}}, Report.Report},
+  Opening.opening,
+  Session.{AccountFiles, Session, MboxAccountFiles, MboxSession},
+}
 use Rattle.rc_file.specs.{Settings.IsValid, declared.settings.Settings.Settings}
 use Rattle.fetch_runs.specs.Sessions.{IsListed, tail_behind}
-use Rattle.fetch_session.specs.{declared.fault.Why.TheVariants.Refused, declared.report.Outcome.Outcome}
-use Rattle.fetch_session.specs.declared.report.Outcome.TheVariants.{Ended, Cut}
-use Rattle.fetch_session.specs.{declared.report.Report.Report, Opening.opening}
-use Rattle.fetch_session.specs.Session.{AccountFiles, Session, MboxAccountFiles, MboxSession}
 
 abbrev pub asked_if : Bool → Command → List Command
 asked_if yes' command = if yes' then command ∷ [] else []

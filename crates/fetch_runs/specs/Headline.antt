@@ -1,27 +1,30 @@
 -- Mail in order: what `headline` and `mbox_headline` say in words. What a reader took away counts as held here, and
 -- what was withdrawn from the server before it was fetched isn't part of its mail.
-use Rattle.std.specs.Prelude.{◌≡◌, ◌⊎◌, ◌≤◌, ℕ, true, false, List, [], ◌∷◌, ◌++◌, map, take, length, None, Some}
-use Rattle.std.specs.Prelude.{bytes_eq}
-use Rattle.std.specs.List.{AllByRecursion}
-use Rattle.pop3_wire.specs.World.{Message, maildrop_of}
-use Rattle.pop3_wire.specs.declared.wire.Wire.{Ghosts as WireGhosts}
+use Rattle.std.specs.{
+  Prelude.{◌≡◌, ◌⊎◌, ◌≤◌, ℕ, true, false, List, [], ◌∷◌, ◌++◌, map, take, length, None, Some, bytes_eq},
+  List.AllByRecursion,
+}
+use Rattle.pop3_wire.specs.{World.{Message, maildrop_of}, declared.wire.Wire.Ghosts as WireGhosts}
 use Rattle.mail_terms.specs.UniqueId.{is_legal_id, has_id}
 use Rattle.rc_file.specs.declared.settings.Settings.{Settings}
 use Rattle.fetch_record.specs.Record.{Intent, is_delivered}
-use Rattle.mail_store.specs.FileName.{IsAccountText, is_held, stem_of}
-use Rattle.mail_store.specs.Mboxrd.{MboxFile}
-use Rattle.mail_store.specs.declared.file.flat_file.FlatFile.{Ghosts as FileGhosts}
-use Rattle.mail_store.specs.declared.maildir.disk.MaildirDisk.{Ghosts as DiskGhosts}
-use Rattle.fetch_session.specs.Account.{digits_of}
-use Rattle.fetch_session.specs.declared.account.Store.TheVariants.{Maildir as InMaildir, Mboxrd as InMbox}
-use Rattle.fetch_runs.specs.Accounts.{AccountMail, copies, files, message_ids, selected, texts_of, without}
-use Rattle.fetch_runs.specs.Sessions.{MboxMail}
-use Rattle.fetch_runs.specs.Promises.{Call, Devices, IsBetween, IsFront, IsMaildrop, IsSafe, Invariant, Mail, State}
-use Rattle.fetch_runs.specs.Promises.{is_safe, state_with, AppendsMail, Base, HoldsEntries, IsMboxFront}
-use Rattle.fetch_runs.specs.Promises.{base_from, is_entered}
-use Rattle.fetch_runs.specs.Calls.{Called, Happening, HoldsNoMore, IsCall, IsLeftByLoss, IsPromised, Left}
-use Rattle.fetch_runs.specs.Calls.{Shows, with_left, ShowsMbox}
-use Rattle.fetch_runs.specs.Losses.{TrustsMbox, IsCrashSafe, IsDurableFront, IsFileLeft, IsMboxSafe}
+use Rattle.mail_store.specs.{
+  FileName.{IsAccountText, is_held, stem_of},
+  Mboxrd.MboxFile,
+  declared.{file.flat_file.FlatFile.Ghosts as FileGhosts, maildir.disk.MaildirDisk.Ghosts as DiskGhosts},
+}
+use Rattle.fetch_session.specs.{
+  Account.digits_of,
+  declared.account.Store.TheVariants.{Maildir as InMaildir, Mboxrd as InMbox},
+}
+use Rattle.fetch_runs.specs.{
+  Accounts.{AccountMail, copies, files, message_ids, selected, texts_of, without},
+  Sessions.MboxMail,
+  Promises.{Call, Devices, IsBetween, IsFront, IsMaildrop, IsSafe, Invariant, Mail, State, is_safe, state_with, Base},
+  Promises.{AppendsMail, HoldsEntries, IsMboxFront, base_from, is_entered},
+  Calls.{Called, Happening, HoldsNoMore, IsCall, IsLeftByLoss, IsPromised, Left, Shows, with_left, ShowsMbox},
+  Losses.{TrustsMbox, IsCrashSafe, IsDurableFront, IsFileLeft, IsMboxSafe},
+}
 
 -- a session's limit on sizes is this one, and its maildrop is a beginning of all mail, without messages of such ids
 pub record IsInOrder (limit : ℕ) (all : List Message) (IsDone : List ℕ → Type 0) (settings : Settings)

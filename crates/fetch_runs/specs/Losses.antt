@@ -1,18 +1,23 @@
 -- What of an account with a Maildir is durable, so that a loss of power between two calls, whatever it takes, leaves a
 -- state from which the next call goes on; and what calls and others keep of that.
-use Rattle.std.specs.Prelude.{◌≡◌, ◌⊎◌, ◌||◌, ◌≤◌, ℕ, Bool, true, List, ◌++◌, Option, None, length}
-use Rattle.mail_store.specs.Durable.{Disk, Trusted, MayLeave}
-use Rattle.std.specs.List.{AllByRecursion}
+use Rattle.std.specs.{
+  Prelude.{◌≡◌, ◌⊎◌, ◌||◌, ◌≤◌, ℕ, Bool, true, List, ◌++◌, Option, None, length},
+  List.AllByRecursion,
+}
+use Rattle.mail_store.specs.{
+  Durable.{Disk, Trusted, MayLeave},
+  FileName.{is_held, names_id},
+  Maildir.{File, IsDurableFile},
+  declared.file.flat_file.FlatFile.Ghosts as FileGhosts,
+}
 use Rattle.mail_terms.specs.UniqueId.{is_legal_id}
 use Rattle.pop3_wire.specs.World.{Message}
-use Rattle.mail_store.specs.FileName.{is_held, names_id}
-use Rattle.mail_store.specs.Maildir.{File, IsDurableFile}
-use Rattle.mail_store.specs.declared.file.flat_file.FlatFile.{Ghosts as FileGhosts}
-use Rattle.fetch_record.specs.Record.{Intent, Row, is_delivered}
-use Rattle.fetch_record.specs.RecordMeaning.{FileStandsFor}
-use Rattle.fetch_runs.specs.Accounts.{AccountMail, has_named}
-use Rattle.fetch_runs.specs.Promises.{Devices, Mail, State, IsFront, Invariant}
-use Rattle.fetch_runs.specs.Sessions.{MboxMail}
+use Rattle.fetch_record.specs.{Record.{Intent, Row, is_delivered}, RecordMeaning.FileStandsFor}
+use Rattle.fetch_runs.specs.{
+  Accounts.{AccountMail, has_named},
+  Promises.{Devices, Mail, State, IsFront, Invariant},
+  Sessions.MboxMail,
+}
 use Rattle.fetch_session.specs.Target.{mail_in}
 
 -- a file of the message is there whose name is durable, or the message was taken away

@@ -1,20 +1,27 @@
 -- What a call of `session` promises, in what the account's files mean, and what holds before and after it. A server may
 -- show any messages, in any order, and each call may have other limits: what stays is that a unique-id names one text.
-use Rattle.std.specs.Prelude.{◌≡◌, ◌⊎◌, ◌<◌, ◌-◌, ◌&&◌, ◌||◌, ℕ, Bool, true, false, not, List, [], ◌∷◌, ◌++◌, map}
-use Rattle.std.specs.Prelude.{length, Some, slice_get, None, is_none}
-use Rattle.std.specs.List.{AllByRecursion, count_by, filter, list_any}
-use Rattle.pop3_wire.specs.{World.Message, declared.command.Command.Command, declared.command.Command.TheVariants.Dele}
-use Rattle.mail_terms.specs.{Distinct.AreDistinct, Text.IsWhole}
-use Rattle.mail_terms.specs.UniqueId.{is_legal_id, has_id}
+use Rattle.std.{
+  specs.Prelude.{◌≡◌, ◌⊎◌, ◌<◌, ◌-◌, ◌&&◌, ◌||◌, ℕ, Bool, true, false, not, List, [], ◌∷◌, ◌++◌, map, length, Some},
+  specs.Prelude.{slice_get, None, is_none},
+  specs.List.{AllByRecursion, count_by, filter, list_any},
+  proofs.Common.inr,
+}
+use Rattle.pop3_wire.specs.{World.Message, declared.command.Command.{Command, TheVariants.Dele}}
+use Rattle.mail_terms.specs.{Distinct.AreDistinct, Text.IsWhole, UniqueId.{is_legal_id, has_id}}
 use Rattle.rc_file.specs.declared.settings.Settings.{Settings}
 use Rattle.fetch_record.specs.Record.{is_delivered}
 use Rattle.fetch_rules.specs.Wanted.{at_most, is_within, own_skip}
-use Rattle.mail_store.specs.FileName.{is_held, name_of, names_id, stem_of}
-use Rattle.mail_store.specs.{Maildir.file, Mboxrd.entry_of, Settling.MayBeLeft}
-use Rattle.fetch_session.specs.{declared.report.Outcome.TheVariants.Ended, declared.report.Report.Report}
-use Rattle.fetch_runs.specs.Accounts.{AccountMail, copies, has_named, message_ids, without_flags}
-use Rattle.fetch_runs.specs.Sessions.{SendsOnly, is_retr, MboxMail, entries_of, entry_intent}
-use Rattle.std.proofs.Common.{inr}
+use Rattle.mail_store.specs.{
+  FileName.{is_held, name_of, names_id, stem_of},
+  Maildir.file,
+  Mboxrd.entry_of,
+  Settling.MayBeLeft,
+}
+use Rattle.fetch_session.specs.declared.report.{Outcome.TheVariants.Ended, Report.Report}
+use Rattle.fetch_runs.specs.{
+  Accounts.{AccountMail, copies, has_named, message_ids, without_flags},
+  Sessions.{SendsOnly, is_retr, MboxMail, entries_of, entry_intent},
+}
 
 -- the devices of an account: its store, which is a Maildir or an mboxrd file, and the record's file
 pub record Devices (S F : Type 0) : Type 0 where

@@ -1,32 +1,43 @@
 -- One session of an account, by what its link gained: what it reads in that, what it does to the account, and what an
 -- honest server's conversation says.
-use Rattle.std.specs.Prelude.{◌≡◌, ◌↔◌, ◌⊎◌, ◌<◌, ◌+◌, ◌-◌, ◌&&◌, ℕ, Bool, true, false, not, List, [], ◌∷◌, ◌++◌, map}
-use Rattle.std.specs.Prelude.{take, zip, length, Some, slice_get, Option, None}
-use Rattle.std.specs.List.{flat_map, count_by, filter, AllByRecursion}
-use Rattle.pop3_wire.specs.{declared.command.Command.Command, declared.reply.Status.TheVariants.Positive, Body.Body}
-use Rattle.pop3_wire.specs.declared.command.Command.TheVariants.{User, Pass, Stat, UidlAll, ListAll, Retr, Dele}
-use Rattle.pop3_wire.specs.Line.{IsLine, ended}
-use Rattle.pop3_wire.specs.{Reply.IsFirstLine, Commands.line_of, World.Message}
-use Rattle.pop3_wire.specs.Reading.{WholeReply, body_bytes, reply_bytes, has_body, IsBodyIf, IsUidLine, IsScanLine}
-use Rattle.pop3_wire.specs.Reading.{HasListing, GivesCount}
-use Rattle.pop3_wire.specs.Honest.{Grants, HasSent, BeginsNext, Honest, no_marks}
+use Rattle.std.specs.{
+  Prelude.{◌≡◌, ◌↔◌, ◌⊎◌, ◌<◌, ◌+◌, ◌-◌, ◌&&◌, ℕ, Bool, true, false, not, List, [], ◌∷◌, ◌++◌, map, take, zip, length},
+  Prelude.{Some, slice_get, Option, None},
+  List.{flat_map, count_by, filter, AllByRecursion},
+}
+use Rattle.pop3_wire.specs.{
+  declared.command.Command.{Command, TheVariants.{User, Pass, Stat, UidlAll, ListAll, Retr, Dele}},
+  declared.reply.Status.TheVariants.Positive,
+  Body.Body,
+  Line.{IsLine, ended},
+  Reply.IsFirstLine,
+  Commands.line_of,
+  World.Message,
+  Reading.{WholeReply, body_bytes, reply_bytes, has_body, IsBodyIf, IsUidLine, IsScanLine, HasListing, GivesCount},
+  Honest.{Grants, HasSent, BeginsNext, Honest, no_marks},
+}
 use Rattle.pop3_client.specs.Turns.{Turn}
-use Rattle.mail_terms.specs.Listing.{Item, Joins, UidRow, is_first, is_last}
-use Rattle.mail_terms.specs.{UniqueId.has_id, declared.listing.ScanRow.ScanRow}
+use Rattle.mail_terms.specs.{
+  Listing.{Item, Joins, UidRow, is_first, is_last},
+  UniqueId.has_id,
+  declared.listing.ScanRow.ScanRow,
+}
 use Rattle.rc_file.specs.declared.settings.Settings.{Settings}
-use Rattle.fetch_record.specs.Record.{Row, is_delivered, marked_all, merged, Intent}
+use Rattle.fetch_record.specs.{Record.{Row, is_delivered, marked_all, merged, Intent}, Intents.closed_rows}
 use Rattle.fetch_rules.specs.Wanted.{none_odd, wanted}
-use Rattle.mail_store.specs.Maildir.{Maildir, File}
-use Rattle.mail_store.specs.FileName.{is_held, is_odd, mail_file}
-use Rattle.mail_store.specs.{Held.flags_of, Mboxrd.entry_of}
-use Rattle.fetch_session.specs.declared.fault.Fault.TheVariants.{StoreRefused, SeenRefused, NoMemory}
-use Rattle.fetch_session.specs.{declared.fault.Why.TheVariants.Refused, declared.report.Outcome.Outcome}
-use Rattle.fetch_session.specs.declared.report.Outcome.TheVariants.{Ended, Cut}
-use Rattle.fetch_session.specs.declared.report.Report.{Report}
-use Rattle.fetch_session.specs.Tail.{tail, turns_of_tail}
+use Rattle.mail_store.specs.{
+  Maildir.{Maildir, File},
+  FileName.{is_held, is_odd, mail_file},
+  Held.flags_of,
+  Mboxrd.entry_of,
+}
+use Rattle.fetch_session.specs.{
+  declared.fault.{Fault.TheVariants.{StoreRefused, SeenRefused, NoMemory}, Why.TheVariants.Refused},
+  declared.report.{Outcome.{Outcome, TheVariants.{Ended, Cut}}, Report.Report},
+  Tail.{tail, turns_of_tail},
+  Target.{closed_file, is_stored, none_held},
+}
 use Rattle.fetch_runs.specs.Accounts.{AccountMail, listing_of, without_flags}
-use Rattle.fetch_record.specs.Intents.{closed_rows}
-use Rattle.fetch_session.specs.Target.{closed_file, is_stored, none_held}
 
 -- a whole and positive reply to the command
 pub record IsGoodReply (command : Command) (reply : WholeReply) : Type 0 where

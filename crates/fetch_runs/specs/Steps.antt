@@ -1,23 +1,34 @@
 -- What holds of one session of the code, whatever its server says, and if it is honest.
-use Rattle.std.specs.Prelude.{◌≡◌, ◌⊎◌, ◌<◌, ◌-◌, ℕ, Bool, true, List, [], ◌∷◌, ◌++◌, zip, length, Some, slice_get}
-use Rattle.std.specs.List.{AllByRecursion}
-use Rattle.pop3_wire.specs.{declared.command.Command.Command, declared.command.Command.TheVariants.Dele, Honest.Honest}
-use Rattle.pop3_wire.specs.{Link.Link, World.Message}
+use Rattle.std.specs.{
+  Prelude.{◌≡◌, ◌⊎◌, ◌<◌, ◌-◌, ℕ, Bool, true, List, [], ◌∷◌, ◌++◌, zip, length, Some, slice_get},
+  List.AllByRecursion,
+}
+use Rattle.pop3_wire.specs.{
+  declared.command.Command.{Command, TheVariants.Dele},
+  Honest.Honest,
+  Link.Link,
+  World.Message,
+}
 use Rattle.mail_terms.specs.Listing.{Item}
 use Rattle.rc_file.specs.{Settings.IsValid, declared.settings.Settings.Settings}
 use Rattle.fetch_record.specs.Record.{RecordState, Row, is_delivered}
-use Rattle.mail_store.specs.FileName.{is_held, mail_file}
-use Rattle.mail_store.specs.FlatFile.{Stored}
-use Rattle.mail_store.specs.Maildir.{File, Maildir}
-use Rattle.mail_store.specs.Mboxrd.{MboxFile, entry_of}
-use Rattle.fetch_session.specs.Record.{Keeps, KeepsRows}
-use Rattle.fetch_session.specs.Session.{AccountFiles, MboxAccountFiles, SessionIn, keeps_entries, keeps_files}
-use Rattle.fetch_session.specs.Target.{AsEntries, AsFiles, mail_in}
-use Rattle.fetch_session.specs.{declared.report.Outcome.TheVariants.Ended, declared.report.Report.Report}
-use Rattle.fetch_runs.specs.Accounts.{AccountMail, listing_of, without_flags}
-use Rattle.fetch_runs.specs.Sessions.{Effect, Leaves, SendsOnly, SessionOverLink, wanted_at, MboxLeaves, MboxMail}
-use Rattle.fetch_runs.specs.Sessions.{MboxSessionOverLink}
-use Rattle.fetch_runs.specs.Sessions.{entries_of, mbox_wanted, settled}
+use Rattle.mail_store.specs.{
+  FileName.{is_held, mail_file},
+  FlatFile.Stored,
+  Maildir.{File, Maildir},
+  Mboxrd.{MboxFile, entry_of},
+}
+use Rattle.fetch_session.specs.{
+  Record.{Keeps, KeepsRows},
+  Session.{AccountFiles, MboxAccountFiles, SessionIn, keeps_entries, keeps_files},
+  Target.{AsEntries, AsFiles, mail_in},
+  declared.report.{Outcome.TheVariants.Ended, Report.Report},
+}
+use Rattle.fetch_runs.specs.{
+  Accounts.{AccountMail, listing_of, without_flags},
+  Sessions.{Effect, Leaves, SendsOnly, SessionOverLink, wanted_at, MboxLeaves, MboxMail, MboxSessionOverLink, settled},
+  Sessions.{entries_of, mbox_wanted},
+}
 
 abbrev pub IsAmong : {X : Type 0} → X → List X → Type 0
 IsAmong x xs = (front behind : List _) × (xs ≡ front ++ x ∷ behind)

@@ -1,14 +1,14 @@
 //! Laws over what sessions sent and left, and over lists of calls, for the programs and crates above: a function here
 //! does nothing, and its contract is the law.
-ghost use Rattle.fetch_runs.specs.Below.{Below};
-ghost use Rattle.fetch_runs.specs.Calls.{CallsKeepPromises, EmptyAccountsHold};
-ghost use Rattle.fetch_runs.specs.Conversations.{MboxSessionsFollowPlans, SessionsAreConversations};
-ghost use Rattle.fetch_runs.specs.Headline.{EmptyFrontsBegin, EntriesMeanTexts, Headline, MboxHeadline};
-ghost use Rattle.fetch_runs.specs.Headline.{MboxFrontsBegin, NoneTaken, TakenStaysAway};
-ghost use Rattle.fetch_runs.specs.Losses.{DurableAccountsAreSafe, DurableFrontsBegin};
-ghost use Rattle.fetch_runs.specs.Calls.{DurableMboxesAreSafe, MboxCallsKeepPromises};
-ghost use Rattle.fetch_runs.specs.Promises.{MboxStarts};
-ghost use Rattle.fetch_runs.specs.Steps.{MboxSessionsLoseNothing, SessionsLoseNothing};
+ghost use Rattle.fetch_runs.specs.{
+  Below.Below,
+  Calls.{CallsKeepPromises, EmptyAccountsHold, DurableMboxesAreSafe, MboxCallsKeepPromises},
+  Conversations.{MboxSessionsFollowPlans, SessionsAreConversations},
+  Headline.{EmptyFrontsBegin, EntriesMeanTexts, Headline, MboxHeadline, MboxFrontsBegin, NoneTaken, TakenStaysAway},
+  Losses.{DurableAccountsAreSafe, DurableFrontsBegin},
+  Promises.MboxStarts,
+  Steps.{MboxSessionsLoseNothing, SessionsLoseNothing},
+};
 
 use fetch_rules::{
     appended_counts, bytes_have_one_meaning, files_stand_for_one_record, held_is_delivered,

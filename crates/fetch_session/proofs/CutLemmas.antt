@@ -1,35 +1,45 @@
 -- A session that was cut has its cause.
-use Rattle.std.proofs.Common.{◌≡◌, ◌≤◌, ℕ, Bool, true, false, List, [], ◌∷◌, ◌++◌, Result, Ok, Err, refl, sym, ap, ◌∙◌}
-use Rattle.std.proofs.Common.{append_assoc, inl, inr, arith}
-use Rattle.std.proofs.{lemmas.Bool.false≢true, lemmas.List.Concat.flat_map-append, lemmas.List.Folds.flat_map-map}
-use Rattle.std.specs.String.{string_bytes}
+use Rattle.std.{
+  proofs.Common.{◌≡◌, ◌≤◌, ℕ, Bool, true, false, List, [], ◌∷◌, ◌++◌, Result, Ok, Err, refl, sym, ap, ◌∙◌, append_assoc, inl, inr, arith},
+  proofs.lemmas.{Bool.false≢true, List.{Concat.flat_map-append, Folds.flat_map-map}},
+  specs.String.string_bytes,
+}
 use Rattle.fetch_record.specs.Record.{RecordState, Row}
 use Rattle.mail_terms.specs.Listing.{Item}
-use Rattle.mail_store.specs.{FileName.stem_of, FlatFile.Stored, MboxCalls.RefusesLook, Maildir.Maildir}
-use Rattle.mail_store.specs.declared.fault.StoreFault.{StoreFault}
-use Rattle.mail_store.specs.declared.fault.StoreFault.TheVariants as refused
+use Rattle.mail_store.specs.{
+  FileName.stem_of,
+  FlatFile.Stored,
+  MboxCalls.RefusesLook,
+  Maildir.Maildir,
+  declared.fault.StoreFault.StoreFault,
+}
 use Rattle.rc_file.specs.declared.settings.Settings.{Settings}
-use Rattle.pop3_wire.specs.{Bodies.Rest, Link.Link, Reading.WholeReply}
-use Rattle.pop3_wire.specs.Place.{Place, at}
-use Rattle.pop3_client.specs.Conversation.{Broke, Talked, TurnsJoin}
-use Rattle.pop3_client.specs.{Texts.body_text, declared.fault.ClientFault.ClientFault}
-use Rattle.pop3_client.specs.Turns.{Turn, asking}
+use Rattle.pop3_wire.specs.{Bodies.Rest, Link.Link, Reading.WholeReply, Place.{Place, at}}
+use Rattle.pop3_client.specs.{
+  Conversation.{Broke, Talked, TurnsJoin},
+  Texts.body_text,
+  declared.fault.ClientFault.ClientFault,
+  Turns.{Turn, asking},
+}
+use Rattle.fetch_session.specs.{
+  declared.fault.{Cut.Cut, Fault.{Fault, TheVariants.{NoMemory, SeenRefused, BadSeen, StoreRefused}}},
+  declared.fault.Why.TheVariants.{Missing, Refused, NotMbox},
+  declared.report.Outcome.{Outcome, TheVariants.{Ended, Cut as WasCut}},
+  Fault.fault_of,
+  Cuts.{ArePlanned, CausesFault, CutsHaveCauses, TurnBroke},
+  Mbox.{IsStoreFault, RefusesEntry},
+  Opening.{Enters, opening},
+  CarryingOut.{Carried, tasks_ahead},
+  Readiness.{CausesUnready, SettlesStore},
+  Record.Saves,
+  Scene.{NotSaved, NotStored, Scene, Stops},
+  Session.{Enters_with, Keeping, Noted, Proceeds, keeping, outcome_of},
+  Store.{Brings, RefusesText},
+  Target.{Target, AsFiles, AsEntries, Stores},
+  Task.{Done, Task, tasks_of, turns_ahead, turns_in, turns_of},
+}
+use Rattle.mail_store.specs.declared.fault.StoreFault.TheVariants as refused
 use Rattle.pop3_client.specs.declared.fault.ClientFault.TheVariants as talk
-use Rattle.fetch_session.specs.{declared.fault.Cut.Cut, declared.fault.Fault.Fault, declared.report.Outcome.Outcome, Fault.fault_of}
-use Rattle.fetch_session.specs.declared.fault.Fault.TheVariants.{NoMemory, SeenRefused, BadSeen, StoreRefused}
-use Rattle.fetch_session.specs.declared.fault.Why.TheVariants.{Missing, Refused, NotMbox}
-use Rattle.fetch_session.specs.declared.report.Outcome.TheVariants.{Ended, Cut as WasCut}
-use Rattle.fetch_session.specs.Cuts.{ArePlanned, CausesFault, CutsHaveCauses, TurnBroke}
-use Rattle.fetch_session.specs.Mbox.{IsStoreFault, RefusesEntry}
-use Rattle.fetch_session.specs.Opening.{Enters, opening}
-use Rattle.fetch_session.specs.CarryingOut.{Carried, tasks_ahead}
-use Rattle.fetch_session.specs.Readiness.{CausesUnready, SettlesStore}
-use Rattle.fetch_session.specs.Record.{Saves}
-use Rattle.fetch_session.specs.Scene.{NotSaved, NotStored, Scene, Stops}
-use Rattle.fetch_session.specs.Session.{Enters_with, Keeping, Noted, Proceeds, keeping, outcome_of}
-use Rattle.fetch_session.specs.Store.{Brings, RefusesText}
-use Rattle.fetch_session.specs.Target.{Target, AsFiles, AsEntries, Stores}
-use Rattle.fetch_session.specs.Task.{Done, Task, tasks_of, turns_ahead, turns_in, turns_of}
 
 -- the fault of an outcome, and whether there is one
 abbrev fault_in : Outcome → Fault

@@ -1,34 +1,29 @@
 -- What a session leaves of a Maildir is durable.
-use Rattle.std.proofs.Common.{◌≡◌, ◌⊎◌, inl, inr, ℕ, Bool, true, false, List, [], ◌∷◌, ◌++◌, ◌≤◌, ◌||◌, ◌&&◌, None}
-use Rattle.std.proofs.Common.{Result, Ok, Err, Contains, arith, refl, sym, ap, subst, ◌∙◌, ⊎_elim, append_assoc}
-use Rattle.std.proofs.Common.{append-nil, bytes_eq, length}
-use mathlib.Core.Logic.{⊎_map}
-use Rattle.std.specs.List.{AllByRecursion}
-use Rattle.std.proofs.lemmas.Bool.{and_parts, cases_Bool, or_cases}
-use Rattle.std.proofs.lemmas.List.Elements.{Contains-append_left, Contains-append_right}
-use Rattle.std.proofs.lemmas.Slice.Eq.{bytes_eq-Decides}
-use Rattle.fetch_record.specs.Record.{Row, has_row, is_delivered, marked, marked_all, merged, none_open}
-use Rattle.fetch_record.specs.RecordGrowth.{OneRecord}
-use Rattle.mail_store.specs.FileName.{IsAccountText, NamesAreBases, NamesHaveStems, is_held, mail_file, names_id, sized_file, stem, stem_of}
-use Rattle.mail_store.specs.FlatFile.{Stored}
-use Rattle.mail_store.specs.Held.{FoundDurable, HasDurable, flags_of}
-use Rattle.mail_store.specs.Maildir.{AllFlushed, File, IsDurableFile, Maildir}
-use Rattle.mail_terms.specs.Listing.{Item, is_flagged}
-use Rattle.pop3_wire.specs.{Bodies.Rest, Reading.WholeReply}
-use Rattle.pop3_wire.specs.Place.{Place, at}
+use Rattle.std.{
+  proofs.Common.{◌≡◌, ◌⊎◌, inl, inr, ℕ, Bool, true, false, List, [], ◌∷◌, ◌++◌, ◌≤◌, ◌||◌, ◌&&◌, None, Result, Ok, Err, Contains, arith},
+  proofs.Common.{refl, sym, ap, subst, ◌∙◌, ⊎_elim, append_assoc, append-nil, bytes_eq, length},
+  proofs.lemmas.{Bool.{and_parts, cases_Bool, or_cases}, List.Elements.{Contains-append_left, Contains-append_right}},
+  proofs.lemmas.Slice.Eq.bytes_eq-Decides,
+  specs.List.AllByRecursion,
+}
+use Rattle.fetch_record.specs.{Record.{Row, has_row, is_delivered, marked, marked_all, merged, none_open}, RecordGrowth.OneRecord}
+use Rattle.mail_store.specs.{
+  FileName.{IsAccountText, NamesAreBases, NamesHaveStems, is_held, mail_file, names_id, sized_file, stem, stem_of},
+  FlatFile.Stored,
+  Held.{FoundDurable, HasDurable, flags_of},
+  Maildir.{AllFlushed, File, IsDurableFile, Maildir},
+}
+use Rattle.mail_terms.{specs.Listing.{Item, is_flagged}, proofs.ListLemmas.all_append}
+use Rattle.pop3_wire.specs.{Bodies.Rest, Reading.WholeReply, Place.{Place, at}}
 use Rattle.rc_file.specs.declared.settings.Settings.{Settings}
-use Rattle.fetch_session.specs.{declared.fault.Cut.Cut, declared.fault.Fault.Fault, declared.report.ReportLine.ReportLine}
-use Rattle.fetch_session.specs.{declared.report.Skips.Skips, Record.KeepsRows, Store.RefusesText}
-use Rattle.fetch_session.specs.Laws.{LeavesDurable, SessionsAreDurable}
-use Rattle.fetch_session.specs.CarryingOut.{Carried, Carries}
-use Rattle.fetch_session.specs.Readiness.{IsMergedAtMost, are_undelivered}
-use Rattle.fetch_session.specs.Scene.{Does, Scene, Stops, Went}
-use Rattle.fetch_session.specs.Session.{AccountFiles, Keeping, Noted, Proceeds, keeps_files}
-use Rattle.fetch_session.specs.Target.{AsFiles, Stores, in_maildir}
-use Rattle.fetch_session.specs.Task.{Done, IsAnswered, Task, file_from, files_in, files_of, ids_in, marked_ids, stores}
-use Rattle.mail_terms.proofs.ListLemmas.{all_append}
-use Rattle.fetch_session.proofs.SceneLemmas.{marked_on, steady_keeps, unsaved_keeps}
-use Rattle.fetch_session.proofs.TakenLemmas.{unready_same}
+use Rattle.fetch_session.{
+  specs.{declared.{fault.{Cut.Cut, Fault.Fault}, report.{ReportLine.ReportLine, Skips.Skips}}, Record.KeepsRows, Store.RefusesText},
+  specs.{Laws.{LeavesDurable, SessionsAreDurable}, CarryingOut.{Carried, Carries}, Readiness.{IsMergedAtMost, are_undelivered}},
+  specs.{Scene.{Does, Scene, Stops, Went}, Session.{AccountFiles, Keeping, Noted, Proceeds, keeps_files}},
+  specs.{Target.{AsFiles, Stores, in_maildir}, Task.{Done, IsAnswered, Task, file_from, files_in, files_of, ids_in, marked_ids, stores}},
+  proofs.{SceneLemmas.{marked_on, steady_keeps, unsaved_keeps}, TakenLemmas.unready_same},
+}
+use mathlib.Core.Logic.{⊎_map}
 
 -- the laws that are used
 pub record DurableLaws : Type 0 where

@@ -1,14 +1,17 @@
 -- What a preview says of a listing, message by message.
-use Rattle.std.proofs.Common.{◌≡◌, ◌<◌, ◌≤◌, ◌+◌, ℕ, Bool, List, ◌∷◌, [], ◌++◌, append_assoc, append-nil, drop, get_or, length}
-use Rattle.std.proofs.Common.{add-one, refl, sym, ap, ◌∙◌, arith, drop-cons, false, None}
-use Rattle.std.proofs.lemmas.List.{drop_all}
+use Rattle.std.proofs.{
+  Common.{◌≡◌, ◌<◌, ◌≤◌, ◌+◌, ℕ, Bool, List, ◌∷◌, [], ◌++◌, append_assoc, append-nil, drop, get_or, length, add-one, refl, sym, ap, ◌∙◌},
+  Common.{arith, drop-cons, false, None},
+  lemmas.List.drop_all,
+}
 use Rattle.mail_terms.specs.Listing.{Item}
 use Rattle.rc_file.specs.declared.settings.Settings.{Settings}
 use Rattle.fetch_record.specs.Record.{Row}
 use Rattle.fetch_rules.specs.declared.plans.Step.{Step}
-use Rattle.fetch_session.specs.declared.message_preview.MessagePreview.{MessagePreview}
-use Rattle.fetch_session.proofs.ReadyLemmas.{no_item, step_at}
-use Rattle.fetch_session.specs.MessagePreview.{message_preview_of, message_previews}
+use Rattle.fetch_session.{
+  specs.{declared.message_preview.MessagePreview.MessagePreview, MessagePreview.{message_preview_of, message_previews}},
+  proofs.ReadyLemmas.{no_item, step_at},
+}
 
 module _ (settings : Settings) (rows : List Row) (now : ℕ) where
   -- the preview has the first i messages

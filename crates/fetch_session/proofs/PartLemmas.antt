@@ -1,43 +1,41 @@
 -- What parts of a session keep and do, one after the other, and QUIT at their end.
-use Rattle.std.proofs.Common.{rules, ◌≡◌, ◌≤◌, ◌+◌, ◌*◌, ℕ, Bool, true, false, List, [], ◌∷◌, ◌++◌, length, None}
-use Rattle.std.proofs.Common.{Result, Ok, Err, IfErr, OnErr, OnOk, refl, sym, ap, subst, ◌∙◌, inl, arith, append_assoc}
-use Rattle.std.proofs.Common.{length-append, Vec, Global, Option, inr}
-use Rattle.std.proofs.{lemmas.Grind.flat_map-append, lemmas.Result.on_ok_weaker}
-use Rattle.std.specs.List.{AllByRecursion}
-use Rattle.mail_terms.specs.{Listing.Item, FailureCount.Tallies}
-use Rattle.mail_store.specs.declared.file.flat_file.FlatFile.{Ghosts as FileGhosts}
-use Rattle.mail_store.specs.declared.maildir.disk.MaildirDisk.{Ghosts as DiskGhosts}
-use Rattle.mail_store.specs.{FileName.stem_of, Power.LeavesNoMore, FlatFile.Stored, declared.file.flat_file.Edges.Edges}
-use Rattle.mail_store.specs.Maildir.{AllNamed, Maildir}
+use Rattle.std.{
+  proofs.Common.{rules, ◌≡◌, ◌≤◌, ◌+◌, ◌*◌, ℕ, Bool, true, false, List, [], ◌∷◌, ◌++◌, length, None, Result, Ok, Err, IfErr, OnErr, OnOk},
+  proofs.Common.{refl, sym, ap, subst, ◌∙◌, inl, arith, append_assoc, length-append, Vec, Global, Option, inr},
+  proofs.lemmas.{Grind.flat_map-append, Result.on_ok_weaker},
+  specs.List.AllByRecursion,
+}
+use Rattle.mail_terms.{specs.{Listing.Item, FailureCount.Tallies}, proofs.ListLemmas.{all_append, all_front, both_none}}
+use Rattle.mail_store.specs.{
+  declared.{file.flat_file.{FlatFile.Ghosts as FileGhosts, Edges.Edges}, maildir.disk.MaildirDisk.Ghosts as DiskGhosts},
+  FileName.stem_of,
+  Power.LeavesNoMore,
+  FlatFile.Stored,
+  Maildir.{AllNamed, Maildir},
+}
 use Rattle.fetch_record.specs.Record.{Intent, Row, has_row, none_open, marked, marked_all}
 use Rattle.fetch_rules.specs.{Plan.fetches, declared.plans.Step.Step}
-use Rattle.pop3_client.specs.Client.{HasSameLink, link_of, place_of}
-use Rattle.pop3_client.specs.Conversation.{Broke, ConversationsArePaced, TurnsJoin, is_link_refusal, most_of}
-use Rattle.pop3_client.specs.{declared.fault.ClientFault.ClientFault, declared.client.Client.Client}
-use Rattle.fetch_session.specs.{declared.fault.Fault.Fault, declared.fault.Cut.Cut, declared.report.ReportLine.ReportLine}
-use Rattle.pop3_client.specs.Turns.{Turn, line_limit, text_limit, quit}
-use Rattle.pop3_wire.specs.declared.wire.Wire.{Ghosts as WireGhosts}
-use Rattle.pop3_wire.specs.{Link.WhereSound, Place.Place}
-use Rattle.fetch_session.specs.{declared.work.Ledger.Ledger, declared.work.Work.Work, Report.AddsLines, Store.MayGain, Tail.tail}
-use Rattle.fetch_session.specs.Fault.{cut_of, fault_of}
-use Rattle.fetch_session.specs.Refusal.{Took, TookTillCut, TookWithTail, step_limit, tail_limit}
-use Rattle.fetch_session.specs.Durable.{AreLeft, DurableCut, DoesDurably, IsSafeFile, IsSafeStore, IsSafeWork}
-use Rattle.fetch_session.specs.Durable.{IsGrownAtMost, KeepsWork, LeavesFile, may_leave_in}
-use Rattle.fetch_session.specs.Parts.{RunsTasks, IsReadyFor, KeepsLedger, KeepsLink, KeepsStore}
-use Rattle.fetch_session.specs.Parts.{IsReadyForNext, IsWritten, WhereWorkSound, scene_of}
-use Rattle.fetch_session.specs.Record.{Steady, record_state}
-use Rattle.fetch_session.specs.Scene.{TakesTask, scene, Stops}
-use Rattle.fetch_session.specs.Target.{Target, is_sound, kind_of, stores_of, target_of, Kind, Files, Entries, Stores, target}
-use Rattle.fetch_session.specs.Task.{Task, stores, ids_in, ids_ahead, turns_in, turns_ahead, AreFresh, fetching}
-use Rattle.fetch_session.specs.Task.{deleting, tasks_in, tasks_planned, says}
-use Rattle.fetch_session.proofs.ReadyLemmas.{fetched_all, OneMore, ahead, fresh_grows}
-use Rattle.fetch_session.proofs.TalkLemmas.{most_tail, takes_on, took_broke, took_less, took_nothing, with_tail_on, cut_by, till_cut}
-use Rattle.fetch_session.proofs.SessionLemmas.{good_before, good_more, in_kind, keeps_same, no_more_keeps, none_durable, nothing_cut}
-use Rattle.fetch_session.proofs.SessionLemmas.{grown_left, rows_last, same_left, scene_at, texts_ok}
-use Rattle.mail_terms.proofs.ListLemmas.{all_append, all_front, both_none}
-use Rattle.fetch_session.proofs.SceneLemmas.{did_then, all_sound, all_none, all_weaker, fell_first, on_any}
-use Rattle.fetch_session.specs.declared.account.Store.{Store}
-use Rattle.fetch_session.specs.Mbox.{IsToldOfMbox, LooksAgain}
+use Rattle.pop3_client.specs.{
+  Client.{HasSameLink, link_of, place_of},
+  Conversation.{Broke, ConversationsArePaced, TurnsJoin, is_link_refusal, most_of},
+  declared.{fault.ClientFault.ClientFault, client.Client.Client},
+  Turns.{Turn, line_limit, text_limit, quit},
+}
+use Rattle.fetch_session.{
+  specs.declared.{fault.{Fault.Fault, Cut.Cut}, report.ReportLine.ReportLine, work.{Ledger.Ledger, Work.Work}, account.Store.Store},
+  specs.{Report.AddsLines, Store.MayGain, Tail.tail, Fault.{cut_of, fault_of}, Record.{Steady, record_state}},
+  specs.{Refusal.{Took, TookTillCut, TookWithTail, step_limit, tail_limit}, Scene.{TakesTask, scene, Stops}},
+  specs.Durable.{AreLeft, DurableCut, DoesDurably, IsSafeFile, IsSafeStore, IsSafeWork, IsGrownAtMost, KeepsWork, LeavesFile, may_leave_in},
+  specs.Parts.{RunsTasks, IsReadyFor, KeepsLedger, KeepsLink, KeepsStore, IsReadyForNext, IsWritten, WhereWorkSound, scene_of},
+  specs.{Target.{Target, is_sound, kind_of, stores_of, target_of, Kind, Files, Entries, Stores, target}, Mbox.{IsToldOfMbox, LooksAgain}},
+  specs.Task.{Task, stores, ids_in, ids_ahead, turns_in, turns_ahead, AreFresh, fetching, deleting, tasks_in, tasks_planned, says},
+  proofs.ReadyLemmas.{fetched_all, OneMore, ahead, fresh_grows},
+  proofs.TalkLemmas.{most_tail, takes_on, took_broke, took_less, took_nothing, with_tail_on, cut_by, till_cut},
+  proofs.SessionLemmas.{good_before, good_more, in_kind, keeps_same, no_more_keeps, none_durable, nothing_cut, grown_left, rows_last},
+  proofs.SessionLemmas.{same_left, scene_at, texts_ok},
+  proofs.SceneLemmas.{did_then, all_sound, all_none, all_weaker, fell_first, on_any},
+}
+use Rattle.pop3_wire.specs.{declared.wire.Wire.Ghosts as WireGhosts, Link.WhereSound, Place.Place}
 
 -- ---- parts
 

@@ -1,52 +1,48 @@
 -- What is planned and which ids stay fresh, what a session has ready, or why it isn't ready, and what of it is durable.
-use Rattle.std.proofs.Common.{◌≡◌, ◌≢◌, ◌&&◌, Some, inl, inr, ◌<◌, ◌+◌, ℕ, suc, Bool, true, false, List, [], ◌∷◌, ◌++◌}
-use Rattle.std.proofs.Common.{drop, get_or, length, refl, sym, ap, ◌∙◌, arith, append_assoc, ◌⊎◌, ◌||◌, bytes_eq}
-use Rattle.std.proofs.Common.{drop-cons, map, take, Option, Ok, subst, HoldsAt, Result, Err, All, IfOk, ⊎_elim, None}
-use Rattle.std.specs.List.{AllByRecursion}
-use Rattle.std.proofs.lemmas.Bool.{cases_Bool, false_from_ne_true, not-true, true≢false, or_parts}
-use Rattle.std.proofs.{lemmas.Grind.flat_map-append, lemmas.Slice.Eq.bytes_eq-Decides, lemmas.List.Elements.recursion_from_All}
-use Rattle.mail_terms.specs.UniqueId.{IsLegalId}
-use Rattle.mail_terms.specs.Listing.{Item, has_item, is_flagged, numbered}
-use Rattle.fetch_rules.specs.declared.plans.Step.{Step}
-use Rattle.mail_store.proofs.MaildirLemmas.{none_taken}
-use Rattle.mail_store.specs.{Durable.MayLeave, Power.LeavesNoMore, declared.fault.StoreFault.StoreFault}
-use Rattle.mail_store.specs.Maildir.{File, Maildir, WereTaken, with_file}
-use Rattle.mail_store.specs.FileName.{mail_file, sized_file, stem_of, is_held, IsAccountText}
-use Rattle.fetch_session.specs.Task.{Task, ids_ahead, AreFresh, fetching, deleting, tasks_in, tasks_planned}
-use Rattle.fetch_session.specs.{Store.MayGain, declared.account.Store.Store, declared.readiness.Found.Found, declared.fault.Fault.Fault}
-use Rattle.std.proofs.lemmas.List.Folds.{list_any-append, list_any_at}
-use Rattle.mail_store.specs.declared.maildir.disk.MaildirDisk.{Ghosts as DiskGhosts}
-use Rattle.mail_store.specs.declared.file.flat_file.FlatFile.{Ghosts as FileGhosts}
-use Rattle.fetch_session.specs.declared.account.Store.TheVariants.{Maildir as InMaildir, Mboxrd as InMbox}
-use Rattle.fetch_session.specs.Target.{held_flags, stores_of, target_of, Stores, in_maildir, kind_of, with_maildir}
-use Rattle.fetch_session.specs.Target.{AfterTakingIn, AsFiles, Target, AsEntries, closed_file, closed_rows_in, Kind}
-use Rattle.fetch_session.specs.Target.{Files, Entries, MayBeOdd, in_mbox, mbox_of, odd_in}
-use Rattle.mail_store.specs.Held.{AreById, flags_asked, flags_of, flags_sought}
-use Rattle.fetch_rules.specs.Laws.{FetchesAsked, FetchesFirsts}
-use Rattle.mail_terms.proofs.ListLemmas.{all_append}
-use Rattle.fetch_session.proofs.SceneLemmas.{all_weaker, read_keeps, steady_keeps, not_whole}
-use Rattle.std.proofs.lemmas.List.{map-append, take_more, length-map}
-use Rattle.fetch_record.specs.Record.{Loaded, Row, is_delivered, Intent, RecordState, has_row, marked, none_open, merged, IsRecord}
-use Rattle.fetch_session.specs.Durable.{IsSafeFile, IsSafeStore, DurableKept, LeavesMerged, LeavesSettled, LeavesStore}
-use Rattle.fetch_session.specs.Durable.{ReadiesDurably, DurableReady, UnlessQuiet, DurableUnready, may_leave_in}
-use Rattle.fetch_session.specs.Readiness.{AreDurable, FindsIn, are_undelivered, flags_found, IsMergedAtMost}
-use Rattle.fetch_session.specs.Readiness.{CausesUnready, FindsRefused, MboxUnready, SettlesStore, UnreadyCause}
-use Rattle.fetch_session.specs.Readiness.{merged_in, AreAsHeld, ChecksStore, HasPlan, IsAnew, IsIdle, IsFileKept}
-use Rattle.fetch_session.specs.Readiness.{Readies, ChecksIdle}
-use Rattle.fetch_session.specs.Record.{FileReadAs, IsSecured, ReadsRecord, Keeps, Merges, Steady, record_state_in}
-use Rattle.fetch_rules.specs.Plan.{IsQuiet, fetches, planned, step_of}
-use Rattle.fetch_rules.specs.Wanted.{none_odd}
-use Rattle.mail_store.specs.FlatFile.{Stored, holding}
-use Rattle.fetch_record.specs.{RecordFile.file_of, Intents.closed_rows}
+use Rattle.std.{
+  proofs.Common.{◌≡◌, ◌≢◌, ◌&&◌, Some, inl, inr, ◌<◌, ◌+◌, ℕ, suc, Bool, true, false, List, [], ◌∷◌, ◌++◌, drop, get_or, length, refl, sym},
+  proofs.Common.{ap, ◌∙◌, arith, append_assoc, ◌⊎◌, ◌||◌, bytes_eq, drop-cons, map, take, Option, Ok, subst, HoldsAt, Result, Err, All},
+  proofs.Common.{IfOk, ⊎_elim, None},
+  proofs.lemmas.{Bool.{cases_Bool, false_from_ne_true, not-true, true≢false, or_parts}, Grind.flat_map-append, Slice.Eq.bytes_eq-Decides},
+  proofs.lemmas.List.{Elements.recursion_from_All, Folds.{list_any-append, list_any_at}, map-append, take_more, length-map},
+  proofs.lemmas.List.FromFn.length-enumerate_from,
+  proofs.Math.Bool.{and-false, or-true},
+  specs.List.AllByRecursion,
+}
+use Rattle.mail_terms.{specs.{UniqueId.IsLegalId, Listing.{Item, has_item, is_flagged, numbered}}, proofs.ListLemmas.all_append}
+use Rattle.fetch_rules.specs.{
+  declared.plans.Step.Step,
+  Laws.{FetchesAsked, FetchesFirsts},
+  Plan.{IsQuiet, fetches, planned, step_of},
+  Wanted.none_odd,
+}
+use Rattle.mail_store.{
+  proofs.MaildirLemmas.none_taken,
+  specs.{Durable.MayLeave, Power.LeavesNoMore, Maildir.{File, Maildir, WereTaken, with_file}, FlatFile.{Stored, holding}},
+  specs.declared.{fault.StoreFault.StoreFault, maildir.disk.MaildirDisk.Ghosts as DiskGhosts, file.flat_file.FlatFile.Ghosts as FileGhosts},
+  specs.{FileName.{mail_file, sized_file, stem_of, is_held, IsAccountText}, Held.{AreById, flags_asked, flags_of, flags_sought}},
+}
+use Rattle.fetch_session.{
+  specs.{Task.{Task, ids_ahead, AreFresh, fetching, deleting, tasks_in, tasks_planned}, Store.MayGain, Mbox.{AsksMbox, IsStoreFault}},
+  specs.declared.{account.Store.{Store, TheVariants.{Maildir as InMaildir, Mboxrd as InMbox}}, readiness.{Found.Found, Ready.Ready}},
+  specs.declared.fault.Fault.{Fault, TheVariants.{BadSeen, NoMemory, SeenRefused, StoreRefused}},
+  specs.Target.{held_flags, stores_of, target_of, Stores, in_maildir, kind_of, with_maildir, AfterTakingIn, AsFiles, Target, AsEntries},
+  specs.Target.{closed_file, closed_rows_in, Kind, Files, Entries, MayBeOdd, in_mbox, mbox_of, odd_in},
+  specs.Durable.{IsSafeFile, IsSafeStore, DurableKept, LeavesMerged, LeavesSettled, LeavesStore, ReadiesDurably, DurableReady, UnlessQuiet},
+  specs.Durable.{DurableUnready, may_leave_in},
+  specs.Readiness.{AreDurable, FindsIn, are_undelivered, flags_found, IsMergedAtMost, CausesUnready, FindsRefused, MboxUnready, merged_in},
+  specs.Readiness.{SettlesStore, UnreadyCause, AreAsHeld, ChecksStore, HasPlan, IsAnew, IsIdle, IsFileKept, Readies, ChecksIdle},
+  specs.Record.{FileReadAs, IsSecured, ReadsRecord, Keeps, Merges, Steady, record_state_in},
+  proofs.{SceneLemmas.{all_weaker, read_keeps, steady_keeps, not_whole}, TextLemmas.{asks_refused, held_same}},
+}
+use Rattle.fetch_record.specs.{
+  Record.{Loaded, Row, is_delivered, Intent, RecordState, has_row, marked, none_open, merged, IsRecord},
+  RecordFile.file_of,
+  Intents.closed_rows,
+}
 use Rattle.rc_file.specs.declared.settings.Settings.{Settings}
-use Rattle.fetch_session.specs.declared.fault.Fault.TheVariants.{BadSeen, NoMemory, SeenRefused, StoreRefused}
 use Rattle.fetch_session.specs.declared.fault.Why.TheVariants as why
-use Rattle.fetch_session.specs.declared.readiness.Ready.{Ready}
-use Rattle.std.proofs.Math.Bool.{and-false, or-true}
-use Rattle.fetch_session.specs.Mbox.{AsksMbox, IsStoreFault}
 use Rattle.mail_store.specs.declared.fault.StoreFault.TheVariants as refused
-use Rattle.fetch_session.proofs.TextLemmas.{asks_refused, held_same}
-use Rattle.std.proofs.lemmas.List.FromFn.{length-enumerate_from}
 
 -- ---- which ids stay fresh while others are stored
 

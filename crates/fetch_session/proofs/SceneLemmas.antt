@@ -1,40 +1,41 @@
 -- How a record is read and what saving it leaves, how what single tasks do makes what lists of tasks do, and what a list leaves that
 -- stopped.
-use Rattle.std.proofs.Common.{◌≡◌, ◌≢◌, ◌⊎◌, inl, inr, ℕ, Bool, false, List, [], ◌∷◌, ◌++◌, Option, None, Some, Result}
-use Rattle.std.proofs.Common.{Ok, Err, ◌≤◌, refl, sym, ap, arith, ◌∙◌, OnOk, ◌==◌, ◌||◌, true, if◌then◌else◌, length}
-use Rattle.std.proofs.Common.{append-nil, subst, append_assoc, option_map, take, length-append}
-use Rattle.std.proofs.lemmas.Bool.{true≢false, or_parts}
-use Rattle.std.proofs.{lemmas.Bool.Decides.nat_tests, Math.Seq.take-append_seam, lemmas.Grind.flat_map-append}
-use Rattle.fetch_record.specs.Record.{Row, Intent, RecordState, Loaded, none_open, IsIntent, has_row, marked, marked_all}
-use Rattle.fetch_record.specs.RecordFile.{Version, One, Two, header, file_of, intent_line}
-use Rattle.fetch_record.specs.RecordMeaning.{Rows, Means, has_bytes, with_taken, Fault as Faulty}
-use Rattle.fetch_record.specs.RecordGrowth.{Updates, Grows, AppendedCounts, CutIsIgnored, taken_all}
-use Rattle.fetch_record.specs.Intents.{has_intent, is_older, closed_rows}
+use Rattle.std.{
+  proofs.Common.{◌≡◌, ◌≢◌, ◌⊎◌, inl, inr, ℕ, Bool, false, List, [], ◌∷◌, ◌++◌, Option, None, Some, Result, Ok, Err, ◌≤◌, refl, sym, ap},
+  proofs.Common.{arith, ◌∙◌, OnOk, ◌==◌, ◌||◌, true, if◌then◌else◌, length, append-nil, subst, append_assoc, option_map, take},
+  proofs.Common.length-append,
+  proofs.lemmas.{Bool.{true≢false, or_parts, Decides.nat_tests}, Grind.flat_map-append, List.{append-nil, map-append}},
+  proofs.lemmas.Iterator.Adapters.option_map_id,
+  proofs.Math.Seq.take-append_seam,
+  specs.List.{flat_map, AllByRecursion},
+}
+use Rattle.fetch_record.specs.{
+  Record.{Row, Intent, RecordState, Loaded, none_open, IsIntent, has_row, marked, marked_all},
+  RecordFile.{Version, One, Two, header, file_of, intent_line},
+  RecordMeaning.{Rows, Means, has_bytes, with_taken, Fault as Faulty},
+  RecordGrowth.{Updates, Grows, AppendedCounts, CutIsIgnored, taken_all},
+  Intents.{has_intent, is_older, closed_rows},
+  declared.seen.SeenFault.{SeenFault, TheVariants.NoMemory as WantsMemory},
+}
 use Rattle.mail_terms.proofs.ListLemmas.{all_append}
-use Rattle.mail_store.specs.FlatFile.{Stored, Appends, Cuts, FailsAs, file_refused}
-use Rattle.mail_store.specs.{declared.fault.StoreFault.StoreFault, Mboxrd.entry_of, FileName.mail_file}
-use Rattle.mail_store.specs.declared.fault.StoreFault.TheVariants.{Missing, Refused}
-use Rattle.fetch_session.specs.{declared.fault.Fault.Fault, declared.fault.Cut.Cut}
-use Rattle.fetch_session.specs.declared.fault.Fault.TheVariants.{SeenRefused, NoMemory, BadSeen}
-use Rattle.fetch_session.specs.Record.{bytes_in, record_state, Keeps, Steady, FileReadAs, StandsTill, TellsSize}
-use Rattle.fetch_session.specs.Record.{WritesRecord, Saves, Merges, TakesBack, record_state_in, LineOf, ReadsRecord}
-use Rattle.fetch_session.specs.Record.{IsLineFault}
-use Rattle.fetch_record.specs.declared.seen.SeenFault.{SeenFault}
-use Rattle.fetch_record.specs.declared.seen.SeenFault.TheVariants.{NoMemory as WantsMemory}
-use Rattle.std.proofs.lemmas.List.{append-nil, map-append}
-use Rattle.std.proofs.lemmas.Iterator.Adapters.{option_map_id}
-use Rattle.std.specs.List.{flat_map, AllByRecursion}
-use Rattle.mail_store.specs.Maildir.{Maildir, File}
-use Rattle.pop3_client.specs.Conversation.{TurnsJoin, Talked, ConversationsArePaced}
-use Rattle.fetch_session.specs.Task.{Task, Done, files_in, texts_in, tasks_of, turns_of, replies_of}
-use Rattle.fetch_session.specs.Task.{done_texts, stores, ids_in, marked_ids}
-use Rattle.fetch_session.specs.Store.{Gained, Appended, Brings}
-use Rattle.fetch_session.specs.Target.{Target, AsFiles, AsEntries, Stores}
-use Rattle.fetch_session.specs.Scene.{Scene, Went, AllWent, Fell, Stops, NoFile, FileNotSaved}
-use Rattle.fetch_session.proofs.TalkLemmas.{talked_none, stopped_first}
-use Rattle.pop3_client.specs.Turns.{Turn, retr}
+use Rattle.mail_store.specs.{
+  FlatFile.{Stored, Appends, Cuts, FailsAs, file_refused},
+  declared.fault.StoreFault.{StoreFault, TheVariants.{Missing, Refused}},
+  Mboxrd.entry_of,
+  FileName.mail_file,
+  Maildir.{Maildir, File},
+}
+use Rattle.fetch_session.{
+  specs.{declared.fault.{Fault.{Fault, TheVariants.{SeenRefused, NoMemory, BadSeen}}, Cut.Cut}, Store.{Gained, Appended, Brings}},
+  specs.Record.{bytes_in, record_state, Keeps, Steady, FileReadAs, StandsTill, TellsSize, WritesRecord, Saves, Merges, TakesBack, LineOf},
+  specs.Record.{record_state_in, ReadsRecord, IsLineFault},
+  specs.Task.{Task, Done, files_in, texts_in, tasks_of, turns_of, replies_of, done_texts, stores, ids_in, marked_ids},
+  specs.{Target.{Target, AsFiles, AsEntries, Stores}, Scene.{Scene, Went, AllWent, Fell, Stops, NoFile, FileNotSaved}},
+  specs.Laws.{CameWhole, ExtraIs, MarksAre, CutShort, StoppingCutsShort, UnsavedFilesKeep},
+  proofs.TalkLemmas.{talked_none, stopped_first},
+}
+use Rattle.pop3_client.specs.{Conversation.{TurnsJoin, Talked, ConversationsArePaced}, Turns.{Turn, retr}}
 use Rattle.pop3_wire.specs.Reading.{WholeReply}
-use Rattle.fetch_session.specs.Laws.{CameWhole, ExtraIs, MarksAre, CutShort, StoppingCutsShort, UnsavedFilesKeep}
 
 -- ---- what saving the record leaves
 

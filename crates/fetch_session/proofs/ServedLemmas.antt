@@ -1,52 +1,50 @@
 -- If nothing fails, a session ends, and has stored what it wants.
-use Rattle.std.proofs.Common.{◌≡◌, ◌≢◌, ◌<◌, ◌≤◌, ◌+◌, ◌-◌, ◌⊎◌, ℕ, Bool, true, false, List, [], ◌∷◌, ◌++◌, Option}
-use Rattle.std.proofs.Common.{None, Some, Result, Ok, Err, IsOk, Contains, refl, sym, ap, subst, ◌∙◌, inl, inr, arith}
-use Rattle.std.proofs.Common.{append_assoc, length, length-append, take, zip, map, filter}
-use Rattle.std.specs.List.{AllByRecursion, AllZip, enumerate_from, flat_map}
-use Rattle.std.proofs.{Math.Seq.take-append-add, lemmas.List.Concat.flat_map-append}
-use Rattle.std.proofs.lemmas.Bool.{cases_Bool, false≢true}
-use Rattle.std.proofs.lemmas.List.{append_cancel_left, append-nil, take-append-le}
-use Rattle.std.proofs.lemmas.List.Elements.{Contains-append_left, Contains-append_right}
-use Rattle.mail_terms.specs.Listing.{Item, message_limit}
+use Rattle.std.{
+  proofs.Common.{◌≡◌, ◌≢◌, ◌<◌, ◌≤◌, ◌+◌, ◌-◌, ◌⊎◌, ℕ, Bool, true, false, List, [], ◌∷◌, ◌++◌, Option, None, Some, Result, Ok, Err, IsOk},
+  proofs.Common.{Contains, refl, sym, ap, subst, ◌∙◌, inl, inr, arith, append_assoc, length, length-append, take, zip, map, filter},
+  proofs.Math.Seq.take-append-add,
+  proofs.lemmas.List.{Concat.flat_map-append, append_cancel_left, append-nil, take-append-le},
+  proofs.lemmas.List.Elements.{Contains-append_left, Contains-append_right},
+  proofs.lemmas.Bool.{cases_Bool, false≢true},
+  specs.List.{AllByRecursion, AllZip, enumerate_from, flat_map},
+}
+use Rattle.mail_terms.{specs.Listing.{Item, message_limit}, proofs.ListLemmas.{all_front, all_back}}
 use Rattle.mail_store.specs.{FileName.is_held, FlatFile.Stored, Mboxrd.entry_of}
 use Rattle.rc_file.specs.declared.settings.Settings.{Settings}
-use Rattle.fetch_record.specs.Record.{RecordState, Row}
-use Rattle.fetch_record.specs.RecordGrowth.{OneMeaning}
-use Rattle.fetch_record.specs.RecordMeaning.{Meaning, Rows, Fault as Faulty}
-use Rattle.fetch_rules.specs.Plan.{fetches, planned, retrieved, step_of}
-use Rattle.fetch_rules.specs.{Wanted.wanted, declared.plans.Step.Step}
-use Rattle.pop3_wire.proofs.BodyLemmas.{first_lines, IsLine-front, no_body, one_line, one_reading, two_statuses}
-use Rattle.pop3_wire.specs.Body.{HasNoBody, IsContent, body_of, dot, text_of}
-use Rattle.pop3_wire.specs.Line.{crlf, IsLine, ended}
-use Rattle.pop3_wire.specs.{Link.Link, Fields.number_and_size}
-use Rattle.pop3_wire.specs.Place.{Place, at}
-use Rattle.pop3_wire.specs.Reading.{IsBodyIf, IsReplyTo, WholeReply, body_bytes, gives_body, reply_bytes}
-use Rattle.pop3_wire.specs.Reply.{IsFirstLine, indicator, without_space}
-use Rattle.pop3_wire.specs.declared.command.Command.TheVariants.{UidlAll, ListAll, Retr}
-use Rattle.pop3_wire.specs.declared.reply.Status.TheVariants.{Negative, Positive}
-use Rattle.pop3_client.specs.Causes.{BeginsPositive, Cause, HasRows, IsOverlong, IsPartOfBody, IsPartOfListing, NextLine}
-use Rattle.pop3_client.specs.Conversation.{Broke, ConversationsArePaced, Talked, Talks}
-use Rattle.pop3_client.specs.Turns.{asking, IsBody, IsGood, IsListingRow, IsShort, LinesFit}
-use Rattle.pop3_client.specs.Turns.{Turn, line_limit, retr, text_limit, turn_bytes}
-use Rattle.pop3_client.specs.{declared.fault.ClientFault.ClientFault, Texts.body_text}
+use Rattle.fetch_record.specs.{Record.{RecordState, Row}, RecordGrowth.OneMeaning, RecordMeaning.{Meaning, Rows, Fault as Faulty}}
+use Rattle.fetch_rules.specs.{Plan.{fetches, planned, retrieved, step_of}, Wanted.wanted, declared.plans.Step.Step}
+use Rattle.pop3_wire.{
+  proofs.BodyLemmas.{first_lines, IsLine-front, no_body, one_line, one_reading, two_statuses},
+  specs.{Body.{HasNoBody, IsContent, body_of, dot, text_of}, Line.{crlf, IsLine, ended}, Link.Link, Fields.number_and_size},
+  specs.{Place.{Place, at}, Reading.{IsBodyIf, IsReplyTo, WholeReply, body_bytes, gives_body, reply_bytes}},
+  specs.Reply.{IsFirstLine, indicator, without_space},
+  specs.declared.{command.Command.TheVariants.{UidlAll, ListAll, Retr}, reply.Status.TheVariants.{Negative, Positive}},
+}
+use Rattle.pop3_client.{
+  specs.{Causes.{BeginsPositive, Cause, HasRows, IsOverlong, IsPartOfBody, IsPartOfListing, NextLine}, Texts.body_text},
+  specs.{Conversation.{Broke, ConversationsArePaced, Talked, Talks}, declared.fault.ClientFault.ClientFault},
+  specs.Turns.{asking, IsBody, IsGood, IsListingRow, IsShort, LinesFit, Turn, line_limit, retr, text_limit, turn_bytes},
+  proofs.TalkLemmas.by_listing,
+}
+use Rattle.fetch_session.specs.{
+  declared.fault.{Cut.Cut, Fault.{Fault, TheVariants.{BadSeen, ListingsDisagree, NoMemory, SeenRefused, StoreRefused}}},
+  declared.fault.Why.TheVariants.{Missing, NotMbox, Refused},
+  declared.{report.{Outcome.{Outcome, TheVariants.{Ended, Cut as WasCut}}, Report.Report}, tail.Tail.TheVariants.Nothing},
+  Fault.fault_of,
+  Cuts.{ArePlanned, CausesFault, CutsHaveCauses, Extends, IsMissing, IsUnusable, StoreRose, TurnBroke},
+  CarryingOut.tasks_ahead,
+  Readiness.SettlesStore,
+  Record.Misread,
+  Store.Brings,
+  Served.{refused_in, HasText, Succeeds, IsStored, IsUsable, GoodSessionsStoreAll, StoresAll},
+  Scene.{Scene, Stops},
+  Session.{Dealt, Keeping, LeavesLink, Noted, Proceeds, SessionIn, outcome_of},
+  Tail.{tail, turns_of_tail as tail_turns},
+  Target.{Target, AsFiles, AsEntries, Stores, closed_file, held_flags, odd_in},
+  Task.{Done, IsAnswered, Task, deleting, fetching, file_from, files_in, files_of, replies_of, stores, tasks_in, tasks_of, tasks_planned},
+  Task.{texts_in, done_texts, turns_in, turns_of},
+}
 use Rattle.pop3_client.specs.declared.fault.ClientFault.TheVariants as talk
-use Rattle.fetch_session.specs.{declared.fault.Cut.Cut, declared.fault.Fault.Fault, declared.report.Outcome.Outcome}
-use Rattle.fetch_session.specs.declared.fault.Fault.TheVariants.{BadSeen, ListingsDisagree, NoMemory, SeenRefused, StoreRefused}
-use Rattle.fetch_session.specs.declared.fault.Why.TheVariants.{Missing, NotMbox, Refused}
-use Rattle.fetch_session.specs.declared.report.Outcome.TheVariants.{Ended, Cut as WasCut}
-use Rattle.fetch_session.specs.{declared.report.Report.Report, declared.tail.Tail.TheVariants.Nothing, Fault.fault_of}
-use Rattle.fetch_session.specs.Cuts.{ArePlanned, CausesFault, CutsHaveCauses, Extends, IsMissing, IsUnusable, StoreRose, TurnBroke}
-use Rattle.fetch_session.specs.{CarryingOut.tasks_ahead, Readiness.SettlesStore, Record.Misread, Store.Brings}
-use Rattle.fetch_session.specs.Served.{refused_in, HasText, Succeeds, IsStored, IsUsable, GoodSessionsStoreAll, StoresAll}
-use Rattle.fetch_session.specs.Scene.{Scene, Stops}
-use Rattle.fetch_session.specs.Session.{Dealt, Keeping, LeavesLink, Noted, Proceeds, SessionIn, outcome_of}
-use Rattle.fetch_session.specs.Tail.{tail, turns_of_tail as tail_turns}
-use Rattle.fetch_session.specs.Target.{Target, AsFiles, AsEntries, Stores, closed_file, held_flags, odd_in}
-use Rattle.fetch_session.specs.Task.{Done, IsAnswered, Task, deleting, fetching, file_from, files_in, files_of}
-use Rattle.fetch_session.specs.Task.{replies_of, stores, tasks_in, tasks_of, tasks_planned, texts_in, done_texts}
-use Rattle.fetch_session.specs.Task.{turns_in, turns_of}
-use Rattle.mail_terms.proofs.ListLemmas.{all_front, all_back}
-use Rattle.pop3_client.proofs.TalkLemmas.{by_listing}
 
 -- ---- a turn whose good reply came didn't break
 

@@ -1,61 +1,49 @@
 -- How the parts of a session make the whole, also of one that changes nothing, and what of it is durable.
-use Rattle.std.proofs.Common.{◌≡◌, ◌≢◌, ◌⊎◌, ℕ, List, [], ◌∷◌, ◌++◌, Option, None, Some, Result, Ok, Err, refl, sym, ap}
-use Rattle.std.proofs.Common.{subst, ◌∙◌, inl, inr, append_assoc, length, ⊎_elim, Bool, false, append-nil, All, take}
-use Rattle.std.proofs.Common.{map, option_map}
-use Rattle.std.proofs.{lemmas.List.append-nil, lemmas.Grind.flat_map-append, lemmas.List.Elements.recursion_from_All}
-use Rattle.std.proofs.lemmas.Option.{none-some, same_Some}
-use Rattle.std.specs.List.{flat_map, AllByRecursion}
-use Rattle.pop3_wire.specs.Place.{Place, at}
-use Rattle.fetch_record.specs.Record.{Row, RecordState, Intent, none_open, marked_all, Loaded, merged}
-use Rattle.fetch_record.specs.RecordGrowth.{Grows, Updates}
-use Rattle.mail_store.specs.FlatFile.{Stored, holding}
-use Rattle.mail_store.specs.{declared.fault.StoreFault.StoreFault, Mboxrd.entry_of}
-use Rattle.mail_store.specs.DiskCalls.{AppendsDisk, CutsDisk, DurableCutTo}
-use Rattle.mail_store.specs.Durable.{IsDurable as IsFileDurable, Trusted, MayLeave, content_in, seen_on}
-use Rattle.mail_store.proofs.DiskLemmas.{durable_append, durable_cut, durable_trust}
-use Rattle.mail_store.proofs.DurableLemmas.{durable_is_left}
-use Rattle.mail_store.specs.declared.maildir.disk.MaildirDisk.{Ghosts as DiskGhosts}
-use Rattle.mail_store.specs.declared.file.flat_file.FlatFile.{Ghosts as FileGhosts}
-use Rattle.mail_store.specs.Maildir.{Maildir, File, IsWithout, WereTaken}
-use Rattle.mail_store.specs.Power.{IsLonger, KeepsWhole, LeavesCut, LeavesEither, LeavesLonger, LeavesNoMore, LeavesPart, LeavesAll}
-use Rattle.pop3_client.specs.Conversation.{TurnsJoin, Talks}
-use Rattle.fetch_session.specs.{declared.account.Store.Store, declared.fault.Cut.Cut, declared.work.Work.Work, Store.Brings}
-use Rattle.fetch_session.specs.declared.account.Store.TheVariants.{Maildir as InMaildir, Mboxrd as InMbox}
-use Rattle.fetch_session.specs.Record.{StandsTill, Steady, bytes_in, record_state, FileReadAs, ReadsRecord, record_state_in}
-use Rattle.fetch_session.specs.Scene.{Scene, scene, Went, AllWent}
-use Rattle.fetch_session.specs.Durable.{AreLeft, AreTrusted, DurableCarried, DurableCarries, DurableCut, DoesDurably, DurableDones}
-use Rattle.fetch_session.specs.Durable.{IsGrownAtMost, IsRecordLeft, IsSafeFile, IsSafeStore, IsSafeWork, IsRecordUntouched, KeepsWork}
-use Rattle.fetch_session.specs.Durable.{IsCutLeft, DurableKept, Durably, LeavesBoth, LeavesFile, LeavesLeft, LeavesMerged, LeavesStore}
-use Rattle.fetch_session.specs.Durable.{DurableProceeds, DurableRows, StillDurable, DurableSession, ShowsRows, DurableTexts, UnlessQuiet}
-use Rattle.fetch_session.specs.Durable.{may_leave_in}
-use Rattle.fetch_session.specs.Target.{Target, AsFiles, AsEntries, Stores, kind_of, stores_of, target_of, AfterTakingIn}
-use Rattle.fetch_session.specs.Target.{IsSoundMaildir, IsSoundMbox, in_maildir, in_mbox, is_sound, no_maildir}
-use Rattle.fetch_session.specs.Target.{with_maildir, maildir_of, mbox_of, held_flags, closed_file, none_held}
-use Rattle.fetch_session.specs.Target.{closed_rows_in, odd_in}
-use Rattle.fetch_session.specs.Task.{Task, Done, ids_in, marked_ids, done_texts, ids_ahead, says, tasks_planned}
-use Rattle.fetch_session.proofs.SceneLemmas.{is_there, not_whole, till_front, read_keeps, all_on, fell_before, fell_on, marked_on}
-use Rattle.pop3_wire.specs.Link.{Link}
+use Rattle.std.{
+  proofs.Common.{◌≡◌, ◌≢◌, ◌⊎◌, ℕ, List, [], ◌∷◌, ◌++◌, Option, None, Some, Result, Ok, Err, refl, sym, ap, subst, ◌∙◌, inl, inr, length},
+  proofs.Common.{append_assoc, ⊎_elim, Bool, false, append-nil, All, take, map, option_map},
+  proofs.lemmas.{List.{append-nil, Elements.recursion_from_All}, Grind.flat_map-append, Option.{none-some, same_Some}},
+  specs.List.{flat_map, AllByRecursion},
+}
+use Rattle.pop3_wire.specs.{Place.{Place, at}, Link.Link}
+use Rattle.fetch_record.specs.{
+  Record.{Row, RecordState, Intent, none_open, marked_all, Loaded, merged},
+  RecordGrowth.{Grows, Updates},
+  Intents.closed_rows,
+}
+use Rattle.mail_store.{
+  specs.{FlatFile.{Stored, holding}, Mboxrd.entry_of, DiskCalls.{AppendsDisk, CutsDisk, DurableCutTo}},
+  specs.declared.{fault.StoreFault.StoreFault, maildir.disk.MaildirDisk.Ghosts as DiskGhosts, file.flat_file.FlatFile.Ghosts as FileGhosts},
+  specs.{Durable.{IsDurable as IsFileDurable, Trusted, MayLeave, content_in, seen_on}, Maildir.{Maildir, File, IsWithout, WereTaken}},
+  specs.Power.{IsLonger, KeepsWhole, LeavesCut, LeavesEither, LeavesLonger, LeavesNoMore, LeavesPart, LeavesAll},
+  proofs.{DiskLemmas.{durable_append, durable_cut, durable_trust}, DurableLemmas.durable_is_left},
+}
+use Rattle.pop3_client.specs.{Conversation.{TurnsJoin, Talks}, Turns.quit, declared.fault.ClientFault.ClientFault}
+use Rattle.fetch_session.{
+  specs.declared.{account.Store.{Store, TheVariants.{Maildir as InMaildir, Mboxrd as InMbox}}, work.Work.Work, preview.Preview.Preview},
+  specs.declared.{fault.{Cut.Cut, Fault.{Fault, TheVariants.{StoreRefused, NoMemory}}}, readiness.{Ready.Ready, Found.Found}},
+  specs.declared.{report.{ReportLine.ReportLine, Report.Report, Skips.Skips}, message_preview.MessagePreview.MessagePreview},
+  specs.{Store.Brings, Record.{StandsTill, Steady, bytes_in, record_state, FileReadAs, ReadsRecord, record_state_in}},
+  specs.{Scene.{Scene, scene, Went, AllWent}, Task.{Task, Done, ids_in, marked_ids, done_texts, ids_ahead, says, tasks_planned}},
+  specs.Durable.{AreLeft, AreTrusted, DurableCarried, DurableCarries, DurableCut, DoesDurably, DurableDones, IsGrownAtMost, IsRecordLeft},
+  specs.Durable.{IsSafeFile, IsSafeStore, IsSafeWork, IsRecordUntouched, KeepsWork, IsCutLeft, DurableKept, Durably, LeavesBoth, ShowsRows},
+  specs.Durable.{LeavesFile, LeavesLeft, LeavesMerged, LeavesStore, DurableProceeds, DurableRows, StillDurable, DurableSession},
+  specs.Durable.{DurableTexts, UnlessQuiet, may_leave_in},
+  specs.Target.{Target, AsFiles, AsEntries, Stores, kind_of, stores_of, target_of, AfterTakingIn, IsSoundMaildir, IsSoundMbox, in_maildir},
+  specs.Target.{in_mbox, is_sound, no_maildir, with_maildir, maildir_of, mbox_of, held_flags, closed_file, none_held, closed_rows_in},
+  specs.Target.odd_in,
+  specs.{CarryingOut.{Carries, Carried, tasks_ahead}, Report.{Reports, skips_of}, Fault.{cut_of, fault_of}},
+  specs.Session.{Dealt, Keeping, LeavesLink, Noted, Enters_with, Proceeds, SessionIn, outcome_of, keeping},
+  specs.{Readiness.{AreDurable, IsFileKept, IsReady, FindsRefused, SettlesStore}, MessagePreview.message_previews},
+  specs.Pretend.{PreviewsMerged, WouldBeUnready, HoldsTheSame, IsUntouched as ChangesNothing, JudgesMbox, LooksAtMbox, LooksIn, Pretends},
+  specs.Pretend.{PreviewsSession, counted_as, previews_of, preview_told},
+  proofs.SceneLemmas.{is_there, not_whole, till_front, read_keeps, all_on, fell_before, fell_on, marked_on},
+  proofs.ReadyLemmas.{ahead, not_found, unread},
+}
 use Rattle.mail_terms.specs.Listing.{Item}
 use Rattle.rc_file.specs.declared.settings.Settings.{Settings}
-use Rattle.fetch_session.specs.{declared.fault.Fault.Fault, declared.report.ReportLine.ReportLine, declared.report.Report.Report}
-use Rattle.fetch_session.specs.declared.fault.Fault.TheVariants.{StoreRefused, NoMemory}
+use Rattle.fetch_rules.specs.{Plan.{IsQuiet, planned}, declared.plans.Step.Step}
 use Rattle.fetch_session.specs.declared.fault.Why.TheVariants as why
-use Rattle.fetch_session.specs.CarryingOut.{Carries, Carried, tasks_ahead}
-use Rattle.fetch_session.specs.Session.{Dealt, Keeping, LeavesLink, Noted, Enters_with, Proceeds, SessionIn, outcome_of, keeping}
-use Rattle.fetch_session.specs.Report.{Reports, skips_of}
-use Rattle.fetch_rules.specs.Plan.{IsQuiet, planned}
-use Rattle.fetch_rules.specs.declared.plans.Step.{Step}
-use Rattle.pop3_client.specs.{Turns.quit, declared.fault.ClientFault.ClientFault}
-use Rattle.fetch_session.specs.{declared.readiness.Ready.Ready, declared.report.Skips.Skips, declared.readiness.Found.Found}
-use Rattle.fetch_session.specs.Fault.{cut_of, fault_of}
-use Rattle.fetch_session.specs.Readiness.{AreDurable, IsFileKept, IsReady, FindsRefused, SettlesStore}
-use Rattle.fetch_session.proofs.ReadyLemmas.{ahead, not_found, unread}
-use Rattle.fetch_record.specs.Intents.{closed_rows}
-use Rattle.fetch_session.specs.{declared.preview.Preview.Preview, declared.message_preview.MessagePreview.MessagePreview}
-use Rattle.fetch_session.specs.Pretend.{PreviewsMerged, WouldBeUnready, HoldsTheSame, IsUntouched as ChangesNothing}
-use Rattle.fetch_session.specs.Pretend.{JudgesMbox, LooksAtMbox, LooksIn, Pretends, PreviewsSession, counted_as}
-use Rattle.fetch_session.specs.Pretend.{previews_of, preview_told}
-use Rattle.fetch_session.specs.MessagePreview.{message_previews}
 
 -- ---- what a loss of power may leave of a file
 

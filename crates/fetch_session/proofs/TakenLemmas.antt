@@ -1,22 +1,24 @@
 -- Which files of a Maildir a session leaves.
-use Rattle.std.proofs.Common.{◌≡◌, ℕ, List, [], ◌∷◌, ◌++◌, Result, Ok, Err, refl, sym, ap, arith, inl, inr, append_assoc}
-use Rattle.std.proofs.lemmas.List.{append-nil}
-use Rattle.pop3_wire.specs.Place.{Place, at}
-use Rattle.pop3_wire.specs.Bodies.{Rest}
+use Rattle.std.proofs.{
+  Common.{◌≡◌, ℕ, List, [], ◌∷◌, ◌++◌, Result, Ok, Err, refl, sym, ap, arith, inl, inr, append_assoc},
+  lemmas.List.append-nil,
+}
+use Rattle.pop3_wire.specs.{Place.{Place, at}, Bodies.Rest}
 use Rattle.mail_terms.specs.Listing.{Item}
 use Rattle.rc_file.specs.declared.settings.Settings.{Settings}
-use Rattle.mail_store.specs.FileName.{sized_file, stem_of}
-use Rattle.mail_store.specs.FlatFile.{Stored}
-use Rattle.mail_store.specs.Maildir.{File, Maildir}
-use Rattle.fetch_session.specs.{declared.fault.Cut.Cut, declared.fault.Fault.Fault, declared.report.ReportLine.ReportLine}
-use Rattle.fetch_session.specs.declared.fault.Fault.TheVariants.{StoreRefused, SeenRefused, BadSeen, NoMemory}
-use Rattle.fetch_session.specs.declared.fault.Why.TheVariants.{Missing, Refused}
-use Rattle.fetch_session.specs.{declared.report.Skips.Skips, Laws.SessionsKeepFiles, Readiness.UnreadyCause, Task.Task}
-use Rattle.fetch_session.specs.CarryingOut.{Carried, Carries}
-use Rattle.fetch_session.specs.Scene.{Does, Scene, Stops}
-use Rattle.fetch_session.specs.Session.{Dealt, Keeping, Noted, Proceeds, keeps_files}
-use Rattle.fetch_session.specs.Store.{Gained, RefusesText}
-use Rattle.fetch_session.specs.Target.{AsFiles, Stores}
+use Rattle.mail_store.specs.{FileName.{sized_file, stem_of}, FlatFile.Stored, Maildir.{File, Maildir}}
+use Rattle.fetch_session.specs.{
+  declared.fault.{Cut.Cut, Fault.{Fault, TheVariants.{StoreRefused, SeenRefused, BadSeen, NoMemory}}, Why.TheVariants.{Missing, Refused}},
+  declared.report.{ReportLine.ReportLine, Skips.Skips},
+  Laws.SessionsKeepFiles,
+  Readiness.UnreadyCause,
+  Task.Task,
+  CarryingOut.{Carried, Carries},
+  Scene.{Does, Scene, Stops},
+  Session.{Dealt, Keeping, Noted, Proceeds, keeps_files},
+  Store.{Gained, RefusesText},
+  Target.{AsFiles, Stores},
+}
 
 -- some files came after the others, none was taken, and the same names are odd
 abbrev Grew : Maildir → Maildir → Type 0

@@ -1,33 +1,37 @@
 -- What is known of calls of a link in a row, what a session says to its server, how much it takes from its link, and how many calls
 -- of it are refused.
-use Rattle.std.proofs.Common.{◌≡◌, Result, Ok, Err, ap, List, [], ◌∷◌, ◌++◌, refl, sym, ◌∙◌, append-nil, append_assoc}
-use Rattle.std.proofs.Common.{inl, inr, ℕ, Option, None, Some, ⊎_elim, ◌≤◌, ◌+◌, ◌*◌, length, arith, length-append}
-use Rattle.pop3_wire.specs.{declared.wire.Wire.Ghosts, Line.ended, Bodies.Rest, declared.note.Asked.Asked}
-use Rattle.pop3_wire.specs.Link.{WhereSound, Link}
-use Rattle.pop3_wire.specs.Place.{Place, at}
-use Rattle.pop3_wire.specs.Reading.{WholeReply, GivesCount}
+use Rattle.std.proofs.Common.{◌≡◌, Result, Ok, Err, ap, List, [], ◌∷◌, ◌++◌, refl, sym, ◌∙◌, append-nil, append_assoc, inl, inr, ℕ, None}
+use Rattle.std.proofs.Common.{Option, Some, ⊎_elim, ◌≤◌, ◌+◌, ◌*◌, length, arith, length-append}
+use Rattle.pop3_wire.specs.{
+  declared.{wire.Wire.Ghosts, note.Asked.Asked},
+  Line.ended,
+  Bodies.Rest,
+  Link.{WhereSound, Link},
+  Place.{Place, at},
+  Reading.{WholeReply, GivesCount},
+}
 use Rattle.pop3_client.specs.Turns.{Turn, stat, uidl, list, turn_bytes, asking, retr, Names, line_limit, text_limit, quit}
 pub use Rattle.pop3_client.proofs.TalkLemmas.{completes_talks, stopped_first, talked_none}
 pub use Rattle.mail_terms.proofs.ErrLemmas.{err_is}
-use Rattle.pop3_client.specs.Conversation.{Talked, Broke, Stopped, Completes, Talks, TurnsJoin, login}
-use Rattle.pop3_client.specs.Conversation.{ConversationsArePaced, is_link_refusal, most_of}
-use Rattle.pop3_client.specs.declared.fault.ClientFault.{ClientFault}
-use Rattle.mail_terms.specs.Listing.{Item, UidRow}
-use Rattle.mail_terms.specs.{declared.listing.ScanRow.ScanRow, FailureCount.Tallies}
-use Rattle.pop3_client.specs.Listing.{Listed, GetsListing}
-use Rattle.fetch_session.specs.Opening.{SessionOpened, Enters, opening}
-use Rattle.pop3_client.specs.Texts.{Fetching, TakesRest}
-use Rattle.fetch_session.specs.{declared.fault.Fault.Fault, declared.fault.Cut.Cut, declared.report.Outcome.Outcome}
-use Rattle.fetch_session.specs.Tail.{turns_of_tail, tail, Drops, TalksTailBy, turns_of_tail as tail_turns}
-use Rattle.pop3_client.specs.declared.fault.ClientFault.TheVariants.{ReadFailed, WriteFailed, Refused as WasRefused}
-use Rattle.fetch_session.specs.declared.report.Outcome.TheVariants.{Cut as WasCut}
-use Rattle.fetch_session.specs.{declared.tail.Tail.TheVariants.Nothing, Mbox.TakesText, declared.fault.Fault.TheVariants.Refused}
-use Rattle.fetch_session.specs.Fault.{cut_of, fault_of}
-use Rattle.fetch_session.specs.Refusal.{RefusesNone, RefusesAtMostOne, RefusesBefore, RefusesTillCut, RefusesByOutcome}
-use Rattle.fetch_session.specs.Refusal.{session_limit, step_limit, opening_limit, tail_limit, GotAtMost, Took}
-use Rattle.fetch_session.specs.Refusal.{TookBefore, TookTillCut, TookWithTail}
+use Rattle.pop3_client.specs.{
+  Conversation.{Talked, Broke, Stopped, Completes, Talks, TurnsJoin, login, ConversationsArePaced, is_link_refusal, most_of},
+  declared.fault.ClientFault.{ClientFault, TheVariants.{ReadFailed, WriteFailed, Refused as WasRefused}},
+  Listing.{Listed, GetsListing},
+  Texts.{Fetching, TakesRest},
+}
+use Rattle.mail_terms.specs.{Listing.{Item, UidRow}, declared.listing.ScanRow.ScanRow, FailureCount.Tallies}
+use Rattle.fetch_session.specs.{
+  Opening.{SessionOpened, Enters, opening},
+  declared.{fault.{Fault.{Fault, TheVariants.Refused}, Cut.Cut}, report.Outcome.{Outcome, TheVariants.Cut as WasCut}},
+  declared.tail.Tail.{TheVariants.Nothing, Tail},
+  Tail.{turns_of_tail, tail, Drops, TalksTailBy, turns_of_tail as tail_turns},
+  Mbox.TakesText,
+  Fault.{cut_of, fault_of},
+  Refusal.{RefusesNone, RefusesAtMostOne, RefusesBefore, RefusesTillCut, RefusesByOutcome, session_limit, step_limit, opening_limit, Took},
+  Refusal.{tail_limit, GotAtMost, TookBefore, TookTillCut, TookWithTail},
+  Store.StopsReading,
+}
 use Rattle.pop3_wire.specs.declared.note.Asked.TheVariants.{User as ByUser, Pass as ByPass, Quit as ByQuit}
-use Rattle.fetch_session.specs.{declared.tail.Tail.Tail, Store.StopsReading}
 
 module _ {W : Type 0} (link : Ghosts W) where
   -- what a call did, leaving out what the link leads to

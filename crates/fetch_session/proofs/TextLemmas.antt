@@ -1,37 +1,40 @@
 -- How one text is taken: stored in a Maildir, or appended to an mboxrd file.
-use Rattle.std.proofs.Common.{rules, ◌≡◌, inl, inr, ◌≤◌, ◌+◌, ℕ, List, [], ◌∷◌, ◌++◌, length, take, Option, None, Some}
-use Rattle.std.proofs.Common.{Result, Ok, Err, refl, sym, ap, subst, ◌∙◌, arith, length-append, ◌⊎◌, Bool, true}
-use Rattle.std.proofs.Common.{append_assoc, append-nil}
-use Rattle.std.proofs.{lemmas.List.length-take-le, lemmas.Option.none-some}
-use Rattle.std.specs.List.{AllZip}
-use Rattle.mail_store.specs.Maildir.{AllNamed, File, IsNamed, Maildir, MayBeNamed, draft, dropped, with_file}
-use Rattle.mail_store.specs.FileName.{sized, sized_file, stem_of}
-use Rattle.pop3_client.specs.declared.fault.ClientFault.{ClientFault}
-use Rattle.fetch_session.specs.{declared.fault.Fault.Fault, declared.fault.Cut.Cut, declared.report.ReportLine.ReportLine}
-use Rattle.fetch_session.specs.Fault.{cut_of, fault_of}
-use Rattle.pop3_wire.specs.{Bodies.Rest, Place.Place}
-use Rattle.fetch_session.specs.Store.{Gained, MayGain, begun_with, EndsFile, StopsStoring, StoresText, StopsReading, ReadsText, Appended}
+use Rattle.std.{
+  proofs.Common.{rules, ◌≡◌, inl, inr, ◌≤◌, ◌+◌, ℕ, List, [], ◌∷◌, ◌++◌, length, take, Option, None, Some, Result, Ok, Err, refl, sym, ap},
+  proofs.Common.{subst, ◌∙◌, arith, length-append, ◌⊎◌, Bool, true, append_assoc, append-nil},
+  proofs.lemmas.{List.length-take-le, Option.none-some},
+  specs.List.AllZip,
+}
+use Rattle.mail_store.specs.{
+  Maildir.{AllNamed, File, IsNamed, Maildir, MayBeNamed, draft, dropped, with_file},
+  FileName.{sized, sized_file, stem_of},
+  FlatFile.{Stored, holding, Measures},
+  Mboxrd.entry_of,
+  declared.{fault.{StoreFault.StoreFault, EntryFault.TheVariants.Nothing}, file.flat_file.Edges.Edges},
+  MboxCalls.{RefusesLook, ChecksMbox, AppendsEntry},
+}
+use Rattle.pop3_client.specs.{
+  declared.fault.ClientFault.ClientFault,
+  Turns.{Turn, retr},
+  Conversation.{Talked, Broke},
+  Texts.{Fetched, body_text},
+}
+use Rattle.fetch_session.{
+  specs.declared.{fault.{Fault.{Fault, TheVariants.{SeenRefused, NoMemory}}, Cut.Cut}, readiness.Found.Found},
+  specs.declared.report.ReportLine.{ReportLine, TheVariants.Delivered},
+  specs.{Fault.{cut_of, fault_of}, Record.{Saves, record_state_in, intent_at, with_open}},
+  specs.Store.{Gained, MayGain, begun_with, EndsFile, StopsStoring, StoresText, StopsReading, ReadsText, Appended},
+  specs.Task.{Task, Done, IsAnswered, stores, turns_in, turns_of, texts_in, ids_in, replies_of, report_lines, files_in},
+  specs.Scene.{EntryNotSaved, NoEntry, scene, Stops, TakesTask},
+  specs.Target.{Target, AsFiles, Stores, in_maildir, AsEntries, closed_file, in_mbox, is_stored, none_held},
+  specs.Mbox.{AppendsText, AsksMbox, TakesText, IsSettledAtMost, IsStoreFault, IsTakenBack, MarksEntry, RefusesEntry, SettlesIntent},
+  specs.Mbox.intent_of,
+  proofs.SceneLemmas.brings_same,
+}
+use Rattle.pop3_wire.specs.{Bodies.Rest, Place.Place, Body.{lf_line, text_of, unstuffed}}
 use Rattle.fetch_record.specs.Record.{Row, none_open, marked, RecordState, Intent, Loaded}
-use Rattle.mail_store.specs.FlatFile.{Stored, holding, Measures}
-use Rattle.pop3_client.specs.Turns.{Turn, retr}
-use Rattle.pop3_client.specs.Conversation.{Talked, Broke}
-use Rattle.fetch_session.specs.{declared.report.ReportLine.TheVariants.Delivered, declared.readiness.Found.Found}
-use Rattle.fetch_session.specs.Task.{Task, Done, IsAnswered, stores, turns_in, turns_of, texts_in, ids_in, replies_of}
-use Rattle.fetch_session.specs.Task.{report_lines, files_in}
-use Rattle.fetch_session.specs.Record.{Saves, record_state_in, intent_at, with_open}
-use Rattle.fetch_session.specs.Scene.{EntryNotSaved, NoEntry, scene, Stops, TakesTask}
-use Rattle.fetch_session.proofs.SceneLemmas.{brings_same}
-use Rattle.fetch_session.specs.Target.{Target, AsFiles, Stores, in_maildir, AsEntries, closed_file, in_mbox, is_stored, none_held}
-use Rattle.pop3_wire.specs.Body.{lf_line, text_of, unstuffed}
 use Rattle.mail_terms.specs.{Listing.Item, Text.IsWhole}
-use Rattle.mail_store.specs.{Mboxrd.entry_of, declared.fault.StoreFault.StoreFault, declared.fault.EntryFault.TheVariants.Nothing}
-use Rattle.mail_store.specs.MboxCalls.{RefusesLook, ChecksMbox, AppendsEntry}
 use Rattle.mail_store.specs.declared.fault.StoreFault.TheVariants as refused
-use Rattle.mail_store.specs.declared.file.flat_file.Edges.{Edges}
-use Rattle.pop3_client.specs.Texts.{Fetched, body_text}
-use Rattle.fetch_session.specs.declared.fault.Fault.TheVariants.{SeenRefused, NoMemory}
-use Rattle.fetch_session.specs.Mbox.{AppendsText, AsksMbox, TakesText, IsSettledAtMost, IsStoreFault, IsTakenBack}
-use Rattle.fetch_session.specs.Mbox.{MarksEntry, RefusesEntry, SettlesIntent, intent_of}
 
 -- ---- what storing a text leaves
 

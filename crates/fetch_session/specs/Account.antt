@@ -1,6 +1,5 @@
 -- What an account holds.
-use Rattle.std.specs.Prelude.{◌≡◌, ℕ, List}
-use Rattle.std.specs.String.{string_bytes}
+use Rattle.std.specs.{Prelude.{◌≡◌, ℕ, List}, String.string_bytes}
 use Rattle.rc_file.specs.declared.settings.Settings.{Settings}
 use Rattle.mail_store.specs.FileName.{account_text}
 use Rattle.fetch_session.specs.{declared.account.Store.Store, Target.kind_of}

@@ -7,14 +7,15 @@ use Rattle.fetch_rules.specs.Plan.{IsQuiet, planned}
 use Rattle.rc_file.specs.declared.settings.Settings.{Settings}
 use Rattle.mail_store.specs.FlatFile.{Stored}
 use Rattle.pop3_client.specs.Turns.{quit}
-use Rattle.fetch_session.specs.{declared.report.ReportLine.ReportLine, declared.fault.Cut.Cut}
-use Rattle.fetch_session.specs.Task.{Task, says, tasks_planned}
-use Rattle.fetch_session.specs.Readiness.{AreDurable, IsFileKept, SettlesStore, Unready, merged_in}
-use Rattle.fetch_session.specs.Record.{Keeps, Steady}
-use Rattle.fetch_session.specs.Target.{Target, Stores, held_flags, odd_in}
-use Rattle.fetch_session.specs.declared.report.Skips.{Skips}
-use Rattle.fetch_session.specs.Report.{none_skipped, skips_planned}
-use Rattle.fetch_session.specs.Scene.{Scene, scene, Does}
+use Rattle.fetch_session.specs.{
+  declared.{report.{ReportLine.ReportLine, Skips.Skips}, fault.Cut.Cut},
+  Task.{Task, says, tasks_planned},
+  Readiness.{AreDurable, IsFileKept, SettlesStore, Unready, merged_in},
+  Record.{Keeps, Steady},
+  Target.{Target, Stores, held_flags, odd_in},
+  Report.{none_skipped, skips_planned},
+  Scene.{Scene, scene, Does},
+}
 
 -- what a session does once its record is ready: the planned tasks, then QUIT
 abbrev pub tasks_ahead : Settings → Target → List Item → ℕ → Stores → List Row → List Task

@@ -1,24 +1,24 @@
 -- Why a session didn't end: what its server, its link, its store, its record's file or its memory did.
-use Rattle.std.specs.Prelude.{◌≡◌, ◌⊎◌, ◌<◌, ℕ, false, List, [], ◌∷◌, ◌++◌, None, Ok}
-use Rattle.std.specs.String.{string_bytes}
-use Rattle.mail_terms.specs.Listing.{Agree, Item, UidRow}
-use Rattle.mail_terms.specs.declared.listing.ScanRow.{ScanRow}
+use Rattle.std.specs.{Prelude.{◌≡◌, ◌⊎◌, ◌<◌, ℕ, false, List, [], ◌∷◌, ◌++◌, None, Ok}, String.string_bytes}
+use Rattle.mail_terms.specs.{Listing.{Agree, Item, UidRow}, declared.listing.ScanRow.ScanRow}
 use Rattle.mail_store.specs.MboxCalls.{IsNoMbox}
 use Rattle.rc_file.specs.declared.settings.Settings.{Settings}
 use Rattle.fetch_record.specs.Record.{RecordState}
-use Rattle.pop3_wire.specs.{Link.Link, Reading.WholeReply}
-use Rattle.pop3_wire.specs.Place.{Place, at}
+use Rattle.pop3_wire.specs.{Link.Link, Reading.WholeReply, Place.{Place, at}}
 use Rattle.pop3_client.specs.{Conversation.Talked, Turns.Turn}
-use Rattle.fetch_session.specs.{declared.fault.Fault.Fault, declared.report.Report.Report, Fault.Breaks}
-use Rattle.fetch_session.specs.declared.fault.Fault.TheVariants.{ListingsDisagree, StoreRefused, SeenRefused}
-use Rattle.fetch_session.specs.declared.fault.Fault.TheVariants.{NoMemory, BadSeen}
-use Rattle.fetch_session.specs.declared.fault.Why.TheVariants.{Missing, Refused, NotMbox}
-use Rattle.fetch_session.specs.declared.report.Outcome.TheVariants.{Cut as WasCut}
-use Rattle.fetch_session.specs.Opening.{opening, SessionOpened}
-use Rattle.fetch_session.specs.{CarryingOut.tasks_ahead, Readiness.merged_in, Task.turns_ahead}
-use Rattle.fetch_session.specs.Record.{Keeps, Misread}
-use Rattle.fetch_session.specs.Session.{Enters_with, Keeping, SessionIn}
-use Rattle.fetch_session.specs.Target.{Target, AsFiles, AsEntries, Stores}
+use Rattle.fetch_session.specs.{
+  declared.fault.Fault.{Fault, TheVariants.{ListingsDisagree, StoreRefused, SeenRefused, NoMemory, BadSeen}},
+  declared.fault.Why.TheVariants.{Missing, Refused, NotMbox},
+  declared.report.{Report.Report, Outcome.TheVariants.Cut as WasCut},
+  Fault.Breaks,
+  Opening.{opening, SessionOpened},
+  CarryingOut.tasks_ahead,
+  Readiness.merged_in,
+  Task.turns_ahead,
+  Record.{Keeps, Misread},
+  Session.{Enters_with, Keeping, SessionIn},
+  Target.{Target, AsFiles, AsEntries, Stores},
+}
 
 -- what was sent and what came went on from before
 pub record Extends (old new : Link) : Type 0 where

@@ -1,35 +1,36 @@
 -- What of a session is durable, by what the devices of its files say. What of a Maildir is durable, `SessionIn`
 -- says.
-use Rattle.std.specs.Prelude.{◌≡◌, ◌≢◌, ◌⊎◌, ℕ, List, [], ◌∷◌, ◌++◌, length, Option, None, Some, Result, Ok, Err}
-use Rattle.std.specs.List.{flat_map}
-use Rattle.std.proofs.Common.{inl, inr}
-use Rattle.mail_store.specs.declared.maildir.disk.MaildirDisk.{Ghosts as DiskGhosts}
-use Rattle.mail_store.specs.declared.file.flat_file.FlatFile.{Ghosts as FileGhosts}
-use Rattle.mail_store.specs.Durable.{IsDurable as IsFileDurable, Trusted, MayLeave}
-use Rattle.mail_store.specs.{FlatFile.Stored, Mboxrd.entry_of, Settling.MayBeLeft}
-use Rattle.mail_store.specs.Maildir.{File, IsDurableFile, Maildir}
-use Rattle.mail_store.specs.Power.{KeepsWhole, IsLeftWhole, LeavesCut, LeavesNoMore, LeavesAll}
+use Rattle.std.{
+  specs.{Prelude.{◌≡◌, ◌≢◌, ◌⊎◌, ℕ, List, [], ◌∷◌, ◌++◌, length, Option, None, Some, Result, Ok, Err}, List.flat_map},
+  proofs.Common.{inl, inr},
+}
+use Rattle.mail_store.specs.{
+  declared.{maildir.disk.MaildirDisk.Ghosts as DiskGhosts, file.flat_file.FlatFile.Ghosts as FileGhosts},
+  Durable.{IsDurable as IsFileDurable, Trusted, MayLeave},
+  FlatFile.Stored,
+  Mboxrd.entry_of,
+  Settling.MayBeLeft,
+  Maildir.{File, IsDurableFile, Maildir},
+  Power.{KeepsWhole, IsLeftWhole, LeavesCut, LeavesNoMore, LeavesAll},
+}
 use Rattle.mail_terms.specs.Listing.{Item}
 use Rattle.pop3_client.specs.Texts.{body_text}
-use Rattle.pop3_wire.specs.{Link.Link, Place.Place}
-use Rattle.pop3_wire.specs.declared.wire.Wire.{Ghosts as WireGhosts}
+use Rattle.pop3_wire.specs.{Link.Link, Place.Place, declared.wire.Wire.Ghosts as WireGhosts}
 use Rattle.rc_file.specs.declared.settings.Settings.{Settings}
-use Rattle.fetch_record.specs.Record.{Row, RecordState, Intent, none_open, marked, marked_all}
-use Rattle.fetch_record.specs.RecordGrowth.{Grows}
-use Rattle.fetch_session.specs.{declared.account.Store.Store, declared.fault.Cut.Cut, declared.fault.Fault.Fault}
-use Rattle.fetch_session.specs.declared.account.Store.TheVariants.{Maildir as InMaildir, Mboxrd as InMbox}
-use Rattle.fetch_session.specs.{declared.readiness.Ready.Ready, declared.report.Report.Report}
-use Rattle.fetch_session.specs.{declared.report.ReportLine.ReportLine, declared.report.Skips.Skips}
-use Rattle.fetch_session.specs.{declared.work.Work.Work, Mbox.intent_of}
-use Rattle.fetch_session.specs.Account.{Holding, digits_of}
-use Rattle.fetch_session.specs.CarryingOut.{Carried, Carries, tasks_ahead}
-use Rattle.fetch_session.specs.Readiness.{IsFileKept, IsMergedAtMost, Readies, merged_in}
-use Rattle.fetch_session.specs.Record.{Keeps, Steady, record_state, with_open}
-use Rattle.fetch_session.specs.Scene.{EntryNotSaved, NoEntry, Scene, Does, WhereAllSound}
-use Rattle.fetch_session.specs.Session.{Keeping, Noted, Proceeds, SessionIn, keeping}
-use Rattle.fetch_session.specs.Target.{Target, AsFiles, AsEntries, AfterTakingIn, Stores, is_sound, mbox_of, stores_of}
-use Rattle.fetch_session.specs.Target.{target_of}
-use Rattle.fetch_session.specs.Task.{Task, Done, ids_in, marked_ids, done_texts}
+use Rattle.fetch_record.specs.{Record.{Row, RecordState, Intent, none_open, marked, marked_all}, RecordGrowth.Grows}
+use Rattle.fetch_session.specs.{
+  declared.{account.Store.{Store, TheVariants.{Maildir as InMaildir, Mboxrd as InMbox}}, fault.{Cut.Cut, Fault.Fault}},
+  declared.{readiness.Ready.Ready, report.{Report.Report, ReportLine.ReportLine, Skips.Skips}, work.Work.Work},
+  Mbox.intent_of,
+  Account.{Holding, digits_of},
+  CarryingOut.{Carried, Carries, tasks_ahead},
+  Readiness.{IsFileKept, IsMergedAtMost, Readies, merged_in},
+  Record.{Keeps, Steady, record_state, with_open},
+  Scene.{EntryNotSaved, NoEntry, Scene, Does, WhereAllSound},
+  Session.{Keeping, Noted, Proceeds, SessionIn, keeping},
+  Target.{Target, AsFiles, AsEntries, AfterTakingIn, Stores, is_sound, mbox_of, stores_of, target_of},
+  Task.{Task, Done, ids_in, marked_ids, done_texts},
+}
 
 -- ---- what the devices say
 

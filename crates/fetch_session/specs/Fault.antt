@@ -2,12 +2,13 @@
 use Rattle.std.specs.Prelude.{◌≡◌, ℕ, Option}
 use Rattle.pop3_wire.specs.{Bodies.Rest, Place.Place}
 use Rattle.pop3_client.specs.{Conversation.Broke, Turns.Turn, declared.fault.ClientFault.ClientFault}
+use Rattle.fetch_session.specs.declared.fault.{
+  Fault.Fault,
+  Fault.TheVariants.{ConnectionEnded, ReadFailed, WriteFailed, ReplyTooLong, BadReply, Refused, BadListing, TooMany},
+  Fault.TheVariants.{ListingsDisagree, TextTooLong, StoreRefused, SeenRefused, NoMemory, BadSeen},
+  Cut.Cut,
+}
 use Rattle.pop3_client.specs.declared.fault.ClientFault.TheVariants as talk
-use Rattle.fetch_session.specs.{declared.fault.Fault.Fault, declared.fault.Cut.Cut}
-use Rattle.fetch_session.specs.declared.fault.Fault.TheVariants.{ConnectionEnded, ReadFailed, WriteFailed, ReplyTooLong}
-use Rattle.fetch_session.specs.declared.fault.Fault.TheVariants.{BadReply, Refused, BadListing, ListingsDisagree}
-use Rattle.fetch_session.specs.declared.fault.Fault.TheVariants.{TooMany, TextTooLong, StoreRefused, SeenRefused}
-use Rattle.fetch_session.specs.declared.fault.Fault.TheVariants.{NoMemory, BadSeen}
 
 -- the number that is shown for a fault
 abbrev pub number_of : Fault → ℕ

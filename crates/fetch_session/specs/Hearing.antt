@@ -1,19 +1,23 @@
 -- What a listener is told of a session's plan.
 use Rattle.std.specs.Prelude.{◌≡◌, ◌⊎◌, ℕ, Bool, List, [], ◌∷◌, ◌++◌, length, Ok}
 use Rattle.mail_terms.specs.Listing.{Item}
-use Rattle.mail_store.specs.declared.file.flat_file.FlatFile.{Ghosts as FileGhosts}
-use Rattle.mail_store.specs.declared.maildir.disk.MaildirDisk.{Ghosts as DiskGhosts}
-use Rattle.pop3_wire.specs.declared.wire.Wire.{Ghosts as WireGhosts}
-use Rattle.pop3_wire.specs.Link.{Link}
-use Rattle.pop3_wire.specs.Place.{Place, at}
+use Rattle.mail_store.specs.declared.{
+  file.flat_file.FlatFile.Ghosts as FileGhosts,
+  maildir.disk.MaildirDisk.Ghosts as DiskGhosts,
+}
+use Rattle.pop3_wire.specs.{declared.wire.Wire.Ghosts as WireGhosts, Link.Link, Place.{Place, at}}
 use Rattle.rc_file.specs.declared.settings.Settings.{Settings}
 use Rattle.fetch_record.specs.Record.{Row, RecordState}
 use Rattle.fetch_rules.specs.{Plan.planned, declared.plans.Step.Step}
-use Rattle.fetch_session.specs.Account.{Holding, digits_of}
-use Rattle.fetch_session.specs.{Readiness.merged_in, Record.Keeps, Report.skips_planned, Session.Enters_with}
-use Rattle.fetch_session.specs.Target.{AfterTakingIn, Kind, MayBeOdd, is_sound, kind_of, odd_in, stores_of, target_of}
-use Rattle.fetch_session.specs.{declared.account.Store.Store, declared.report.Report.Report}
-use Rattle.fetch_session.specs.declared.report.Skips.{Skips}
+use Rattle.fetch_session.specs.{
+  Account.{Holding, digits_of},
+  Readiness.merged_in,
+  Record.Keeps,
+  Report.skips_planned,
+  Session.Enters_with,
+  Target.{AfterTakingIn, Kind, MayBeOdd, is_sound, kind_of, odd_in, stores_of, target_of},
+  declared.{account.Store.Store, report.{Report.Report, Skips.Skips}},
+}
 
 -- what a report says of messages that were passed over
 abbrev pub passed_over : Report → Skips

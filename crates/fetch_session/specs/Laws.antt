@@ -1,28 +1,30 @@
 -- What a list of tasks that stopped leaves, in terms of the tasks that were done.
-use Rattle.std.specs.Prelude.{◌≡◌, ◌⊎◌, ◌≤◌, ℕ, Bool, true, List, [], ◌∷◌, ◌++◌, length, Option, Err}
-use Rattle.std.specs.List.{AllByRecursion, AllZip, flat_map}
+use Rattle.std.specs.{
+  Prelude.{◌≡◌, ◌⊎◌, ◌≤◌, ℕ, Bool, true, List, [], ◌∷◌, ◌++◌, length, Option, Err},
+  List.{AllByRecursion, AllZip, flat_map},
+}
 use Rattle.fetch_record.specs.Record.{RecordState, Row, is_delivered, marked_all, none_open}
-use Rattle.mail_store.specs.{FlatFile.Stored, FileName.IsAccountText, Held.HasDurable}
-use Rattle.mail_store.specs.Maildir.{AfterTaking, AllFlushed, File, IsDurableFile}
-use Rattle.pop3_wire.specs.Link.{Link}
+use Rattle.mail_store.specs.{
+  FlatFile.Stored,
+  FileName.IsAccountText,
+  Held.HasDurable,
+  Maildir.{AfterTaking, AllFlushed, File, IsDurableFile},
+  declared.{file.flat_file.FlatFile.Ghosts as FileGhosts, maildir.disk.MaildirDisk.Ghosts as DiskGhosts},
+}
+use Rattle.pop3_wire.specs.{Link.Link, Reading.{WholeReply, reply_bytes}, declared.wire.Wire.Ghosts as WireGhosts}
 use Rattle.rc_file.specs.declared.settings.Settings.{Settings}
-use Rattle.pop3_wire.specs.Reading.{WholeReply, reply_bytes}
 use Rattle.pop3_client.specs.Turns.{IsGood}
-use Rattle.fetch_session.specs.{declared.fault.Fault.Fault, declared.fault.Cut.Cut}
-use Rattle.fetch_session.specs.declared.fault.Fault.TheVariants.{StoreRefused, SeenRefused, NoMemory}
-use Rattle.fetch_session.specs.{declared.fault.Why.TheVariants.Refused, declared.report.Report.Report}
-use Rattle.fetch_session.specs.Task.{Task, Done, stores, tasks_of, turns_of, replies_of, marked_ids, files_of}
-use Rattle.fetch_session.specs.Task.{file_from}
-use Rattle.fetch_session.specs.Task.{report_lines}
-use Rattle.fetch_session.specs.Record.{Keeps, KeepsRows, Saves, Steady}
-use Rattle.fetch_session.specs.Scene.{Scene, Fell, WhereAllSound}
-use Rattle.fetch_session.specs.Target.{AsFiles, IsSoundMaildir, IsSoundMbox, maildir_of, mbox_of}
-use Rattle.fetch_session.specs.Account.{Holding, IsSameAccount, digits_of}
-use Rattle.fetch_session.specs.Durable.{RunsSession, DurableSession}
-use Rattle.fetch_session.specs.Session.{AccountFiles, MboxSession, Session, account_files, mbox_account_files}
-use Rattle.mail_store.specs.declared.file.flat_file.FlatFile.{Ghosts as FileGhosts}
-use Rattle.mail_store.specs.declared.maildir.disk.MaildirDisk.{Ghosts as DiskGhosts}
-use Rattle.pop3_wire.specs.declared.wire.Wire.{Ghosts as WireGhosts}
+use Rattle.fetch_session.specs.{
+  declared.fault.{Fault.{Fault, TheVariants.{StoreRefused, SeenRefused, NoMemory}}, Cut.Cut, Why.TheVariants.Refused},
+  declared.report.Report.Report,
+  Task.{Task, Done, stores, tasks_of, turns_of, replies_of, marked_ids, files_of, file_from, report_lines},
+  Record.{Keeps, KeepsRows, Saves, Steady},
+  Scene.{Scene, Fell, WhereAllSound},
+  Target.{AsFiles, IsSoundMaildir, IsSoundMbox, maildir_of, mbox_of},
+  Account.{Holding, IsSameAccount, digits_of},
+  Durable.{RunsSession, DurableSession},
+  Session.{AccountFiles, MboxSession, Session, account_files, mbox_account_files},
+}
 
 -- what was got begins with these replies, whole
 abbrev pub CameWhole : List WholeReply → Scene → Scene → Type 0

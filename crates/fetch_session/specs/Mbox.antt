@@ -3,21 +3,24 @@ use Rattle.std.specs.Prelude.{◌≡◌, ◌⊎◌, ◌+◌, ℕ, Bool, false, L
 use Rattle.std.specs.Prelude.{true}
 use Rattle.mail_terms.specs.Listing.{Item}
 use Rattle.fetch_record.specs.Record.{Row, Intent, Loaded, none_open, marked}
-use Rattle.mail_store.specs.FlatFile.{Stored, holding, file_refused, edges_of}
-use Rattle.mail_store.specs.Mboxrd.{MayGoOn, entry_of}
-use Rattle.mail_store.specs.MboxCalls.{EntryMayFollow, IsNoMbox, RefusesLook}
-use Rattle.mail_store.specs.{declared.fault.StoreFault.StoreFault, declared.file.flat_file.Edges.Edges}
-use Rattle.mail_store.specs.declared.fault.StoreFault.TheVariants as refused
+use Rattle.mail_store.specs.{
+  FlatFile.{Stored, holding, file_refused, edges_of},
+  Mboxrd.{MayGoOn, entry_of},
+  MboxCalls.{EntryMayFollow, IsNoMbox, RefusesLook},
+  declared.{fault.StoreFault.StoreFault, file.flat_file.Edges.Edges},
+}
 use Rattle.pop3_wire.specs.{Bodies.Rest, Place.Place}
-use Rattle.pop3_client.specs.Texts.{Fetching, Fetched}
-use Rattle.pop3_client.specs.Turns.{retr}
-use Rattle.fetch_session.specs.{declared.fault.Cut.Cut, declared.fault.Fault.Fault, Fault.Breaks}
-use Rattle.fetch_session.specs.declared.fault.Fault.TheVariants.{StoreRefused, SeenRefused, NoMemory}
-use Rattle.fetch_session.specs.declared.fault.Why.TheVariants.{Missing, Refused, NotMbox}
-use Rattle.fetch_session.specs.{declared.readiness.Found.Found, declared.report.ReportLine.ReportLine}
-use Rattle.fetch_session.specs.Record.{Saves, TakesBack, intent_at, with_open}
-use Rattle.fetch_session.specs.Target.{is_stored, closed_file, none_held, Kind, Files, Entries, Stores}
-use Rattle.fetch_session.specs.Report.{has_deletions}
+use Rattle.pop3_client.specs.{Texts.{Fetching, Fetched}, Turns.retr}
+use Rattle.fetch_session.specs.{
+  declared.fault.{Cut.Cut, Fault.{Fault, TheVariants.{StoreRefused, SeenRefused, NoMemory}}},
+  declared.fault.Why.TheVariants.{Missing, Refused, NotMbox},
+  declared.{readiness.Found.Found, report.ReportLine.ReportLine},
+  Fault.Breaks,
+  Record.{Saves, TakesBack, intent_at, with_open},
+  Target.{is_stored, closed_file, none_held, Kind, Files, Entries, Stores},
+  Report.has_deletions,
+}
+use Rattle.mail_store.specs.declared.fault.StoreFault.TheVariants as refused
 
 -- the fault of a session for a fault of its store
 abbrev pub IsStoreFault : StoreFault → Fault → Type 0

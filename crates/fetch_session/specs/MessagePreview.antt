@@ -4,8 +4,7 @@ use Rattle.std.specs.Prelude.{if◌then◌else◌}
 use Rattle.mail_terms.specs.{Listing.Item, Numeral.greatest_size}
 use Rattle.rc_file.specs.declared.settings.Settings.{Settings}
 use Rattle.fetch_record.specs.Record.{Row, is_delivered}
-use Rattle.fetch_rules.specs.{Due.seconds_per_day, declared.plans.Step.Step}
-use Rattle.fetch_rules.specs.Plan.{may_be_deleted, seen_since}
+use Rattle.fetch_rules.specs.{Due.seconds_per_day, declared.plans.Step.Step, Plan.{may_be_deleted, seen_since}}
 use Rattle.fetch_session.specs.declared.message_preview.MessagePreview.{MessagePreview}
 
 -- whether the age of a message decides if it is deleted

@@ -1,13 +1,12 @@
 -- The beginning of a session: logging in, and what is there.
 use Rattle.std.specs.Prelude.{◌≡◌, ◌⊎◌, ℕ, List, [], ◌∷◌, ◌++◌, Result, Ok, Err}
-use Rattle.pop3_wire.specs.Place.{Place}
-use Rattle.pop3_wire.specs.Reading.{WholeReply, HasListing, IsUidLine, IsScanLine, GivesCount}
-use Rattle.mail_terms.specs.Listing.{Item, Agree, Joins, UidRow}
-use Rattle.mail_terms.specs.declared.listing.ScanRow.{ScanRow}
-use Rattle.pop3_client.specs.declared.fault.ClientFault.{ClientFault}
-use Rattle.pop3_client.specs.declared.fault.ClientFault.TheVariants.{ListingsDisagree, NoMemory}
-use Rattle.pop3_client.specs.Turns.{Turn, stat, uidl, list}
-use Rattle.pop3_client.specs.Conversation.{Talked, Stopped, login}
+use Rattle.pop3_wire.specs.{Place.Place, Reading.{WholeReply, HasListing, IsUidLine, IsScanLine, GivesCount}}
+use Rattle.mail_terms.specs.{Listing.{Item, Agree, Joins, UidRow}, declared.listing.ScanRow.ScanRow}
+use Rattle.pop3_client.specs.{
+  declared.fault.ClientFault.{ClientFault, TheVariants.{ListingsDisagree, NoMemory}},
+  Turns.{Turn, stat, uidl, list},
+  Conversation.{Talked, Stopped, login},
+}
 
 -- the turns of the beginning
 abbrev pub opening : List ℕ → List ℕ → List Turn

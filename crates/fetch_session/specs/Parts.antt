@@ -1,27 +1,29 @@
 -- What each part of a session is ready for, what it keeps, and what it does.
-use Rattle.std.specs.Prelude.{◌≡◌, ℕ, true, List, [], ◌++◌, length, None, Result, OnOk}
-use Rattle.std.specs.List.{AllByRecursion}
+use Rattle.std.specs.{Prelude.{◌≡◌, ℕ, true, List, [], ◌++◌, length, None, Result, OnOk}, List.AllByRecursion}
 use Rattle.mail_terms.specs.UniqueId.{IsLegalId}
-use Rattle.mail_store.specs.declared.file.flat_file.FlatFile.{Ghosts as FileGhosts}
-use Rattle.mail_store.specs.declared.maildir.disk.MaildirDisk.{Ghosts as DiskGhosts}
-use Rattle.mail_store.specs.{FileName.IsAccountText, Maildir.AllNamed}
-use Rattle.fetch_record.specs.Intents.{IsNoneOrOf}
-use Rattle.fetch_record.specs.Record.{Row, has_row, marked, none_open}
-use Rattle.pop3_client.specs.Client.{HasSameLink, link_of, place_of}
-use Rattle.pop3_client.specs.{Conversation.most_of, declared.client.Client.Client}
-use Rattle.fetch_session.specs.{declared.fault.Fault.Fault, declared.fault.Cut.Cut, declared.work.Ledger.Ledger}
-use Rattle.pop3_wire.specs.declared.wire.Wire.{Ghosts as WireGhosts}
-use Rattle.pop3_wire.specs.Place.{Place}
-use Rattle.fetch_session.specs.declared.step.Task.{Task as Planned}
-use Rattle.fetch_session.specs.declared.step.Task.TheVariants.{Store, Reread, Skip}
-use Rattle.fetch_session.specs.declared.work.Work.{Work}
-use Rattle.fetch_session.specs.Durable.{AreLeft, DoesDurably, IsSafeFile, IsSafeWork, LeavesFile, LeavesStore}
-use Rattle.fetch_session.specs.Record.{Steady, record_state_in}
-use Rattle.fetch_session.specs.Refusal.{RefusesTillCut, TookTillCut}
-use Rattle.fetch_session.specs.Report.{AddsLines, HasRoom}
-use Rattle.fetch_session.specs.Target.{is_sound, kind_of, stores_of, target_of, NoneBegun}
-use Rattle.fetch_session.specs.Task.{Task, skips, stores, rereads, ids_ahead, turns_ahead, AreFresh}
-use Rattle.fetch_session.specs.Scene.{Scene, scene, WhereAllSound}
+use Rattle.mail_store.specs.{
+  declared.{file.flat_file.FlatFile.Ghosts as FileGhosts, maildir.disk.MaildirDisk.Ghosts as DiskGhosts},
+  FileName.IsAccountText,
+  Maildir.AllNamed,
+}
+use Rattle.fetch_record.specs.{Intents.IsNoneOrOf, Record.{Row, has_row, marked, none_open}}
+use Rattle.pop3_client.specs.{
+  Client.{HasSameLink, link_of, place_of},
+  Conversation.most_of,
+  declared.client.Client.Client,
+}
+use Rattle.fetch_session.specs.{
+  declared.{fault.{Fault.Fault, Cut.Cut}, work.{Ledger.Ledger, Work.Work}},
+  declared.step.Task.{Task as Planned, TheVariants.{Store, Reread, Skip}},
+  Durable.{AreLeft, DoesDurably, IsSafeFile, IsSafeWork, LeavesFile, LeavesStore},
+  Record.{Steady, record_state_in},
+  Refusal.{RefusesTillCut, TookTillCut},
+  Report.{AddsLines, HasRoom},
+  Target.{is_sound, kind_of, stores_of, target_of, NoneBegun},
+  Task.{Task, skips, stores, rereads, ids_ahead, turns_ahead, AreFresh},
+  Scene.{Scene, scene, WhereAllSound},
+}
+use Rattle.pop3_wire.specs.{declared.wire.Wire.Ghosts as WireGhosts, Place.Place}
 
 -- the state of a session: where its client is, and what it works on
 abbrev pub scene_of : {W D F H Z : Type 0} → WireGhosts W → DiskGhosts D → FileGhosts F → Client W

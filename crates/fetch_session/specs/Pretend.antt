@@ -1,25 +1,29 @@
 -- A session that tells what a run would do, and changes nothing.
 use Rattle.std.specs.Prelude.{◌≡◌, ◌⊎◌, ℕ, Bool, false, List, [], ◌∷◌, length, Option, None, Some, Result, Ok, Err, Vec}
 use Rattle.mail_terms.specs.Listing.{Item}
-use Rattle.pop3_wire.specs.Link.{Link}
-use Rattle.pop3_wire.specs.Place.{Place, at}
+use Rattle.pop3_wire.specs.{Link.Link, Place.{Place, at}}
 use Rattle.pop3_client.specs.{Conversation.Talks, Turns.quit, declared.fault.ClientFault.ClientFault}
 use Rattle.rc_file.specs.declared.settings.Settings.{Settings}
 use Rattle.fetch_record.specs.Record.{Row, Intent, RecordState}
 use Rattle.fetch_rules.specs.Plan.{planned}
-use Rattle.mail_store.specs.FlatFile.{Stored, file_refused}
-use Rattle.mail_store.specs.{Maildir.Maildir, Mboxrd.MayGoOn}
-use Rattle.mail_store.specs.Held.{flags_of, odd_flags}
-use Rattle.fetch_session.specs.{declared.fault.Cut.Cut, declared.fault.Fault.Fault, declared.readiness.Found.Found}
-use Rattle.fetch_session.specs.declared.fault.Fault.TheVariants.{NoMemory, StoreRefused}
-use Rattle.fetch_session.specs.declared.fault.Why.TheVariants.{Missing, NotMbox, Refused}
-use Rattle.fetch_session.specs.declared.preview.Preview.{Preview}
-use Rattle.fetch_session.specs.{declared.message_preview.MessagePreview.MessagePreview, Mbox.AsksMbox}
-use Rattle.fetch_session.specs.Fault.{cut_of, fault_of}
-use Rattle.fetch_session.specs.{MessagePreview.message_previews, Record.Keeps}
-use Rattle.fetch_session.specs.Readiness.{CausesUnready, FindsRefused, SettlesStore, merged_in}
-use Rattle.fetch_session.specs.Session.{Keeping, Enters_with, LeavesLink, outcome_of}
-use Rattle.fetch_session.specs.Target.{Target, AsFiles, AsEntries, Stores, closed_file, held_flags, is_stored, odd_in}
+use Rattle.mail_store.specs.{
+  FlatFile.{Stored, file_refused},
+  Maildir.Maildir,
+  Mboxrd.MayGoOn,
+  Held.{flags_of, odd_flags},
+}
+use Rattle.fetch_session.specs.{
+  declared.fault.{Cut.Cut, Fault.{Fault, TheVariants.{NoMemory, StoreRefused}}},
+  declared.fault.Why.TheVariants.{Missing, NotMbox, Refused},
+  declared.{readiness.Found.Found, preview.Preview.Preview, message_preview.MessagePreview.MessagePreview},
+  Mbox.AsksMbox,
+  Fault.{cut_of, fault_of},
+  MessagePreview.message_previews,
+  Record.Keeps,
+  Readiness.{CausesUnready, FindsRefused, SettlesStore, merged_in},
+  Session.{Keeping, Enters_with, LeavesLink, outcome_of},
+  Target.{Target, AsFiles, AsEntries, Stores, closed_file, held_flags, is_stored, odd_in},
+}
 
 -- ---- nothing changes
 

@@ -1,28 +1,34 @@
 -- What a session has ready before its first task, or why it isn't ready.
-use Rattle.std.specs.Prelude.{◌≡◌, ◌⊎◌, ◌<◌, ℕ, Bool, true, false, All, List, length, map, not, Option, None, Some}
-use Rattle.std.specs.Prelude.{Result, Ok, Err}
-use Rattle.std.specs.List.{AllByRecursion}
+use Rattle.std.specs.{
+  Prelude.{◌≡◌, ◌⊎◌, ◌<◌, ℕ, Bool, true, false, All, List, length, map, not, Option, None, Some, Result, Ok, Err},
+  List.AllByRecursion,
+}
 use Rattle.mail_terms.specs.Listing.{Item}
-use Rattle.fetch_record.specs.Record.{Row, RecordState, IsRecord, Loaded, has_row, is_delivered, none_open}
-use Rattle.fetch_record.specs.Record.{merged}
-use Rattle.fetch_record.specs.RecordFile.{file_of}
-use Rattle.fetch_rules.specs.Plan.{IsQuiet, planned}
-use Rattle.fetch_rules.specs.declared.plans.Step.{Step}
-use Rattle.fetch_session.specs.{Task.tasks_planned, declared.fault.Fault.Fault, declared.readiness.Found.Found}
+use Rattle.fetch_record.specs.{
+  Record.{Row, RecordState, IsRecord, Loaded, has_row, is_delivered, none_open, merged},
+  RecordFile.file_of,
+}
+use Rattle.fetch_rules.specs.{Plan.{IsQuiet, planned}, declared.plans.Step.Step}
+use Rattle.fetch_session.specs.{
+  Task.tasks_planned,
+  declared.fault.Fault.{Fault, TheVariants.{StoreRefused, SeenRefused, BadSeen, NoMemory}},
+  declared.fault.Why.TheVariants.{Missing, Refused, NotMbox},
+  declared.readiness.{Found.Found, Ready.Ready},
+  Mbox.{AsksMbox, IsSettledAtMost},
+  Record.{Keeps, Steady, Misread, FileReadAs},
+  Target.{Kind, Files, Entries, MayBeOdd, Target, AsFiles, AsEntries, Stores, closed_file, held_flags, odd_in},
+  Target.{in_maildir, none_held, closed_rows_in},
+}
 use Rattle.rc_file.specs.declared.settings.Settings.{Settings}
-use Rattle.mail_store.specs.FlatFile.{Stored, holding}
-use Rattle.mail_store.specs.Maildir.{AllNamed, Maildir}
-use Rattle.mail_store.specs.{Mboxrd.MayGoOn, declared.fault.StoreFault.StoreFault, MboxCalls.ChecksMbox}
-use Rattle.mail_store.specs.Held.{AreById, FoundDurable, flags_asked, odd_flags}
-use Rattle.fetch_session.specs.declared.fault.Fault.TheVariants.{StoreRefused, SeenRefused, BadSeen, NoMemory}
-use Rattle.fetch_session.specs.declared.fault.Why.TheVariants.{Missing, Refused, NotMbox}
+use Rattle.mail_store.specs.{
+  FlatFile.{Stored, holding},
+  Maildir.{AllNamed, Maildir},
+  Mboxrd.MayGoOn,
+  declared.fault.StoreFault.StoreFault,
+  MboxCalls.ChecksMbox,
+  Held.{AreById, FoundDurable, flags_asked, odd_flags},
+}
 use Rattle.mail_store.specs.declared.fault.StoreFault.TheVariants as refused
-use Rattle.fetch_session.specs.declared.readiness.Ready.{Ready}
-use Rattle.fetch_session.specs.Mbox.{AsksMbox, IsSettledAtMost}
-use Rattle.fetch_session.specs.Record.{Keeps, Steady, Misread, FileReadAs}
-use Rattle.fetch_session.specs.Target.{Kind, Files, Entries, MayBeOdd, Target, AsFiles, AsEntries, Stores, closed_file}
-use Rattle.fetch_session.specs.Target.{held_flags, odd_in}
-use Rattle.fetch_session.specs.Target.{in_maildir, none_held, closed_rows_in}
 
 -- a folder isn't there, or a call was refused, or memory ran out
 abbrev pub FindsRefused : Maildir → Fault → Maildir → Type 0

@@ -1,12 +1,17 @@
 -- The report with the reasons why messages are passed over.
-use Rattle.std.specs.Prelude.{ℕ, ◌-◌, ◌==◌, List, [], ◌∷◌, ◌++◌, flat_map, Option, Some, None, slice_get}
-use Rattle.std.specs.Prelude.{option_and_then, false, if◌then◌else◌, codes}
-use Rattle.std.specs.Fmt.{decimal}
+use Rattle.std.specs.{
+  Prelude.{ℕ, ◌-◌, ◌==◌, List, [], ◌∷◌, ◌++◌, flat_map, Option, Some, None, slice_get, option_and_then, false, codes},
+  Prelude.if◌then◌else◌,
+  Fmt.decimal,
+}
 use Rattle.rc_file.specs.declared.settings.Settings.{Settings}
-use Rattle.fetch_rules.specs.{declared.plans.Skip.Skip, declared.plans.Step.Step}
-use Rattle.fetch_session.specs.{Report.reason_of, declared.report.Report.Report, declared.report.ReportLine.ReportLine}
-use Rattle.fetch_session.specs.{declared.report.ReportLine.TheVariants.Skipped, Telling.skip_text}
-use Rattle.fetch_session.specs.Text.{heading, line_text, message_text, report_text, summary}
+use Rattle.fetch_rules.specs.declared.plans.{Skip.Skip, Step.Step}
+use Rattle.fetch_session.specs.{
+  Report.reason_of,
+  declared.report.{Report.Report, ReportLine.{ReportLine, TheVariants.Skipped}},
+  Telling.skip_text,
+  Text.{heading, line_text, message_text, report_text, summary},
+}
 
 -- why message `number` was passed over, if what was planned for it is known
 abbrev pub reason_at : List Step → ℕ → Option Skip

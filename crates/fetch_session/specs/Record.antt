@@ -1,16 +1,15 @@
 -- What is done to the record and its file.
 use Rattle.std.specs.Prelude.{◌≡◌, ◌≢◌, ◌⊎◌, ◌+◌, ℕ, Bool, false, List, [], Option, None, Some, Result, Ok, Err, Vec}
 use Rattle.std.specs.Prelude.{length, take}
-use Rattle.fetch_record.specs.Record.{Row, Intent, RecordState, Loaded, none_open}
-use Rattle.fetch_record.specs.RecordFile.{Two, file_of}
-use Rattle.fetch_record.specs.RecordMeaning.{Means, Rows, Fault as Faulty, FileStandsFor}
-use Rattle.fetch_record.specs.Intents.{ReadAs as BytesReadAs}
-use Rattle.fetch_record.specs.declared.seen.SeenFault.{SeenFault}
-use Rattle.fetch_record.specs.declared.seen.SeenFault.TheVariants.{BadHeader, BadRow, RepeatedId}
-use Rattle.fetch_record.specs.declared.seen.SeenFault.TheVariants.{NoMemory as WantsMemory}
+use Rattle.fetch_record.specs.{
+  Record.{Row, Intent, RecordState, Loaded, none_open},
+  RecordFile.{Two, file_of},
+  RecordMeaning.{Means, Rows, Fault as Faulty, FileStandsFor},
+  Intents.ReadAs as BytesReadAs,
+  declared.seen.SeenFault.{SeenFault, TheVariants.{BadHeader, BadRow, RepeatedId, NoMemory as WantsMemory}},
+}
 use Rattle.mail_store.specs.FlatFile.{Stored, HasBytes, holding, file_refused}
-use Rattle.fetch_session.specs.declared.fault.Fault.{Fault}
-use Rattle.fetch_session.specs.declared.fault.Fault.TheVariants.{SeenRefused, BadSeen, NoMemory}
+use Rattle.fetch_session.specs.declared.fault.Fault.{Fault, TheVariants.{SeenRefused, BadSeen, NoMemory}}
 
 -- the bytes of a file; none if it isn't there
 abbrev pub bytes_in : Option (List ℕ) → List ℕ

@@ -1,14 +1,13 @@
 -- How much a session takes from its link, and how many calls of it are refused.
 use Rattle.std.specs.Prelude.{◌≡◌, ◌⊎◌, None, Result, Ok, Err, ◌≤◌, ◌+◌, ◌*◌, ℕ, List, ◌++◌, length, Option, Some}
 use Rattle.mail_terms.specs.{FailureCount.counted_up, Listing.message_limit}
-use Rattle.pop3_wire.specs.declared.wire.Wire.{Ghosts as WireGhosts}
-use Rattle.pop3_wire.specs.{Link.Link, Bodies.Rest, Place.Place}
-use Rattle.fetch_session.specs.{declared.fault.Cut.Cut, declared.report.Outcome.Outcome, declared.report.Report.Report}
-use Rattle.fetch_session.specs.declared.report.Outcome.TheVariants.{Ended, Cut as WasCut}
-use Rattle.fetch_session.specs.declared.tail.Tail.TheVariants.{Nothing}
-use Rattle.fetch_session.specs.Tail.{tail, turns_of_tail}
-use Rattle.pop3_client.specs.Turns.{line_limit, text_limit, most, retr}
-use Rattle.pop3_client.specs.{Conversation.most_of, Texts.Fetching}
+use Rattle.pop3_wire.specs.{declared.wire.Wire.Ghosts as WireGhosts, Link.Link, Bodies.Rest, Place.Place}
+use Rattle.fetch_session.specs.{
+  declared.{fault.Cut.Cut, report.{Outcome.{Outcome, TheVariants.{Ended, Cut as WasCut}}, Report.Report}},
+  declared.tail.Tail.TheVariants.Nothing,
+  Tail.{tail, turns_of_tail},
+}
+use Rattle.pop3_client.specs.{Turns.{line_limit, text_limit, most, retr}, Conversation.most_of, Texts.Fetching}
 
 -- the most octets that a session of this many messages takes: first lines, two listings, and a text for each message
 abbrev pub session_limit : ℕ → ℕ

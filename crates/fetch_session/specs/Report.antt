@@ -1,21 +1,21 @@
 -- What a report says about a session.
-use Rattle.std.specs.Prelude.{◌≡◌, ◌+◌, ◌*◌, ◌≤◌, ℕ, Bool, true, false, not, List, [], min, if◌then◌else◌, Vec}
-use Rattle.std.specs.Prelude.{Option, Some}
-use Rattle.std.specs.Vec.{vec_len, vec_capacity}
-use Rattle.std.specs.List.{filter, count_by, list_any, sum_by}
-use Rattle.mail_terms.specs.Numeral.{greatest_size}
-use Rattle.mail_terms.specs.Listing.{Item, message_limit}
+use Rattle.std.specs.{
+  Prelude.{◌≡◌, ◌+◌, ◌*◌, ◌≤◌, ℕ, Bool, true, false, not, List, [], min, if◌then◌else◌, Vec, Option, Some},
+  Vec.{vec_len, vec_capacity},
+  List.{filter, count_by, list_any, sum_by},
+}
+use Rattle.mail_terms.specs.{Numeral.greatest_size, Listing.{Item, message_limit}}
 use Rattle.rc_file.specs.declared.settings.Settings.{Settings}
 use Rattle.fetch_record.specs.Record.{Row}
-use Rattle.fetch_rules.specs.Plan.{fetches, is_for_odd, planned}
-use Rattle.fetch_rules.specs.{declared.plans.Skip.Skip, declared.plans.Step.Step}
-use Rattle.fetch_rules.specs.declared.plans.Skip.TheVariants.{Delivered as DeliveredBefore, TooLarge, PastLimit}
-use Rattle.fetch_rules.specs.declared.plans.Skip.TheVariants.{SameId}
-use Rattle.fetch_session.specs.declared.fault.Fault.TheVariants.{StoreRefused, SeenRefused, BadSeen}
-use Rattle.fetch_session.specs.{declared.report.Skips.Skips, declared.report.Report.Report}
-use Rattle.fetch_session.specs.{declared.report.Outcome.Outcome, declared.report.Outcome.TheVariants.Cut}
-use Rattle.fetch_session.specs.declared.report.ReportLine.{ReportLine}
-use Rattle.fetch_session.specs.declared.report.ReportLine.TheVariants.{Delivered, Held, Deleted}
+use Rattle.fetch_rules.specs.{
+  Plan.{fetches, is_for_odd, planned},
+  declared.plans.{Skip.{Skip, TheVariants.{Delivered as DeliveredBefore, TooLarge, PastLimit, SameId}}, Step.Step},
+}
+use Rattle.fetch_session.specs.declared.{
+  fault.Fault.TheVariants.{StoreRefused, SeenRefused, BadSeen},
+  report.{Skips.Skips, Report.Report, Outcome.{Outcome, TheVariants.Cut}},
+  report.ReportLine.{ReportLine, TheVariants.{Delivered, Held, Deleted}},
+}
 
 -- there is room for `n` more lines
 abbrev pub HasRoom : {Z : Type 0} → Vec ReportLine Z → ℕ → Type 0

@@ -1,22 +1,28 @@
 -- The state of a session, and what a list of tasks does to it.
-use Rattle.std.specs.Prelude.{◌≡◌, ◌⊎◌, ◌≤◌, ℕ, true, List, [], ◌∷◌, ◌++◌, None, Some, Result, Ok, Err}
-use Rattle.pop3_wire.specs.{Place.Place, Reading.WholeReply, Bodies.Rest}
-use Rattle.std.specs.List.{AllByRecursion}
+use Rattle.std.specs.{
+  Prelude.{◌≡◌, ◌⊎◌, ◌≤◌, ℕ, true, List, [], ◌∷◌, ◌++◌, None, Some, Result, Ok, Err},
+  List.AllByRecursion,
+}
+use Rattle.pop3_wire.specs.{
+  Place.Place,
+  Reading.WholeReply,
+  Bodies.Rest,
+  declared.unstuffer.Spot.TheVariants.Done as AtEnd,
+}
 use Rattle.fetch_record.specs.Record.{Row, none_open, marked, marked_all}
 use Rattle.mail_store.specs.{FlatFile.Stored, FileName.stem_of}
-use Rattle.pop3_client.specs.Turns.{Turn, quit, retr}
-use Rattle.pop3_client.specs.Conversation.{Talked}
-use Rattle.fetch_session.specs.{declared.report.ReportLine.ReportLine, declared.fault.Cut.Cut, Fault.Breaks}
-use Rattle.pop3_wire.specs.declared.unstuffer.Spot.TheVariants.{Done as AtEnd}
-use Rattle.pop3_client.specs.Texts.{Fetching, Fetched, body_text}
-use Rattle.fetch_session.specs.Task.{Task, says, stores, Done, IsAnswered, turns_in, tasks_of, turns_of, replies_of}
-use Rattle.fetch_session.specs.Task.{marked_ids}
-use Rattle.fetch_session.specs.Task.{file_from, delivered, report_lines}
-use Rattle.fetch_session.specs.Store.{RefusesText, Gained, Appended, Brings}
-use Rattle.fetch_session.specs.Target.{Target, AsFiles, AsEntries, Stores}
-use Rattle.fetch_session.specs.Mbox.{RefusesEntry, MarksEntry, RefusesAgain}
-use Rattle.fetch_session.specs.{declared.fault.Fault.TheVariants.NoMemory, Report.has_deletions}
-use Rattle.fetch_session.specs.Record.{Steady, Saves}
+use Rattle.pop3_client.specs.{Turns.{Turn, quit, retr}, Conversation.Talked, Texts.{Fetching, Fetched, body_text}}
+use Rattle.fetch_session.specs.{
+  declared.{report.ReportLine.ReportLine, fault.{Cut.Cut, Fault.TheVariants.NoMemory}},
+  Fault.Breaks,
+  Task.{Task, says, stores, Done, IsAnswered, turns_in, tasks_of, turns_of, replies_of, marked_ids, file_from},
+  Task.{delivered, report_lines},
+  Store.{RefusesText, Gained, Appended, Brings},
+  Target.{Target, AsFiles, AsEntries, Stores},
+  Mbox.{RefusesEntry, MarksEntry, RefusesAgain},
+  Report.has_deletions,
+  Record.{Steady, Saves},
+}
 
 -- the link and what waits, what the store holds, the record's file, the record, and the lines noted so far
 pub record Scene : Type 0 where

@@ -1,25 +1,26 @@
 -- What a session does if nothing fails: it ends, and has stored what it wants.
-use Rattle.std.specs.Prelude.{◌≡◌, ◌≢◌, ◌⊎◌, ℕ, true, List, [], ◌∷◌, ◌++◌, Contains, Some, Ok, zip}
-use Rattle.std.specs.List.{AllByRecursion, AllZip, flat_map}
-use Rattle.std.specs.String.{string_bytes}
-use Rattle.mail_terms.specs.Listing.{Agree, Item, UidRow}
-use Rattle.mail_terms.specs.declared.listing.ScanRow.{ScanRow}
+use Rattle.std.specs.{
+  Prelude.{◌≡◌, ◌≢◌, ◌⊎◌, ℕ, true, List, [], ◌∷◌, ◌++◌, Contains, Some, Ok, zip},
+  List.{AllByRecursion, AllZip, flat_map},
+  String.string_bytes,
+}
+use Rattle.mail_terms.specs.{Listing.{Agree, Item, UidRow}, declared.listing.ScanRow.ScanRow}
 use Rattle.mail_store.specs.Mboxrd.{MayGoOn, entry_of}
 use Rattle.rc_file.specs.declared.settings.Settings.{Settings}
 use Rattle.fetch_record.specs.Record.{Loaded, RecordState}
 use Rattle.fetch_rules.specs.Wanted.{wanted}
-use Rattle.pop3_wire.specs.Link.{Link}
-use Rattle.pop3_wire.specs.Place.{Place, at}
-use Rattle.pop3_wire.specs.Reading.{WholeReply, reply_bytes}
-use Rattle.pop3_client.specs.{Conversation.Talked, Texts.body_text}
-use Rattle.pop3_client.specs.Turns.{IsGood, Turn, asking, retr}
-use Rattle.fetch_session.specs.{declared.fault.Fault.TheVariants.NoMemory, declared.report.Report.Report}
-use Rattle.fetch_session.specs.declared.report.Outcome.TheVariants.{Ended, Cut as WasCut}
-use Rattle.fetch_session.specs.Cuts.{ArePlanned, Extends}
-use Rattle.fetch_session.specs.{Opening.SessionOpened, Readiness.merged_in, Task.file_from}
-use Rattle.fetch_session.specs.Record.{Keeps, FileReadAs}
-use Rattle.fetch_session.specs.Session.{Enters_with, Keeping, SessionIn}
-use Rattle.fetch_session.specs.Target.{Target, AsFiles, AsEntries, Stores, held_flags, odd_in}
+use Rattle.pop3_wire.specs.{Link.Link, Place.{Place, at}, Reading.{WholeReply, reply_bytes}}
+use Rattle.pop3_client.specs.{Conversation.Talked, Texts.body_text, Turns.{IsGood, Turn, asking, retr}}
+use Rattle.fetch_session.specs.{
+  declared.{fault.Fault.TheVariants.NoMemory, report.{Report.Report, Outcome.TheVariants.{Ended, Cut as WasCut}}},
+  Cuts.{ArePlanned, Extends},
+  Opening.SessionOpened,
+  Readiness.merged_in,
+  Task.file_from,
+  Record.{Keeps, FileReadAs},
+  Session.{Enters_with, Keeping, SessionIn},
+  Target.{Target, AsFiles, AsEntries, Stores, held_flags, odd_in},
+}
 
 -- ---- nothing fails
 

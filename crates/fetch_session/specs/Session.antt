@@ -1,20 +1,21 @@
 -- A whole session: how far it got, what it said at its end, and what it reports.
-use Rattle.std.specs.Prelude.{◌≡◌, ◌⊎◌, ℕ, List, [], length, None, Result, Ok, Err}
-use Rattle.std.specs.String.{string_bytes}
-use Rattle.pop3_wire.specs.Link.{Link}
-use Rattle.pop3_wire.specs.Place.{Place, at}
+use Rattle.std.specs.{Prelude.{◌≡◌, ◌⊎◌, ℕ, List, [], length, None, Result, Ok, Err}, String.string_bytes}
+use Rattle.pop3_wire.specs.{Link.Link, Place.{Place, at}}
 use Rattle.mail_terms.specs.Listing.{Item}
 use Rattle.rc_file.specs.declared.settings.Settings.{Settings}
 use Rattle.mail_store.specs.{Maildir.Maildir, FlatFile.Stored}
 use Rattle.pop3_client.specs.declared.fault.ClientFault.{ClientFault}
-use Rattle.fetch_session.specs.{declared.fault.Fault.TheVariants.NoMemory, declared.fault.Cut.Cut}
-use Rattle.fetch_session.specs.{declared.report.Outcome.Outcome, declared.report.Report.Report}
-use Rattle.fetch_session.specs.declared.report.Outcome.TheVariants.{Ended, Cut as WasCut}
-use Rattle.fetch_session.specs.{declared.report.ReportLine.ReportLine, declared.report.Skips.Skips, Opening.Enters}
-use Rattle.fetch_session.specs.Fault.{cut_of, fault_of}
-use Rattle.fetch_session.specs.{CarryingOut.Carries, Tail.TalksTail}
-use Rattle.fetch_session.specs.Report.{Reports, none_skipped}
-use Rattle.fetch_session.specs.Target.{Target, AsFiles, AsEntries, Stores, in_maildir, in_mbox}
+use Rattle.fetch_session.specs.{
+  declared.fault.{Fault.TheVariants.NoMemory, Cut.Cut},
+  declared.report.{Outcome.{Outcome, TheVariants.{Ended, Cut as WasCut}}, Report.Report, ReportLine.ReportLine},
+  declared.report.Skips.Skips,
+  Opening.Enters,
+  Fault.{cut_of, fault_of},
+  CarryingOut.Carries,
+  Tail.TalksTail,
+  Report.{Reports, none_skipped},
+  Target.{Target, AsFiles, AsEntries, Stores, in_maildir, in_mbox},
+}
 
 -- what a session noted: how many messages were listed, how many its plan passes over, and what was done
 pub record Noted : Type 0 where

@@ -1,19 +1,32 @@
 -- What storing one text does.
-use Rattle.std.specs.Prelude.{◌≡◌, ◌⊎◌, ◌≤◌, ℕ, Bool, false, List, [], ◌∷◌, ◌++◌, length, Option, None, Some, Result}
-use Rattle.std.specs.Prelude.{Ok, Err, option_map}
-use Rattle.std.specs.List.{flat_map}
-use Rattle.mail_store.specs.{FlatFile.Stored, Mboxrd.entry_of, FileName.sized_file}
-use Rattle.fetch_session.specs.Target.{Target, AsFiles, AsEntries, Stores}
-use Rattle.fetch_session.specs.Task.{Done, files_of, done_texts}
-use Rattle.pop3_wire.specs.{Place.Place, Bodies.Rest, Reading.WholeReply}
-use Rattle.pop3_wire.specs.declared.unstuffer.Spot.TheVariants.{Done as AtEnd}
-use Rattle.pop3_client.specs.Conversation.{Talked, Broke}
-use Rattle.pop3_client.specs.{Turns.retr, declared.fault.ClientFault.ClientFault}
-use Rattle.pop3_client.specs.Texts.{Fetching, Fetched, body_text}
-use Rattle.fetch_session.specs.{declared.fault.Cut.Cut, declared.fault.Fault.Fault, Fault.Breaks}
-use Rattle.mail_store.specs.Maildir.{Maildir, File, Draft, MayHave, draft, mail, with_file, dropped, maildir_refused}
-use Rattle.fetch_session.specs.declared.fault.Fault.TheVariants.{StoreRefused}
-use Rattle.fetch_session.specs.declared.fault.Why.TheVariants.{Missing, Refused}
+use Rattle.std.specs.{
+  Prelude.{◌≡◌, ◌⊎◌, ◌≤◌, ℕ, Bool, false, List, [], ◌∷◌, ◌++◌, length, Option, None, Some, Result, Ok, Err, option_map},
+  List.flat_map,
+}
+use Rattle.mail_store.specs.{
+  FlatFile.Stored,
+  Mboxrd.entry_of,
+  FileName.sized_file,
+  Maildir.{Maildir, File, Draft, MayHave, draft, mail, with_file, dropped, maildir_refused},
+}
+use Rattle.fetch_session.specs.{
+  Target.{Target, AsFiles, AsEntries, Stores},
+  Task.{Done, files_of, done_texts},
+  declared.fault.{Cut.Cut, Fault.{Fault, TheVariants.StoreRefused}, Why.TheVariants.{Missing, Refused}},
+  Fault.Breaks,
+}
+use Rattle.pop3_wire.specs.{
+  Place.Place,
+  Bodies.Rest,
+  Reading.WholeReply,
+  declared.unstuffer.Spot.TheVariants.Done as AtEnd,
+}
+use Rattle.pop3_client.specs.{
+  Conversation.{Talked, Broke},
+  Turns.retr,
+  declared.fault.ClientFault.ClientFault,
+  Texts.{Fetching, Fetched, body_text},
+}
 
 -- these files came after the others; no other changed or was taken, the same names are odd, and the same folders are
 -- there

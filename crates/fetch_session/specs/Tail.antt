@@ -1,13 +1,20 @@
 -- What is said after a fault.
 use Rattle.std.specs.Prelude.{◌≡◌, ℕ, List, [], ◌∷◌, ◌++◌, Option, None, Some, Result, Ok, Err}
-use Rattle.pop3_wire.specs.{Bodies.Rest, declared.unstuffer.Spot.TheVariants.Done, Place.Place}
-use Rattle.pop3_client.specs.Texts.{Fetching, TakesRest}
-use Rattle.fetch_session.specs.{declared.fault.Cut.Cut, declared.fault.Fault.Fault, declared.tail.Tail.Tail}
-use Rattle.pop3_wire.specs.declared.note.Asked.TheVariants.{Quit}
-use Rattle.pop3_client.specs.Turns.{Turn, asking, quit, rset, retr}
-use Rattle.pop3_client.specs.{Conversation.Talks, declared.fault.ClientFault.ClientFault}
-use Rattle.fetch_session.specs.declared.fault.Fault.TheVariants.{Refused, StoreRefused, SeenRefused, BadSeen}
-use Rattle.fetch_session.specs.declared.tail.Tail.TheVariants.{Nothing, Leave, Undo}
+use Rattle.pop3_wire.specs.{
+  Bodies.Rest,
+  declared.{unstuffer.Spot.TheVariants.Done, note.Asked.TheVariants.Quit},
+  Place.Place,
+}
+use Rattle.pop3_client.specs.{
+  Texts.{Fetching, TakesRest},
+  Turns.{Turn, asking, quit, rset, retr},
+  Conversation.Talks,
+  declared.fault.ClientFault.ClientFault,
+}
+use Rattle.fetch_session.specs.declared.{
+  fault.{Cut.Cut, Fault.{Fault, TheVariants.{Refused, StoreRefused, SeenRefused, BadSeen}}},
+  tail.Tail.{Tail, TheVariants.{Nothing, Leave, Undo}},
+}
 
 abbrev pub turns_of_tail : Tail → List Turn
 turns_of_tail Nothing = []

@@ -1,16 +1,17 @@
 -- Where the texts of an account go, and what is known of it.
 use Rattle.std.specs.Prelude.{◌≡◌, ℕ, Bool, false, List, [], map, Option, None, Some}
 use Rattle.mail_terms.specs.Listing.{Item}
-use Rattle.fetch_record.specs.Record.{Row, Intent, RecordState}
-use Rattle.fetch_record.specs.Intents.{closed_rows}
-use Rattle.mail_store.specs.declared.maildir.disk.MaildirDisk.{Ghosts as DiskGhosts}
-use Rattle.mail_store.specs.declared.file.flat_file.FlatFile.{Ghosts as FileGhosts}
+use Rattle.fetch_record.specs.{Record.{Row, Intent, RecordState}, Intents.closed_rows}
+use Rattle.mail_store.specs.{
+  declared.{maildir.disk.MaildirDisk.Ghosts as DiskGhosts, file.flat_file.FlatFile.Ghosts as FileGhosts},
+  FileName.is_odd,
+  FlatFile.Stored,
+  Held.flags_of,
+  Maildir.{Maildir, WereTaken},
+  Settling.{listed_size, stands_whole, settled_file},
+}
 use Rattle.fetch_rules.specs.Wanted.{none_odd}
-use Rattle.mail_store.specs.{FileName.is_odd, FlatFile.Stored, Held.flags_of}
-use Rattle.mail_store.specs.Maildir.{Maildir, WereTaken}
-use Rattle.mail_store.specs.Settling.{listed_size, stands_whole, settled_file}
-use Rattle.fetch_session.specs.declared.account.Store.{Store}
-use Rattle.fetch_session.specs.declared.account.Store.TheVariants.{Maildir as InMaildir, Mboxrd as InMbox}
+use Rattle.fetch_session.specs.declared.account.Store.{Store, TheVariants.{Maildir as InMaildir, Mboxrd as InMbox}}
 
 -- each text is a file of a Maildir, or an entry of an mboxrd file
 pub data Kind : Type 0 where

@@ -1,15 +1,14 @@
 -- What a session has to do, task by task, and what each task brings once it is done.
-use Rattle.std.specs.Prelude.{◌≡◌, ◌≢◌, ℕ, Bool, true, false, List, [], ◌∷◌, ◌++◌, length, map}
-use Rattle.std.specs.List.{flat_map, AllByRecursion, AllZip}
+use Rattle.std.specs.{
+  Prelude.{◌≡◌, ◌≢◌, ℕ, Bool, true, false, List, [], ◌∷◌, ◌++◌, length, map},
+  List.{flat_map, AllByRecursion, AllZip},
+}
 use Rattle.mail_terms.specs.{UniqueId.IsLegalId, Listing.Item}
 use Rattle.fetch_rules.specs.{Plan.fetches, declared.plans.Step.Step}
-use Rattle.mail_store.specs.Maildir.{Maildir, File}
-use Rattle.mail_store.specs.FileName.{mail_file, is_held}
-use Rattle.pop3_client.specs.Turns.{Turn, IsGood, retr, dele}
+use Rattle.mail_store.specs.{Maildir.{Maildir, File}, FileName.{mail_file, is_held}}
+use Rattle.pop3_client.specs.{Turns.{Turn, IsGood, retr, dele}, Texts.body_text}
 use Rattle.pop3_wire.specs.Reading.{WholeReply}
-use Rattle.pop3_client.specs.Texts.{body_text}
-use Rattle.fetch_session.specs.declared.report.ReportLine.{ReportLine}
-use Rattle.fetch_session.specs.declared.report.ReportLine.TheVariants.{Delivered, Held, Skipped, Deleted}
+use Rattle.fetch_session.specs.declared.report.ReportLine.{ReportLine, TheVariants.{Delivered, Held, Skipped, Deleted}}
 
 -- a turn that stores nothing; a message passed over, of this number and size; a message to fetch and store under its
 -- id; one to fetch that is held already; one to delete

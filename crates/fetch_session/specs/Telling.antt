@@ -1,13 +1,20 @@
 -- The text of a preview.
-use Rattle.std.specs.Prelude.{ℕ, ◌+◌, ◌-◌, ◌*◌, ◌/◌, ◌%◌, min, nat_lt, Bool, true, false, List, [], ◌++◌, flat_map}
-use Rattle.std.specs.Prelude.{Option, Some, None, if◌then◌else◌, codes}
-use Rattle.std.specs.{List.count_by, Fmt.decimal}
+use Rattle.std.specs.{
+  Prelude.{ℕ, ◌+◌, ◌-◌, ◌*◌, ◌/◌, ◌%◌, min, nat_lt, Bool, true, false, List, [], ◌++◌, flat_map, Option, Some, None},
+  Prelude.{if◌then◌else◌, codes},
+  List.count_by,
+  Fmt.decimal,
+}
 use Rattle.rc_file.specs.declared.settings.Settings.{Settings}
-use Rattle.fetch_rules.specs.{Due.seconds_per_day, Plan.fetches, declared.plans.Skip.Skip}
-use Rattle.fetch_rules.specs.declared.plans.Skip.TheVariants.{Delivered, Obstructed, TooLarge, PastLimit, SameId}
-use Rattle.fetch_session.specs.declared.preview.Preview.{Preview}
-use Rattle.fetch_session.specs.{declared.message_preview.MessagePreview.MessagePreview, declared.telling.Date.Date}
-use Rattle.fetch_session.specs.Text.{heading, message_text}
+use Rattle.fetch_rules.specs.{
+  Due.seconds_per_day,
+  Plan.fetches,
+  declared.plans.Skip.{Skip, TheVariants.{Delivered, Obstructed, TooLarge, PastLimit, SameId}},
+}
+use Rattle.fetch_session.specs.{
+  declared.{preview.Preview.Preview, message_preview.MessagePreview.MessagePreview, telling.Date.Date},
+  Text.{heading, message_text},
+}
 
 -- ---- dates
 

@@ -1,20 +1,24 @@
 -- The texts of faults and reports.
-use Rattle.std.specs.Prelude.{ℕ, List, [], ◌++◌, ◌==◌, flat_map, if◌then◌else◌, codes}
-use Rattle.std.specs.{Fmt.decimal, String.string_bytes}
+use Rattle.std.specs.{
+  Prelude.{ℕ, List, [], ◌++◌, ◌==◌, flat_map, if◌then◌else◌, codes},
+  Fmt.decimal,
+  String.string_bytes,
+}
 use Rattle.rc_file.specs.declared.settings.Settings.{Settings}
 use Rattle.pop3_wire.specs.declared.note.Asked.{Asked}
-use Rattle.pop3_wire.specs.declared.note.Asked.TheVariants.{Greeting, User, Pass, Stat, Uidl, List as ListAsked}
-use Rattle.pop3_wire.specs.declared.note.Asked.TheVariants.{Retr, Dele, Rset, Quit}
-use Rattle.fetch_session.specs.{declared.fault.Why.Why, declared.fault.Fault.Fault, Fault.number_of}
+use Rattle.pop3_wire.specs.declared.note.Asked.TheVariants.{Greeting, User, Pass, Stat, Uidl, List as ListAsked, Retr}
+use Rattle.pop3_wire.specs.declared.note.Asked.TheVariants.{Dele, Rset, Quit}
+use Rattle.fetch_session.specs.{
+  declared.fault.Why.Why,
+  declared.fault.Fault.Fault,
+  declared.fault.Fault.TheVariants.{ConnectionEnded, ReadFailed, WriteFailed, ReplyTooLong, BadReply, Refused, TooMany},
+  declared.fault.Fault.TheVariants.{BadListing, ListingsDisagree, TextTooLong, StoreRefused, SeenRefused, NoMemory},
+  declared.fault.Fault.TheVariants.BadSeen,
+  declared.report.{Outcome.{Outcome, TheVariants.{Ended, Cut}}, Report.Report},
+  declared.report.ReportLine.{ReportLine, TheVariants.{Delivered, Held, Skipped, Deleted}},
+  Fault.number_of,
+}
 use Rattle.fetch_session.specs.declared.fault.Why.TheVariants as why
-use Rattle.fetch_session.specs.declared.fault.Fault.TheVariants.{ConnectionEnded, ReadFailed, WriteFailed}
-use Rattle.fetch_session.specs.declared.fault.Fault.TheVariants.{ReplyTooLong, BadReply, Refused, BadListing}
-use Rattle.fetch_session.specs.declared.fault.Fault.TheVariants.{ListingsDisagree, TooMany, TextTooLong, StoreRefused}
-use Rattle.fetch_session.specs.declared.fault.Fault.TheVariants.{SeenRefused, NoMemory, BadSeen}
-use Rattle.fetch_session.specs.{declared.report.Outcome.Outcome, declared.report.Report.Report}
-use Rattle.fetch_session.specs.declared.report.Outcome.TheVariants.{Ended, Cut}
-use Rattle.fetch_session.specs.declared.report.ReportLine.{ReportLine}
-use Rattle.fetch_session.specs.declared.report.ReportLine.TheVariants.{Delivered, Held, Skipped, Deleted}
 
 -- what a refused reply was asked for
 abbrev pub asked_text : Asked → List ℕ

@@ -31,12 +31,10 @@ pub struct Account<D: MaildirDisk, F: FlatFile, H: BuildHasher> {
 }
 
 impl<D: MaildirDisk, F: FlatFile, H: BuildHasher> Model for Account<D, F, H> {
-    ghost use Rattle.std.specs.Prelude.{◌≡◌};
+    ghost use Rattle.std.specs.{Prelude.◌≡◌, String.string_bytes};
     ghost use Rattle.rc_file.specs.Settings.{IsValid};
     ghost use Rattle.mail_store.specs.FileName.{IsAccountText, account_text};
-    ghost use Rattle.std.specs.String.{string_bytes};
-    ghost use Rattle.fetch_session.specs.Account.{Holding};
-    ghost use Rattle.fetch_session.specs.Target.{NoneBegun};
+    ghost use Rattle.fetch_session.specs.{Account.Holding, Target.NoneBegun};
 
     ghost Value = { Holding D F };
 

@@ -2,26 +2,26 @@
 //! and then the entry is appended at once. If nothing of it came, its intent is closed again.
 ghost use Rattle.std.specs.Prelude.{◌≡◌, ◌≢◌, ℕ, List, [], None, true, IfErr, OnErr, OnOk};
 ghost use Rattle.fetch_record.specs.Record.{has_row, none_open};
-ghost use Rattle.mail_terms.specs.Text.{IsWhole};
-ghost use Rattle.mail_terms.specs.UniqueId.{IsLegalId};
-ghost use Rattle.pop3_client.specs.Client.{HasSameLink, place_of, link_of};
-ghost use Rattle.pop3_client.specs.Texts.{Fetching};
-ghost use Rattle.pop3_client.specs.Turns.{most, retr};
-ghost use Rattle.pop3_wire.specs.Link.{WhereSound};
-ghost use Rattle.pop3_wire.specs.Bodies.{items_of};
-ghost use Rattle.pop3_wire.specs.Place.{Place};
-ghost use Rattle.pop3_wire.specs.declared.unstuffer.Spot.TheVariants.{Done};
-ghost use Rattle.fetch_session.specs.Mbox.{AppendsText, TakesText, IsStoreFault};
-ghost use Rattle.mail_store.specs.Durable.{Trusted, MayLeave};
-ghost use Rattle.mail_store.specs.Power.{KeepsWhole};
-ghost use Rattle.fetch_session.specs.Durable.{IsCutLeft, IsEntryLeft, IsSafeFile, LeavesBoth, StillDurable};
-ghost use Rattle.fetch_session.specs.Parts.{KeepsLedger, KeepsLink, KeepsRecord, IsWritten};
-ghost use Rattle.fetch_session.specs.Record.{Steady};
-ghost use Rattle.fetch_session.specs.Refusal.{RefusesTillCut, TookTillCut};
-ghost use Rattle.fetch_session.specs.Report.{HasRoom};
-ghost use Rattle.fetch_session.specs.Scene.{scene, TakesTask, WhereAllSound};
-ghost use Rattle.fetch_session.specs.Target.{AsEntries, in_mbox};
-ghost use Rattle.fetch_session.specs.Task.{stores};
+ghost use Rattle.mail_terms.specs.{Text.IsWhole, UniqueId.IsLegalId};
+ghost use Rattle.pop3_client.specs.{Client.{HasSameLink, place_of, link_of}, Texts.Fetching, Turns.{most, retr}};
+ghost use Rattle.pop3_wire.specs.{
+  Link.WhereSound,
+  Bodies.items_of,
+  Place.Place,
+  declared.unstuffer.Spot.TheVariants.Done,
+};
+ghost use Rattle.fetch_session.specs.{
+  Mbox.{AppendsText, TakesText, IsStoreFault},
+  Durable.{IsCutLeft, IsEntryLeft, IsSafeFile, LeavesBoth, StillDurable},
+  Parts.{KeepsLedger, KeepsLink, KeepsRecord, IsWritten},
+  Record.Steady,
+  Refusal.{RefusesTillCut, TookTillCut},
+  Report.HasRoom,
+  Scene.{scene, TakesTask, WhereAllSound},
+  Target.{AsEntries, in_mbox},
+  Task.stores,
+};
+ghost use Rattle.mail_store.specs.{Durable.{Trusted, MayLeave}, Power.KeepsWhole};
 
 use crate::fault::{Cut, Fault};
 use crate::record::{intend, remember, take_back};

@@ -1,16 +1,16 @@
 //! The part of a session after its listing.
-ghost use Rattle.std.specs.Prelude.{◌≡◌, ◌≤◌, ◌+◌, ◌*◌, length};
-ghost use Rattle.std.specs.List.{AllByRecursion};
-ghost use Rattle.mail_terms.specs.Listing.{message_limit};
-ghost use Rattle.mail_terms.specs.UniqueId.{IsLegalId};
+ghost use Rattle.std.specs.{Prelude.{◌≡◌, ◌≤◌, ◌+◌, ◌*◌, length}, List.AllByRecursion};
+ghost use Rattle.mail_terms.specs.{Listing.message_limit, UniqueId.IsLegalId};
 ghost use Rattle.mail_store.specs.FileName.{IsAccountText};
-ghost use Rattle.fetch_session.specs.Target.{AfterTakingIn, NoneBegun, kind_of, target_of};
-ghost use Rattle.fetch_session.specs.Refusal.{TookWithTail, step_limit, tail_limit};
-ghost use Rattle.fetch_session.specs.Hearing.{AreMerged, HearsOne, IsPlanned};
-ghost use Rattle.fetch_session.specs.Durable.{DurableCarries};
-ghost use Rattle.fetch_session.specs.Parts.{KeepsLink, KeepsStore, WhereWorkSound};
-ghost use Rattle.fetch_session.specs.CarryingOut.{Carries};
-ghost use Rattle.fetch_session.specs.Report.{HasRoom, none_skipped};
+ghost use Rattle.fetch_session.specs.{
+  Target.{AfterTakingIn, NoneBegun, kind_of, target_of},
+  Refusal.{TookWithTail, step_limit, tail_limit},
+  Hearing.{AreMerged, HearsOne, IsPlanned},
+  Durable.DurableCarries,
+  Parts.{KeepsLink, KeepsStore, WhereWorkSound},
+  CarryingOut.Carries,
+  Report.{HasRoom, none_skipped},
+};
 
 use crate::ending::end;
 use crate::fault::Cut;

@@ -1,13 +1,15 @@
 //! The end of a session whose planned steps were done.
 ghost use Rattle.std.specs.Prelude.{◌≡◌, ◌∷◌, ℕ, List, [], IfOk, OnOk};
 ghost use Rattle.pop3_client.specs.Turns.{quit};
-ghost use Rattle.fetch_session.specs.Mbox.{IsToldOfMbox, LooksAgain, went};
-ghost use Rattle.fetch_session.specs.Refusal.{TookWithTail, tail_limit};
-ghost use Rattle.fetch_session.specs.Durable.{IsSafeStore, may_leave_in};
+ghost use Rattle.fetch_session.specs.{
+  Mbox.{IsToldOfMbox, LooksAgain, went},
+  Refusal.{TookWithTail, tail_limit},
+  Durable.{IsSafeStore, may_leave_in},
+  Parts.{RunsTasks, KeepsLink, KeepsStore, IsReadyForNext},
+  Target.{is_sound, kind_of, stores_of},
+  Task.says,
+};
 ghost use Rattle.mail_store.specs.Power.{LeavesNoMore};
-ghost use Rattle.fetch_session.specs.Parts.{RunsTasks, KeepsLink, KeepsStore, IsReadyForNext};
-ghost use Rattle.fetch_session.specs.Target.{is_sound, kind_of, stores_of};
-ghost use Rattle.fetch_session.specs.Task.{says};
 
 use crate::account::Store;
 use crate::fault::{Cut, Fault};

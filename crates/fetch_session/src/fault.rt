@@ -130,8 +130,7 @@ impl From<ClientFault> for Cut {
 }
 
 impl From<AllocError> for Cut {
-    ghost use Rattle.fetch_session.specs.Fault.{cut_of};
-    ghost use Rattle.fetch_session.specs.declared.fault.Fault.TheVariants.{NoMemory};
+    ghost use Rattle.fetch_session.specs.{Fault.cut_of, declared.fault.Fault.TheVariants.NoMemory};
 
     ghost from_gives = { λ _ cut. cut ≡ cut_of NoMemory None };
 

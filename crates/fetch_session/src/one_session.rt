@@ -1,19 +1,20 @@
 //! One session, from its greeting to its end.
-ghost use Rattle.std.specs.Prelude.{◌≡◌, ◌≤◌, ◌+◌, ◌*◌, [], None, Ok, length};
+ghost use Rattle.std.specs.{Prelude.{◌≡◌, ◌≤◌, ◌+◌, ◌*◌, [], None, Ok, length}, Vec.vec_len};
 ghost use Rattle.pop3_wire.specs.Place.{Place};
 ghost use Rattle.pop3_client.specs.Client.{HasSameLink, link_of, place_of};
-ghost use Rattle.std.specs.Vec.{vec_len};
 ghost use Rattle.rc_file.specs.Settings.{IsValid};
 ghost use Rattle.mail_store.specs.FileName.{IsAccountText};
-ghost use Rattle.fetch_session.specs.Account.{IsSameAccount};
-ghost use Rattle.fetch_session.specs.Refusal.{IsWithinLimits, RefusesByOutcome, GotAtMost, session_limit, TookWithTail};
-ghost use Rattle.fetch_session.specs.Refusal.{opening_limit, step_limit, tail_limit};
-ghost use Rattle.fetch_session.specs.Hearing.{AreMerged, HearsOne, IsPlanOf, IsPlanned};
-ghost use Rattle.fetch_session.specs.Durable.{DurableProceeds, RunsSession};
-ghost use Rattle.fetch_session.specs.Parts.{KeepsLink, KeepsStore, WhereWorkSound};
-ghost use Rattle.fetch_session.specs.Report.{most_lines, none_skipped};
-ghost use Rattle.fetch_session.specs.Session.{Enters_with, Proceeds, keeping, noted};
-ghost use Rattle.fetch_session.specs.Target.{AfterTakingIn, NoneBegun, kind_of, target_of};
+ghost use Rattle.fetch_session.specs.{
+  Account.IsSameAccount,
+  Refusal.{IsWithinLimits, RefusesByOutcome, GotAtMost, session_limit, TookWithTail, opening_limit, step_limit},
+  Refusal.tail_limit,
+  Hearing.{AreMerged, HearsOne, IsPlanOf, IsPlanned},
+  Durable.{DurableProceeds, RunsSession},
+  Parts.{KeepsLink, KeepsStore, WhereWorkSound},
+  Report.{most_lines, none_skipped},
+  Session.{Enters_with, Proceeds, keeping, noted},
+  Target.{AfterTakingIn, NoneBegun, kind_of, target_of},
+};
 
 use crate::account::Account;
 use crate::carrying_out::carry_out;

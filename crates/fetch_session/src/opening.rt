@@ -1,7 +1,6 @@
 //! The beginning of a session: logging in, and what is there.
-ghost use Rattle.std.specs.Prelude.{◌≡◌, All, IfOk};
+ghost use Rattle.std.specs.{Prelude.{◌≡◌, All, IfOk}, String.string_bytes};
 ghost use Rattle.pop3_client.specs.Client.{HasSameLink, CountsRefusals, place_of};
-ghost use Rattle.std.specs.String.{string_bytes};
 ghost use Rattle.pop3_wire.specs.Link.{WhereSound};
 ghost use Rattle.mail_terms.specs.UniqueId.{IsLegalId};
 ghost use Rattle.rc_file.specs.Settings.{IsValid};

@@ -2,20 +2,18 @@
 ghost use Rattle.std.specs.Prelude.{◌≡◌, ℕ, Bool, List, [], None, IfOk, length, map};
 ghost use Rattle.pop3_client.specs.Client.{HasSameLink, link_of, place_of};
 ghost use Rattle.rc_file.specs.Settings.{IsValid};
-ghost use Rattle.mail_store.specs.FileName.{IsAccountText};
-ghost use Rattle.fetch_record.specs.Intents.{closed_rows};
-ghost use Rattle.fetch_record.specs.Record.{merged};
-ghost use Rattle.fetch_session.specs.Account.{digits_of};
-ghost use Rattle.fetch_session.specs.Parts.{KeepsBegun};
-ghost use Rattle.fetch_session.specs.Pretend.{JudgesMbox, LooksAtMbox, LooksIn, PreviewsWork, Pretends};
-ghost use Rattle.fetch_session.specs.Pretend.{PreviewsSession, previews_of, preview_told, told_nothing};
-ghost use Rattle.fetch_session.specs.Readiness.{HasFlags};
-ghost use Rattle.fetch_session.specs.Scene.{WhereAllSound};
-ghost use Rattle.fetch_session.specs.Session.{keeping};
-ghost use Rattle.mail_store.specs.Maildir.{AfterTaking};
-ghost use Rattle.fetch_session.specs.Target.{AfterTakingIn, AsFiles, NoneBegun, in_maildir, is_sound, kind_of};
-ghost use Rattle.fetch_session.specs.Target.{Entries, Files, stores_of, target_of};
-ghost use Rattle.mail_store.specs.Held.{AreById};
+ghost use Rattle.mail_store.specs.{FileName.IsAccountText, Maildir.AfterTaking, Held.AreById};
+ghost use Rattle.fetch_record.specs.{Intents.closed_rows, Record.merged};
+ghost use Rattle.fetch_session.specs.{
+  Account.digits_of,
+  Parts.KeepsBegun,
+  Pretend.{JudgesMbox, LooksAtMbox, LooksIn, PreviewsWork, Pretends, PreviewsSession, previews_of, preview_told},
+  Pretend.told_nothing,
+  Readiness.HasFlags,
+  Scene.WhereAllSound,
+  Session.keeping,
+  Target.{AfterTakingIn, AsFiles, NoneBegun, in_maildir, is_sound, kind_of, Entries, Files, stores_of, target_of},
+};
 
 use crate::account::{Account, Store};
 use crate::fault::{Cut, Fault};

@@ -1,26 +1,25 @@
 //! What a session knows before its plan is carried out: the record, and what the store holds.
-ghost use Rattle.std.specs.Prelude.{◌≡◌, ◌≢◌, ◌⊎◌, ℕ, Bool, List, [], false, true};
-ghost use Rattle.std.specs.Prelude.{All, None, Some, length, OnOk, IfOk, IfSome};
-ghost use Rattle.std.specs.List.{AllByRecursion};
-ghost use Rattle.fetch_record.specs.Intents.{closed_rows};
-ghost use Rattle.fetch_record.specs.Record.{IsRecord, Loaded, has_row, is_delivered, none_open, merged};
-ghost use Rattle.fetch_record.specs.RecordFile.{file_of};
+ghost use Rattle.std.specs.{
+  Prelude.{◌≡◌, ◌≢◌, ◌⊎◌, ℕ, Bool, List, [], false, true, All, None, Some, length, OnOk, IfOk, IfSome},
+  List.AllByRecursion,
+};
+ghost use Rattle.fetch_record.specs.{
+  Intents.closed_rows,
+  Record.{IsRecord, Loaded, has_row, is_delivered, none_open, merged},
+  RecordFile.file_of,
+};
 ghost use Rattle.fetch_rules.specs.Plan.{IsQuiet, planned};
-ghost use Rattle.fetch_session.specs.Mbox.{AsksMbox, SettlesIntent};
-ghost use Rattle.mail_store.specs.Durable.{Trusted, MayLeave};
-ghost use Rattle.mail_store.specs.Maildir.{AfterTaking, AllNamed};
-ghost use Rattle.mail_store.specs.Power.{LeavesNoMore};
-ghost use Rattle.fetch_session.specs.Durable.{AreTrusted, IsSafeFile, IsSafeStore, LeavesMerged, LeavesSettled};
-ghost use Rattle.fetch_session.specs.Durable.{LeavesStore, ReadiesDurably, is_trusted, may_leave_in};
-ghost use Rattle.fetch_session.specs.Parts.{KeepsBegun};
-ghost use Rattle.fetch_session.specs.Target.{AfterTakingIn, held_flags, is_sound, kind_of, mbox_of, stores_of};
-ghost use Rattle.fetch_session.specs.Target.{Entries, Files, target_of};
-ghost use Rattle.fetch_session.specs.Readiness.{AreAsHeld, ChecksStore, FindsHeld, FindsIn, HasPlan, IsIdle};
-ghost use Rattle.fetch_session.specs.Readiness.{ChecksIdle, HasFlags};
-ghost use Rattle.fetch_session.specs.Readiness.{are_undelivered, flags_found};
-ghost use Rattle.fetch_session.specs.Record.{Gets, ReadsRecord, FileReadAs, Merges, IsLineFault, IsSecured, Steady};
-ghost use Rattle.fetch_session.specs.Record.{bytes_in};
-ghost use Rattle.fetch_session.specs.Record.{record_state_in};
+ghost use Rattle.fetch_session.specs.{
+  Mbox.{AsksMbox, SettlesIntent},
+  Durable.{AreTrusted, IsSafeFile, IsSafeStore, LeavesMerged, LeavesSettled, LeavesStore, ReadiesDurably, is_trusted},
+  Durable.may_leave_in,
+  Parts.KeepsBegun,
+  Target.{AfterTakingIn, held_flags, is_sound, kind_of, mbox_of, stores_of, Entries, Files, target_of},
+  Readiness.{AreAsHeld, ChecksStore, FindsHeld, FindsIn, HasPlan, IsIdle, ChecksIdle, HasFlags, are_undelivered},
+  Readiness.flags_found,
+  Record.{Gets, ReadsRecord, FileReadAs, Merges, IsLineFault, IsSecured, Steady, bytes_in, record_state_in},
+};
+ghost use Rattle.mail_store.specs.{Durable.{Trusted, MayLeave}, Maildir.{AfterTaking, AllNamed}, Power.LeavesNoMore};
 
 use crate::account::Store;
 use crate::fault::Fault;

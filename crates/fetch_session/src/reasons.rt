@@ -1,9 +1,9 @@
 //! Why messages are passed over: how a listener learns it, and a report that says it.
-ghost use Rattle.std.specs.Prelude.{◌≡◌, ◌++◌, IfOk};
-ghost use Rattle.std.specs.String.{string_bytes};
-ghost use Rattle.fetch_session.specs.Reasons.{explained_line, explained_report, reason_at, skipped_text};
-ghost use Rattle.fetch_session.specs.Reasons.{told_report};
-ghost use Rattle.fetch_session.specs.Hearing.{HearsOne};
+ghost use Rattle.std.specs.{Prelude.{◌≡◌, ◌++◌, IfOk}, String.string_bytes};
+ghost use Rattle.fetch_session.specs.{
+  Reasons.{explained_line, explained_report, reason_at, skipped_text, told_report},
+  Hearing.HearsOne,
+};
 
 use crate::listener::Listener;
 use crate::report::{Report, ReportLine, reason_of};

@@ -1,19 +1,24 @@
 //! The record and its file.
 ghost use Rattle.std.specs.Prelude.{◌≡◌, ◌≢◌, ◌++◌, List, [], false, true, None, Some, OnOk, IfOk};
 ghost use Rattle.mail_terms.specs.UniqueId.{IsLegalId};
-ghost use Rattle.fetch_record.specs.Intents.{IsNoneOrOf};
-ghost use Rattle.fetch_record.specs.Record.{RecordState, Row, has_row, none_open, marked};
-ghost use Rattle.fetch_record.specs.RecordFile.{Two, file_of};
-ghost use Rattle.fetch_record.specs.RecordMeaning.{Means, Rows};
-ghost use Rattle.fetch_record.specs.RecordGrowth.{Grows};
-ghost use Rattle.fetch_session.specs.Record.{WritesRecord, Saves, StandsTill, Steady, TakesBack, TellsSize, bytes_in};
-ghost use Rattle.fetch_session.specs.Record.{intent_at, record_state_in, with_open};
-ghost use Rattle.fetch_session.specs.Mbox.{went};
-ghost use Rattle.fetch_session.specs.Durable.{IsGrownAtMost, IsRecordLeft, IsSafeFile, LeavesFile, LeavesLeft};
-ghost use Rattle.fetch_session.specs.Durable.{StillDurable};
-ghost use Rattle.mail_store.specs.Durable.{Trusted, MayLeave};
-ghost use Rattle.mail_store.specs.FlatFile.{HasBytes};
-ghost use Rattle.mail_store.specs.Power.{LeavesCut, LeavesEither, LeavesNoMore};
+ghost use Rattle.fetch_record.specs.{
+  Intents.IsNoneOrOf,
+  Record.{RecordState, Row, has_row, none_open, marked},
+  RecordFile.{Two, file_of},
+  RecordMeaning.{Means, Rows},
+  RecordGrowth.Grows,
+};
+ghost use Rattle.fetch_session.specs.{
+  Record.{WritesRecord, Saves, StandsTill, Steady, TakesBack, TellsSize, bytes_in, intent_at, record_state_in},
+  Record.with_open,
+  Mbox.went,
+  Durable.{IsGrownAtMost, IsRecordLeft, IsSafeFile, LeavesFile, LeavesLeft, StillDurable},
+};
+ghost use Rattle.mail_store.specs.{
+  Durable.{Trusted, MayLeave},
+  FlatFile.HasBytes,
+  Power.{LeavesCut, LeavesEither, LeavesNoMore},
+};
 
 use crate::fault::Fault;
 use fetch_rules::{Seen, appended_counts, bytes_stand, cut_is_ignored};

@@ -1,10 +1,9 @@
 //! What a session reports.
-ghost use Rattle.std.specs.Prelude.{◌≡◌, ◌≤◌, ◌+◌, ◌++◌, ◌∷◌, [], vec_len, length, filter, not};
-ghost use Rattle.std.specs.Vec.{vec_capacity};
+ghost use Rattle.std.specs.{Prelude.{◌≡◌, ◌≤◌, ◌+◌, ◌++◌, ◌∷◌, [], vec_len, length, filter, not}, Vec.vec_capacity};
 ghost use Rattle.fetch_session.specs.Report.{HasRoom, is_deletion, length_in, takes_back, kept_lines, has_deletions};
 ghost use Rattle.fetch_session.specs.Report.{retrieved_in, length_of, deleted_in, skipped_in, most_bytes, most_lines};
-ghost use Rattle.fetch_session.specs.Report.{Reports, count_reasons, is_for_id, is_for_limit, is_for_size};
-ghost use Rattle.fetch_session.specs.Report.{none_skipped, reason_of, skips_of};
+ghost use Rattle.fetch_session.specs.Report.{Reports, count_reasons, is_for_id, is_for_limit, is_for_size, reason_of};
+ghost use Rattle.fetch_session.specs.Report.{none_skipped, skips_of};
 ghost use Rattle.mail_terms.specs.Listing.{message_limit};
 ghost use Rattle.fetch_rules.specs.Plan.{is_for_odd};
 

@@ -1,9 +1,11 @@
 //! What is done with each message.
 ghost use Rattle.std.specs.Prelude.{◌≡◌, ◌∷◌, ℕ, List, [], length};
 ghost use Rattle.fetch_rules.specs.Plan.{fetches};
-ghost use Rattle.fetch_session.specs.Parts.{RunsTasks, IsReadyFor, task_of};
-ghost use Rattle.fetch_session.specs.Report.{HasRoom};
-ghost use Rattle.fetch_session.specs.Task.{deleting, fetching, tasks_planned};
+ghost use Rattle.fetch_session.specs.{
+  Parts.{RunsTasks, IsReadyFor, task_of},
+  Report.HasRoom,
+  Task.{deleting, fetching, tasks_planned},
+};
 
 use crate::account::Store;
 use crate::appending::take_into_mbox;

@@ -1,25 +1,28 @@
 //! How a text is taken: stored, or passed over if it is held already.
 ghost use Rattle.std.specs.Prelude.{◌≡◌, ◌≢◌, ◌⊎◌, ◌≤◌, ℕ, List, [], None, IsSome, OnErr, OnOk, false, string_bytes};
 ghost use Rattle.mail_terms.specs.UniqueId.{IsLegalId};
-ghost use Rattle.pop3_client.specs.Client.{HasSameLink, CountsRefusals, place_of, link_of};
-ghost use Rattle.pop3_wire.specs.Link.{WhereSound};
-ghost use Rattle.pop3_wire.specs.Place.{Place};
-ghost use Rattle.pop3_wire.specs.declared.unstuffer.Spot.TheVariants.{Done};
-ghost use Rattle.pop3_client.specs.Turns.{most, retr, text_limit};
-ghost use Rattle.pop3_client.specs.Texts.{Fetching};
+ghost use Rattle.pop3_client.specs.{
+  Client.{HasSameLink, CountsRefusals, place_of, link_of},
+  Turns.{most, retr, text_limit},
+  Texts.Fetching,
+};
+ghost use Rattle.pop3_wire.specs.{Link.WhereSound, Place.Place, declared.unstuffer.Spot.TheVariants.Done};
 ghost use Rattle.fetch_record.specs.Record.{Row};
-ghost use Rattle.mail_store.specs.FlatFile.{Stored};
-ghost use Rattle.mail_store.specs.FileName.{HasRoomForSize, IsAccountText, is_held, sized, stem_of};
-ghost use Rattle.mail_store.specs.Maildir.{AllNamed, IsThere};
-ghost use Rattle.fetch_session.specs.Durable.{AreLeft, IsSafeFile, LeavesFile, OneDurable, StillDurable};
-ghost use Rattle.fetch_session.specs.Parts.{KeepsLedger, KeepsLink, IsWritten};
-ghost use Rattle.fetch_session.specs.Refusal.{RefusesTillCut, TookTillCut};
-ghost use Rattle.fetch_session.specs.Report.{AddsLines, HasRoom};
-ghost use Rattle.fetch_session.specs.Scene.{scene, TakesTask, WhereAllSound};
-ghost use Rattle.fetch_session.specs.Store.{EndsFile, MayGain, PassesText, PutsBytes, ReadsText, StartsFile};
-ghost use Rattle.fetch_session.specs.Store.{StoresText};
-ghost use Rattle.fetch_session.specs.Target.{AsFiles, Stores, Target, in_maildir};
-ghost use Rattle.fetch_session.specs.Task.{rereads, stores};
+ghost use Rattle.mail_store.specs.{
+  FlatFile.Stored,
+  FileName.{HasRoomForSize, IsAccountText, is_held, sized, stem_of},
+  Maildir.{AllNamed, IsThere},
+};
+ghost use Rattle.fetch_session.specs.{
+  Durable.{AreLeft, IsSafeFile, LeavesFile, OneDurable, StillDurable},
+  Parts.{KeepsLedger, KeepsLink, IsWritten},
+  Refusal.{RefusesTillCut, TookTillCut},
+  Report.{AddsLines, HasRoom},
+  Scene.{scene, TakesTask, WhereAllSound},
+  Store.{EndsFile, MayGain, PassesText, PutsBytes, ReadsText, StartsFile, StoresText},
+  Target.{AsFiles, Stores, Target, in_maildir},
+  Task.{rereads, stores},
+};
 
 use crate::fault::{Cut, Fault, Why};
 use crate::record::remember;

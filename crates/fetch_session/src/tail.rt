@@ -1,10 +1,11 @@
 //! What is said after a fault.
 ghost use Rattle.std.specs.Prelude.{◌≡◌, None, Ok};
-ghost use Rattle.pop3_client.specs.Client.{HasSameLink, CountsRefusals, place_of, link_of};
+ghost use Rattle.pop3_client.specs.{Client.{HasSameLink, CountsRefusals, place_of, link_of}, Conversation.Talks};
 ghost use Rattle.pop3_wire.specs.Link.{WhereSound};
-ghost use Rattle.pop3_client.specs.Conversation.{Talks};
-ghost use Rattle.fetch_session.specs.Refusal.{RefusesNone, RefusesAtMostOne};
-ghost use Rattle.fetch_session.specs.Tail.{turns_of_tail, tail, Drops, TalksTail};
+ghost use Rattle.fetch_session.specs.{
+  Refusal.{RefusesNone, RefusesAtMostOne},
+  Tail.{turns_of_tail, tail, Drops, TalksTail},
+};
 
 use crate::fault::{Cut, Fault};
 use pop3_client::{Asked, Client, ClientFault, conversations_are_paced, turns_join};

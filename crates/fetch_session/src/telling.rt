@@ -1,6 +1,5 @@
 //! The text of a preview. It contains nothing of a password.
-ghost use Rattle.std.specs.Prelude.{◌≡◌, IfOk};
-ghost use Rattle.std.specs.String.{string_bytes};
+ghost use Rattle.std.specs.{Prelude.{◌≡◌, IfOk}, String.string_bytes};
 ghost use Rattle.fetch_session.specs.Telling.{counts, date_of, date_text, due_text, deleted_ahead, fate_text};
 ghost use Rattle.fetch_session.specs.Telling.{fetched_in, message_preview_text, preview_text, skip_text};
 

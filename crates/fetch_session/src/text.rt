@@ -1,6 +1,5 @@
 //! The texts of faults and reports. They contain nothing of a password.
-ghost use Rattle.std.specs.Prelude.{◌≡◌, IfOk};
-ghost use Rattle.std.specs.String.{string_bytes};
+ghost use Rattle.std.specs.{Prelude.{◌≡◌, IfOk}, String.string_bytes};
 ghost use Rattle.fetch_session.specs.Text.{fault_text, heading, line_text, outcome_number, report_text, summary};
 
 use crate::fault::{Fault, Why};

@@ -1,7 +1,9 @@
 -- A digest in hexadecimal is a legal id.
-use Rattle.std.proofs.Common.{◌≡◌, ℕ, suc, ◌/◌, ◌%◌, ◌<◌, true, List, [], ◌∷◌, get_or, refl, arith, slice_index}
-use Rattle.std.specs.List.{list_all}
-use Rattle.std.proofs.{lemmas.Bool.and_from, lemmas.List.Sums.AllPass-from_list_all}
+use Rattle.std.{
+  proofs.Common.{◌≡◌, ℕ, suc, ◌/◌, ◌%◌, ◌<◌, true, List, [], ◌∷◌, get_or, refl, arith, slice_index},
+  proofs.lemmas.{Bool.and_from, List.Sums.AllPass-from_list_all},
+  specs.List.list_all,
+}
 use Rattle.hex.specs.Hex.{encode_with, encode_lower, lower_digits}
 use Rattle.mail_terms.specs.UniqueId.{is_id_byte}
 

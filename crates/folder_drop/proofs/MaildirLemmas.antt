@@ -1,24 +1,23 @@
 -- One more file of a Maildir is listed.
-use Rattle.std.proofs.Common.{◌≡◌, ◌≢◌, ◌⊎◌, ◌++◌, ◌∷◌, ◌<◌, ◌≤◌, ◌-◌, ◌+◌, [], ℕ, Bool, true, AllPairs, List, Option}
-use Rattle.std.proofs.Common.{None, Some, Vec, inl, inr, length, get_or, map, refl, ap, sym, subst, take, ◌∙◌, ⊎_elim}
-use Rattle.std.proofs.Common.{arith}
-use Rattle.std.specs.HashSet.{HashSet, contains, Updates}
-use Rattle.std.proofs.lemmas.Bool.{cases_lt, cond-true, cond_both, false≢true}
-use Rattle.std.proofs.lemmas.List.{get_or-map, length-map, length_push, map_push, take_more}
-use Rattle.std.proofs.lemmas.List.Elements.{All-push, Contains-get_or, Contains-push_cases}
-use Rattle.std.proofs.{lemmas.List.Quantifiers.all_pairs_push, lemmas.Slice.Eq.bytes_eq-Decides, lemmas.Cmp.nat_list_cmp_total}
-use Rattle.std.specs.{Cmp.Lexicographic.slice_cmp, declared.cmp.Ordering.TheVariants.Less}
-use Rattle.std.specs.Ordering.{nat_cmp, is_lt, ordering_reverse}
-use Rattle.hex.proofs.HexLemmas.{length-encode_with}
-use Rattle.hex.specs.Hex.{encode_lower, lower_digits}
-use Rattle.sha2.proofs.Facts256.{length-sha256}
-use Rattle.sha2.specs.Sha256.{sha256}
+use Rattle.std.{
+  proofs.Common.{◌≡◌, ◌≢◌, ◌⊎◌, ◌++◌, ◌∷◌, ◌<◌, ◌≤◌, ◌-◌, ◌+◌, [], ℕ, Bool, true, AllPairs, List, Option, None, Some, Vec, inl, inr, map},
+  proofs.Common.{length, get_or, refl, ap, sym, subst, take, ◌∙◌, ⊎_elim, arith},
+  proofs.lemmas.{Bool.{cases_lt, cond-true, cond_both, false≢true}, Slice.Eq.bytes_eq-Decides, Cmp.nat_list_cmp_total},
+  proofs.lemmas.List.{get_or-map, length-map, length_push, map_push, take_more, Elements.{All-push, Contains-get_or, Contains-push_cases}},
+  proofs.lemmas.List.Quantifiers.all_pairs_push,
+  specs.{HashSet.{HashSet, contains, Updates}, Cmp.Lexicographic.slice_cmp, declared.cmp.Ordering.TheVariants.Less},
+  specs.Ordering.{nat_cmp, is_lt, ordering_reverse},
+}
+use Rattle.hex.{proofs.HexLemmas.length-encode_with, specs.Hex.{encode_lower, lower_digits}}
+use Rattle.sha2.{proofs.Facts256.length-sha256, specs.Sha256.sha256}
 use Rattle.mail_terms.specs.{MaildirName.base, UniqueId.is_legal_id}
 use Rattle.pop3_server.specs.Maildrop.{ListedMessage, max_count, max_size}
-use Rattle.folder_drop.specs.declared.listed_file.ListedFile.{ListedFile}
-use Rattle.folder_drop.specs.Listing.{same_key, bases_of, AreListed, AreSeen, IsBefore, FollowsLast, MayBeListed}
-use Rattle.folder_drop.specs.MaildirNames.{id_of, digest_length}
-use Rattle.folder_drop.specs.RealMaildir.{HaveIds, id_of_name, listed_name, listed_names, uid_of}
+use Rattle.folder_drop.specs.{
+  declared.listed_file.ListedFile.ListedFile,
+  Listing.{same_key, bases_of, AreListed, AreSeen, IsBefore, FollowsLast, MayBeListed},
+  MaildirNames.{id_of, digest_length},
+  RealMaildir.{HaveIds, id_of_name, listed_name, listed_names, uid_of},
+}
 
 -- ---- ids
 

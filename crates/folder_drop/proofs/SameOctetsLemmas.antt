@@ -1,8 +1,10 @@
 -- What two readers show next tells whether they have the same octets left, or leaves it to the rest.
-use Rattle.std.proofs.Common.{◌≡◌, ◌≢◌, ◌≤◌, ◌++◌, ◌∷◌, ◌∙◌, ℕ, Bool, false, List, [], Option, Some, None, IfSome, take}
-use Rattle.std.proofs.Common.{drop, length, refl, ap, sym, take-take, rules}
-use Rattle.std.proofs.{lemmas.Bool.false≢true, lemmas.Option.none-some}
-use Rattle.std.specs.{Io.StartsWith, Io.KnownBytes.Consumes}
+use Rattle.std.{
+  proofs.Common.{◌≡◌, ◌≢◌, ◌≤◌, ◌++◌, ◌∷◌, ◌∙◌, ℕ, Bool, false, List, [], Option, Some, None, IfSome, take, drop, length, refl, ap, sym},
+  proofs.Common.{take-take, rules},
+  proofs.lemmas.{Bool.false≢true, Option.none-some},
+  specs.Io.{StartsWith, KnownBytes.Consumes},
+}
 use Rattle.folder_drop.specs.SameOctets.{TellsSame}
 
 append_same : (front xs ys : List ℕ) → front ++ xs ≡ front ++ ys → xs ≡ ys

@@ -1,8 +1,9 @@
 -- The sizes that were counted for an earlier listing.
-use Rattle.std.specs.Prelude.{◌≡◌, ℕ, List, string_bytes}
-use Rattle.std.specs.List.{Contains}
-use Rattle.folder_drop.specs.{declared.maildir_names.Stamp.Stamp, declared.listed_file.ListedFile.ListedFile}
-use Rattle.folder_drop.specs.declared.maildir_names.PlacedFile.{PlacedFile}
+use Rattle.std.specs.{Prelude.{◌≡◌, ℕ, List, string_bytes}, List.Contains}
+use Rattle.folder_drop.specs.declared.{
+  maildir_names.{Stamp.Stamp, PlacedFile.PlacedFile},
+  listed_file.ListedFile.ListedFile,
+}
 
 -- one of these files has the folder and the name of the one that was found, this length and time of change, and this
 -- size

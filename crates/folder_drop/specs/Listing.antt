@@ -1,14 +1,20 @@
 -- Files of messages with different ids: those of a listing, and those that were listed so far.
-use Rattle.std.specs.Prelude.{◌≡◌, ◌≤◌, ◌<◌, ◌-◌, ℕ, Bool, true, false, List, Option, Some, None, Vec, All, AllPairs}
-use Rattle.std.specs.Prelude.{bytes_eq, get_or, length, map}
-use Rattle.std.specs.{List.Contains, Cmp.Lexicographic.slice_cmp, Ordering.nat_cmp}
-use Rattle.std.specs.HashSet.{HashSet, contains}
-use Rattle.std.specs.declared.cmp.Ordering.TheVariants.{Less}
+use Rattle.std.specs.{
+  Prelude.{◌≡◌, ◌≤◌, ◌<◌, ◌-◌, ℕ, Bool, true, false, List, Option, Some, None, Vec, All, AllPairs, bytes_eq, get_or},
+  Prelude.{length, map},
+  List.Contains,
+  Cmp.Lexicographic.slice_cmp,
+  Ordering.nat_cmp,
+  HashSet.{HashSet, contains},
+  declared.cmp.Ordering.TheVariants.Less,
+}
 use Rattle.mail_terms.specs.{Distinct.AreDistinct, MaildirName.base}
 use Rattle.pop3_server.specs.Maildrop.{max_count, max_size}
-use Rattle.folder_drop.specs.{declared.folders_look.FoldersLook.FoldersLook, declared.listed_file.ListedFile.ListedFile}
-use Rattle.folder_drop.specs.MaildirNames.{digest_length, IsIdKey, id_of}
-use Rattle.folder_drop.specs.RealMaildir.{id_of_name, listed_names}
+use Rattle.folder_drop.specs.{
+  declared.{folders_look.FoldersLook.FoldersLook, listed_file.ListedFile.ListedFile},
+  MaildirNames.{digest_length, IsIdKey, id_of},
+  RealMaildir.{id_of_name, listed_names},
+}
 
 -- they have different ids, and keep the limits
 pub record AreMessages (files : List ListedFile) : Type 0 where

@@ -3,8 +3,7 @@ use Rattle.std.specs.Prelude.{◌≡◌, ◌≢◌, ℕ, List, Option, None, Som
 use Rattle.hex.specs.Hex.{encode_lower}
 use Rattle.sha2.specs.Sha256.{sha256}
 use Rattle.mail_terms.specs.UniqueId.{is_legal_id}
-use Rattle.folder_drop.specs.declared.maildir_names.Folder.{Folder}
-use Rattle.folder_drop.specs.declared.maildir_names.Folder.TheVariants.{Cur, New}
+use Rattle.folder_drop.specs.declared.maildir_names.Folder.{Folder, TheVariants.{Cur, New}}
 
 abbrev pub folder_name : Folder → List ℕ
 folder_name Cur = codes "cur"

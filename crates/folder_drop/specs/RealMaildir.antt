@@ -1,9 +1,8 @@
 -- A Maildir in a real folder: what is known of it, whatever the folder does.
 use Rattle.std.specs.Prelude.{◌≡◌, ℕ, List, [], map, string_bytes, Result, Ok, Err, Vec}
 use Rattle.folder_drop.specs.{declared.listed_file.ListedFile.ListedFile, MaildirNames.id_of}
-use Rattle.pop3_server.specs.declared.maildrop.DropFault.{DropFault}
+use Rattle.pop3_server.specs.{declared.maildrop.DropFault.DropFault, Maildrop.{ListedMessage, DropMail}}
 use Rattle.mail_terms.specs.MaildirName.{base}
-use Rattle.pop3_server.specs.Maildrop.{ListedMessage, DropMail}
 
 -- its path; the names of the files of the last listing that succeeded, by their places; and the two counts
 pub record RealMaildir : Type 0 where

@@ -1,8 +1,6 @@
 -- Which files are removed with a message: all with its base, if each is the listed file or has its octets; else none.
-use Rattle.std.specs.Prelude.{◌≡◌, ◌≢◌, ◌⊎◌, ◌<◌, ℕ, true, false, List, length}
-use Rattle.std.specs.List.{All, HoldsAt}
-use Rattle.folder_drop.specs.{declared.maildir_names.Stamp.Stamp, declared.removal.FileNumber.FileNumber}
-use Rattle.folder_drop.specs.declared.removal.Namesake.{Namesake}
+use Rattle.std.specs.{Prelude.{◌≡◌, ◌≢◌, ◌⊎◌, ◌<◌, ℕ, true, false, List, length}, List.{All, HoldsAt}}
+use Rattle.folder_drop.specs.declared.{maildir_names.Stamp.Stamp, removal.{FileNumber.FileNumber, Namesake.Namesake}}
 
 -- the file is where the message was listed
 abbrev pub IsInPlace : Namesake → Type 0

@@ -1,7 +1,6 @@
 //! When the folders of a Maildir were last changed, and how long an earlier listing of them stays valid.
 ghost use Rattle.std.specs.Prelude.{◌≡◌, ◌↔◌, IsTrue};
-ghost use Rattle.folder_drop.specs.declared.folders_look.FoldersLook.{FoldersLook};
-ghost use Rattle.folder_drop.specs.FoldersLook.{IsUnchanged};
+ghost use Rattle.folder_drop.specs.{declared.folders_look.FoldersLook.FoldersLook, FoldersLook.IsUnchanged};
 
 use folder_store::ChangeTime;
 

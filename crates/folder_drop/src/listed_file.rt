@@ -1,9 +1,7 @@
 //! The files of a Maildir whose messages are listed, and their sizes as messages.
-ghost use Rattle.std.specs.Prelude.{◌≡◌, IsTrue, IfSome};
-ghost use Rattle.std.specs.String.{string_bytes};
+ghost use Rattle.std.specs.{Prelude.{◌≡◌, IsTrue, IfSome}, String.string_bytes};
 ghost use Rattle.mail_terms.specs.MaildirName.{base as base_of};
-ghost use Rattle.folder_drop.specs.CountedSizes.{WasCounted};
-ghost use Rattle.folder_drop.specs.RealMaildir.{listed_name};
+ghost use Rattle.folder_drop.specs.{CountedSizes.WasCounted, RealMaildir.listed_name};
 
 use crate::maildir_names::{Folder, PlacedFile, Stamp};
 use mail_terms::base;

@@ -1,12 +1,13 @@
 //! The listing of a Maildir: the files of the messages, which have different ids.
 ghost use Rattle.std.specs.Prelude.{◌≡◌, ◌≤◌, ◌<◌, [], IsTrue, IsFalse, IfOk, OnOk, length, map, vec_len};
-ghost use Rattle.folder_drop.specs.declared.folders_look.FoldersLook.{FoldersLook};
-ghost use Rattle.folder_drop.specs.FoldersLook.{IsUnchanged};
-ghost use Rattle.mail_terms.specs.Distinct.{AreDistinct};
-ghost use Rattle.mail_terms.specs.MaildirName.{base as base_of};
+ghost use Rattle.folder_drop.specs.{
+  declared.folders_look.FoldersLook.FoldersLook,
+  FoldersLook.IsUnchanged,
+  Listing.{AreListed, FollowsLast, MayBeListed, IsUnseen},
+  RealMaildir.{listed_name, listed_names, uid_of, HaveIds},
+};
+ghost use Rattle.mail_terms.specs.{Distinct.AreDistinct, MaildirName.base as base_of};
 ghost use Rattle.pop3_server.specs.Maildrop.{max_size};
-ghost use Rattle.folder_drop.specs.Listing.{AreListed, FollowsLast, MayBeListed, IsUnseen};
-ghost use Rattle.folder_drop.specs.RealMaildir.{listed_name, listed_names, uid_of, HaveIds};
 
 use crate::folders_look::FoldersLook;
 use crate::listed_file::ListedFile;

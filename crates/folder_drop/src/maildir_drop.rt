@@ -1,9 +1,10 @@
 //! A Maildir in a real folder as a maildrop: the files of `cur` and `new` whose names don't begin with
 //! a full stop. In the Maildir format a name stays the same up to its first colon; flags follow.
-ghost use Rattle.std.specs.Prelude.{◌≡◌, ◌≤◌, ◌<◌, ◌+◌, ◌^◌, length, map, vec_len, IfOk, IfErr, []};
-ghost use Rattle.std.specs.String.{string_bytes};
-ghost use Rattle.mail_terms.specs.Distinct.{AreDistinct};
-ghost use Rattle.mail_terms.specs.FailureCount.{Tallies, counted_up, refuses};
+ghost use Rattle.std.specs.{
+  Prelude.{◌≡◌, ◌≤◌, ◌<◌, ◌+◌, ◌^◌, length, map, vec_len, IfOk, IfErr, []},
+  String.string_bytes,
+};
+ghost use Rattle.mail_terms.specs.{Distinct.AreDistinct, FailureCount.{Tallies, counted_up, refuses}};
 ghost use Rattle.pop3_server.specs.Maildrop.{is_drop_refusal};
 ghost use Rattle.folder_drop.specs.RealMaildir.{RealMaildir, mail_of, listed_names, uid_of, ListsNames};
 

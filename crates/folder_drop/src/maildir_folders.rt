@@ -1,7 +1,6 @@
 //! The two folders of a Maildir whose files are messages, and where such a file is now: mail software
 //! moves files from `new` to `cur` and changes their flags while they are served.
-ghost use Rattle.std.specs.Prelude.{◌≡◌, ℕ, List};
-ghost use Rattle.std.specs.String.{string_bytes};
+ghost use Rattle.std.specs.{Prelude.{◌≡◌, ℕ, List}, String.string_bytes};
 
 use crate::folders_look::FoldersLook;
 use crate::listed_file::{ListedFile, PIECE, count_size, stamp_of};

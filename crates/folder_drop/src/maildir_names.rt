@@ -1,9 +1,6 @@
 //! The folders and files of a Maildir, and the unique-id for a file's name.
-ghost use Rattle.std.specs.Prelude.{◌≡◌, true, length, IsTrue, IfOk};
-ghost use Rattle.std.specs.List.{list_all};
-ghost use Rattle.std.specs.String.{string_bytes};
-ghost use Rattle.mail_terms.specs.MaildirName.{base as base_of};
-ghost use Rattle.mail_terms.specs.UniqueId.{is_legal_id, is_id_byte};
+ghost use Rattle.std.specs.{Prelude.{◌≡◌, true, length, IsTrue, IfOk}, List.list_all, String.string_bytes};
+ghost use Rattle.mail_terms.specs.{MaildirName.base as base_of, UniqueId.{is_legal_id, is_id_byte}};
 ghost use Rattle.folder_drop.specs.MaildirNames.{folder_name, id_of, IsIdKey};
 ghost use Rattle.hex.specs.Hex.{encode_lower};
 ghost use Rattle.sha2.specs.Sha256.{sha256};

@@ -1,9 +1,12 @@
 //! Which files are removed with a message.
-ghost use Rattle.std.specs.Prelude.{◌≡◌, ◌≢◌, ◌<◌, length, true, false, IfOk, IfErr, IfSome, IfNone};
-ghost use Rattle.std.specs.List.{All, Contains, HoldsAt};
-ghost use Rattle.folder_drop.specs.declared.removal.Namesake.{Namesake};
-ghost use Rattle.folder_drop.specs.Removal.{GoesWith, HasStamp, IsInPlace, IsListedAt, IsOtherFile, NoneIsInPlace};
-ghost use Rattle.folder_drop.specs.Removal.{NoneIsListed};
+ghost use Rattle.std.specs.{
+  Prelude.{◌≡◌, ◌≢◌, ◌<◌, length, true, false, IfOk, IfErr, IfSome, IfNone},
+  List.{All, Contains, HoldsAt},
+};
+ghost use Rattle.folder_drop.specs.{
+  declared.removal.Namesake.Namesake,
+  Removal.{GoesWith, HasStamp, IsInPlace, IsListedAt, IsOtherFile, NoneIsInPlace, NoneIsListed},
+};
 
 use crate::maildir_names::Stamp;
 use std::fs::Metadata;

@@ -1,6 +1,8 @@
 //! Where the files of a Maildir were last seen, for those that aren't where they were listed.
-ghost use Rattle.std.specs.Prelude.{◌≡◌, ◌&&◌, if◌then◌else◌, None, Some, false, not, true, is_some, IfSome};
-ghost use Rattle.std.specs.String.{string_bytes};
+ghost use Rattle.std.specs.{
+  Prelude.{◌≡◌, ◌&&◌, if◌then◌else◌, None, Some, false, not, true, is_some, IfSome},
+  String.string_bytes,
+};
 ghost use Rattle.mail_terms.specs.MaildirName.{base as base_of};
 
 use crate::maildir_names::PlacedFile;

@@ -1,18 +1,20 @@
 -- A file in a folder: what the calls of the folder do to what of it is durable, and what a loss of power leaves.
-use Rattle.std.proofs.Common.{◌≡◌, ℕ, refl, arith, List, [], ◌∷◌, ◌++◌, take, drop, cond, sym, ap, subst, ◌∙◌, Bool}
-use Rattle.std.proofs.Common.{true, false, Option, Some, None, option_map, bytes_eq, if◌then◌else◌, Result, Ok, Err}
-use Rattle.std.proofs.Common.{inl, inr, ⊎_elim, append_assoc, append-nil, take-append-drop, ◌⊎◌}
-use Rattle.std.proofs.{lemmas.Slice.Eq.bytes_eq-Decides, lemmas.Option.same_Some}
-use Rattle.std.proofs.lemmas.Bool.{cases_Bool, cond-true, cond-false, cond_both}
-use Rattle.mail_store.specs.declared.fault.StoreFault.{StoreFault}
-use Rattle.mail_store.specs.DiskCalls.{all_flushed, appended, cut, flushed, doubted, MayBeFlushed, FlushesBoth, Becomes}
-use Rattle.mail_store.specs.DiskCalls.{BecomesInPart, IsAppended, IsPartAppended, AppendsDisk, ReplacesDisk}
-use Rattle.mail_store.specs.Durable.{Blob, Disk, IsLeftOf, IsLeftOfOne, MayLeave, all_durable, content_in, secured}
-use Rattle.mail_store.proofs.DiskLemmas.{becomes_settled, disk_of, may_arrive}
-use Rattle.mail_store.proofs.DurableLemmas.{flushed_all, seen_all}
-use Rattle.folder_store.specs.FileFolder.{Directory, DirEntry, MadeFile, Older, entry, find, placed, put_in, with_blob}
-use Rattle.folder_store.specs.FileFolder.{content_at, names_flushed, Alters, FlushesFile, FlushesNames, PutsFile}
-use Rattle.folder_store.specs.PowerLoss.{left_under, WasOnce, MayBe, disk_at, older_at, PowerLeaves}
+use Rattle.std.proofs.{
+  Common.{◌≡◌, ℕ, refl, arith, List, [], ◌∷◌, ◌++◌, take, drop, cond, sym, ap, subst, ◌∙◌, Bool, true, false, Option, Some, None, bytes_eq},
+  Common.{option_map, if◌then◌else◌, Result, Ok, Err, inl, inr, ⊎_elim, append_assoc, append-nil, take-append-drop, ◌⊎◌},
+  lemmas.{Slice.Eq.bytes_eq-Decides, Option.same_Some, Bool.{cases_Bool, cond-true, cond-false, cond_both}},
+}
+use Rattle.mail_store.{
+  specs.{declared.fault.StoreFault.StoreFault, Durable.{Blob, Disk, IsLeftOf, IsLeftOfOne, MayLeave, all_durable, content_in, secured}},
+  specs.DiskCalls.{all_flushed, appended, cut, flushed, doubted, MayBeFlushed, FlushesBoth, Becomes, BecomesInPart, IsAppended},
+  specs.DiskCalls.{IsPartAppended, AppendsDisk, ReplacesDisk},
+  proofs.{DiskLemmas.{becomes_settled, disk_of, may_arrive}, DurableLemmas.{flushed_all, seen_all}},
+}
+use Rattle.folder_store.specs.{
+  FileFolder.{Directory, DirEntry, MadeFile, Older, entry, find, placed, put_in, with_blob, content_at, names_flushed, Alters, FlushesFile},
+  FileFolder.{FlushesNames, PutsFile},
+  PowerLoss.{left_under, WasOnce, MayBe, disk_at, older_at, PowerLeaves},
+}
 
 -- a name leads to the first file that has it
 pub find_here : (name : List ℕ) (e : DirEntry) (es : List DirEntry) → bytes_eq name e.name ≡ true → find name (e ∷ es) ≡ Some e.blob

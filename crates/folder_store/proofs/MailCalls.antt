@@ -1,41 +1,33 @@
 -- What telling the names of the folders, and writing and settling a file, does to the Maildir of the folders.
-use Rattle.std.proofs.Common.{◌≡◌, ◌+◌, inl, inr, ⊎_elim, ℕ, List, [], ◌∷◌, refl, subst, arith, ◌⊎◌, true, sym, ap, ◌∙◌}
-use Rattle.std.proofs.Common.{Bool, false, not, ◌++◌, map, get_or, Contains, Option, Result, Ok, Err, IsErrAnd}
-use Rattle.std.proofs.Common.{IsPermutation, IsTrue, IfErr, IfOk, String, Global, Vec, string_bytes, filter, if◌then◌else◌}
-use Rattle.std.proofs.Common.{◌≢◌, suc, Some, append_assoc, append-nil, None, is_some, IfSome}
-use Rattle.mail_store.specs.Maildir.{AfterFlushing, AfterTaking, AreTheirs, Checks, Draft, File}
-use Rattle.mail_store.specs.Maildir.{Folders, IsWithout, Lists, Maildir, MayBeNamed, MayHave, bases_told}
-use Rattle.mail_store.specs.Maildir.{maildir_refused, draft, dropped, is_there, mail, names_of}
-use Rattle.mail_store.specs.Held.{AreAmong, ListsAmong, is_sought}
-use Rattle.mail_store.specs.{declared.maildir.disk.Folder.Folder, declared.fault.StoreFault.StoreFault}
-use Rattle.mail_store.specs.Loss.{Flushes, with_flushed, flushed_by}
-use Rattle.std.specs.List.{AllByRecursion, AllZip, filter}
-use Rattle.std.proofs.Math.Bool.{or-false, or-true}
-use Rattle.std.proofs.lemmas.Bool.{cases_Bool, cond_both, or_left, or_right}
-use Rattle.std.proofs.lemmas.List.Elements.{recursion_from_All, All-weaker, filter-append, filter_passes}
-use Rattle.mail_terms.specs.{MaildirName.base, FailureCount.refuses}
-use Rattle.mail_store.specs.declared.maildir.disk.Folder.TheVariants.{New, Cur}
-use Rattle.folder_store.specs.MailFolders.{KeepsFile, MailFile, Directories, files_at, is_left, is_taken, mail_at, MovesFile}
-use Rattle.folder_store.specs.MailFolders.{Moved, touches, touches_new, touches_cur, name_at, is_in, entries_in}
-use Rattle.folder_store.specs.MailFolders.{draft_begun, maildir_in}
-use Rattle.folder_store.specs.{FileFolder.MadeFile, declared.mail_folders.Sought.Sought}
-use Rattle.folder_store.specs.declared.mail_folders.Sought.TheVariants.{All, Stems}
-use Rattle.folder_store.specs.MailCalls.{AreSought, BringsFiles, ChecksIn, FlushesFiles, FlushesNamesIn, IfMissing, IsUnknown}
-use Rattle.folder_store.specs.MailCalls.{Lacks, LacksOne, Leads, Learns, ListedBoth, ListsIn, MakesDraft, PutsDraft}
-use Rattle.folder_store.specs.MailCalls.{PutsDurably, PutsIntoNew, SameFiles, StandsIn, TellsOfBoth}
-use Rattle.folder_store.specs.MailCalls.{TellsOne, TellsRest, Then, ToldBoth, entry_flushed_by}
-use Rattle.folder_store.specs.MailCalls.{after_listing, named_by, names_flushed_in, names_sought, put_as, without_taken}
-use Rattle.std.proofs.lemmas.List.{map-append, get_or-map, length-map}
-use Rattle.std.proofs.lemmas.List.Sorted.{Contains-permutation, IsPermutation-append, IsPermutation-sym}
-use Rattle.std.proofs.lemmas.List.Sorted.{IsPermutation-map, IsPermutation-trans, IsPermutation-filter_both}
-use Rattle.std.proofs.{lemmas.Simd.map-map, lemmas.Option.same_Some}
-use Rattle.mail_store.specs.declared.fault.StoreFault.TheVariants.{Missing, Refused}
-use Rattle.mail_store.specs.Fault.{IsDeviceFault, is_refusal}
-use Rattle.folder_store.proofs.MailMoves.{SomeIs, both_named, each_by, files_moved, files_reached, flush_keeps, leads_same}
-use Rattle.folder_store.proofs.MailMoves.{mapped_leads, moved_leads, moved_maildir, moved_rests, moved_same, rests_new}
-use Rattle.folder_store.proofs.MailMoves.{rests_on_at, same_rests_at, some_kept, some_map, there_some}
-use Rattle.mail_store.proofs.MaildirLemmas.{named_same, reached_same, reaches_same, without_more, without_on, sought_bases, stem_base}
-use Rattle.mail_terms.proofs.ErrLemmas.{is_err}
+use Rattle.std.{
+  proofs.Common.{◌≡◌, ◌+◌, inl, inr, ⊎_elim, ℕ, List, [], ◌∷◌, refl, subst, arith, ◌⊎◌, true, sym, ap, ◌∙◌, Bool, false, not, ◌++◌, map},
+  proofs.Common.{get_or, Contains, Option, Result, Ok, Err, IsErrAnd, IsPermutation, IsTrue, IfErr, IfOk, String, Global, Vec, filter, ◌≢◌},
+  proofs.Common.{string_bytes, if◌then◌else◌, suc, Some, append_assoc, append-nil, None, is_some, IfSome},
+  proofs.Math.Bool.{or-false, or-true},
+  proofs.lemmas.{Bool.{cases_Bool, cond_both, or_left, or_right}, Simd.map-map, Option.same_Some},
+  proofs.lemmas.List.{Elements.{recursion_from_All, All-weaker, filter-append, filter_passes}, map-append, get_or-map, length-map},
+  proofs.lemmas.List.Sorted.{Contains-permutation, IsPermutation-append, IsPermutation-sym, IsPermutation-map, IsPermutation-trans},
+  proofs.lemmas.List.Sorted.IsPermutation-filter_both,
+  specs.List.{AllByRecursion, AllZip, filter},
+}
+use Rattle.mail_store.{
+  specs.Maildir.{AfterFlushing, AfterTaking, AreTheirs, Checks, Draft, File, Folders, IsWithout, Lists, Maildir, MayBeNamed, MayHave, mail},
+  specs.Maildir.{bases_told, maildir_refused, draft, dropped, is_there, names_of},
+  specs.{Held.{AreAmong, ListsAmong, is_sought}, Loss.{Flushes, with_flushed, flushed_by}, Fault.{IsDeviceFault, is_refusal}},
+  specs.declared.{maildir.disk.Folder.{Folder, TheVariants.{New, Cur}}, fault.StoreFault.{StoreFault, TheVariants.{Missing, Refused}}},
+  proofs.MaildirLemmas.{named_same, reached_same, reaches_same, without_more, without_on, sought_bases, stem_base},
+}
+use Rattle.mail_terms.{specs.{MaildirName.base, FailureCount.refuses}, proofs.ErrLemmas.is_err}
+use Rattle.folder_store.{
+  specs.MailFolders.{KeepsFile, MailFile, Directories, files_at, is_left, is_taken, mail_at, MovesFile, Moved, touches, touches_new, is_in},
+  specs.MailFolders.{touches_cur, name_at, entries_in, draft_begun, maildir_in},
+  specs.{FileFolder.MadeFile, declared.mail_folders.Sought.{Sought, TheVariants.{All, Stems}}},
+  specs.MailCalls.{AreSought, BringsFiles, ChecksIn, FlushesFiles, FlushesNamesIn, IfMissing, IsUnknown, Lacks, LacksOne, Leads, Learns},
+  specs.MailCalls.{ListedBoth, ListsIn, MakesDraft, PutsDraft, PutsDurably, PutsIntoNew, SameFiles, StandsIn, TellsOfBoth, TellsOne, Then},
+  specs.MailCalls.{TellsRest, ToldBoth, entry_flushed_by, after_listing, named_by, names_flushed_in, names_sought, put_as, without_taken},
+  proofs.MailMoves.{SomeIs, both_named, each_by, files_moved, files_reached, flush_keeps, leads_same, mapped_leads, moved_leads, rests_new},
+  proofs.MailMoves.{moved_maildir, moved_rests, moved_same, rests_on_at, same_rests_at, some_kept, some_map, there_some},
+}
 
 -- ---- what is known of the folders once files that readers took away are known no longer
 

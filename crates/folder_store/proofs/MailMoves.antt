@@ -1,18 +1,22 @@
 -- What others' moves and flushes of names leave as it was.
-use Rattle.std.proofs.Common.{◌≡◌, ◌⊎◌, ◌||◌, Contains, inl, inr, ⊎_elim, ℕ, zero, suc, Bool, true, false, not, List}
-use Rattle.std.proofs.Common.{[], ◌∷◌, ◌++◌, map, Option, refl, ap, ◌∙◌, arith}
-use Rattle.std.specs.List.{AllByRecursion, AllZip}
-use Rattle.std.proofs.lemmas.Bool.{or_left}
-use Rattle.mail_terms.specs.MaildirName.{base}
-use Rattle.mail_store.specs.{declared.maildir.disk.Folder.Folder, Loss.AreLeftAs}
-use Rattle.mail_store.specs.declared.maildir.disk.Folder.TheVariants.{New, Cur}
-use Rattle.mail_store.specs.Maildir.{AreReached, Draft, File, IsAsDurable, AllNamed}
-use Rattle.folder_store.specs.MailFolders.{MailFile, Directories, KeepsFile, MovesFile, RestsFile, Moved}
-use Rattle.folder_store.specs.MailFolders.{mail_at, files_at, name_at, entries_in, touches_new, touches_cur, maildir_in}
-use Rattle.folder_store.specs.MailFolders.{OneMoves, is_in}
-use Rattle.folder_store.specs.MailPower.{EntriesLeftAs, IsMailLeftAs, MailCanLosePower}
-use Rattle.folder_store.specs.MailCalls.{Leads, SameFiles, named_by}
-use Rattle.mail_terms.proofs.ListLemmas.{zip_on, zip_same}
+use Rattle.std.{
+  proofs.Common.{◌≡◌, ◌⊎◌, ◌||◌, Contains, inl, inr, ⊎_elim, ℕ, zero, suc, Bool, true, false, not, List, [], ◌∷◌, ◌++◌, map, Option, refl},
+  proofs.Common.{ap, ◌∙◌, arith},
+  proofs.lemmas.Bool.or_left,
+  specs.List.{AllByRecursion, AllZip},
+}
+use Rattle.mail_terms.{specs.MaildirName.base, proofs.ListLemmas.{zip_on, zip_same}}
+use Rattle.mail_store.specs.{
+  declared.maildir.disk.Folder.{Folder, TheVariants.{New, Cur}},
+  Loss.AreLeftAs,
+  Maildir.{AreReached, Draft, File, IsAsDurable, AllNamed},
+}
+use Rattle.folder_store.specs.{
+  MailFolders.{MailFile, Directories, KeepsFile, MovesFile, RestsFile, Moved, mail_at, files_at, name_at, entries_in, touches_new, is_in},
+  MailFolders.{touches_cur, maildir_in, OneMoves},
+  MailPower.{EntriesLeftAs, IsMailLeftAs, MailCanLosePower},
+  MailCalls.{Leads, SameFiles, named_by},
+}
 
 -- what holds of two lists of files that are so related one by one
 pub each_by : (Does : MailFile → MailFile → Type 0) (P : List MailFile → List MailFile → Type 0) → P [] []

@@ -1,8 +1,9 @@
 -- What follows the listing of a folder in which others rename files.
-use Rattle.std.specs.Prelude.{◌≡◌, ◌≢◌, ℕ, ◌-◌, ◌<◌, ◌≤◌, max}
-use Rattle.std.specs.{Duration.as_nanos, declared.time.Duration.Duration}
-use Rattle.folder_store.specs.{declared.exact_listing.ChangeTime.ChangeTime, declared.exact_listing.Listing.Listing}
-use Rattle.folder_store.specs.declared.exact_listing.Listing.TheVariants.{Exact, Changed, TooBusy}
+use Rattle.std.specs.{Prelude.{◌≡◌, ◌≢◌, ℕ, ◌-◌, ◌<◌, ◌≤◌, max}, Duration.as_nanos, declared.time.Duration.Duration}
+use Rattle.folder_store.specs.declared.exact_listing.{
+  ChangeTime.ChangeTime,
+  Listing.{Listing, TheVariants.{Exact, Changed, TooBusy}},
+}
 
 -- for how many nanoseconds a folder that changes all the time is listed again
 abbrev pub most_nanos : ℕ

@@ -1,13 +1,13 @@
 -- A folder of a file system: what its calls see, what of it is durable, and what each call does, for
 -- either outcome.
-use Rattle.std.specs.Prelude.{◌≡◌, ℕ, List, [], ◌∷◌, ◌++◌, length, take, map, Bool, true, false}
-use Rattle.std.specs.Prelude.{Option, Some, None, option_map, Result, Ok, Err, ◌⊎◌, Vec}
-use Rattle.std.specs.Prelude.{bytes_eq, if◌then◌else◌}
-use Rattle.mail_store.specs.{declared.fault.StoreFault.StoreFault, declared.fault.StoreFault.TheVariants.Missing}
-use Rattle.mail_store.specs.declared.file.flat_file.Edges.{Edges}
-use Rattle.mail_store.specs.DiskCalls.{appended, cut, doubted, flushed}
-use Rattle.mail_store.specs.Durable.{Blob, content_in, secured}
-use Rattle.mail_store.specs.FlatFile.{edges_of, piece_at}
+use Rattle.std.specs.Prelude.{◌≡◌, ℕ, List, [], ◌∷◌, ◌++◌, length, take, map, Bool, true, false, Option, Some, None}
+use Rattle.std.specs.Prelude.{option_map, Result, Ok, Err, ◌⊎◌, Vec, bytes_eq, if◌then◌else◌}
+use Rattle.mail_store.specs.{
+  declared.{fault.StoreFault.{StoreFault, TheVariants.Missing}, file.flat_file.Edges.Edges},
+  DiskCalls.{appended, cut, doubted, flushed},
+  Durable.{Blob, content_in, secured},
+  FlatFile.{edges_of, piece_at},
+}
 
 -- a name and the file that it leads to
 pub record DirEntry : Type 0 where

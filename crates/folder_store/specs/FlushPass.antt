@@ -1,6 +1,5 @@
 -- Which files are still to be flushed after a pass through the folders of a Maildir.
-use Rattle.std.specs.Prelude.{ℕ, List, Bool, not, ◌&&◌, bytes_eq, string_bytes}
-use Rattle.std.specs.List.{list_any}
+use Rattle.std.specs.{Prelude.{ℕ, List, Bool, not, ◌&&◌, bytes_eq, string_bytes}, List.list_any}
 use Rattle.mail_store.specs.FileName.{stem}
 use Rattle.folder_store.specs.declared.flush_pass.Found.{Found}
 

@@ -1,21 +1,24 @@
 -- What each call does to the folders of a Maildir, once others have moved files.
-use Rattle.std.specs.Prelude.{◌≡◌, ◌≢◌, ◌⊎◌, ◌||◌, ◌↔◌, ℕ, Bool, true, false, IsTrue, List, [], ◌∷◌, ◌++◌, map}
-use Rattle.std.specs.Prelude.{Result, Ok, Err, IfErr, IfOk, OnOk, Vec, String, string_bytes}
-use Rattle.std.specs.Prelude.{IsPermutation, Contains}
-use Rattle.std.specs.List.{AllByRecursion, AllZip, filter}
+use Rattle.std.specs.{
+  Prelude.{◌≡◌, ◌≢◌, ◌⊎◌, ◌||◌, ◌↔◌, ℕ, Bool, true, false, IsTrue, List, [], ◌∷◌, ◌++◌, map, Result, Ok, Err, IfErr},
+  Prelude.{IfOk, OnOk, Vec, String, string_bytes, IsPermutation, Contains},
+  List.{AllByRecursion, AllZip, filter},
+}
 use Rattle.mail_terms.specs.MaildirName.{base}
-use Rattle.mail_store.specs.{declared.fault.StoreFault.StoreFault, declared.maildir.disk.Folder.Folder, FileName.stem}
-use Rattle.mail_store.specs.declared.fault.StoreFault.TheVariants.{Missing, Refused}
-use Rattle.mail_store.specs.declared.maildir.disk.Folder.TheVariants.{New, Cur}
-use Rattle.mail_store.specs.Maildir.{AllNamed, AreTheirs, File, IsWithout, MayBeNamed, bases_told, is_there, mail}
-use Rattle.mail_store.specs.Maildir.{names_of}
-use Rattle.mail_store.specs.{Held.is_sought, Loss.is_among}
-use Rattle.folder_store.specs.declared.mail_folders.Sought.{Sought}
-use Rattle.folder_store.specs.declared.mail_folders.Sought.TheVariants.{All, Stems}
-use Rattle.folder_store.specs.FileFolder.{MadeFile, Makes}
-use Rattle.folder_store.specs.MailFolders.{Directories, MailFile, KeepsFile, Moved, files_at, is_left}
-use Rattle.folder_store.specs.MailFolders.{is_taken}
-use Rattle.folder_store.specs.MailFolders.{name_at, entries_in, rests_in, touches_new, touches_cur}
+use Rattle.mail_store.specs.{
+  declared.fault.StoreFault.{StoreFault, TheVariants.{Missing, Refused}},
+  declared.maildir.disk.Folder.{Folder, TheVariants.{New, Cur}},
+  FileName.stem,
+  Maildir.{AllNamed, AreTheirs, File, IsWithout, MayBeNamed, bases_told, is_there, mail, names_of},
+  Held.is_sought,
+  Loss.is_among,
+}
+use Rattle.folder_store.specs.{
+  declared.mail_folders.Sought.{Sought, TheVariants.{All, Stems}},
+  FileFolder.{MadeFile, Makes},
+  MailFolders.{Directories, MailFile, KeepsFile, Moved, files_at, is_left, is_taken, name_at, entries_in, rests_in},
+  MailFolders.{touches_new, touches_cur},
+}
 
 -- others moved files, and then the call did this
 abbrev pub Then : (Directories → Directories → Type 0) → Directories → Directories → Type 0

@@ -1,12 +1,14 @@
 -- The folders `new` and `cur` of a Maildir, in which mail readers move files, and from which they take files away, at
 -- any moment.
-use Rattle.std.specs.Prelude.{◌≡◌, ◌||◌, ◌&&◌, ℕ, Bool, true, false, not, List, [], ◌∷◌, ◌++◌, map, Option, None}
-use Rattle.std.specs.Prelude.{String, string_bytes}
-use Rattle.std.specs.List.{AllZip, filter}
+use Rattle.std.specs.{
+  Prelude.{◌≡◌, ◌||◌, ◌&&◌, ℕ, Bool, true, false, not, List, [], ◌∷◌, ◌++◌, map, Option, None, String, string_bytes},
+  List.{AllZip, filter},
+}
 use Rattle.mail_terms.specs.MaildirName.{base}
-use Rattle.mail_store.specs.declared.maildir.disk.Folder.{Folder}
-use Rattle.mail_store.specs.declared.maildir.disk.Folder.TheVariants.{New, Cur}
-use Rattle.mail_store.specs.Maildir.{Draft, Maildir, File, Folders, draft, mail}
+use Rattle.mail_store.specs.{
+  declared.maildir.disk.Folder.{Folder, TheVariants.{New, Cur}},
+  Maildir.{Draft, Maildir, File, Folders, draft, mail},
+}
 use Rattle.folder_store.specs.FileFolder.{MadeFile}
 
 -- a file of one of the two folders: whether it is in `new`, its name with its marks, and its bytes; whether its

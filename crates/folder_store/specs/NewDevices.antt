@@ -1,11 +1,17 @@
 -- What a loss of power leaves to a device, and what a device that is made anew over the same folders begins with.
-use Rattle.std.specs.Prelude.{◌≡◌, ℕ, List, None}
-use Rattle.std.specs.List.{AllZip}
-use Rattle.mail_store.specs.declared.file.flat_file.FlatFile.{Ghosts as FileGhosts}
-use Rattle.mail_store.specs.declared.maildir.disk.MaildirDisk.{Ghosts as DiskGhosts}
-use Rattle.mail_store.specs.{Durable.IsDurable, Loss.LosesPower, Maildir.AllDurable}
-use Rattle.folder_store.specs.{FileFolder.Directory, PowerLoss.Loses, MailPower.LosesMail}
-use Rattle.folder_store.specs.MailFolders.{Directories, MovesFile, maildir_in}
+use Rattle.std.specs.{Prelude.{◌≡◌, ℕ, List, None}, List.AllZip}
+use Rattle.mail_store.specs.{
+  declared.{file.flat_file.FlatFile.Ghosts as FileGhosts, maildir.disk.MaildirDisk.Ghosts as DiskGhosts},
+  Durable.IsDurable,
+  Loss.LosesPower,
+  Maildir.AllDurable,
+}
+use Rattle.folder_store.specs.{
+  FileFolder.Directory,
+  PowerLoss.Loses,
+  MailPower.LosesMail,
+  MailFolders.{Directories, MovesFile, maildir_in},
+}
 
 -- ---- a Maildir
 

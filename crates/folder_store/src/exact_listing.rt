@@ -1,7 +1,6 @@
 //! The names of a folder, listed exactly although others rename files in it meanwhile.
 
-ghost use Rattle.std.specs.Prelude.{◌≡◌, ◌≢◌, pos};
-ghost use Rattle.std.specs.Duration.{as_nanos};
+ghost use Rattle.std.specs.{Prelude.{◌≡◌, ◌≢◌, pos}, Duration.as_nanos};
 ghost use Rattle.folder_store.specs.ExactListing.{IsExactListing, left_of};
 
 use crate::mail_folders::Sought;

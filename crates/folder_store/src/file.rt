@@ -1,12 +1,13 @@
 //! A file in a folder of a file system.
 
-ghost use Rattle.std.specs.Prelude.{◌≡◌, ◌<◌};
-ghost use Rattle.std.proofs.Common.{refl};
+ghost use Rattle.std.{specs.Prelude.{◌≡◌, ◌<◌}, proofs.Common.refl};
 ghost use Rattle.mail_terms.specs.FailureCount.{greatest_count};
 ghost use Rattle.mail_store.specs.DiskCalls.{FlushesBoth};
-ghost use Rattle.folder_store.specs.HostFile.{FlushHolds, stored_in, unknown_file};
-ghost use Rattle.folder_store.specs.NewDevices.{LeftFilesStand, NewFilesKeepBytes};
-ghost use Rattle.folder_store.specs.PowerLoss.{disk_at};
+ghost use Rattle.folder_store.specs.{
+  HostFile.{FlushHolds, stored_in, unknown_file},
+  NewDevices.{LeftFilesStand, NewFilesKeepBytes},
+  PowerLoss.disk_at,
+};
 
 use crate::cut_off::{CutOff, append_noting, cut_keeping};
 use crate::durable_file::{Appending, flush_both, replace_flushed};

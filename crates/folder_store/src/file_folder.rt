@@ -44,8 +44,8 @@ pub trait FolderState {
 pub trait FileFolder: FolderState {
     ghost use Rattle.std.specs.Prelude.{◌≡◌, ◌≤◌, length, IfErr, IfOk};
     ghost use Rattle.mail_store.specs.Fault.{IsDeviceFault};
-    ghost use Rattle.folder_store.specs.FileFolder.{AppendsTo, CutsTo, FlushesFile, FlushesNames, Makes, MeasuresFile};
-    ghost use Rattle.folder_store.specs.FileFolder.{PutsFile, ReadsFile, ReadsPiece, TellsFileSize};
+    ghost use Rattle.folder_store.specs.FileFolder.{AppendsTo, CutsTo, FlushesFile, FlushesNames, Makes, PutsFile};
+    ghost use Rattle.folder_store.specs.FileFolder.{MeasuresFile, ReadsFile, ReadsPiece, TellsFileSize};
 
     // It can't be let go: whoever makes one puts it or gives it up.
     type File: NewFile;

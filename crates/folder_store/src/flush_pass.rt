@@ -1,9 +1,7 @@
 //! Which files are still to be flushed after a pass through the folders of a Maildir.
 
-ghost use Rattle.std.specs.Prelude.{◌≡◌, ℕ, List, ◌||◌, bytes_eq, not, IfOk, OnOk};
-ghost use Rattle.std.specs.List.{filter};
-ghost use Rattle.mail_store.specs.FileName.{stem};
-ghost use Rattle.mail_store.specs.Held.{has_text};
+ghost use Rattle.std.specs.{Prelude.{◌≡◌, ℕ, List, ◌||◌, bytes_eq, not, IfOk, OnOk}, List.filter};
+ghost use Rattle.mail_store.specs.{FileName.stem, Held.has_text};
 ghost use Rattle.folder_store.specs.FlushPass.{has_flushed, has_missed, was_flushed};
 
 use mail_store::stem;

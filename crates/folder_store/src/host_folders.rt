@@ -1,7 +1,6 @@
 //! The folders of a Maildir in the machine's file system.
 
-ghost use Rattle.std.specs.Prelude.{◌≡◌, ◌<◌, ◌↔◌, IsTrue, Some};
-ghost use Rattle.std.specs.Duration.{as_nanos};
+ghost use Rattle.std.specs.{Prelude.{◌≡◌, ◌<◌, ◌↔◌, IsTrue, Some}, Duration.as_nanos};
 ghost use Rattle.folder_store.specs.MailFolders.{unknown_directories};
 
 use crate::exact_listing::ChangeTime;

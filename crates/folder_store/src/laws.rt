@@ -2,9 +2,11 @@
 //! the law.
 
 ghost use Rattle.std.specs.Prelude.{List};
-ghost use Rattle.folder_store.specs.PowerLoss.{PowerLeaves};
-ghost use Rattle.folder_store.specs.MailFolders.{Directories, MailFile, Moved, OneMoves};
-ghost use Rattle.folder_store.specs.MailPower.{MailCanLosePower};
+ghost use Rattle.folder_store.specs.{
+  PowerLoss.PowerLeaves,
+  MailFolders.{Directories, MailFile, Moved, OneMoves},
+  MailPower.MailCanLosePower,
+};
 
 /// What may be left under a name is exactly what a loss of power may leave there.
 pub fn power_leaves()

@@ -22,8 +22,8 @@ pub trait MailFolders {
     ghost use Rattle.std.specs.Prelude.{◌≡◌, false, true, IfErr, IfOk, Ok, map, string_bytes};
     ghost use Rattle.mail_store.specs.Fault.{IsDeviceFault};
     ghost use Rattle.folder_store.specs.MailFolders.{Directories, Moved};
-    ghost use Rattle.folder_store.specs.MailCalls.{ChecksIn, FlushesFiles, FlushesNamesIn, ListsIn, LooksUpNew};
-    ghost use Rattle.folder_store.specs.MailCalls.{MakesDraft, PutsDraft, TellsRest, Then};
+    ghost use Rattle.folder_store.specs.MailCalls.{ChecksIn, FlushesFiles, FlushesNamesIn, ListsIn, LooksUpNew, Then};
+    ghost use Rattle.folder_store.specs.MailCalls.{MakesDraft, PutsDraft, TellsRest};
 
     // Whoever makes one puts it or gives it up: only that shows that it was sound, which `make` asks.
     type File: NewFile;

@@ -2,8 +2,10 @@
 
 ghost use Rattle.std.specs.Prelude.{◌≡◌, ◌<◌, ◌+◌, option_map, IfSome};
 ghost use Rattle.mail_terms.specs.FailureCount.{greatest_count};
-ghost use Rattle.folder_store.specs.MailFolders.{draft_begun, maildir_in, unknown_maildir};
-ghost use Rattle.folder_store.specs.NewDevices.{LeftMaildirsStay, LossesMayLeave, NewMaildirsKeepMail};
+ghost use Rattle.folder_store.specs.{
+  MailFolders.{draft_begun, maildir_in, unknown_maildir},
+  NewDevices.{LeftMaildirsStay, LossesMayLeave, NewMaildirsKeepMail},
+};
 
 use crate::durable_names::{put_durably, told_names, told_names_of};
 use crate::file_folder::NewFile;

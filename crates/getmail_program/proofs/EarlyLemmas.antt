@@ -2,14 +2,17 @@
 use Rattle.std.proofs.Common.{◌≡◌, ◌≢◌, ◌⊎◌, ◌∙◌, ℕ, List, [], ◌∷◌, ◌++◌, Option, false, refl, sym, ap, subst, append-nil, inl, inr}
 use Rattle.std.proofs.Common.{flat_map}
 use Rattle.fetch_rules.specs.declared.plans.Step.{Step}
-use Rattle.fetch_session.specs.{Hearing.HearsOne, Report.is_deletion, declared.report.ReportLine.ReportLine}
-use Rattle.fetch_session.specs.declared.report.ReportLine.TheVariants.{Delivered, Held, Skipped, Deleted}
-use Rattle.getmail_setup.specs.{declared.output.Output.Output, Output.Puts, Output.PutsRest}
-use Rattle.getmail_setup.proofs.OutputLemmas.{puts_both}
+use Rattle.fetch_session.specs.{
+  Hearing.HearsOne,
+  Report.is_deletion,
+  declared.report.ReportLine.{ReportLine, TheVariants.{Delivered, Held, Skipped, Deleted}},
+}
+use Rattle.getmail_setup.{specs.{declared.output.Output.Output, Output.{Puts, PutsRest}}, proofs.OutputLemmas.puts_both}
 use Rattle.rc_file.specs.declared.settings.Settings.{Settings}
-use Rattle.getmail_program.specs.declared.teller.Teller.{Teller}
-use Rattle.getmail_program.specs.Teller.{StartsTelling, EarlyLine, HasLast, HasSameLinks, StaysClosed, TellsEarly, Wrote, WroteMore}
-use Rattle.getmail_program.specs.Teller.{WroteText, early_text}
+use Rattle.getmail_program.specs.{
+  declared.teller.Teller.Teller,
+  Teller.{StartsTelling, EarlyLine, HasLast, HasSameLinks, StaysClosed, TellsEarly, Wrote, WroteMore, WroteText, early_text},
+}
 
 -- a first line, and then lines
 pub early : {O : Type 0} (contents : O → Option (List ℕ)) (settings : Settings) (out : Output O) (a b : Teller O)

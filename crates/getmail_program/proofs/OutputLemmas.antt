@@ -1,12 +1,10 @@
 -- What one write after another has written.
 use Rattle.std.proofs.Common.{◌≡◌, ℕ, List, Option, ◌++◌, append_assoc, codes}
 use Rattle.rc_file.specs.declared.settings.Settings.{Settings}
-use Rattle.fetch_session.specs.{Text.fault_text, declared.fault.Fault.Fault, declared.report.Outcome.Outcome}
-use Rattle.getmail_setup.specs.{declared.output.Output.Output, declared.errors.Errors.Errors}
-use Rattle.getmail_setup.specs.Output.{Puts, number_text}
+use Rattle.fetch_session.specs.{Text.fault_text, declared.{fault.Fault.Fault, report.Outcome.Outcome}}
+use Rattle.getmail_setup.specs.{declared.{output.Output.Output, errors.Errors.Errors}, Output.{Puts, number_text}}
 pub use Rattle.getmail_setup.proofs.OutputLemmas.{puts_both}
-use Rattle.getmail_program.specs.Reasons.{reasons_said}
-use Rattle.getmail_program.specs.Telling.{TellsCut, told_fault_line, outcome_line}
+use Rattle.getmail_program.specs.{Reasons.reasons_said, Telling.{TellsCut, told_fault_line, outcome_line}}
 
 -- a cut, what was written next, and what was written last
 pub said : {E : Type 0} (contents : E → Option (List ℕ)) (settings : Settings) (outcome : Outcome) (next : List ℕ)

@@ -1,19 +1,23 @@
 -- A run over devices that are made for it.
-use Rattle.std.specs.Prelude.{◌≡◌, ◌⊎◌, ℕ, Bool, true, List, Option}
-use Rattle.std.specs.String.{string_bytes}
+use Rattle.std.specs.{Prelude.{◌≡◌, ◌⊎◌, ℕ, Bool, true, List, Option}, String.string_bytes}
 use Rattle.pop3_wire.specs.declared.wire.Wire.{Ghosts as WireGhosts}
-use Rattle.mail_store.specs.declared.maildir.disk.MaildirDisk.{Ghosts as DiskGhosts}
-use Rattle.mail_store.specs.declared.file.flat_file.FlatFile.{Ghosts as FileGhosts}
-use Rattle.rc_file.specs.{declared.settings.Dest.Dest, declared.settings.Settings.Settings}
-use Rattle.fetch_session.specs.Account.{Holding, IsSameAccount}
-use Rattle.fetch_session.specs.{declared.account.Store.Store, declared.report.Report.Report}
+use Rattle.mail_store.specs.declared.{
+  maildir.disk.MaildirDisk.Ghosts as DiskGhosts,
+  file.flat_file.FlatFile.Ghosts as FileGhosts,
+}
+use Rattle.rc_file.specs.declared.settings.{Dest.Dest, Settings.Settings}
+use Rattle.fetch_session.specs.{Account.{Holding, IsSameAccount}, declared.{account.Store.Store, report.Report.Report}}
 use Rattle.fetch_rules.specs.declared.plans.Step.{Step}
-use Rattle.getmail_setup.specs.{Failures.status_of, declared.errors.Errors.Errors, declared.failure.Failure.Failure}
-use Rattle.getmail_setup.specs.{declared.output.Output.Output, declared.output.OutputRefusal.OutputRefusal}
-use Rattle.getmail_setup.specs.{declared.setup.Paths.Paths, declared.setup.Setup.Setup}
-use Rattle.getmail_program.specs.Holding.{HoldsSession, holding_of}
-use Rattle.getmail_program.specs.Telling.{TellsAll, told_outcome, status_when}
-use Rattle.getmail_program.specs.{declared.ending.Fetched.Fetched, declared.told.Told.Told}
+use Rattle.getmail_setup.specs.{
+  Failures.status_of,
+  declared.{errors.Errors.Errors, failure.Failure.Failure, output.{Output.Output, OutputRefusal.OutputRefusal}},
+  declared.setup.{Paths.Paths, Setup.Setup},
+}
+use Rattle.getmail_program.specs.{
+  Holding.{HoldsSession, holding_of},
+  Telling.{TellsAll, told_outcome, status_when},
+  declared.{ending.Fetched.Fetched, told.Told.Told},
+}
 
 -- with a store and a file of the record that were made at these paths, a session of the settings was held, or it was
 -- only previewed

@@ -1,23 +1,24 @@
 -- The session that a run holds.
-use Rattle.std.specs.Prelude.{◌≡◌, ◌⊎◌, ◌&&◌, not, ℕ, Bool, true, false, List, Err}
-use Rattle.std.specs.List.{list_any}
+use Rattle.std.specs.{Prelude.{◌≡◌, ◌⊎◌, ◌&&◌, not, ℕ, Bool, true, false, List, Err}, List.list_any}
 use Rattle.pop3_wire.specs.declared.wire.Wire.{Ghosts as WireGhosts}
-use Rattle.mail_store.specs.declared.maildir.disk.MaildirDisk.{Ghosts as DiskGhosts}
-use Rattle.mail_store.specs.declared.file.flat_file.FlatFile.{Ghosts as FileGhosts}
-use Rattle.mail_store.specs.Maildir.{Maildir as InMaildir}
+use Rattle.mail_store.specs.{
+  declared.{maildir.disk.MaildirDisk.Ghosts as DiskGhosts, file.flat_file.FlatFile.Ghosts as FileGhosts},
+  Maildir.Maildir as InMaildir,
+}
 use Rattle.fetch_rules.specs.Plan.{fetches}
-use Rattle.fetch_session.specs.{declared.fault.Fault.Fault, declared.fault.Fault.TheVariants.NoMemory}
-use Rattle.fetch_session.specs.declared.message_preview.MessagePreview.{MessagePreview}
-use Rattle.fetch_session.specs.{declared.preview.Preview.Preview, declared.account.Store.Store, Durable.RunsSession}
-use Rattle.fetch_session.specs.declared.report.Outcome.TheVariants.{Ended, Cut}
-use Rattle.rc_file.specs.{declared.settings.Settings.Settings, declared.settings.Dest.Dest}
-use Rattle.fetch_session.specs.Account.{Holding, digits_of}
-use Rattle.fetch_session.specs.Pretend.{Pretends, preview_told, told_nothing}
-use Rattle.fetch_session.specs.{Refusal.IsWithinLimits, Session.keeping, Store.StartsFile}
-use Rattle.fetch_session.specs.Target.{AfterTakingIn, Entries, Files, Kind, is_sound, stores_of, target_of}
-use Rattle.rc_file.specs.declared.settings.Dest.TheVariants.{Maildir, Mboxrd}
-use Rattle.getmail_program.specs.declared.told.Told.{Told}
-use Rattle.getmail_program.specs.declared.told.Told.TheVariants.{Done, Ahead}
+use Rattle.fetch_session.specs.{
+  declared.{fault.Fault.{Fault, TheVariants.NoMemory}, message_preview.MessagePreview.MessagePreview},
+  declared.{preview.Preview.Preview, account.Store.Store, report.Outcome.TheVariants.{Ended, Cut}},
+  Durable.RunsSession,
+  Account.{Holding, digits_of},
+  Pretend.{Pretends, preview_told, told_nothing},
+  Refusal.IsWithinLimits,
+  Session.keeping,
+  Store.StartsFile,
+  Target.{AfterTakingIn, Entries, Files, Kind, is_sound, stores_of, target_of},
+}
+use Rattle.rc_file.specs.declared.settings.{Settings.Settings, Dest.{Dest, TheVariants.{Maildir, Mboxrd}}}
+use Rattle.getmail_program.specs.declared.told.Told.{Told, TheVariants.{Done, Ahead}}
 
 -- the kind of store that a destination names
 abbrev pub kind_in : Dest → Kind

@@ -1,18 +1,20 @@
 -- Why a session was cut: the place of its fault, and what is known of the cause.
-use Rattle.std.specs.Prelude.{◌||◌, ◌&&◌, ◌==◌, ℕ, Bool, true, List, [], ◌++◌, bytes_eq, codes, length, nat_eq}
-use Rattle.std.specs.Prelude.{if◌then◌else◌}
-use Rattle.std.specs.{Fmt.decimal, List.starts_with, String.string_bytes}
+use Rattle.std.specs.{
+  Prelude.{◌||◌, ◌&&◌, ◌==◌, ℕ, Bool, true, List, [], ◌++◌, bytes_eq, codes, length, nat_eq, if◌then◌else◌},
+  Fmt.decimal,
+  List.starts_with,
+  String.string_bytes,
+}
 use Rattle.rc_file.specs.declared.settings.Settings.{Settings}
-use Rattle.fetch_session.specs.{declared.fault.Fault.Fault, declared.report.Outcome.Outcome}
-use Rattle.fetch_session.specs.declared.fault.Fault.TheVariants.{ConnectionEnded, ReadFailed, WriteFailed, ReplyTooLong}
-use Rattle.fetch_session.specs.declared.fault.Fault.TheVariants.{BadReply, Refused}
-use Rattle.fetch_session.specs.declared.fault.Fault.TheVariants.{BadListing, ListingsDisagree, TooMany, TextTooLong}
-use Rattle.fetch_session.specs.declared.fault.Fault.TheVariants.{StoreRefused}
-use Rattle.fetch_session.specs.declared.fault.Fault.TheVariants.{SeenRefused, NoMemory, BadSeen}
-use Rattle.fetch_session.specs.declared.fault.Why.TheVariants as why
-use Rattle.fetch_session.specs.declared.report.Outcome.TheVariants.{Cut}
+use Rattle.fetch_session.specs.declared.{
+  fault.Fault.Fault,
+  fault.Fault.TheVariants.{ConnectionEnded, ReadFailed, WriteFailed, ReplyTooLong, BadReply, Refused, BadListing},
+  fault.Fault.TheVariants.{ListingsDisagree, TooMany, TextTooLong, StoreRefused, SeenRefused, NoMemory, BadSeen},
+  report.Outcome.{Outcome, TheVariants.Cut},
+}
 use Rattle.trace.specs.declared.talk.Said.{Said}
 use Rattle.getmail_program.specs.declared.findings.Findings.{Findings}
+use Rattle.fetch_session.specs.declared.fault.Why.TheVariants as why
 
 -- the first text, unless it is empty
 abbrev pub or_else : List ℕ → List ℕ → List ℕ

@@ -1,15 +1,20 @@
 -- What a rehearsal holds, and what it shows of the commands that it sends.
-use Rattle.std.specs.Prelude.{◌≡◌, ℕ, true, false, List, ◌==◌, codes, if◌then◌else◌}
-use Rattle.std.specs.List.{starts_with}
+use Rattle.std.specs.{Prelude.{◌≡◌, ℕ, true, false, List, ◌==◌, codes, if◌then◌else◌}, List.starts_with}
 use Rattle.pop3_wire.specs.declared.wire.Wire.{Ghosts as WireGhosts}
-use Rattle.mail_store.specs.declared.maildir.disk.MaildirDisk.{Ghosts as DiskGhosts}
-use Rattle.mail_store.specs.declared.file.flat_file.FlatFile.{Ghosts as FileGhosts}
-use Rattle.rc_file.specs.Flags.{is_contradiction, overridden}
-use Rattle.rc_file.specs.Settings.{Content, content_of, maildir}
-use Rattle.rc_file.specs.{declared.flags.Flags.Flags, declared.settings.Settings.Settings}
-use Rattle.fetch_session.specs.{Account.Holding, Durable.RunsSession, declared.account.Store.Store}
-use Rattle.fetch_session.specs.{declared.report.Outcome.Outcome, declared.report.Outcome.TheVariants.Ended}
-use Rattle.fetch_session.specs.declared.report.Report.{Report}
+use Rattle.mail_store.specs.declared.{
+  maildir.disk.MaildirDisk.Ghosts as DiskGhosts,
+  file.flat_file.FlatFile.Ghosts as FileGhosts,
+}
+use Rattle.rc_file.specs.{
+  Flags.{is_contradiction, overridden},
+  Settings.{Content, content_of, maildir},
+  declared.{flags.Flags.Flags, settings.Settings.Settings},
+}
+use Rattle.fetch_session.specs.{
+  Account.Holding,
+  Durable.RunsSession,
+  declared.{account.Store.Store, report.{Outcome.{Outcome, TheVariants.Ended}, Report.Report}},
+}
 use Rattle.getmail_program.specs.Holding.{holding_of}
 
 -- a command as it is shown: PASS without its argument

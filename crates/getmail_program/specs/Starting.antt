@@ -1,13 +1,15 @@
 -- What a command line leads to.
 use Rattle.std.specs.Prelude.{◌≡◌, ◌⊎◌, ◌&&◌, ◌≤◌, ℕ, Bool, true, false, not, List, [], Option}
-use Rattle.clap.specs.Words.{HasKind, fault_of, matches_of}
-use Rattle.clap.specs.{declared.error.Error.Error, Values.kind_of}
+use Rattle.clap.specs.{Words.{HasKind, fault_of, matches_of}, declared.error.Error.Error, Values.kind_of}
 use Rattle.command_line.specs.Rules.{is_asked_text}
 use Rattle.rc_file.specs.declared.flags.Flags.{Flags}
-use Rattle.getmail_setup.specs.CommandLine.{AsksFor, getmail}
-use Rattle.getmail_setup.specs.{Failures.status_of, NoSetup.HasNoSetup, declared.failure.Failure.Failure}
-use Rattle.getmail_setup.specs.Places.{IsSetUp, Reads}
-use Rattle.getmail_setup.specs.{declared.setup.Setup.Setup, declared.words.Words.Words}
+use Rattle.getmail_setup.specs.{
+  CommandLine.{AsksFor, getmail},
+  Failures.status_of,
+  NoSetup.HasNoSetup,
+  declared.{failure.Failure.Failure, setup.Setup.Setup, words.Words.Words},
+  Places.{IsSetUp, Reads},
+}
 
 -- with some home, the words have no setup, for a failure; or the one that they mean, with what the rc file gave, was
 -- run, unattended if they ask for that and not for a preview

@@ -1,14 +1,21 @@
 -- What is written of a report while its session runs: its first line, and lines of messages, but no line of a deletion.
-use Rattle.std.specs.Prelude.{◌≡◌, ◌≢◌, ◌⊎◌, ℕ, false, List, [], ◌∷◌, ◌++◌, Option, None, flat_map, if◌then◌else◌}
-use Rattle.std.proofs.Common.{refl, sym, ap, ◌∙◌, append_assoc, append-nil, subst}
-use Rattle.std.proofs.lemmas.Grind.{flat_map-append}
+use Rattle.std.{
+  specs.Prelude.{◌≡◌, ◌≢◌, ◌⊎◌, ℕ, false, List, [], ◌∷◌, ◌++◌, Option, None, flat_map, if◌then◌else◌},
+  proofs.{Common.{refl, sym, ap, ◌∙◌, append_assoc, append-nil, subst}, lemmas.Grind.flat_map-append},
+}
 use Rattle.rc_file.specs.declared.settings.Settings.{Settings}
-use Rattle.fetch_session.specs.{Reasons.explained_line, Text.heading, Report.is_deletion}
+use Rattle.fetch_session.specs.{
+  Reasons.explained_line,
+  Text.heading,
+  Report.is_deletion,
+  declared.report.ReportLine.ReportLine,
+}
 use Rattle.fetch_rules.specs.declared.plans.Step.{Step}
-use Rattle.fetch_session.specs.declared.report.ReportLine.{ReportLine}
 use Rattle.getmail_program.specs.declared.teller.Teller.{Teller}
-use Rattle.getmail_setup.specs.{declared.output.Output.Output, Output.Puts}
-use Rattle.getmail_setup.proofs.OutputLemmas.{puts_both, puts_none}
+use Rattle.getmail_setup.{
+  specs.{declared.output.Output.Output, Output.Puts},
+  proofs.OutputLemmas.{puts_both, puts_none},
+}
 
 -- a line of a report, of a session with this many messages and this plan
 pub record EarlyLine : Type 0 where

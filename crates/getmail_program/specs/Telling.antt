@@ -1,21 +1,26 @@
 -- What is told at a session's end.
-use Rattle.std.specs.Prelude.{◌≡◌, ◌⊎◌, ℕ, Bool, true, false, ◌==◌, List, [], ◌++◌, Option, None, Some, codes, length}
-use Rattle.std.specs.Prelude.{if◌then◌else◌}
-use Rattle.std.specs.Fmt.{decimal}
+use Rattle.std.specs.{
+  Prelude.{◌≡◌, ◌⊎◌, ℕ, Bool, true, false, ◌==◌, List, [], ◌++◌, Option, None, Some, codes, length, if◌then◌else◌},
+  Fmt.decimal,
+}
 use Rattle.rc_file.specs.declared.settings.Settings.{Settings}
-use Rattle.fetch_session.specs.{declared.fault.Fault.Fault, declared.report.LeftOut.LeftOut}
-use Rattle.fetch_session.specs.{declared.report.Outcome.Outcome, declared.report.Report.Report, Reasons.told_report}
-use Rattle.fetch_session.specs.declared.report.Outcome.TheVariants.{Ended, Cut}
+use Rattle.fetch_session.specs.{
+  declared.{fault.Fault.Fault, report.{LeftOut.LeftOut, Outcome.{Outcome, TheVariants.{Ended, Cut}}, Report.Report}},
+  Reasons.told_report,
+  Telling.preview_text,
+  Text.{fault_text, outcome_number},
+}
 use Rattle.fetch_rules.specs.declared.plans.Step.{Step}
-use Rattle.fetch_session.specs.Telling.{preview_text}
-use Rattle.fetch_session.specs.Text.{fault_text, outcome_number}
-use Rattle.getmail_setup.specs.{declared.output.Output.Output, declared.output.OutputRefusal.OutputRefusal}
-use Rattle.getmail_setup.specs.declared.output.OutputRefusal.TheVariants.{NoMemory, Refused}
-use Rattle.getmail_program.specs.{declared.ending.Fetched.Fetched, declared.findings.Findings.Findings}
-use Rattle.getmail_program.specs.declared.told.Told.{Told}
-use Rattle.getmail_program.specs.declared.told.Told.TheVariants.{Done, Ahead}
-use Rattle.getmail_setup.specs.{declared.errors.Errors.Errors, Output.Puts}
-use Rattle.getmail_program.specs.{Reasons.reason_line, Reasons.reasons_said, Teller.TellsEarly}
+use Rattle.getmail_setup.specs.{
+  declared.output.{Output.Output, OutputRefusal.{OutputRefusal, TheVariants.{NoMemory, Refused}}},
+  declared.errors.Errors.Errors,
+  Output.Puts,
+}
+use Rattle.getmail_program.specs.{
+  declared.{ending.Fetched.Fetched, findings.Findings.Findings, told.Told.{Told, TheVariants.{Done, Ahead}}},
+  Reasons.{reason_line, reasons_said},
+  Teller.TellsEarly,
+}
 
 -- ---- what a session says
 

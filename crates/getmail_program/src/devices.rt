@@ -1,8 +1,7 @@
 //! The devices of a run, those on a machine's files, and the time there.
 ghost use Rattle.std.specs.Prelude.{◌≡◌, ℕ, List};
 ghost use Rattle.rc_file.specs.declared.settings.Dest.{Dest};
-ghost use Rattle.fetch_session.specs.Target.{NoneBegun, kind_of};
-ghost use Rattle.fetch_session.specs.declared.account.Store.{Store};
+ghost use Rattle.fetch_session.specs.{Target.{NoneBegun, kind_of}, declared.account.Store.Store};
 ghost use Rattle.getmail_program.specs.Holding.{kind_in};
 
 use fetch_rules::{Dest, Settings};

@@ -1,6 +1,5 @@
 //! What would keep a run from storing messages although a preview of it found nothing wrong.
-ghost use Rattle.std.specs.Prelude.{◌≡◌, IfSome};
-ghost use Rattle.std.specs.List.{list_any};
+ghost use Rattle.std.specs.{Prelude.{◌≡◌, IfSome}, List.list_any};
 ghost use Rattle.getmail_program.specs.Holding.{Doubts, RefusesFile, SaysAhead, would_store};
 
 use crate::told::RunTerms;

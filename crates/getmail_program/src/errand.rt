@@ -2,9 +2,7 @@
 ghost use Rattle.std.specs.Prelude.{◌≡◌, ◌≤◌, ℕ};
 ghost use Rattle.rc_file.specs.Settings.{IsValid};
 ghost use Rattle.fetch_session.specs.Hearing.{IsPlanOf};
-ghost use Rattle.getmail_program.specs.Fetching.{FetchesAt, TellsOf};
-ghost use Rattle.getmail_program.specs.Holding.{holding_of};
-ghost use Rattle.getmail_program.specs.declared.told.Told.{Told};
+ghost use Rattle.getmail_program.specs.{Fetching.{FetchesAt, TellsOf}, Holding.holding_of, declared.told.Told.Told};
 
 use crate::devices::{Devices, seconds_now};
 use crate::ending::{Fetched, tell_all};

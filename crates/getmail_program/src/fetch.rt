@@ -3,8 +3,7 @@ ghost use Rattle.std.specs.Prelude.{◌≡◌, ◌≤◌, ◌&&◌, ℕ, List, O
 ghost use Rattle.rc_file.specs.Settings.{IsValid};
 ghost use Rattle.getmail_setup.specs.{Lock.goes_on, Places.IsSetUp};
 ghost use Rattle.system_calls.specs.declared.system.System.{System};
-ghost use Rattle.getmail_program.specs.Fetching.{EndsBefore, HoldsSetup, Runs};
-ghost use Rattle.getmail_program.specs.Starting.{Starts};
+ghost use Rattle.getmail_program.specs.{Fetching.{EndsBefore, HoldsSetup, Runs}, Starting.Starts};
 
 use crate::devices::{HostDevices, seconds_now};
 use crate::errand::{Errand, fetch_at};

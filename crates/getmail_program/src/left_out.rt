@@ -1,6 +1,5 @@
 //! The line on messages that a session left out although they aren't known.
-ghost use Rattle.std.specs.Prelude.{◌≡◌, ℕ, List, IfOk};
-ghost use Rattle.std.specs.String.{string_bytes};
+ghost use Rattle.std.specs.{Prelude.{◌≡◌, ℕ, List, IfOk}, String.string_bytes};
 ghost use Rattle.getmail_setup.specs.Output.{Puts};
 ghost use Rattle.getmail_program.specs.Telling.{SaysLeftOut, left_out_reason, left_out_line, left_out_text, with_comma};
 

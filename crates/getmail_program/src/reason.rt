@@ -1,6 +1,5 @@
 //! The lines after a fault's: the account, and the reason.
-ghost use Rattle.std.specs.Prelude.{◌≡◌, ◌++◌, IfOk, codes};
-ghost use Rattle.std.specs.String.{string_bytes};
+ghost use Rattle.std.specs.{Prelude.{◌≡◌, ◌++◌, IfOk, codes}, String.string_bytes};
 ghost use Rattle.getmail_program.specs.Reasons.{hint_text, is_by_a_tunnel, is_local, line_if_any, or_else, place_in};
 ghost use Rattle.getmail_program.specs.Reasons.{reason_line, reason_text, reasons_of, reasons_said, rows_text};
 

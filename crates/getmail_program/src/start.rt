@@ -1,11 +1,8 @@
 //! A run from its command line to its exit status.
-ghost use Rattle.std.specs.Prelude.{◌≡◌, ◌≤◌, map, IfErr, IfOk};
-ghost use Rattle.std.specs.String.{string_bytes};
+ghost use Rattle.std.specs.{Prelude.{◌≡◌, ◌≤◌, map, IfErr, IfOk}, String.string_bytes};
 ghost use Rattle.getmail_setup.specs.Failures.{status_of};
 ghost use Rattle.system_calls.specs.declared.system.System.{System};
-ghost use Rattle.getmail_program.specs.Fetching.{Runs};
-ghost use Rattle.getmail_program.specs.Rehearsal.{Rehearses};
-ghost use Rattle.getmail_program.specs.Starting.{LeadsTo, Starts};
+ghost use Rattle.getmail_program.specs.{Fetching.Runs, Rehearsal.Rehearses, Starting.{LeadsTo, Starts}};
 
 use crate::fetch::{Machine, is_unattended, run};
 use crate::news::tell_news;

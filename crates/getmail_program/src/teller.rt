@@ -1,10 +1,11 @@
 //! The lines of a report that are written while its session runs.
-ghost use Rattle.std.specs.Prelude.{◌≡◌, ℕ, false, true, List, [], IfOk};
-ghost use Rattle.std.specs.String.{string_bytes};
-ghost use Rattle.std.proofs.Common.{refl, ◌∙◌};
+ghost use Rattle.std.{
+  specs.{Prelude.{◌≡◌, ℕ, false, true, List, [], IfOk}, String.string_bytes},
+  proofs.Common.{refl, ◌∙◌},
+};
 ghost use Rattle.fetch_session.specs.Report.{is_deletion};
-ghost use Rattle.getmail_program.specs.Teller.{StartsTelling, HasLast, HasSameLinks, StaysClosed, WroteMore, WroteText};
-ghost use Rattle.getmail_program.specs.Teller.{early_text, has_last, wrote_both, wrote_nothing};
+ghost use Rattle.getmail_program.specs.Teller.{StartsTelling, HasLast, HasSameLinks, StaysClosed, WroteMore};
+ghost use Rattle.getmail_program.specs.Teller.{WroteText, early_text, has_last, wrote_both, wrote_nothing};
 
 use fetch_rules::{Settings, Step};
 use fetch_session::{Listener, ReportLine, explained_line, heading};

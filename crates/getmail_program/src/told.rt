@@ -1,12 +1,13 @@
 //! What a session says at its end.
 ghost use Rattle.std.specs.Prelude.{◌≡◌, [], true, if◌then◌else◌};
-ghost use Rattle.fetch_session.specs.Account.{IsSameAccount};
-ghost use Rattle.fetch_session.specs.Hearing.{IsPlanOf};
-ghost use Rattle.fetch_session.specs.Reasons.{told_report};
-ghost use Rattle.fetch_session.specs.Telling.{preview_text};
-ghost use Rattle.getmail_program.specs.Holding.{HoldsSession};
+ghost use Rattle.fetch_session.specs.{
+  Account.IsSameAccount,
+  Hearing.IsPlanOf,
+  Reasons.told_report,
+  Telling.preview_text,
+};
+ghost use Rattle.getmail_program.specs.{Holding.HoldsSession, Telling.{Reported, is_idle, told_outcome}};
 ghost use Rattle.getmail_setup.specs.Output.{Puts, PutsRest};
-ghost use Rattle.getmail_program.specs.Telling.{Reported, is_idle, told_outcome};
 
 use crate::doubt::said_ahead;
 use crate::teller::{Notes, Teller};

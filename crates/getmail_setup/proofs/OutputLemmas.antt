@@ -1,9 +1,10 @@
 -- What one write after another has written.
-use Rattle.std.proofs.Common.{◌≡◌, ◌≢◌, ◌∙◌, ℕ, List, [], Option, None, Some, ◌++◌, ap, sym, subst, refl, append_assoc, rules}
-use Rattle.std.specs.Io.KnownBytes.{Appends}
-use Rattle.std.proofs.KnownBytes.{Appends-nil, Appends-trans}
-use Rattle.getmail_setup.specs.{declared.output.Output.Output, declared.output.OutputRefusal.OutputRefusal}
-use Rattle.getmail_setup.specs.Output.{Puts, WritesFront}
+use Rattle.std.{
+  proofs.Common.{◌≡◌, ◌≢◌, ◌∙◌, ℕ, List, [], Option, None, Some, ◌++◌, ap, sym, subst, refl, append_assoc, rules},
+  proofs.KnownBytes.{Appends-nil, Appends-trans},
+  specs.Io.KnownBytes.Appends,
+}
+use Rattle.getmail_setup.specs.{declared.output.{Output.Output, OutputRefusal.OutputRefusal}, Output.{Puts, WritesFront}}
 
 -- a front of both, where after a refusal nothing is written
 front_both : (refusal : Option OutputRefusal) (a b c : Option (List ℕ)) (first second : List ℕ)

@@ -1,11 +1,11 @@
 -- Why a run has no paths.
-use Rattle.std.proofs.Common.{◌⊎◌, ℕ, List, Option, inl, inr, option_map}
-use Rattle.std.specs.String.{string_bytes}
+use Rattle.std.{proofs.Common.{◌⊎◌, ℕ, List, Option, inl, inr, option_map}, specs.String.string_bytes}
 use Rattle.rc_file.specs.declared.settings.Settings.{Settings}
-use Rattle.getmail_setup.specs.NoSetup.{HasNoPath, HasNoSetup}
-use Rattle.getmail_setup.specs.Places.{AreRead, Reads, folder_path, path_in, whole_path}
-use Rattle.getmail_setup.specs.{declared.failure.Failure.Failure, declared.words.Words.Words}
-use Rattle.getmail_setup.specs.declared.failure.Failure.TheVariants.{AtWork, CannotConnect, CannotRead, NoHome, NoMemory, OtherList, Rc}
+use Rattle.getmail_setup.specs.{
+  NoSetup.{HasNoPath, HasNoSetup},
+  Places.{AreRead, Reads, folder_path, path_in, whole_path},
+  declared.{failure.Failure.{Failure, TheVariants.{AtWork, CannotConnect, CannotRead, NoHome, NoMemory, OtherList, Rc}}, words.Words.Words},
+}
 
 by_neither : {A : Type 0} → ⊥ ⊎ ⊥ → A
 by_neither (inl neither) = absurd neither

@@ -1,8 +1,10 @@
 -- What clap's matches and errors of the command line are.
 use Rattle.std.proofs.Common.{◌≡◌, ◌∙◌, ℕ, List, true, ap, refl, subst}
-use Rattle.clap.specs.{Kinds.HasKind, declared.error.Error.Error, declared.parser.matches.ArgMatches.ArgMatches}
-use Rattle.clap.specs.Words.{App, HasMatchesOf, fault_of, found_of, is_simple, is_simple_and_free, matches_of, rows_of}
-use Rattle.clap.proofs.OnLiterals.{clap_on_literals}
+use Rattle.clap.{
+  specs.{Kinds.HasKind, declared.{error.Error.Error, parser.matches.ArgMatches.ArgMatches}},
+  specs.Words.{App, HasMatchesOf, fault_of, found_of, is_simple, is_simple_and_free, matches_of, rows_of},
+  proofs.OnLiterals.clap_on_literals,
+}
 use Rattle.getmail_setup.specs.CommandLine.{getmail}
 
 getmail_is_simple : is_simple getmail ≡ true

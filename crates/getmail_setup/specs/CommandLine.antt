@@ -1,6 +1,5 @@
 -- The command line: its options and flags, and what words ask for.
-use Rattle.std.specs.Prelude.{◌≡◌, ◌&&◌, ◌||◌, Bool, List, codes, not, option_map}
-use Rattle.std.specs.String.{string_bytes}
+use Rattle.std.specs.{Prelude.{◌≡◌, ◌&&◌, ◌||◌, Bool, List, codes, not, option_map}, String.string_bytes}
 use Rattle.clap.specs.Words.{App, Row, count_of, first_of, with_rule}
 use Rattle.command_line.specs.Rules.{flag_rule, is_given, long_flag_rule, program, option_rule}
 use Rattle.rc_file.specs.declared.flags.Flags.{Flags}

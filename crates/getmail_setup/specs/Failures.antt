@@ -1,12 +1,16 @@
 -- The lines and the exit statuses of runs that end before their session.
-use Rattle.std.specs.Prelude.{◌≡◌, ◌⊎◌, ℕ, Bool, true, false, List, [], ◌++◌, Option, None, Some, codes}
-use Rattle.std.specs.{Fmt.decimal, String.string_bytes}
-use Rattle.rc_file.specs.{RcText.rc_text, declared.fault.RcFault.RcFault, declared.settings.Settings.Settings}
-use Rattle.getmail_setup.specs.{Output.Puts, Places.peer_name, declared.errors.Errors.Errors}
-use Rattle.getmail_setup.specs.declared.failure.Failure.{Failure}
-use Rattle.getmail_setup.specs.declared.failure.Failure.TheVariants.{NoHome, CannotRead, Rc, OtherList, AtWork}
-use Rattle.getmail_setup.specs.declared.failure.Failure.TheVariants.{CannotConnect}
-use Rattle.getmail_setup.specs.declared.failure.Failure.TheVariants.{NoMemory}
+use Rattle.std.specs.{
+  Prelude.{◌≡◌, ◌⊎◌, ℕ, Bool, true, false, List, [], ◌++◌, Option, None, Some, codes},
+  Fmt.decimal,
+  String.string_bytes,
+}
+use Rattle.rc_file.specs.{RcText.rc_text, declared.{fault.RcFault.RcFault, settings.Settings.Settings}}
+use Rattle.getmail_setup.specs.{
+  Output.Puts,
+  Places.peer_name,
+  declared.errors.Errors.Errors,
+  declared.failure.Failure.{Failure, TheVariants.{NoHome, CannotRead, Rc, OtherList, AtWork, CannotConnect, NoMemory}},
+}
 
 -- 1 if another run is at work or no connection was made, 2 for all that is found before
 abbrev pub status_of : Failure → ℕ

@@ -1,9 +1,9 @@
 -- What becomes of the lock that keeps two runs of an account apart.
-use Rattle.std.specs.Prelude.{Bool, true, false, Result, Ok, Err}
-use Rattle.std.specs.{declared.fs.File.File, declared.fs.locks.TryLockError.TryLockError}
-use Rattle.std.specs.declared.fs.locks.TryLockError.TheVariants.{Error, WouldBlock}
-use Rattle.getmail_setup.specs.declared.lock.Lock.{Lock}
-use Rattle.getmail_setup.specs.declared.lock.Lock.TheVariants.{Held, Elsewhere, Without}
+use Rattle.std.specs.{
+  Prelude.{Bool, true, false, Result, Ok, Err},
+  declared.fs.{File.File, locks.TryLockError.{TryLockError, TheVariants.{Error, WouldBlock}}},
+}
+use Rattle.getmail_setup.specs.declared.lock.Lock.{Lock, TheVariants.{Held, Elsewhere, Without}}
 
 -- by the system's answer: a lock that another run has isn't waited for, and any other refusal is no hindrance
 abbrev pub lock_of : File → Result (Unit {0}) TryLockError → Lock

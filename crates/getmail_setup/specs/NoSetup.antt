@@ -1,13 +1,15 @@
 -- Why a run has no settings or no paths.
-use Rattle.std.specs.Prelude.{◌≡◌, ◌⊎◌, true, ℕ, List, Option, None, Some, option_map}
-use Rattle.std.specs.String.{string_bytes}
-use Rattle.rc_file.specs.Answer.{IsFaultMeant, fault_in}
-use Rattle.rc_file.specs.{RcMeaning.rc_meaning, Flags.is_contradiction, declared.fault.RcFault.RcFault}
-use Rattle.rc_file.specs.{declared.fault.RcFault.TheVariants.Contradiction, declared.flags.Flags.Flags}
-use Rattle.rc_file.specs.declared.settings.Settings.{Settings}
-use Rattle.getmail_setup.specs.Places.{AreRead, IsRcPath, Reads, folder_path, path_in, rc_path, rc_room, whole_path}
-use Rattle.getmail_setup.specs.{declared.failure.Failure.Failure, declared.words.Words.Words}
-use Rattle.getmail_setup.specs.declared.failure.Failure.TheVariants.{CannotRead, NoHome, NoMemory, Rc}
+use Rattle.std.specs.{Prelude.{◌≡◌, ◌⊎◌, true, ℕ, List, Option, None, Some, option_map}, String.string_bytes}
+use Rattle.rc_file.specs.{
+  Answer.{IsFaultMeant, fault_in},
+  RcMeaning.rc_meaning,
+  Flags.is_contradiction,
+  declared.{fault.RcFault.{RcFault, TheVariants.Contradiction}, flags.Flags.Flags, settings.Settings.Settings},
+}
+use Rattle.getmail_setup.specs.{
+  Places.{AreRead, IsRcPath, Reads, folder_path, path_in, rc_path, rc_room, whole_path},
+  declared.{failure.Failure.{Failure, TheVariants.{CannotRead, NoHome, NoMemory, Rc}}, words.Words.Words},
+}
 
 -- memory ran out, or a path isn't known, for want of HOME
 abbrev pub HasNoPath : Option (List ℕ) → Failure → Type 0

@@ -1,6 +1,9 @@
 -- What a writer that remembers refusals has written.
-use Rattle.std.specs.Prelude.{◌≡◌, ◌≢◌, ◌⊎◌, ℕ, List, [], ◌++◌, Option, None, Some}
-use Rattle.std.specs.{Fmt.decimal, Io.KnownBytes.Appends}
+use Rattle.std.specs.{
+  Prelude.{◌≡◌, ◌≢◌, ◌⊎◌, ℕ, List, [], ◌++◌, Option, None, Some},
+  Fmt.decimal,
+  Io.KnownBytes.Appends,
+}
 use Rattle.getmail_setup.specs.declared.output.Output.{Output}
 
 -- a front of these octets was written, and nothing else

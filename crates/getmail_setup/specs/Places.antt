@@ -1,16 +1,20 @@
 -- Paths of the program's files.
-use Rattle.std.specs.Prelude.{◌≡◌, ◌+◌, ℕ, Bool, false, Ok, ◌||◌, nat_eq, List, [], ◌++◌, drop, Option, Some, None}
-use Rattle.std.specs.Prelude.{option_map, codes, if◌then◌else◌}
-use Rattle.std.specs.{Fmt.decimal, String.string_bytes}
-use Rattle.std.specs.List.{starts_with, ends_with}
-use Rattle.rc_file.specs.RcMeaning.{Warned, rc_meaning}
-use Rattle.rc_file.specs.{declared.file.TheConstants.RC_LIMIT, declared.flags.Flags.Flags}
-use Rattle.rc_file.specs.Settings.{Content, IsValid, begins_at_home, content_of}
-use Rattle.rc_file.specs.Flags.{is_contradiction, overridden}
-use Rattle.rc_file.specs.{declared.settings.Settings.Settings, declared.settings.Dest.Dest}
-use Rattle.rc_file.specs.declared.settings.Dest.TheVariants.{Maildir, Mboxrd}
+use Rattle.std.specs.{
+  Prelude.{◌≡◌, ◌+◌, ℕ, Bool, false, Ok, ◌||◌, nat_eq, List, [], ◌++◌, drop, Option, Some, None, option_map, codes},
+  Prelude.if◌then◌else◌,
+  Fmt.decimal,
+  String.string_bytes,
+  List.{starts_with, ends_with},
+}
+use Rattle.rc_file.specs.{
+  RcMeaning.{Warned, rc_meaning},
+  declared.{file.TheConstants.RC_LIMIT, flags.Flags.Flags},
+  declared.settings.{Settings.Settings, Dest.{Dest, TheVariants.{Maildir, Mboxrd}}},
+  Settings.{Content, IsValid, begins_at_home, content_of},
+  Flags.{is_contradiction, overridden},
+}
 use Rattle.mail_store.specs.FileName.{account_text}
-use Rattle.getmail_setup.specs.{declared.setup.Paths.Paths, declared.setup.Setup.Setup, declared.words.Words.Words}
+use Rattle.getmail_setup.specs.declared.{setup.{Paths.Paths, Setup.Setup}, words.Words.Words}
 
 -- the path of a file of a folder, with one '/' between them
 abbrev pub joined : List ℕ → List ℕ → List ℕ

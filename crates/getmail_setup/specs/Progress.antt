@@ -1,7 +1,6 @@
 -- What the line of progress says.
-use Rattle.std.specs.Prelude.{◌/◌, ℕ, List, Option, Some, ◌++◌, codes}
-use Rattle.std.specs.Fmt.{decimal}
-use Rattle.pop3_wire.specs.{declared.note.Asked.Asked, declared.note.Asked.TheVariants.Retr}
+use Rattle.std.specs.{Prelude.{◌/◌, ℕ, List, Option, Some, ◌++◌, codes}, Fmt.decimal}
+use Rattle.pop3_wire.specs.declared.note.Asked.{Asked, TheVariants.Retr}
 use Rattle.getmail_setup.specs.declared.progress.Progress.{Progress}
 
 -- of a message its number and how much of it has come; else how many messages both listings had rows for

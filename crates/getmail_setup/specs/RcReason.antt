@@ -1,12 +1,20 @@
 -- The reason of a fault of an rc file, or of the flags. Of the file it has at most the number of a line.
-use Rattle.std.specs.Prelude.{◌≡◌, ◌&&◌, ◌==◌, ◌++◌, ℕ, Bool, nat_eq, List, [], ◌∷◌, codes, if◌then◌else◌}
-use Rattle.std.specs.Prelude.{Option, Some, None}
-use Rattle.std.specs.{Fmt.decimal, Ffi.without_last, List.starts_with}
-use Rattle.rc_file.specs.{FaultLine.fault_line, KeyTable.rule, declared.fault.RcFault.RcFault, declared.key.Key.Key}
-use Rattle.rc_file.specs.declared.fault.RcFault.TheVariants.{TooLong, BadLine, MissingKey, UnknownType}
-use Rattle.rc_file.specs.declared.fault.RcFault.TheVariants.{BadValue, Unsupported, BadPath, Contradiction}
-use Rattle.rc_file.specs.declared.key.Key.TheVariants.{UseApop, Server, Port, Username, Password, DestinationKind}
-use Rattle.rc_file.specs.declared.key.Key.TheVariants.{Path, ReadAll, Delete, DeleteAfter}
+use Rattle.std.specs.{
+  Prelude.{◌≡◌, ◌&&◌, ◌==◌, ◌++◌, ℕ, Bool, nat_eq, List, [], ◌∷◌, codes, if◌then◌else◌, Option, Some, None},
+  Fmt.decimal,
+  Ffi.without_last,
+  List.starts_with,
+}
+use Rattle.rc_file.specs.{
+  FaultLine.fault_line,
+  KeyTable.rule,
+  declared.fault.RcFault.RcFault,
+  declared.fault.RcFault.TheVariants.{TooLong, BadLine, MissingKey, UnknownType, BadValue, Unsupported, BadPath},
+  declared.fault.RcFault.TheVariants.Contradiction,
+  declared.key.Key.Key,
+  declared.key.Key.TheVariants.{UseApop, Server, Port, Username, Password, DestinationKind, Path, ReadAll, Delete},
+  declared.key.Key.TheVariants.DeleteAfter,
+}
 use Rattle.system_calls.specs.Line.{IsTraceLine}
 use Rattle.getmail_setup.specs.declared.words.Words.{Words}
 

@@ -1,6 +1,5 @@
 //! The connection to the server: over TCP, or to a Unix socket on which a tunnel listens.
-ghost use Rattle.std.specs.Prelude.{◌≡◌, IfOk};
-ghost use Rattle.std.specs.String.{string_bytes};
+ghost use Rattle.std.specs.{Prelude.{◌≡◌, IfOk}, String.string_bytes};
 ghost use Rattle.trace.specs.Wire.{Hides};
 ghost use Rattle.getmail_setup.specs.Places.{is_socket, peer_name};
 

@@ -1,7 +1,9 @@
 //! What a run writes to standard error before its session, and what it keeps of refused calls.
 ghost use Rattle.std.specs.Prelude.{◌≡◌, ◌≤◌, ℕ, List, option_map};
-ghost use Rattle.getmail_setup.specs.Failures.{IsToldCause, TellsFailure, account_front, cause_line, status_of};
-ghost use Rattle.getmail_setup.specs.Output.{Puts};
+ghost use Rattle.getmail_setup.specs.{
+  Failures.{IsToldCause, TellsFailure, account_front, cause_line, status_of},
+  Output.Puts,
+};
 
 use crate::failure::{Failure, tell};
 use crate::journal::{Journal, Subject};

@@ -1,12 +1,12 @@
 //! Why a run ends before its session: the line on standard error, and the exit status.
-ghost use Rattle.std.specs.Prelude.{◌≡◌, ◌≢◌, ◌⊎◌, ◌≤◌, ℕ, List, true, false};
-ghost use Rattle.std.specs.IoError.{error_kind};
+ghost use Rattle.std.specs.{Prelude.{◌≡◌, ◌≢◌, ◌⊎◌, ◌≤◌, ℕ, List, true, false}, IoError.error_kind};
 ghost use Rattle.clap.specs.Values.{kind_of};
 ghost use Rattle.command_line.specs.Rules.{is_asked_text};
-ghost use Rattle.getmail_setup.specs.Failures.{IsFailureLine, IsRcLine, line_with, other_list_line, status_of};
-ghost use Rattle.getmail_setup.specs.Failures.{unconnected_line};
-ghost use Rattle.getmail_setup.specs.Output.{Puts};
-ghost use Rattle.getmail_setup.specs.Places.{peer_name};
+ghost use Rattle.getmail_setup.specs.{
+  Failures.{IsFailureLine, IsRcLine, line_with, other_list_line, status_of, unconnected_line},
+  Output.Puts,
+  Places.peer_name,
+};
 
 use crate::connection::is_socket;
 use crate::output::Output;

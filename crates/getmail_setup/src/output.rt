@@ -1,7 +1,5 @@
 //! A writer that remembers whether it refused something.
-ghost use Rattle.std.specs.Prelude.{◌≡◌, ◌≢◌, None, Some, OnOk};
-ghost use Rattle.std.specs.Io.KnownBytes.{Appends};
-ghost use Rattle.std.specs.IoError.{error_kind};
+ghost use Rattle.std.specs.{Prelude.{◌≡◌, ◌≢◌, None, Some, OnOk}, Io.KnownBytes.Appends, IoError.error_kind};
 ghost use Rattle.getmail_setup.specs.Output.{Puts, PutsRest, WritesFront, number_text};
 
 use itoa::Buffer;

@@ -1,8 +1,9 @@
 //! The paths of the rc file, the record and the destination.
-ghost use Rattle.std.specs.Prelude.{◌≡◌, Some, IfErr, IfOk, option_map};
-ghost use Rattle.std.specs.String.{string_bytes};
-ghost use Rattle.getmail_setup.specs.NoSetup.{HasNoPath};
-ghost use Rattle.getmail_setup.specs.Places.{folder_path, joined, rc_path, stands_alone, whole_path};
+ghost use Rattle.std.specs.{Prelude.{◌≡◌, Some, IfErr, IfOk, option_map}, String.string_bytes};
+ghost use Rattle.getmail_setup.specs.{
+  NoSetup.HasNoPath,
+  Places.{folder_path, joined, rc_path, stands_alone, whole_path},
+};
 
 use crate::failure::Failure;
 use fetch_rules::full_path;

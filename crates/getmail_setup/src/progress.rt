@@ -1,6 +1,5 @@
 //! The line of progress, which a terminal shows while messages come.
-ghost use Rattle.std.specs.Prelude.{◌≡◌, IfOk};
-ghost use Rattle.std.specs.String.{string_bytes};
+ghost use Rattle.std.specs.{Prelude.{◌≡◌, IfOk}, String.string_bytes};
 ghost use Rattle.getmail_setup.specs.Progress.{progress_text};
 
 use pop3_wire::{Asked, Note};

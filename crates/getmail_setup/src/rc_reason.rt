@@ -1,10 +1,8 @@
 //! Why an rc file, or a command line with it, gives no settings: the line, its key and the rule that it breaks.
 //! A reason has no octet of the file.
-ghost use Rattle.std.specs.Prelude.{◌≡◌, IfOk};
-ghost use Rattle.std.specs.Ffi.{without_last};
-ghost use Rattle.getmail_setup.specs.RcReason.{IsPathReason, IsReason, has_byte_order_mark, known_reason, meant_reason};
-ghost use Rattle.getmail_setup.specs.RcReason.{opposites};
-ghost use Rattle.getmail_setup.specs.RcReason.{line_reason, type_rule, value_reason, value_rule};
+ghost use Rattle.std.specs.{Prelude.{◌≡◌, IfOk}, Ffi.without_last};
+ghost use Rattle.getmail_setup.specs.RcReason.{IsPathReason, IsReason, has_byte_order_mark, known_reason, opposites};
+ghost use Rattle.getmail_setup.specs.RcReason.{meant_reason, line_reason, type_rule, value_reason, value_rule};
 
 use crate::errors::Reasons;
 use crate::words::Words;

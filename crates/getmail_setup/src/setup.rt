@@ -1,11 +1,14 @@
 //! The settings of a run: those of the rc file, changed by the flags, and its paths.
-ghost use Rattle.std.specs.Prelude.{◌≡◌, ◌⊎◌, ◌++◌, ℕ, List, Some, IfErr, IfOk, codes, option_map};
-ghost use Rattle.std.specs.String.{string_bytes};
+ghost use Rattle.std.specs.{
+  Prelude.{◌≡◌, ◌⊎◌, ◌++◌, ℕ, List, Some, IfErr, IfOk, codes, option_map},
+  String.string_bytes,
+};
 ghost use Rattle.rc_file.specs.Settings.{IsValid};
-ghost use Rattle.getmail_setup.specs.NoSetup.{GivesNone, HasNoPath, HasNoSetup, MeansNone};
-ghost use Rattle.getmail_setup.specs.Places.{AreAsked, AreFor, IsSetUp, IsToldPath, account_path, account_digits};
-ghost use Rattle.getmail_setup.specs.Places.{path_in};
-ghost use Rattle.getmail_setup.specs.Places.{folder_path, rc_room, whole_path};
+ghost use Rattle.getmail_setup.specs.{
+  NoSetup.{GivesNone, HasNoPath, HasNoSetup, MeansNone},
+  Places.{AreAsked, AreFor, IsSetUp, IsToldPath, account_path, account_digits, path_in, folder_path, rc_room},
+  Places.whole_path,
+};
 
 use crate::connection::is_socket;
 use crate::errors::Errors;

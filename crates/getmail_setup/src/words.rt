@@ -1,6 +1,5 @@
 //! The command line, read with clap.
-ghost use Rattle.std.specs.Prelude.{◌≡◌, IfOk, map};
-ghost use Rattle.std.specs.String.{string_bytes};
+ghost use Rattle.std.specs.{Prelude.{◌≡◌, IfOk, map}, String.string_bytes};
 ghost use Rattle.clap.specs.Words.{FailsBy, app_of, fault_of, found_of, matches_of, rows_of};
 ghost use Rattle.getmail_setup.specs.CommandLine.{AsksFor, flags_in, getmail, is_unattended};
 

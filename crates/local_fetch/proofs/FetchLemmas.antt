@@ -1,24 +1,23 @@
 -- Calls of `fetch_local` are calls of `session` whose servers are honest, so what is promised of those holds of them.
-use Rattle.std.proofs.Common.{◌≡◌, ℕ, List, [], ◌∷◌, ◌++◌, None, refl}
-use Rattle.std.specs.List.{AllByRecursion}
-use Rattle.mail_store.specs.declared.maildir.disk.MaildirDisk.{Ghosts as DiskGhosts}
-use Rattle.mail_store.specs.declared.file.flat_file.FlatFile.{Ghosts as FileGhosts}
-use Rattle.pop3_wire.specs.World.{Message, IsMessage}
-use Rattle.pop3_wire.specs.declared.wire.Wire.{Ghosts as WireGhosts}
-use Rattle.pop3_server.specs.declared.maildrop.Maildrop.{Ghosts as DropGhosts}
-use Rattle.pop3_server.specs.LoopLink.{Loop}
-use Rattle.fetch_session.specs.declared.account.Store.{Store}
-use Rattle.fetch_session.specs.declared.account.Store.TheVariants.{Maildir as InMaildir, Mboxrd as InMbox}
-use Rattle.fetch_session.specs.Target.{is_sound, mail_in}
-use Rattle.fetch_runs.specs.Promises.{Devices, IsOf, state_with}
-use Rattle.fetch_runs.specs.Sessions.{MboxMail}
-use Rattle.fetch_runs.specs.Promises.{MboxStarts}
-use Rattle.fetch_runs.specs.Calls.{Called, CallsKeepPromises, EmptyAccountsHold, IsCall, Left, with_left}
-use Rattle.fetch_runs.specs.Calls.{MboxCallsKeepPromises}
-use Rattle.local_fetch.specs.Local.{loop_to}
-use Rattle.local_fetch.specs.Fetches.{Fetch, FetchesFromNothing, FetchesKeepPromises, IsFetch, MboxFetchesFromNothing}
-use Rattle.local_fetch.specs.Fetches.{MboxFetchesKeepPromises, ServerRemoves, as_call, no_entries, nothing_yet, shown_by}
-use Rattle.local_fetch.proofs.LocalLemmas.{served_by}
+use Rattle.std.{proofs.Common.{◌≡◌, ℕ, List, [], ◌∷◌, ◌++◌, None, refl}, specs.List.AllByRecursion}
+use Rattle.mail_store.specs.declared.{maildir.disk.MaildirDisk.Ghosts as DiskGhosts, file.flat_file.FlatFile.Ghosts as FileGhosts}
+use Rattle.pop3_wire.specs.{World.{Message, IsMessage}, declared.wire.Wire.Ghosts as WireGhosts}
+use Rattle.pop3_server.specs.{declared.maildrop.Maildrop.Ghosts as DropGhosts, LoopLink.Loop}
+use Rattle.fetch_session.specs.{
+  declared.account.Store.{Store, TheVariants.{Maildir as InMaildir, Mboxrd as InMbox}},
+  Target.{is_sound, mail_in},
+}
+use Rattle.fetch_runs.specs.{
+  Promises.{Devices, IsOf, state_with, MboxStarts},
+  Sessions.MboxMail,
+  Calls.{Called, CallsKeepPromises, EmptyAccountsHold, IsCall, Left, with_left, MboxCallsKeepPromises},
+}
+use Rattle.local_fetch.{
+  specs.Local.loop_to,
+  specs.Fetches.{Fetch, FetchesFromNothing, FetchesKeepPromises, IsFetch, MboxFetchesFromNothing, MboxFetchesKeepPromises, ServerRemoves},
+  specs.Fetches.{as_call, no_entries, nothing_yet, shown_by},
+  proofs.LocalLemmas.served_by,
+}
 
 -- the server has messages
 messages : (text_of : List ℕ → List ℕ) (all : List Message) → AllByRecursion (IsOf text_of) all → AllByRecursion IsMessage all

@@ -1,23 +1,24 @@
 -- From nothing on, a call keeps what it removes from the server, and an uncut one all that was there, up to its limits.
-use Rattle.std.proofs.Common.{◌≡◌, inl, inr, ℕ, Bool, true, false, List, [], ◌∷◌, ◌++◌, refl, subst, sym, ◌∙◌, true≢false}
-use Rattle.std.specs.List.{AllByRecursion, list_any}
-use Rattle.std.specs.Prelude.{bytes_eq}
-use Rattle.std.proofs.lemmas.Bool.{cases_Bool}
-use Rattle.mail_store.specs.declared.maildir.disk.MaildirDisk.{Ghosts as DiskGhosts}
-use Rattle.mail_store.specs.declared.file.flat_file.FlatFile.{Ghosts as FileGhosts}
-use Rattle.mail_store.specs.FileName.{is_held, is_odd, stem, stem_of}
-use Rattle.mail_store.specs.Maildir.{File, IsWithout, Maildir}
-use Rattle.pop3_wire.specs.{World.Message, declared.command.Command.Command, declared.command.Command.TheVariants.Dele}
-use Rattle.pop3_wire.specs.declared.wire.Wire.{Ghosts as WireGhosts}
-use Rattle.pop3_server.specs.declared.maildrop.Maildrop.{Ghosts as DropGhosts}
-use Rattle.pop3_server.specs.LoopLink.{Loop}
-use Rattle.fetch_runs.specs.Accounts.{AccountMail, copies}
-use Rattle.fetch_runs.specs.Promises.{Call, DeletesOneOf, FetchesWanted, IsSafe, Mail, MboxStarts, state_with}
-use Rattle.fetch_runs.proofs.Lists.{all_append, all_back, all_both, all_filter, all_take}
-use Rattle.fetch_runs.specs.Calls.{Called, EmptyAccountsHold, with_left}
-use Rattle.local_fetch.specs.Fetches.{FetchesKeepPromises, FirstFetchesKeepMail, as_call, nothing_yet}
-use Rattle.local_fetch.specs.Fetches.{MboxFetchesKeepPromises, MboxFirstFetchesKeepMail}
-use Rattle.local_fetch.proofs.FetchLemmas.{from_nothing, mbox_from_nothing}
+use Rattle.std.{
+  proofs.{Common.{◌≡◌, inl, inr, ℕ, Bool, true, false, List, [], ◌∷◌, ◌++◌, refl, subst, sym, ◌∙◌, true≢false}, lemmas.Bool.cases_Bool},
+  specs.{List.{AllByRecursion, list_any}, Prelude.bytes_eq},
+}
+use Rattle.mail_store.specs.{
+  declared.{maildir.disk.MaildirDisk.Ghosts as DiskGhosts, file.flat_file.FlatFile.Ghosts as FileGhosts},
+  FileName.{is_held, is_odd, stem, stem_of},
+  Maildir.{File, IsWithout, Maildir},
+}
+use Rattle.pop3_wire.specs.{World.Message, declared.{command.Command.{Command, TheVariants.Dele}, wire.Wire.Ghosts as WireGhosts}}
+use Rattle.pop3_server.specs.{declared.maildrop.Maildrop.Ghosts as DropGhosts, LoopLink.Loop}
+use Rattle.fetch_runs.{
+  specs.{Accounts.{AccountMail, copies}, Promises.{Call, DeletesOneOf, FetchesWanted, IsSafe, Mail, MboxStarts, state_with}},
+  specs.Calls.{Called, EmptyAccountsHold, with_left},
+  proofs.Lists.{all_append, all_back, all_both, all_filter, all_take},
+}
+use Rattle.local_fetch.{
+  specs.Fetches.{FetchesKeepPromises, FirstFetchesKeepMail, as_call, nothing_yet, MboxFetchesKeepPromises, MboxFirstFetchesKeepMail},
+  proofs.FetchLemmas.{from_nothing, mbox_from_nothing},
+}
 
 -- of no files none is left
 none_left : (gone left : List File) → IsWithout [] gone left → left ≡ []

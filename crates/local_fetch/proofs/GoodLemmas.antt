@@ -1,48 +1,48 @@
 -- A call of `fetch_local` in which nothing fails ends, and has stored what it wants.
-use Rattle.std.proofs.Common.{◌≡◌, ◌≤◌, ◌<◌, ◌+◌, ◌∙◌, ℕ, Bool, true, false, List, [], ◌∷◌, ◌++◌, None, Some, append-nil, append_assoc}
-use Rattle.std.proofs.Common.{ap, ap₂, arith, codes, inl, inr, length, map, refl, subst, sym}
-use Rattle.std.specs.List.{AllByRecursion, AllZip, enumerate_from, flat_map}
-use Rattle.std.specs.String.{string_bytes}
-use Rattle.std.proofs.{lemmas.Bool.false≢true, lemmas.List.append_cancel_left}
-use Rattle.mail_terms.specs.Listing.{Agree, Item, UidRow}
-use Rattle.mail_terms.specs.{Numbering.IsNumbering, declared.listing.ScanRow.ScanRow}
+use Rattle.std.{
+  proofs.Common.{◌≡◌, ◌≤◌, ◌<◌, ◌+◌, ◌∙◌, ℕ, Bool, true, false, List, [], ◌∷◌, ◌++◌, None, Some, append-nil, append_assoc, ap, ap₂, arith},
+  proofs.Common.{codes, inl, inr, length, map, refl, subst, sym},
+  proofs.lemmas.{Bool.false≢true, List.append_cancel_left},
+  specs.{List.{AllByRecursion, AllZip, enumerate_from, flat_map}, String.string_bytes},
+}
+use Rattle.mail_terms.{
+  specs.{Listing.{Agree, Item, UidRow}, Numbering.IsNumbering, declared.listing.ScanRow.ScanRow},
+  proofs.ListLemmas.all_append,
+}
 use Rattle.rc_file.specs.{Settings.IsValid, declared.settings.Settings.Settings}
 use Rattle.fetch_record.specs.Record.{Row}
-use Rattle.fetch_rules.specs.Plan.{fetches, step_of}
-use Rattle.fetch_rules.specs.declared.plans.Step.{Step}
-use Rattle.mail_store.specs.Maildir.{Maildir, WereTaken}
-use Rattle.mail_store.specs.declared.maildir.disk.MaildirDisk.{Ghosts as DiskGhosts}
-use Rattle.mail_store.specs.declared.file.flat_file.FlatFile.{Ghosts as FileGhosts}
-use Rattle.pop3_wire.proofs.BodyLemmas.{IsLine-nil, one_reading}
-use Rattle.pop3_wire.specs.{Fields.number_and_size, World.IsMessage, declared.reply.Status.TheVariants.Positive}
-use Rattle.pop3_wire.specs.Line.{IsLine, ended}
-use Rattle.pop3_wire.specs.Place.{Place, at}
-use Rattle.pop3_wire.specs.Reading.{GivesCount, HasListing, IsScanLine, IsUidLine, WholeReply, reply_bytes}
-use Rattle.pop3_wire.specs.Reply.{indicator, without_space}
-use Rattle.pop3_wire.specs.declared.command.Command.TheVariants.{ListAll, Pass, Stat, UidlAll, User}
-use Rattle.pop3_wire.specs.declared.wire.Wire.{Ghosts as WireGhosts}
+use Rattle.fetch_rules.specs.{Plan.{fetches, step_of}, declared.plans.Step.Step}
+use Rattle.mail_store.specs.{
+  Maildir.{Maildir, WereTaken},
+  declared.{maildir.disk.MaildirDisk.Ghosts as DiskGhosts, file.flat_file.FlatFile.Ghosts as FileGhosts},
+}
+use Rattle.pop3_wire.{
+  proofs.BodyLemmas.{IsLine-nil, one_reading},
+  specs.{Fields.number_and_size, World.IsMessage, Line.{IsLine, ended}, Place.{Place, at}, Reply.{indicator, without_space}},
+  specs.declared.{reply.Status.TheVariants.Positive, command.Command.TheVariants.{ListAll, Pass, Stat, UidlAll, User}},
+  specs.declared.wire.Wire.Ghosts as WireGhosts,
+  specs.Reading.{GivesCount, HasListing, IsScanLine, IsUidLine, WholeReply, reply_bytes},
+}
 use Rattle.pop3_client.specs.Turns.{IsGood, Turn, asking, greeting as hello, quit, turn_bytes}
-use Rattle.pop3_server.specs.declared.maildrop.Maildrop.{Ghosts as DropGhosts}
-use Rattle.pop3_server.specs.{AnswersLines.AnswersLines, declared.state.State.TheVariants.Authorization}
-use Rattle.pop3_server.specs.LoopLink.{Loop, Serves}
-use Rattle.pop3_server.specs.Maildrop.{DropMail, there}
-use Rattle.pop3_server.specs.ServerMachine.{Machine, greeting_line, is_open}
-use Rattle.fetch_session.proofs.ServedLemmas.{reads_all}
-use Rattle.fetch_session.specs.Cuts.{ArePlanned, Extends}
-use Rattle.fetch_session.specs.Opening.{SessionOpened, opening}
-use Rattle.fetch_session.specs.{CarryingOut.tasks_ahead, Readiness.merged_in}
-use Rattle.fetch_session.specs.Served.{AreAnswered, GoodSessionsStoreAll, refused_in}
-use Rattle.fetch_session.specs.Session.{Keeping, SessionIn, keeping}
-use Rattle.fetch_session.specs.Target.{AsEntries, AsFiles, Stores, Target, held_flags, odd_in, stores_of, with_maildir}
-use Rattle.fetch_session.specs.Task.{Task, deleting, fetching, says, tasks_in, tasks_planned, turns_ahead}
-use Rattle.mail_terms.proofs.ListLemmas.{all_append}
-use Rattle.fetch_runs.proofs.Lists.{all_front}
-use Rattle.fetch_runs.proofs.Talk.{few_items, replied, said_opening}
-use Rattle.fetch_runs.proofs.Turns.{CanBeSaid, plain_ahead, said_tasks}
-use Rattle.local_fetch.proofs.ReplyLemmas.{AreNumbered, IsSaid, first_of, plain}
-use Rattle.local_fetch.proofs.RunLemmas.{Fresh, IsPlan, Opened, all_replied, plan_front}
-use Rattle.local_fetch.specs.Good.{GoodFetchesStoreAll, IsWithin, kept_in, target_in}
-use Rattle.local_fetch.specs.Local.{loop_to, unused}
+use Rattle.pop3_server.specs.{
+  declared.{maildrop.Maildrop.Ghosts as DropGhosts, state.State.TheVariants.Authorization},
+  AnswersLines.AnswersLines,
+  LoopLink.{Loop, Serves},
+  Maildrop.{DropMail, there},
+  ServerMachine.{Machine, greeting_line, is_open},
+}
+use Rattle.fetch_session.{
+  proofs.ServedLemmas.reads_all,
+  specs.{Cuts.{ArePlanned, Extends}, Opening.{SessionOpened, opening}, CarryingOut.tasks_ahead, Readiness.merged_in},
+  specs.{Served.{AreAnswered, GoodSessionsStoreAll, refused_in}, Session.{Keeping, SessionIn, keeping}},
+  specs.Target.{AsEntries, AsFiles, Stores, Target, held_flags, odd_in, stores_of, with_maildir},
+  specs.Task.{Task, deleting, fetching, says, tasks_in, tasks_planned, turns_ahead},
+}
+use Rattle.fetch_runs.proofs.{Lists.all_front, Talk.{few_items, replied, said_opening}, Turns.{CanBeSaid, plain_ahead, said_tasks}}
+use Rattle.local_fetch.{
+  proofs.{ReplyLemmas.{AreNumbered, IsSaid, first_of, plain}, RunLemmas.{Fresh, IsPlan, Opened, all_replied, plan_front}},
+  specs.{Good.{GoodFetchesStoreAll, IsWithin, kept_in, target_in}, Local.{loop_to, unused}},
+}
 
 -- ---- a session's plan
 

@@ -1,33 +1,43 @@
 -- A session sends only commands that a server answers honestly.
-use Rattle.std.proofs.Common.{◌≡◌, inl, inr, ℕ, suc, Some, List, [], ◌∷◌, ◌++◌, Bool, true, refl, sym, ap, subst, ◌∙◌, ◌<◌, arith}
-use Rattle.std.specs.String.{string_bytes}
-use Rattle.std.specs.List.{flat_map, AllByRecursion}
-use Rattle.std.proofs.lemmas.List.Folds.{flat_map-map}
-use Rattle.pop3_wire.specs.{declared.command.Command.Command, declared.command.Command.TheVariants.Quit, Line.ended, Link.Link}
+use Rattle.std.{
+  proofs.Common.{◌≡◌, inl, inr, ℕ, suc, Some, List, [], ◌∷◌, ◌++◌, Bool, true, refl, sym, ap, subst, ◌∙◌, ◌<◌, arith},
+  proofs.lemmas.List.Folds.flat_map-map,
+  specs.{String.string_bytes, List.{flat_map, AllByRecursion}},
+}
+use Rattle.pop3_wire.specs.{
+  declared.command.Command.{Command, TheVariants.Quit},
+  Line.ended,
+  Link.Link,
+  Commands.{line_of, can_be_sent},
+  CommandLine.HasNumbers,
+  World.{Message, IsMessage},
+}
 use Rattle.mail_terms.specs.FailureCount.{counted_up, greatest_count}
-use Rattle.pop3_wire.specs.Commands.{line_of, can_be_sent}
-use Rattle.pop3_wire.specs.CommandLine.{HasNumbers}
-use Rattle.pop3_wire.specs.World.{Message, IsMessage}
-use Rattle.fetch_runs.specs.Sessions.{IsMarked, Served}
+use Rattle.fetch_runs.specs.{
+  Sessions.{IsMarked, Served},
+  Conversations.{SessionsAreConversations, FollowsPlan, MboxSessionsFollowPlans, step_commands, plan_commands, IsFrontOfPlan},
+}
 use Rattle.rc_file.specs.{Settings.IsValid, declared.settings.Settings.Settings}
 use Rattle.fetch_rules.specs.{Plan.planned, declared.plans.Step.Step}
-use Rattle.mail_store.specs.declared.maildir.disk.MaildirDisk.{Ghosts as DiskGhosts}
-use Rattle.mail_store.specs.declared.file.flat_file.FlatFile.{Ghosts as FileGhosts}
-use Rattle.fetch_session.specs.{declared.account.Store.Store, declared.report.Outcome.Outcome, Refusal.RefusesByOutcome}
-use Rattle.fetch_session.specs.declared.account.Store.TheVariants.{Maildir as InMaildir, Mboxrd as InMbox}
-use Rattle.fetch_session.specs.Target.{IsSoundMaildir, IsSoundMbox, is_sound}
-use Rattle.mail_store.specs.FileName.{is_odd}
-use Rattle.fetch_session.specs.declared.report.Outcome.TheVariants.{Ended, Cut as WasCut}
-use Rattle.fetch_session.specs.declared.report.Report.{Report}
-use Rattle.fetch_session.specs.Session.{AccountFiles, MboxAccountFiles, Session, MboxSession}
-use Rattle.fetch_runs.specs.Conversations.{SessionsAreConversations, FollowsPlan, MboxSessionsFollowPlans}
-use Rattle.fetch_runs.specs.Conversations.{step_commands, plan_commands, IsFrontOfPlan}
-use Rattle.pop3_server.specs.Maildrop.{DropMail, there}
-use Rattle.pop3_server.specs.ServerMachine.{Machine}
-use Rattle.pop3_server.specs.HonestLoop.{IsUnused, GivesHonest}
-use Rattle.pop3_server.specs.LoopLink.{Loop, Serves}
+use Rattle.mail_store.specs.{
+  declared.{maildir.disk.MaildirDisk.Ghosts as DiskGhosts, file.flat_file.FlatFile.Ghosts as FileGhosts},
+  FileName.is_odd,
+}
+use Rattle.fetch_session.specs.{
+  declared.account.Store.{Store, TheVariants.{Maildir as InMaildir, Mboxrd as InMbox}},
+  declared.report.{Outcome.{Outcome, TheVariants.{Ended, Cut as WasCut}}, Report.Report},
+  Refusal.RefusesByOutcome,
+  Target.{IsSoundMaildir, IsSoundMbox, is_sound},
+  Session.{AccountFiles, MboxAccountFiles, Session, MboxSession},
+}
+use Rattle.pop3_server.specs.{
+  Maildrop.{DropMail, there},
+  ServerMachine.Machine,
+  HonestLoop.{IsUnused, GivesHonest},
+  LoopLink.{Loop, Serves},
+  HonestServer.{IsOfSession, IsAsked, AreLeftByQuit},
+}
 use Rattle.local_fetch.specs.Local.{AreWithout, IsServedByHonest, loop_to, unused}
-use Rattle.pop3_server.specs.HonestServer.{IsOfSession, IsAsked, AreLeftByQuit}
 
 -- what holds of a list holds of its front with another end
 with_end : {A : Type 0} (P : A → Type 0) (xs ys zs : List A) → AllByRecursion P (xs ++ ys) → AllByRecursion P zs

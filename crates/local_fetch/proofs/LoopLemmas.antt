@@ -1,17 +1,19 @@
 -- A link to a server: what its calls do to what it keeps.
-use Rattle.std.proofs.Common.{true≢false, ◌≡◌, ◌≤◌, ◌<◌, ◌+◌, ◌-◌, ℕ, Bool, true, false, List, [], ◌∷◌, ◌++◌, length}
-use Rattle.std.proofs.Common.{take, drop, refl, sym, ap, ◌∙◌, arith, append_assoc, take-append-drop, length-append}
-use Rattle.std.proofs.Common.{length-drop}
-use Rattle.std.proofs.lemmas.List.{take_rest, take_at, append-nil, drop-drop, length-take-le, take-append-le}
+use Rattle.std.proofs.{
+  Common.{true≢false, ◌≡◌, ◌≤◌, ◌<◌, ◌+◌, ◌-◌, ℕ, Bool, true, false, List, [], ◌∷◌, ◌++◌, length, take, drop, refl, sym, ap, ◌∙◌, arith},
+  Common.{append_assoc, take-append-drop, length-append, length-drop},
+  lemmas.{List.{take_rest, take_at, append-nil, drop-drop, length-take-le, take-append-le}, Bool.Decides.nat_tests},
+  Math.Seq.{take-add, take-append_seam, drop-append-add},
+}
 use Rattle.local_fetch.specs.LoopLaws.{same_refl, serves_same}
-use Rattle.std.proofs.lemmas.Bool.Decides.{nat_tests}
-use Rattle.std.proofs.Math.Seq.{take-add, take-append_seam, drop-append-add}
-use Rattle.pop3_wire.specs.Line.{crlf, IsLine}
-use Rattle.pop3_wire.specs.{Link.with_failures, Place.HasLine}
+use Rattle.pop3_wire.specs.{Line.{crlf, IsLine}, Link.with_failures, Place.HasLine}
 use Rattle.mail_terms.specs.FailureCount.{greatest_count, counted_up}
-use Rattle.pop3_server.specs.{Maildrop.DropMail, AnswersLines.AnswersLine}
-use Rattle.pop3_server.specs.ServerMachine.{Machine, greeting_line}
-use Rattle.pop3_server.specs.LoopLink.{Loop, Serves, AnswersWholeLines}
+use Rattle.pop3_server.specs.{
+  Maildrop.DropMail,
+  AnswersLines.AnswersLine,
+  ServerMachine.{Machine, greeting_line},
+  LoopLink.{Loop, Serves, AnswersWholeLines},
+}
 
 -- a link by its own fields: how many octets sent are answered, and how many of the greeting and the answers
 -- were given

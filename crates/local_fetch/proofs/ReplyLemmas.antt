@@ -1,26 +1,27 @@
 -- Each answer of a server whose maildrop refuses nothing is a good reply, as a client takes it.
-use Rattle.std.proofs.Common.{◌≡◌, ◌≤◌, ◌<◌, ◌+◌, ◌-◌, ◌^◌, ◌∙◌, ℕ, zero, suc, false, List, [], ◌∷◌, ◌++◌, None, Some, Ok, Result, IsOk}
-use Rattle.std.proofs.Common.{append-nil, append_assoc, ap, ap₂, arith, codes, decimal, length, length-append, map, refl, subst, sym}
-use Rattle.std.specs.List.{AllByRecursion, AllZip, flat_map}
-use Rattle.std.specs.Prelude.{slice_index_or}
-use Rattle.std.proofs.{lemmas.Bool.false≢true, lemmas.Fmt.length-decimal-le, lemmas.List.Folds.list_all-append}
-use Rattle.mail_terms.specs.Listing.{UidRow, message_limit}
-use Rattle.mail_terms.specs.{Numbering.IsNumbering, declared.listing.ScanRow.ScanRow}
-use Rattle.pop3_wire.proofs.BodyLemmas.{stuffed_is_body}
-use Rattle.pop3_wire.proofs.RowsLemmas.{first_lines_are_read, no_lf_decimal, scan_rows_are_read, uid_rows_are_read}
-use Rattle.pop3_wire.specs.Body.{IsContent, dot}
-use Rattle.pop3_wire.specs.Fields.{number_and_id, number_and_size}
-use Rattle.pop3_wire.specs.Line.{HoldsNoLf, crlf, ended}
-use Rattle.pop3_wire.specs.Reading.{GivesCount, IsScanLine, IsUidLine, WholeReply, gives_body, reply_bytes}
-use Rattle.pop3_wire.specs.Reply.{IsFirstLine, without_space}
-use Rattle.pop3_wire.specs.{Rows.scan_row, World.Message, declared.reply.Status.TheVariants.Positive}
-use Rattle.pop3_wire.specs.declared.command.Command.TheVariants.{ListAll, Stat, UidlAll}
+use Rattle.std.{
+  proofs.Common.{◌≡◌, ◌≤◌, ◌<◌, ◌+◌, ◌-◌, ◌^◌, ◌∙◌, ℕ, zero, suc, false, List, [], ◌∷◌, ◌++◌, None, Some, Ok, Result, IsOk, append-nil, ap},
+  proofs.Common.{append_assoc, ap₂, arith, codes, decimal, length, length-append, map, refl, subst, sym},
+  proofs.lemmas.{Bool.false≢true, Fmt.length-decimal-le, List.Folds.list_all-append},
+  specs.{List.{AllByRecursion, AllZip, flat_map}, Prelude.slice_index_or},
+}
+use Rattle.mail_terms.{
+  specs.{Listing.{UidRow, message_limit}, Numbering.IsNumbering, declared.listing.ScanRow.ScanRow},
+  proofs.ListingLemmas.short_id,
+}
+use Rattle.pop3_wire.{
+  proofs.{BodyLemmas.stuffed_is_body, RowsLemmas.{first_lines_are_read, no_lf_decimal, scan_rows_are_read, uid_rows_are_read}},
+  specs.{Body.{IsContent, dot}, Fields.{number_and_id, number_and_size}, Line.{HoldsNoLf, crlf, ended}, Reply.{IsFirstLine, without_space}},
+  specs.{Reading.{GivesCount, IsScanLine, IsUidLine, WholeReply, gives_body, reply_bytes}, Rows.scan_row, World.Message},
+  specs.declared.{reply.Status.TheVariants.Positive, command.Command.TheVariants.{ListAll, Stat, UidlAll}},
+}
 use Rattle.pop3_client.specs.Turns.{Fits, IsGood, IsListingRow, IsShort, LinesFit, Turn, gives_count, list, retr, stat, uidl}
-use Rattle.pop3_server.proofs.HonestLemmas.{IsServed}
-use Rattle.pop3_server.specs.{Maildrop.max_size, declared.rows.MessageRow.MessageRow}
-use Rattle.pop3_server.specs.ServerMachine.{lines_from, listed, octets_line, message_row, said, scan_line, text_body, uid_line}
+use Rattle.pop3_server.{
+  proofs.HonestLemmas.IsServed,
+  specs.{Maildrop.max_size, declared.rows.MessageRow.MessageRow},
+  specs.ServerMachine.{lines_from, listed, octets_line, message_row, said, scan_line, text_body, uid_line},
+}
 use Rattle.local_fetch.specs.Good.{IsWithin}
-use Rattle.mail_terms.proofs.ListingLemmas.{short_id}
 
 -- the body's lines stand for rows that are numbered from 1 to n
 abbrev pub AreNumbered : {R : Type 0} → (List ℕ → R → Type 0) → (R → ℕ) → ℕ → WholeReply → Type 0

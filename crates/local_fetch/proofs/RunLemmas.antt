@@ -1,30 +1,28 @@
 -- What a server whose maildrop refuses nothing answers to the turns of a plan: a good reply to each.
-use Rattle.std.proofs.Common.{◌≡◌, ◌≤◌, ◌<◌, ◌+◌, ◌-◌, ◌^◌, ◌∙◌, ℕ, zero, suc, Bool, true, false, List, [], ◌∷◌, ◌++◌, None}
-use Rattle.std.proofs.Common.{Some, append_assoc, ap, ap₂, arith, codes, decimal, length, length-append}
-use Rattle.std.proofs.Common.{map, if◌then◌else◌, inl, inr, refl, slice_get, sym, Ok}
-use Rattle.std.specs.List.{AllByRecursion, AllZip, flat_map}
-use Rattle.std.proofs.lemmas.Bool.{cond-false, false≢true}
-use Rattle.std.proofs.{lemmas.Bool.Decides.eqb_tells, lemmas.Cmp.nat_list_eq_equiv, lemmas.Fmt.length-decimal-le, lemmas.List.length-map}
-use Rattle.std.proofs.lemmas.List.Folds.{list_all-append}
-use Rattle.pop3_wire.proofs.BodyLemmas.{one_line}
-use Rattle.pop3_wire.proofs.RowsLemmas.{is_line, no_lf_decimal, round_trip}
-use Rattle.pop3_wire.specs.{Commands.line_of, Honest.no_marks, declared.command.Command.Command}
-use Rattle.pop3_wire.specs.Line.{HoldsNoLf, IsLine, crlf, ended}
-use Rattle.pop3_wire.specs.Reading.{WholeReply, reply_bytes}
-use Rattle.pop3_wire.specs.World.{IsMessage, Message}
-use Rattle.pop3_wire.specs.declared.command.Command.TheVariants.{Dele, ListAll, Pass, Quit, Retr, Stat, UidlAll, User}
+use Rattle.std.{
+  proofs.Common.{◌≡◌, ◌≤◌, ◌<◌, ◌+◌, ◌-◌, ◌^◌, ◌∙◌, ℕ, zero, suc, Bool, true, false, List, [], ◌∷◌, ◌++◌, None, Some, append_assoc, ap, Ok},
+  proofs.Common.{ap₂, arith, codes, decimal, length, length-append, map, if◌then◌else◌, inl, inr, refl, slice_get, sym},
+  proofs.lemmas.{Bool.{cond-false, false≢true, Decides.eqb_tells}, Cmp.nat_list_eq_equiv, Fmt.length-decimal-le},
+  proofs.lemmas.List.{length-map, Folds.list_all-append},
+  specs.List.{AllByRecursion, AllZip, flat_map},
+}
+use Rattle.pop3_wire.{
+  proofs.{BodyLemmas.one_line, RowsLemmas.{is_line, no_lf_decimal, round_trip}},
+  specs.{Commands.line_of, Honest.no_marks, Line.{HoldsNoLf, IsLine, crlf, ended}, Reading.{WholeReply, reply_bytes}},
+  specs.declared.command.Command.{Command, TheVariants.{Dele, ListAll, Pass, Quit, Retr, Stat, UidlAll, User}},
+  specs.World.{IsMessage, Message},
+}
 use Rattle.pop3_client.specs.Turns.{Turn, asking, dele, pass as pass_turn, quit, user as user_turn}
-use Rattle.pop3_server.specs.{AnswersLines.AnswersLines, declared.rows.MessageRow.MessageRow, declared.state.State.State}
-use Rattle.pop3_server.specs.Maildrop.{DropMail, there}
-use Rattle.pop3_server.specs.ServerMachine.{DoesAction, Empties, Machine, action_of, is_open}
-use Rattle.pop3_server.specs.ServerMachine.{left_count, left_total, listed, mark_at, message_row, row_numbered, said, scan_line, uid_line}
-use Rattle.pop3_server.specs.ServerMachine.{unless_marked}
-use Rattle.pop3_server.specs.declared.state.State.TheVariants.{Authorization, Transaction}
-use Rattle.pop3_server.proofs.HonestLemmas.{AreServed, IsServed, are_served, did_sound, fresh_count, fresh_rows, left_of, run_sound}
-use Rattle.pop3_server.proofs.RemovalLemmas.{some_refused}
+use Rattle.pop3_server.{
+  specs.{AnswersLines.AnswersLines, declared.{rows.MessageRow.MessageRow, state.State.{State, TheVariants.{Authorization, Transaction}}}},
+  specs.Maildrop.{DropMail, there},
+  specs.ServerMachine.{DoesAction, Empties, Machine, action_of, is_open, left_count, left_total, listed, mark_at, message_row, said},
+  specs.ServerMachine.{row_numbered, scan_line, uid_line, unless_marked},
+  proofs.HonestLemmas.{AreServed, IsServed, are_served, did_sound, fresh_count, fresh_rows, left_of, run_sound},
+  proofs.RemovalLemmas.some_refused,
+}
 use Rattle.fetch_runs.proofs.Turns.{CanBeSaid}
-use Rattle.local_fetch.specs.Good.{IsWithin}
-use Rattle.local_fetch.proofs.ReplyLemmas.{IsGoodAnswer, IsSaid, given, plain, sizes_listed, stated, uids_listed}
+use Rattle.local_fetch.{specs.Good.IsWithin, proofs.ReplyLemmas.{IsGoodAnswer, IsSaid, given, plain, sizes_listed, stated, uids_listed}}
 
 -- ---- plans
 

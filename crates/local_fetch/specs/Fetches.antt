@@ -1,32 +1,42 @@
 -- Calls of `fetch_local`, and what others do between them: what is promised of any list of these. Here the server's
 -- honesty is no premise: it follows from the contract of `fetch_local`.
-use Rattle.std.specs.Prelude.{◌≡◌, ◌-◌, ℕ, true, false, List, [], ◌∷◌, ◌++◌, None, Some}
-use Rattle.std.specs.Prelude.{slice_get}
-use Rattle.std.specs.List.{AllByRecursion, count_by}
-use Rattle.mail_store.specs.declared.maildir.disk.MaildirDisk.{Ghosts as DiskGhosts}
-use Rattle.mail_store.specs.declared.file.flat_file.FlatFile.{Ghosts as FileGhosts}
-use Rattle.mail_store.specs.FileName.{is_held, is_odd, stem_of}
-use Rattle.mail_store.specs.Maildir.{Maildir}
-use Rattle.pop3_wire.specs.{World.Message, Honest.HasSent, declared.command.Command.Command}
-use Rattle.pop3_wire.specs.declared.command.Command.TheVariants.{Dele}
+use Rattle.std.specs.{
+  Prelude.{◌≡◌, ◌-◌, ℕ, true, false, List, [], ◌∷◌, ◌++◌, None, Some, slice_get},
+  List.{AllByRecursion, count_by},
+}
+use Rattle.mail_store.specs.{
+  declared.{maildir.disk.MaildirDisk.Ghosts as DiskGhosts, file.flat_file.FlatFile.Ghosts as FileGhosts},
+  FileName.{is_held, is_odd, stem_of},
+  Maildir.Maildir,
+}
+use Rattle.pop3_wire.specs.{
+  World.Message,
+  Honest.HasSent,
+  declared.{command.Command.{Command, TheVariants.Dele}, wire.Wire.Ghosts as WireGhosts},
+}
 use Rattle.mail_terms.specs.UniqueId.{has_id}
 use Rattle.fetch_record.specs.{Record.Row, RecordMeaning.FileStandsFor}
-use Rattle.pop3_wire.specs.declared.wire.Wire.{Ghosts as WireGhosts}
-use Rattle.pop3_server.specs.declared.maildrop.Maildrop.{Ghosts as DropGhosts}
-use Rattle.pop3_server.specs.{Maildrop.there, ServerMachine.Machine, LoopLink.Loop}
+use Rattle.pop3_server.specs.{
+  declared.maildrop.Maildrop.Ghosts as DropGhosts,
+  Maildrop.there,
+  ServerMachine.Machine,
+  LoopLink.Loop,
+}
 use Rattle.rc_file.specs.declared.settings.Settings.{Settings}
-use Rattle.fetch_session.specs.{declared.account.Store.Store, declared.report.Outcome.TheVariants.Ended}
-use Rattle.fetch_session.specs.declared.account.Store.TheVariants.{Maildir as InMaildir, Mboxrd as InMbox}
-use Rattle.fetch_session.specs.{declared.report.Report.Report, Account.digits_of}
-use Rattle.fetch_session.specs.Target.{is_sound, mail_in}
-use Rattle.fetch_runs.specs.Accounts.{AccountMail, copies, message_ids}
-use Rattle.fetch_runs.specs.Promises.{Call, Devices, IsBetween, IsMaildrop, Invariant, Mail, State, state_with}
-use Rattle.fetch_runs.specs.Sessions.{MboxMail, entries_of, is_retr}
-use Rattle.fetch_runs.specs.Promises.{AppendsMail, Base, FetchesWanted, HoldsEntries}
-use Rattle.fetch_runs.specs.Calls.{Called, Happening, HoldsNoMore, IsLeftByLoss, IsPromised, Left, Shows}
-use Rattle.fetch_runs.specs.Calls.{account_over, with_left}
-use Rattle.fetch_runs.specs.Losses.{IsCrashSafe, KeepsDurable, KeepsFronts}
-use Rattle.fetch_runs.specs.Calls.{ShowsMbox}
+use Rattle.fetch_session.specs.{
+  declared.account.Store.{Store, TheVariants.{Maildir as InMaildir, Mboxrd as InMbox}},
+  declared.report.{Outcome.TheVariants.Ended, Report.Report},
+  Account.digits_of,
+  Target.{is_sound, mail_in},
+}
+use Rattle.fetch_runs.specs.{
+  Accounts.{AccountMail, copies, message_ids},
+  Promises.{Call, Devices, IsBetween, IsMaildrop, Invariant, Mail, State, state_with, AppendsMail, Base, FetchesWanted},
+  Promises.HoldsEntries,
+  Sessions.{MboxMail, entries_of, is_retr},
+  Calls.{Called, Happening, HoldsNoMore, IsLeftByLoss, IsPromised, Left, Shows, account_over, with_left, ShowsMbox},
+  Losses.{IsCrashSafe, KeepsDurable, KeepsFronts},
+}
 use Rattle.local_fetch.specs.Local.{AreWithout, WasFetchedLocally, loop_to}
 
 -- one call of `fetch_local`, with its server before it, and with the link to it as it was returned

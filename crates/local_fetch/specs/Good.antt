@@ -1,23 +1,28 @@
 -- A call of `fetch_local` in which nothing fails: the session ends, and has stored what it wants.
-use Rattle.std.specs.Prelude.{◌≡◌, ◌≢◌, ◌≤◌, ℕ, false, length}
-use Rattle.std.specs.{List.AllByRecursion, String.string_bytes}
+use Rattle.std.specs.{Prelude.{◌≡◌, ◌≢◌, ◌≤◌, ℕ, false, length}, List.AllByRecursion, String.string_bytes}
 use Rattle.mail_terms.specs.Text.{lines_of_text}
-use Rattle.mail_store.specs.declared.maildir.disk.MaildirDisk.{Ghosts as DiskGhosts}
-use Rattle.mail_store.specs.declared.file.flat_file.FlatFile.{Ghosts as FileGhosts}
-use Rattle.pop3_wire.specs.Stuffed.{stuffed_lines}
-use Rattle.pop3_wire.specs.World.{Message, IsMessage}
-use Rattle.pop3_wire.specs.declared.wire.Wire.{Ghosts as WireGhosts}
+use Rattle.mail_store.specs.declared.{
+  maildir.disk.MaildirDisk.Ghosts as DiskGhosts,
+  file.flat_file.FlatFile.Ghosts as FileGhosts,
+}
+use Rattle.pop3_wire.specs.{Stuffed.stuffed_lines, World.{Message, IsMessage}, declared.wire.Wire.Ghosts as WireGhosts}
 use Rattle.pop3_client.specs.Turns.{text_limit}
-use Rattle.pop3_server.specs.declared.maildrop.Maildrop.{Ghosts as DropGhosts}
-use Rattle.pop3_server.specs.{HonestLoop.IsUnused, LoopLink.Loop, Maildrop.there, ServerMachine.Machine}
+use Rattle.pop3_server.specs.{
+  declared.maildrop.Maildrop.Ghosts as DropGhosts,
+  HonestLoop.IsUnused,
+  LoopLink.Loop,
+  Maildrop.there,
+  ServerMachine.Machine,
+}
 use Rattle.fetch_record.specs.Record.{Loaded}
-use Rattle.fetch_session.specs.{declared.fault.Fault.TheVariants.NoMemory, declared.report.Report.Report}
-use Rattle.fetch_session.specs.declared.report.Outcome.TheVariants.{Ended, Cut as WasCut}
-use Rattle.fetch_session.specs.Account.{Holding, digits_of}
-use Rattle.fetch_session.specs.Record.{FileReadAs}
-use Rattle.fetch_session.specs.Served.{IsUsable, StoresAll, refused_in}
-use Rattle.fetch_session.specs.Session.{Keeping, keeping}
-use Rattle.fetch_session.specs.Target.{AfterTakingIn, Target, is_sound, stores_of, target_of}
+use Rattle.fetch_session.specs.{
+  declared.{fault.Fault.TheVariants.NoMemory, report.{Report.Report, Outcome.TheVariants.{Ended, Cut as WasCut}}},
+  Account.{Holding, digits_of},
+  Record.FileReadAs,
+  Served.{IsUsable, StoresAll, refused_in},
+  Session.{Keeping, keeping},
+  Target.{AfterTakingIn, Target, is_sound, stores_of, target_of},
+}
 use Rattle.local_fetch.specs.Local.{WasFetchedLocally, loop_to, unused}
 
 -- the message's body, as it is sent, is within the client's limit

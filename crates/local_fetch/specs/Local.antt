@@ -1,16 +1,21 @@
 -- One session over a server in memory.
-use Rattle.std.specs.Prelude.{◌≡◌, ◌⊎◌, ℕ, true, false, List, [], ◌∷◌, ◌++◌}
-use Rattle.std.specs.List.{AllByRecursion}
-use Rattle.pop3_wire.specs.{declared.command.Command.Command, declared.command.Command.TheVariants.Quit, Link.Link}
-use Rattle.pop3_wire.specs.World.{Message, IsMessage}
-use Rattle.pop3_wire.specs.declared.wire.Wire.{Ghosts as WireGhosts}
+use Rattle.std.specs.{Prelude.{◌≡◌, ◌⊎◌, ℕ, true, false, List, [], ◌∷◌, ◌++◌}, List.AllByRecursion}
+use Rattle.pop3_wire.specs.{
+  declared.{command.Command.{Command, TheVariants.Quit}, wire.Wire.Ghosts as WireGhosts},
+  Link.Link,
+  World.{Message, IsMessage},
+}
 use Rattle.fetch_runs.specs.{Sessions.Served, Calls.WasMade}
-use Rattle.mail_store.specs.declared.maildir.disk.MaildirDisk.{Ghosts as DiskGhosts}
-use Rattle.mail_store.specs.declared.file.flat_file.FlatFile.{Ghosts as FileGhosts}
-use Rattle.pop3_server.specs.declared.maildrop.Maildrop.{Ghosts as DropGhosts}
-use Rattle.pop3_server.specs.Maildrop.{DropMail, there}
-use Rattle.pop3_server.specs.ServerMachine.{Machine, greeting_line}
-use Rattle.pop3_server.specs.LoopLink.{Loop}
+use Rattle.mail_store.specs.declared.{
+  maildir.disk.MaildirDisk.Ghosts as DiskGhosts,
+  file.flat_file.FlatFile.Ghosts as FileGhosts,
+}
+use Rattle.pop3_server.specs.{
+  declared.maildrop.Maildrop.Ghosts as DropGhosts,
+  Maildrop.{DropMail, there},
+  ServerMachine.{Machine, greeting_line},
+  LoopLink.Loop,
+}
 use Rattle.fetch_session.specs.{Account.Holding, declared.report.Report.Report, Target.is_sound}
 
 -- a link that wasn't used yet

@@ -1,13 +1,17 @@
 -- A link whose answers are a server's: two calls together do what one call may do.
-use Rattle.std.specs.List.{flat_map}
-use Rattle.std.proofs.Common.{refl, sym, ◌∙◌, append_assoc, inl, inr, ◌≡◌, true, false, [], ◌++◌}
-use Rattle.std.proofs.Common.{append-nil, true≢false}
-use Rattle.std.proofs.{lemmas.Grind.flat_map-append, lemmas.Bool.cases_Bool}
+use Rattle.std.{
+  specs.List.flat_map,
+  proofs.Common.{refl, sym, ◌∙◌, append_assoc, inl, inr, ◌≡◌, true, false, [], ◌++◌, append-nil, true≢false},
+  proofs.lemmas.{Grind.flat_map-append, Bool.cases_Bool},
+}
 use Rattle.pop3_wire.specs.Line.{ended}
-use Rattle.pop3_server.specs.{Maildrop.DropMail, ServerMachine.Machine}
-use Rattle.pop3_server.specs.AnswersLines.{AnswersLines, SameServer}
-use Rattle.pop3_server.specs.RunLaws.{runs_on, lines_on}
-use Rattle.pop3_server.specs.LoopLink.{Loop, Serves, AnswersWholeLines, TellsAnswers}
+use Rattle.pop3_server.specs.{
+  Maildrop.DropMail,
+  ServerMachine.Machine,
+  AnswersLines.{AnswersLines, SameServer},
+  RunLaws.{runs_on, lines_on},
+  LoopLink.{Loop, Serves, AnswersWholeLines, TellsAnswers},
+}
 
 pub same_refl : {D : Type 0} (sound : D → Type 0) (mail : D → DropMail) (m : Machine D) → SameServer sound mail m m
 same_refl sound mail m = record {

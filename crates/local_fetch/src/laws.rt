@@ -1,9 +1,10 @@
 //! Laws over what sessions over a server in memory did.
-ghost use Rattle.fetch_runs.specs.Calls.{CallsKeepPromises, MboxCallsKeepPromises};
-ghost use Rattle.fetch_runs.specs.Headline.{Headline, MboxHeadline};
-ghost use Rattle.local_fetch.specs.Fetches.{FetchesFromNothing, FetchesKeepPromises, FirstFetchesKeepMail};
-ghost use Rattle.local_fetch.specs.Fetches.{MboxFetchesFromNothing, MboxFetchesKeepPromises, MboxFirstFetchesKeepMail};
-ghost use Rattle.local_fetch.specs.Good.{GoodFetchesStoreAll};
+ghost use Rattle.fetch_runs.specs.{Calls.{CallsKeepPromises, MboxCallsKeepPromises}, Headline.{Headline, MboxHeadline}};
+ghost use Rattle.local_fetch.specs.{
+  Fetches.{FetchesFromNothing, FetchesKeepPromises, FirstFetchesKeepMail, MboxFetchesFromNothing},
+  Fetches.{MboxFetchesKeepPromises, MboxFirstFetchesKeepMail},
+  Good.GoodFetchesStoreAll,
+};
 
 use crate::loop_wire::LoopWire;
 use fetch_runs::{

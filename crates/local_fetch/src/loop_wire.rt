@@ -1,11 +1,9 @@
 //! A link to a server in memory.
-ghost use Rattle.std.specs.Prelude.{◌≡◌, ◌≤◌, ◌<◌, ◌+◌, ◌++◌, ◌-◌, ◌^◌, ℕ, List, [], length};
-ghost use Rattle.std.specs.Prelude.{take, drop, true, false, IfOk, IfErr, IfSome, IfNone, MatchResult};
-ghost use Rattle.pop3_wire.specs.Link.{with_failures, CountsFailure, Sends, Receives, WhereSound};
+ghost use Rattle.std.specs.Prelude.{◌≡◌, ◌≤◌, ◌<◌, ◌+◌, ◌++◌, ◌-◌, ◌^◌, ℕ, List, [], length, take, drop, true, false};
+ghost use Rattle.std.specs.Prelude.{IfOk, IfErr, IfSome, IfNone, MatchResult};
+ghost use Rattle.pop3_wire.specs.{Link.{with_failures, CountsFailure, Sends, Receives, WhereSound}, Place.HasLine};
 ghost use Rattle.mail_terms.specs.FailureCount.{greatest_count, counted_up};
-ghost use Rattle.pop3_wire.specs.Place.{HasLine};
-ghost use Rattle.pop3_server.specs.ServerMachine.{greeting_line, is_open};
-ghost use Rattle.pop3_server.specs.LoopLink.{Loop, Serves, AnswersWholeLines};
+ghost use Rattle.pop3_server.specs.{ServerMachine.{greeting_line, is_open}, LoopLink.{Loop, Serves, AnswersWholeLines}};
 ghost use Rattle.local_fetch.specs.LoopLaws.{serves_same, serves_on};
 
 use mail_terms::FailureCount;
@@ -38,8 +36,7 @@ pub struct LoopWire<D: Maildrop> {
 
 impl<D: Maildrop> Model for LoopWire<D> {
     ghost use Rattle.std.specs.Prelude.{◌≡◌, ◌≤◌, ◌<◌, ◌++◌, [], length, take, drop, false, true};
-    ghost use Rattle.pop3_server.specs.ServerMachine.{greeting_line};
-    ghost use Rattle.pop3_server.specs.LoopLink.{Loop};
+    ghost use Rattle.pop3_server.specs.{ServerMachine.greeting_line, LoopLink.Loop};
 
     ghost Value = { Loop D };
 

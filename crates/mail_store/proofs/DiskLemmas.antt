@@ -1,27 +1,24 @@
 -- What is durable of a file after each call of its device, and what a crash leaves then.
-use Rattle.std.proofs.Common.{◌≡◌, ℕ, ◌+◌, ◌<◌, zero, suc, length, refl, arith, List, [], ◌∷◌, ◌++◌, take, drop, sym}
-use Rattle.std.proofs.Common.{ap, subst, ◌∙◌, Option, Some, None, option_map, Result, Ok, Err, inl, inr, ⊎_elim}
-use Rattle.std.proofs.Common.{append_assoc, append-nil, take-append-drop, ◌⊎◌, ◌-◌, ◌≤◌, min, length-append}
-use Rattle.std.proofs.Common.{slice_index, true, false, ◌==◌, ◌%◌, ◌/◌, OnOk, if◌then◌else◌, true≢false}
-use Rattle.std.proofs.{Math.Logic.⊎_map, lemmas.Option.same_Some, lemmas.Grind.same_number_lists}
-use Rattle.std.proofs.lemmas.Bool.{cases_Bool, cases_lt, eq-eqb}
-use Rattle.std.proofs.lemmas.List.{take-append-le, take-take, length-take, get_or-take, get_or_append_left, get_or-append-add}
-use Rattle.std.proofs.Math.Seq.{take-append-add, take-append_seam, take-length}
-use Rattle.std.specs.List.{list_all}
+use Rattle.std.{
+  proofs.Common.{◌≡◌, ℕ, ◌+◌, ◌<◌, zero, suc, length, refl, arith, List, [], ◌∷◌, ◌++◌, take, drop, sym, ap, subst, ◌∙◌, Option, Some, Ok},
+  proofs.Common.{None, option_map, Result, Err, inl, inr, ⊎_elim, append_assoc, append-nil, take-append-drop, ◌⊎◌, ◌-◌, ◌≤◌, min, true},
+  proofs.Common.{length-append, slice_index, false, ◌==◌, ◌%◌, ◌/◌, OnOk, if◌then◌else◌, true≢false},
+  proofs.Math.{Logic.⊎_map, Seq.{take-append-add, take-append_seam, take-length}},
+  proofs.lemmas.{Option.same_Some, Grind.same_number_lists, Bool.{cases_Bool, cases_lt, eq-eqb}},
+  proofs.lemmas.List.{take-append-le, take-take, length-take, get_or-take, get_or_append_left, get_or-append-add},
+  specs.List.list_all,
+}
 use Rattle.mail_terms.specs.FailureCount.{is_refused}
-use Rattle.mail_store.specs.declared.fault.StoreFault.{StoreFault}
-use Rattle.mail_store.specs.declared.fault.StoreFault.TheVariants.{Missing, Refused, NotMbox, NoMemory}
-use Rattle.mail_store.specs.DiskCalls.{appended, cut, flushed, doubted, MayBeFlushed, all_flushed, MayFlush, FailsDisk}
-use Rattle.mail_store.specs.DiskCalls.{FlushesDisk, Becomes, BecomesInPart, IsSoFar, IsPartAppended, IsFrontAppended}
-use Rattle.mail_store.specs.DiskCalls.{AppendsDisk, CutsDisk, ReplacesDisk, DurableFlush, DurableAppend, DurableCutTo}
-use Rattle.mail_store.specs.DiskCalls.{DurableReplace, DurableFlushes, DurableAppends, DurableCuts, DurableReplaces}
-use Rattle.mail_store.specs.Durable.{Blob, Disk, IsByteLeft, IsDurable, IsFlushed, IsLeft, IsLeftOf, IsLeftOfOne}
-use Rattle.mail_store.specs.Durable.{Trusted, IsTorn, MayLeave, all_durable, content_in, secured, seen_on}
-use Rattle.mail_store.specs.FlatFile.{Stored, Appends, Cuts, Replaces}
-use Rattle.mail_store.specs.Power.{IsLonger, LeavesNoMore, LeavesPart}
-use Rattle.mail_store.specs.Settling.{block_size, MayBeLeft}
-use Rattle.mail_store.proofs.DurableLemmas.{durable_is_left, left_flushed, no_rest, left_of}
-use Rattle.mail_store.proofs.SettlingLemmas.{part_left}
+use Rattle.mail_store.{
+  specs.{declared.fault.StoreFault.{StoreFault, TheVariants.{Missing, Refused, NotMbox, NoMemory}}, Settling.{block_size, MayBeLeft}},
+  specs.DiskCalls.{appended, cut, flushed, doubted, MayBeFlushed, all_flushed, MayFlush, FailsDisk, FlushesDisk, Becomes, BecomesInPart},
+  specs.DiskCalls.{IsSoFar, IsPartAppended, IsFrontAppended, AppendsDisk, CutsDisk, ReplacesDisk, DurableFlush, DurableAppend, DurableCuts},
+  specs.DiskCalls.{DurableCutTo, DurableReplace, DurableFlushes, DurableAppends, DurableReplaces},
+  specs.Durable.{Blob, Disk, IsByteLeft, IsDurable, IsFlushed, IsLeft, IsLeftOf, IsLeftOfOne, Trusted, IsTorn, MayLeave, all_durable},
+  specs.Durable.{content_in, secured, seen_on},
+  specs.{FlatFile.{Stored, Appends, Cuts, Replaces}, Power.{IsLonger, LeavesNoMore, LeavesPart}},
+  proofs.{DurableLemmas.{durable_is_left, left_flushed, no_rest, left_of}, SettlingLemmas.part_left},
+}
 
 -- ---- flushes
 

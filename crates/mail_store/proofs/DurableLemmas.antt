@@ -1,9 +1,11 @@
 -- What a crash leaves of a file that is durable.
-use Rattle.std.proofs.Common.{◌≡◌, ◌∙◌, ⊎_elim, ℕ, List, [], ◌∷◌, ◌++◌, length, Option, Some, None, refl, inl, inr}
-use Rattle.std.proofs.Common.{arith, length-append, append-nil, ◌≤◌, option_map}
-use Rattle.std.proofs.Math.Seq.{take-length}
-use Rattle.mail_store.specs.Durable.{Blob, CrashesHappen, DurableIsLeft, IsDurable, IsFlushed, IsLeft}
-use Rattle.mail_store.specs.Durable.{IsLeftOf, MayLeave, all_durable, content_in, secured, seen_on}
+use Rattle.std.proofs.{
+  Common.{◌≡◌, ◌∙◌, ⊎_elim, ℕ, List, [], ◌∷◌, ◌++◌, length, Option, Some, None, refl, inl, inr, arith, length-append, append-nil, ◌≤◌},
+  Common.option_map,
+  Math.Seq.take-length,
+}
+use Rattle.mail_store.specs.Durable.{Blob, CrashesHappen, DurableIsLeft, IsDurable, IsFlushed, IsLeft, IsLeftOf, MayLeave, all_durable}
+use Rattle.mail_store.specs.Durable.{content_in, secured, seen_on}
 
 pub no_rest : (xs rest : List ℕ) → length (xs ++ rest) ≤ length xs → xs ++ rest ≡ xs
 no_rest xs [] _ = append-nil xs

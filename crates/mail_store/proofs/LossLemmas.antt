@@ -1,14 +1,15 @@
 -- What a loss of power leaves of a Maildir, and what keeps its files flushed.
-use Rattle.std.proofs.Common.{◌≡◌, ℕ, suc, zero, Bool, true, List, [], ◌∷◌, ◌++◌, refl, sym, ap, ◌∙◌, arith, inl, inr}
-use Rattle.std.proofs.Common.{Contains, map, Result, Ok, Err}
-use Rattle.std.specs.List.{AllZip}
-use Rattle.std.proofs.lemmas.Bool.{false_from_ne_true, false≢true}
-use Rattle.mail_store.specs.declared.fault.StoreFault.{StoreFault}
-use Rattle.mail_store.specs.declared.fault.StoreFault.TheVariants.{Missing, Refused, NoMemory}
-use Rattle.mail_store.specs.Loss.{AreLeftAs, IsLeftAs}
-use Rattle.mail_store.specs.Maildir.{AllDurable, AllFlushed, AreReached, Delivers, File, IsDurableFile, IsNamed, IsPart}
-use Rattle.mail_store.specs.Maildir.{IsWithout, Maildir, MayBeNamed, IsAsDurable, mail, names_of}
-use Rattle.mail_store.proofs.MaildirLemmas.{reached_same, without_more}
+use Rattle.std.{
+  proofs.Common.{◌≡◌, ℕ, suc, zero, Bool, true, List, [], ◌∷◌, ◌++◌, refl, sym, ap, ◌∙◌, arith, inl, inr, Contains, map, Result, Ok, Err},
+  proofs.lemmas.Bool.{false_from_ne_true, false≢true},
+  specs.List.AllZip,
+}
+use Rattle.mail_store.{
+  specs.{declared.fault.StoreFault.{StoreFault, TheVariants.{Missing, Refused, NoMemory}}, Loss.{AreLeftAs, IsLeftAs}},
+  specs.Maildir.{AllDurable, AllFlushed, AreReached, Delivers, File, IsDurableFile, IsNamed, IsPart, IsWithout, Maildir, MayBeNamed, mail},
+  specs.Maildir.{IsAsDurable, names_of},
+  proofs.MaildirLemmas.{reached_same, without_more},
+}
 use Rattle.mail_terms.proofs.ListLemmas.{all_append}
 
 module _ {A : Type 0} where

@@ -1,39 +1,38 @@
 -- Names of files and what they hold; the files of a Maildir in memory; which stems are flushed.
-use Rattle.std.proofs.Common.{◌≡◌, ℕ, zero, suc, ◌/◌, ◌%◌, ◌==◌, ◌<◌, Bool, true, false, List, [], ◌∷◌, ◌++◌, length}
-use Rattle.std.proofs.Common.{get_or, slice_index, refl, sym, ap, ◌∙◌, arith, Ok, inl, inr, All, not, codes, ◌+◌, take}
-use Rattle.std.proofs.Common.{map, String, string_bytes, HoldsAt, Contains, IsPermutation, ◌||◌, ◌&&◌, bytes_eq}
-use Rattle.std.proofs.Common.{below_more}
-use Rattle.std.specs.List.{AllPass, AllZip, before_first, filter, position_or_len, list_any}
-use Rattle.std.specs.Fmt.{decimal, digits, digits_onto, digit_glyph}
-use Rattle.std.proofs.lemmas.Bool.{cases_lt, cond_both}
-use Rattle.std.proofs.lemmas.List.{append-nil, append_cancel_left, take_all, take-append-le, get_or-take, get_or_past}
-use Rattle.std.proofs.lemmas.List.{length-take, append_assoc, length-map, get_or-map, take_more}
-use Rattle.std.proofs.lemmas.List.Elements.{All-nil, All-cons, All-append, All-from_recursion, Contains-get_or}
-use Rattle.std.proofs.lemmas.List.Sums.{AllPass-from_list_all, fails_before_first, position_or_len_is, prefix_len-le-length}
-use Rattle.std.proofs.lemmas.List.Folds.{prefix_len-append, list_any-append, list_any_at, Any-from_list_any}
-use Rattle.std.proofs.{lemmas.Bool.Decides.nat_tests, lemmas.Simd.map-map, lemmas.Cmp.nat_list_eq_equiv, lemmas.Map.Views.any-filter_same}
-use Rattle.std.proofs.lemmas.List.Sorted.{IsPermutation-refl, list_any-IsPermutation}
-use Rattle.std.proofs.Math.Bool.{or-false, or-true}
-use Rattle.std.proofs.lemmas.Slice.Eq.{bytes_eq-Decides}
-use Rattle.hex.specs.Hex.{encode_lower, encode_with, lower_digits, IsBytes, decode_of}
-use Rattle.hex.proofs.HexLemmas.{decode_of-encode_lower, length-encode_with}
-use Rattle.sha2.specs.Sha256.{sha256, digest_bytes, final_hash, initial_hash_256}
-use Rattle.sha2.proofs.Facts256.{length-sha256}
-use Rattle.std.specs.Int.{w32, to_be_bytes}
-use Rattle.mail_terms.specs.UniqueId.{IsLegalId, HasIdRanges}
-use Rattle.mail_terms.specs.MaildirName.{base, is_colon}
-use Rattle.mail_terms.specs.Listing.{Item, has_item, is_flagged}
-use Rattle.mail_store.specs.FileName.{account_text, is_comma, is_lower_hex_digit, name_of, stem, stem_of, IsAccountText}
-use Rattle.mail_store.specs.FileName.{mail_file, names_id, is_held, is_odd}
-use Rattle.mail_store.specs.Maildir.{AllNamed, AreReached, AreTheirs, File, IsNamed, IsThere, IsWithout, Maildir}
-use Rattle.mail_store.specs.Maildir.{MayBeNamed, IsAsDurable, WereTaken, bases_told, name_in, names_of, with_file}
-use Rattle.mail_store.specs.declared.maildir.disk.Folder.{Folder}
-use Rattle.mail_store.specs.declared.maildir.disk.Folder.TheVariants.{New, Cur}
-use Rattle.mail_store.specs.MemoryMaildir.{MemoryMail, files_of_folder, shown}
-use Rattle.mail_store.specs.Held.{AreAmong, FoundDurable, HasDurable, HasStem, HasStems, any_name, flags_asked}
-use Rattle.mail_store.specs.Held.{flags_of, flags_sought, is_sought, odd_flags, sought_among}
-use Rattle.mail_store.specs.Loss.{with_flushed, flushed_by, is_among}
-use Rattle.mail_terms.proofs.ListLemmas.{any_map, zip_on, zip_same}
+use Rattle.std.{
+  proofs.Common.{◌≡◌, ℕ, zero, suc, ◌/◌, ◌%◌, ◌==◌, ◌<◌, Bool, true, false, List, [], ◌∷◌, ◌++◌, length, get_or, slice_index, refl, sym},
+  proofs.Common.{ap, ◌∙◌, arith, Ok, inl, inr, All, not, codes, ◌+◌, take, map, String, string_bytes, HoldsAt, Contains, IsPermutation},
+  proofs.Common.{◌||◌, ◌&&◌, bytes_eq, below_more},
+  proofs.lemmas.{Bool.{cases_lt, cond_both, Decides.nat_tests}, Simd.map-map, Cmp.nat_list_eq_equiv, Map.Views.any-filter_same},
+  proofs.lemmas.List.{append-nil, append_cancel_left, take_all, take-append-le, get_or-take, get_or_past, length-take, append_assoc},
+  proofs.lemmas.List.{length-map, get_or-map, take_more, Elements.{All-nil, All-cons, All-append, All-from_recursion, Contains-get_or}},
+  proofs.lemmas.List.Sums.{AllPass-from_list_all, fails_before_first, position_or_len_is, prefix_len-le-length},
+  proofs.lemmas.List.Folds.{prefix_len-append, list_any-append, list_any_at, Any-from_list_any},
+  proofs.lemmas.List.Sorted.{IsPermutation-refl, list_any-IsPermutation},
+  proofs.lemmas.Slice.Eq.bytes_eq-Decides,
+  proofs.Math.Bool.{or-false, or-true},
+  specs.{List.{AllPass, AllZip, before_first, filter, position_or_len, list_any}, Fmt.{decimal, digits, digits_onto, digit_glyph}},
+  specs.Int.{w32, to_be_bytes},
+}
+use Rattle.hex.{
+  specs.Hex.{encode_lower, encode_with, lower_digits, IsBytes, decode_of},
+  proofs.HexLemmas.{decode_of-encode_lower, length-encode_with},
+}
+use Rattle.sha2.{specs.Sha256.{sha256, digest_bytes, final_hash, initial_hash_256}, proofs.Facts256.length-sha256}
+use Rattle.mail_terms.{
+  specs.{UniqueId.{IsLegalId, HasIdRanges}, MaildirName.{base, is_colon}, Listing.{Item, has_item, is_flagged}},
+  proofs.ListLemmas.{any_map, zip_on, zip_same},
+}
+use Rattle.mail_store.specs.{
+  FileName.{account_text, is_comma, is_lower_hex_digit, name_of, stem, stem_of, IsAccountText, mail_file, names_id, is_held, is_odd},
+  Maildir.{AllNamed, AreReached, AreTheirs, File, IsNamed, IsThere, IsWithout, Maildir, MayBeNamed, IsAsDurable, WereTaken, bases_told},
+  Maildir.{name_in, names_of, with_file},
+  declared.maildir.disk.Folder.{Folder, TheVariants.{New, Cur}},
+  MemoryMaildir.{MemoryMail, files_of_folder, shown},
+  Held.{AreAmong, FoundDurable, HasDurable, HasStem, HasStems, any_name, flags_asked, flags_of, flags_sought, is_sought, odd_flags},
+  Held.sought_among,
+  Loss.{with_flushed, flushed_by, is_among},
+}
 
 -- ---- digits
 

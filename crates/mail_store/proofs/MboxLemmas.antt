@@ -1,24 +1,21 @@
 -- Lines, quoting, entries and groups of lines of an mboxrd file.
-use Rattle.std.proofs.Common.{◌≡◌, ◌≢◌, inl, inr, ℕ, zero, suc, ◌+◌, ◌<◌, ◌≤◌, List, [], ◌∷◌, ◌++◌, length, take, drop}
-use Rattle.std.proofs.Common.{refl, sym, ap, ◌∙◌, arith, append_assoc, ◌-◌, ◌*◌, true, false, map, get_or, slice_index}
-use Rattle.std.proofs.Common.{◌==◌, cond, codes}
-use Rattle.std.specs.List.{flat_map, onto_first, AllByRecursion}
-use Rattle.std.proofs.lemmas.Bool.{ne_eqb, cond_both, true≢false}
-use Rattle.std.proofs.lemmas.Bool.Decides.{eqb_tells, Decides-eqb}
-use Rattle.std.proofs.lemmas.List.{drop-append-le, drop_all, drop_more, take_all, length-take-le, get_or-drop}
-use Rattle.std.proofs.lemmas.List.{get_or-take, get_or_default, length-take, length-drop, take-append-drop, take_more}
-use Rattle.std.proofs.lemmas.List.{append-nil, drop_at, length-append, take_at, append_cancel_right, flat_map_more}
-use Rattle.std.proofs.lemmas.List.{map-append}
-use Rattle.std.proofs.lemmas.List.Elements.{recursion_from_All, All-from_recursion, All-map}
-use Rattle.std.proofs.{lemmas.List.Sums.sum_by-append, lemmas.List.Concat.flat_map-append, lemmas.Slice.Eq.starts_is}
-use Rattle.std.proofs.lemmas.List.Folds.{flat_map-map}
-use Rattle.mail_terms.specs.Text.{IsWhole, HasNoLf}
-use Rattle.mail_store.specs.FlatFile.{edges_of, piece_at}
-use Rattle.mail_store.specs.Mboxrd.{lines_of, IsMboxLine, from_words, begins_entry, is_marked, quoted, unquoted}
-use Rattle.mail_store.specs.Mboxrd.{quoted_text, unquoted_text, wire_size, UnquotesQuoted, separator, entry_of, Group}
-use Rattle.mail_store.specs.Mboxrd.{IsInner, IsMboxGroup, group_bytes, group_text, MboxFile, MayGoOn, EntryAddsText}
-use Rattle.mail_store.specs.Mboxrd.{OneListOfTexts, IsApart, OpensEntry, CutsGroup, CutsLine, HoldsText}
-use Rattle.mail_terms.proofs.ListLemmas.{all_append}
+use Rattle.std.{
+  proofs.Common.{◌≡◌, ◌≢◌, inl, inr, ℕ, zero, suc, ◌+◌, ◌<◌, ◌≤◌, List, [], ◌∷◌, ◌++◌, length, take, drop, refl, sym, ap, ◌∙◌, arith, ◌-◌},
+  proofs.Common.{append_assoc, ◌*◌, true, false, map, get_or, slice_index, ◌==◌, cond, codes},
+  proofs.lemmas.{Bool.{ne_eqb, cond_both, true≢false, Decides.{eqb_tells, Decides-eqb}}, Slice.Eq.starts_is},
+  proofs.lemmas.List.{drop-append-le, drop_all, drop_more, take_all, length-take-le, get_or-drop, get_or-take, get_or_default, length-take},
+  proofs.lemmas.List.{length-drop, take-append-drop, take_more, append-nil, drop_at, length-append, take_at, append_cancel_right},
+  proofs.lemmas.List.{flat_map_more, map-append, Elements.{recursion_from_All, All-from_recursion, All-map}, Sums.sum_by-append},
+  proofs.lemmas.List.{Concat.flat_map-append, Folds.flat_map-map},
+  specs.List.{flat_map, onto_first, AllByRecursion},
+}
+use Rattle.mail_terms.{specs.Text.{IsWhole, HasNoLf}, proofs.ListLemmas.all_append}
+use Rattle.mail_store.specs.{
+  FlatFile.{edges_of, piece_at},
+  Mboxrd.{lines_of, IsMboxLine, from_words, begins_entry, is_marked, quoted, unquoted, quoted_text, unquoted_text, wire_size, separator},
+  Mboxrd.{UnquotesQuoted, entry_of, Group, IsInner, IsMboxGroup, group_bytes, group_text, MboxFile, MayGoOn, EntryAddsText, OneListOfTexts},
+  Mboxrd.{IsApart, OpensEntry, CutsGroup, CutsLine, HoldsText},
+}
 
 -- ---- lists of lines
 

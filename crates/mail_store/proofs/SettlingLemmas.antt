@@ -1,27 +1,25 @@
 -- What a loss of power may leave of a file and of an entry in it, and what settling does to that file.
-use Rattle.std.proofs.Common.{◌≡◌, inl, inr, ℕ, ◌+◌, List, [], ◌∷◌, ◌++◌, length, take, Option, Some, None, is_some}
-use Rattle.std.proofs.Common.{take-append-drop, refl, sym, ap, ◌∙◌, append_assoc, append-nil, false, ◌&&◌, drop}
-use Rattle.std.proofs.Common.{arith, length-append, ◌⊎◌, suc, ◌-◌, ◌≤◌, ◌%◌, true, subst, not, nat_eq, ◌==◌}
-use Rattle.std.proofs.{lemmas.Option.same_Some, Math.Logic.⊎_map, lemmas.List.Elements.All-from_recursion}
-use Rattle.std.proofs.Math.Seq.{take-append_seam, drop-append_seam}
-use Rattle.std.specs.List.{list_all, starts_with, AllByRecursion}
-use Rattle.std.proofs.lemmas.Bool.{and_cases, and_parts, and_right, eqb-true, ne_eqb, not-false, true≢false, false≢true}
-use Rattle.std.proofs.lemmas.Bool.{not_from_false, cases_Bool, cases_lt, or_right, true_from_ne_false, lt-ltb, le-leb}
-use Rattle.std.proofs.lemmas.Bool.{eq-eqb}
-use Rattle.std.proofs.lemmas.Bool.Decides.{eqb_tells, Decides-eqb}
-use Rattle.std.proofs.Math.Bool.{and-false, or-true}
-use Rattle.std.proofs.lemmas.List.{nil_from_length, same_from_push}
-use Rattle.std.proofs.{lemmas.List.Sums.list_all-from_AllPass, lemmas.Slice.Eq.ends_is}
-use Rattle.memchr.specs.Find.{FindsNeedle, OccursAt}
-use Rattle.memchr.proofs.lemmas.MatchLemmas.{OccursAt-from_part, OccursAt-split}
+use Rattle.std.{
+  proofs.Common.{◌≡◌, inl, inr, ℕ, ◌+◌, List, [], ◌∷◌, ◌++◌, length, take, Option, Some, None, is_some, take-append-drop, refl, sym, ap},
+  proofs.Common.{◌∙◌, append_assoc, append-nil, false, ◌&&◌, drop, arith, length-append, ◌⊎◌, suc, ◌-◌, ◌≤◌, ◌%◌, true, subst, not, nat_eq},
+  proofs.Common.◌==◌,
+  proofs.lemmas.{Option.same_Some, List.{Elements.All-from_recursion, nil_from_length, same_from_push, Sums.list_all-from_AllPass}},
+  proofs.lemmas.Bool.{and_cases, and_parts, and_right, eqb-true, ne_eqb, not-false, true≢false, false≢true, not_from_false, cases_Bool},
+  proofs.lemmas.Bool.{cases_lt, or_right, true_from_ne_false, lt-ltb, le-leb, eq-eqb, Decides.{eqb_tells, Decides-eqb}},
+  proofs.lemmas.Slice.Eq.ends_is,
+  proofs.Math.{Logic.⊎_map, Seq.{take-append_seam, drop-append_seam}, Bool.{and-false, or-true}},
+  specs.List.{list_all, starts_with, AllByRecursion},
+}
+use Rattle.memchr.{specs.Find.{FindsNeedle, OccursAt}, proofs.lemmas.MatchLemmas.{OccursAt-from_part, OccursAt-split}}
 use Rattle.mail_terms.specs.Text.{HasNoLf, IsWhole}
-use Rattle.mail_store.specs.Power.{IsLonger, LeavesFront, LeavesLonger, LeavesAll, KeepsBytes}
-use Rattle.mail_store.specs.Settling.{MayBeLeft, is_one_entry, block_size, is_lost, is_torn, begin_with, ends_empty}
-use Rattle.mail_store.specs.Settling.{is_ours, is_entry, has_size, stands_whole, settled_file, LeftoversAreSettled}
-use Rattle.mail_store.specs.Settling.{WholeEntriesCount}
-use Rattle.mail_store.specs.Mboxrd.{lines_of, from_words, begins_entry, separator, quoted_text, entry_of, text_in, IsApart}
-use Rattle.mail_store.proofs.MboxLemmas.{first_of, onto_parts, begins_with, unquotes_quoted, inner_apart, entry_bytes}
-use Rattle.mail_store.proofs.MboxLemmas.{entry_group, entry_lines, entry_is_group, group_ends}
+use Rattle.mail_store.{
+  specs.Power.{IsLonger, LeavesFront, LeavesLonger, LeavesAll, KeepsBytes},
+  specs.Settling.{MayBeLeft, is_one_entry, block_size, is_lost, is_torn, begin_with, ends_empty, is_ours, is_entry, has_size, stands_whole},
+  specs.Settling.{settled_file, LeftoversAreSettled, WholeEntriesCount},
+  specs.Mboxrd.{lines_of, from_words, begins_entry, separator, quoted_text, entry_of, text_in, IsApart},
+  proofs.MboxLemmas.{first_of, onto_parts, begins_with, unquotes_quoted, inner_apart, entry_bytes, entry_group, entry_lines, group_ends},
+  proofs.MboxLemmas.entry_is_group,
+}
 
 -- what begins with these bytes
 abbrev pub Begins : List ℕ → Option (List ℕ) → Type 0

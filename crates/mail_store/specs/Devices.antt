@@ -1,11 +1,15 @@
 -- What a call of a device owes by its trait, for devices whose calls promise more than that.
 use Rattle.std.specs.Prelude.{◌≡◌, Result, IfErr}
 use Rattle.mail_terms.specs.FailureCount.{Tallies, refuses}
-use Rattle.mail_store.specs.{declared.fault.StoreFault.StoreFault, declared.fault.StoreFault.TheVariants.Refused}
-use Rattle.mail_store.specs.declared.file.flat_file.FlatFile.{Ghosts as FileGhosts}
-use Rattle.mail_store.specs.declared.maildir.disk.MaildirDisk.{Ghosts as DiskGhosts}
-use Rattle.mail_store.specs.{DiskCalls.FlushesDisk, Durable.Disk, FlatFile.Stored, Maildir.Maildir}
-use Rattle.mail_store.specs.Fault.{is_refusal, IsDeviceFault}
+use Rattle.mail_store.specs.{
+  declared.{fault.StoreFault.{StoreFault, TheVariants.Refused}, file.flat_file.FlatFile.Ghosts as FileGhosts},
+  declared.maildir.disk.MaildirDisk.Ghosts as DiskGhosts,
+  DiskCalls.FlushesDisk,
+  Durable.Disk,
+  FlatFile.Stored,
+  Maildir.Maildir,
+  Fault.{is_refusal, IsDeviceFault},
+}
 
 -- a call did this to the file
 abbrev pub FileDoes : {F : Type 0} → FileGhosts F → (Stored → Stored → Type 0) → F → F → Type 0

@@ -1,11 +1,11 @@
 -- What each call of a file device does to what of the file is durable, for either outcome, and what a crash leaves.
-use Rattle.std.specs.Prelude.{◌≡◌, ◌⊎◌, ℕ, min, List, [], ◌∷◌, ◌++◌, length, take, true, Some, option_map}
-use Rattle.std.specs.Prelude.{Result, Ok, Err, OnOk, if◌then◌else◌}
-use Rattle.mail_store.specs.declared.fault.StoreFault.{StoreFault}
-use Rattle.mail_store.specs.declared.fault.StoreFault.TheVariants.{Missing, NotMbox}
-use Rattle.mail_store.specs.Durable.{Blob, Disk, IsDurable, Trusted, MayLeave, all_durable, secured, seen_on}
-use Rattle.mail_store.specs.Power.{LeavesCut, LeavesEither, LeavesFront, LeavesLonger, LeavesNoMore}
-use Rattle.mail_store.specs.Power.{LeavesPart}
+use Rattle.std.specs.Prelude.{◌≡◌, ◌⊎◌, ℕ, min, List, [], ◌∷◌, ◌++◌, length, take, true, Some, option_map, Result, Ok}
+use Rattle.std.specs.Prelude.{Err, OnOk, if◌then◌else◌}
+use Rattle.mail_store.specs.{
+  declared.fault.StoreFault.{StoreFault, TheVariants.{Missing, NotMbox}},
+  Durable.{Blob, Disk, IsDurable, Trusted, MayLeave, all_durable, secured, seen_on},
+  Power.{LeavesCut, LeavesEither, LeavesFront, LeavesLonger, LeavesNoMore, LeavesPart},
+}
 
 -- a file with bytes appended
 abbrev pub appended : Blob → List ℕ → Blob

@@ -1,6 +1,6 @@
 -- What of a file is durable, and what a crash may leave of it.
-use Rattle.std.specs.Prelude.{◌≡◌, ◌⊎◌, ◌<◌, ◌≤◌, ◌/◌, ℕ, List, [], ◌∷◌, ◌++◌, length, take, slice_index, Bool}
-use Rattle.std.specs.Prelude.{false, Option, Some, None, option_map}
+use Rattle.std.specs.Prelude.{◌≡◌, ◌⊎◌, ◌<◌, ◌≤◌, ◌/◌, ℕ, List, [], ◌∷◌, ◌++◌, length, take, slice_index, Bool, false}
+use Rattle.std.specs.Prelude.{Option, Some, None, option_map}
 use Rattle.mail_store.specs.Settling.{block_size}
 
 -- a file: its bytes, those that it had when it was last flushed, how many of these weren't cut off since,

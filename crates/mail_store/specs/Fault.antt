@@ -1,7 +1,6 @@
 -- The faults that a device may answer, and which of them is a refusal.
 use Rattle.std.specs.Prelude.{◌≡◌, Bool, true, false, ◌⊎◌}
-use Rattle.mail_store.specs.declared.fault.StoreFault.{StoreFault}
-use Rattle.mail_store.specs.declared.fault.StoreFault.TheVariants.{Missing, Refused}
+use Rattle.mail_store.specs.declared.fault.StoreFault.{StoreFault, TheVariants.{Missing, Refused}}
 
 -- whether the device refused the call; refusals are counted
 abbrev pub is_refusal : StoreFault → Bool

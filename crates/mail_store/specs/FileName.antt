@@ -1,7 +1,9 @@
 -- The names of an account's files in a Maildir, and which ids they hold.
-use Rattle.std.specs.Prelude.{◌≡◌, ◌≤◌, ◌+◌, ◌==◌, ℕ, List, [], ◌∷◌, ◌++◌, length, Bool, nat_le, ◌&&◌}
-use Rattle.std.specs.Prelude.{◌||◌, bytes_eq, codes, decimal, String, string_len, string_capacity}
-use Rattle.std.specs.List.{AllPass, before_first, list_any}
+use Rattle.std.specs.{
+  Prelude.{◌≡◌, ◌≤◌, ◌+◌, ◌==◌, ℕ, List, [], ◌∷◌, ◌++◌, length, Bool, nat_le, ◌&&◌, ◌||◌, bytes_eq, codes, decimal},
+  Prelude.{String, string_len, string_capacity},
+  List.{AllPass, before_first, list_any},
+}
 use Rattle.hex.specs.Hex.{encode_lower}
 use Rattle.sha2.specs.Sha256.{sha256}
 use Rattle.mail_terms.specs.{MaildirName.base, UniqueId.IsLegalId}

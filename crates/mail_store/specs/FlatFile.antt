@@ -1,9 +1,11 @@
 -- What each call of a file device does, for either outcome, as a relation between what is known of
 -- the file before and after the call.
-use Rattle.std.specs.Prelude.{◌≡◌, ℕ, ◌+◌, ◌≤◌, List, [], ◌∷◌, ◌++◌, length, take, drop}
-use Rattle.std.specs.Prelude.{slice_index, Option, Some, None, Result, Ok, Err, ◌⊎◌, Vec}
-use Rattle.mail_store.specs.{declared.fault.StoreFault.StoreFault, declared.file.flat_file.Edges.Edges}
-use Rattle.mail_store.specs.declared.fault.StoreFault.TheVariants.{Missing, Refused}
+use Rattle.std.specs.Prelude.{◌≡◌, ℕ, ◌+◌, ◌≤◌, List, [], ◌∷◌, ◌++◌, length, take, drop, slice_index, Option, Some}
+use Rattle.std.specs.Prelude.{None, Result, Ok, Err, ◌⊎◌, Vec}
+use Rattle.mail_store.specs.declared.{
+  fault.StoreFault.{StoreFault, TheVariants.{Missing, Refused}},
+  file.flat_file.Edges.Edges,
+}
 
 -- what is known of a file: its bytes, None if there is no file, and how many calls were refused
 pub record Stored : Type 0 where

@@ -1,16 +1,21 @@
 -- What `held` answers for a Maildir.
-use Rattle.std.specs.Prelude.{◌≡◌, ℕ, List, map, Bool, true, false, Result, Ok, Err, Vec, ◌⊎◌}
-use Rattle.std.specs.Prelude.{OnOk, [], ◌∷◌, ◌++◌, ◌&&◌, bytes_eq, String, string_bytes, Contains, HoldsAt, ◌<◌}
-use Rattle.std.specs.Prelude.{IsPermutation, if◌then◌else◌}
-use Rattle.std.specs.List.{filter, list_any}
-use Rattle.std.specs.{Borrow.Bor, Ordering.nat_cmp, Cmp.Lexicographic.slice_cmp}
-use Rattle.std.specs.BTreeSet.{BTreeSet, contains_by}
+use Rattle.std.specs.{
+  Prelude.{◌≡◌, ℕ, List, map, Bool, true, false, Result, Ok, Err, Vec, ◌⊎◌, OnOk, [], ◌∷◌, ◌++◌, ◌&&◌, bytes_eq, ◌<◌},
+  Prelude.{String, string_bytes, Contains, HoldsAt, IsPermutation, if◌then◌else◌},
+  List.{filter, list_any},
+  Borrow.Bor,
+  Ordering.nat_cmp,
+  Cmp.Lexicographic.slice_cmp,
+  BTreeSet.{BTreeSet, contains_by},
+}
 use Rattle.hex.specs.Hex.{encode_lower}
 use Rattle.mail_terms.specs.Listing.{Item}
-use Rattle.mail_store.specs.{declared.fault.StoreFault.StoreFault, Loss.is_among}
-use Rattle.mail_store.specs.declared.fault.StoreFault.TheVariants.{Missing, Refused, NotMbox, NoMemory}
-use Rattle.mail_store.specs.Maildir.{AllNamed, File, IsDurableFile, Maildir, bases_told, maildir_refused, names_of}
-use Rattle.mail_store.specs.FileName.{is_held, is_odd, names_id, stem, stem_of}
+use Rattle.mail_store.specs.{
+  declared.fault.StoreFault.{StoreFault, TheVariants.{Missing, Refused, NotMbox, NoMemory}},
+  Loss.is_among,
+  Maildir.{AllNamed, File, IsDurableFile, Maildir, bases_told, maildir_refused, names_of},
+  FileName.{is_held, is_odd, names_id, stem, stem_of},
+}
 
 -- whether the id of each item is held, in order
 abbrev pub flags_of : List ℕ → Maildir → List Item → List Bool

@@ -1,9 +1,14 @@
 -- What a flush of files does, and what a loss of power may leave of a Maildir.
-use Rattle.std.specs.Prelude.{◌≡◌, ◌⊎◌, ◌||◌, ℕ, List, [], ◌∷◌, map, bytes_eq, Bool, true, false, None, Result, Ok, Err}
-use Rattle.std.specs.Prelude.{String, string_bytes}
-use Rattle.std.specs.List.{list_any}
-use Rattle.mail_store.specs.{declared.fault.StoreFault.StoreFault, FileName.stem}
-use Rattle.mail_store.specs.Maildir.{File, IsDurableFile, Maildir, maildir_refused, with_files}
+use Rattle.std.specs.{
+  Prelude.{◌≡◌, ◌⊎◌, ◌||◌, ℕ, List, [], ◌∷◌, map, bytes_eq, Bool, true, false, None, Result, Ok, Err, String},
+  Prelude.string_bytes,
+  List.list_any,
+}
+use Rattle.mail_store.specs.{
+  declared.fault.StoreFault.StoreFault,
+  FileName.stem,
+  Maildir.{File, IsDurableFile, Maildir, maildir_refused, with_files},
+}
 
 -- whether one of these texts is this one
 abbrev pub is_among : {A : Type 0} → List (String A) → List ℕ → Bool

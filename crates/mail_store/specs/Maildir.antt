@@ -1,12 +1,15 @@
 -- What each call of a Maildir device does, for either outcome, as a relation between the Maildir
 -- before and after the call.
-use Rattle.std.specs.Prelude.{◌≡◌, ℕ, ◌+◌, List, [], ◌∷◌, ◌++◌, map, Bool, false, true, Option, Some, None, option_map}
-use Rattle.std.specs.Prelude.{Result, Ok, Err, ◌⊎◌, Vec, String, string_bytes, Contains, All}
-use Rattle.std.specs.List.{AllByRecursion, AllZip, filter}
+use Rattle.std.specs.{
+  Prelude.{◌≡◌, ℕ, ◌+◌, List, [], ◌∷◌, ◌++◌, map, Bool, false, true, Option, Some, None, option_map, Result, Ok, Err},
+  Prelude.{◌⊎◌, Vec, String, string_bytes, Contains, All},
+  List.{AllByRecursion, AllZip, filter},
+}
 use Rattle.mail_terms.specs.MaildirName.{base}
-use Rattle.mail_store.specs.{declared.fault.StoreFault.StoreFault, declared.maildir.disk.Folder.Folder}
-use Rattle.mail_store.specs.declared.fault.StoreFault.TheVariants.{Missing, Refused, NotMbox, NoMemory}
-use Rattle.mail_store.specs.declared.maildir.disk.Folder.TheVariants.{New, Cur}
+use Rattle.mail_store.specs.declared.{
+  fault.StoreFault.{StoreFault, TheVariants.{Missing, Refused, NotMbox, NoMemory}},
+  maildir.disk.Folder.{Folder, TheVariants.{New, Cur}},
+}
 
 -- a file of `new` or `cur`: its name, which is only the part before its first colon, and its bytes; and whether
 -- its name, and its bytes, are known to be durable. Which of the two folders it is in and which marks follow

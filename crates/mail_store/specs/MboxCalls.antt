@@ -1,13 +1,15 @@
 -- What the calls on an mboxrd file do, for either outcome.
 use Rattle.std.specs.Prelude.{◌≡◌, ℕ, List, ◌++◌, map, take, Some, None, Result, Ok, Err, Vec}
 use Rattle.mail_terms.specs.FailureCount.{Tallies, counted_up}
-use Rattle.mail_store.specs.{declared.fault.EntryFault.EntryFault, Fault.is_refusal}
-use Rattle.mail_store.specs.declared.fault.EntryFault.TheVariants.{Nothing, Front}
-use Rattle.mail_store.specs.Durable.{Disk, IsDurable, Trusted}
-use Rattle.mail_store.specs.{declared.fault.StoreFault.StoreFault, declared.file.flat_file.Edges.Edges}
-use Rattle.mail_store.specs.declared.fault.StoreFault.TheVariants.{Missing, Refused, NotMbox, NoMemory}
-use Rattle.mail_store.specs.FlatFile.{Stored, FailsAs, holding, file_refused, edges_of}
-use Rattle.mail_store.specs.Mboxrd.{MayGoOn, MboxFile, HasNoTexts, entry_of}
+use Rattle.mail_store.specs.{
+  declared.fault.EntryFault.{EntryFault, TheVariants.{Nothing, Front}},
+  declared.fault.StoreFault.{StoreFault, TheVariants.{Missing, Refused, NotMbox, NoMemory}},
+  declared.file.flat_file.Edges.Edges,
+  Fault.is_refusal,
+  Durable.{Disk, IsDurable, Trusted},
+  FlatFile.{Stored, FailsAs, holding, file_refused, edges_of},
+  Mboxrd.{MayGoOn, MboxFile, HasNoTexts, entry_of},
+}
 
 -- the file has these bytes, and an entry may follow them
 abbrev pub EntryMayFollow : Stored → List ℕ → Type 0

@@ -1,8 +1,9 @@
 -- Texts in an mboxrd file: how a line is quoted, what an entry is, and which texts a file stands for.
-use Rattle.std.specs.Prelude.{◌≡◌, ◌⊎◌, ◌==◌, ◌&&◌, ◌+◌, ◌-◌, ℕ, Bool, false, List, [], ◌∷◌, ◌++◌, true, map, length}
-use Rattle.std.specs.Prelude.{take, drop}
-use Rattle.std.specs.Prelude.{if◌then◌else◌, codes, nat_eq}
-use Rattle.std.specs.List.{count_by, flat_map, onto_first, starts_with, AllByRecursion}
+use Rattle.std.specs.{
+  Prelude.{◌≡◌, ◌⊎◌, ◌==◌, ◌&&◌, ◌+◌, ◌-◌, ℕ, Bool, false, List, [], ◌∷◌, ◌++◌, true, map, length, take, drop, codes},
+  Prelude.{if◌then◌else◌, nat_eq},
+  List.{count_by, flat_map, onto_first, starts_with, AllByRecursion},
+}
 use Rattle.mail_terms.specs.Text.{IsWhole, HasNoLf}
 
 -- ---- lines

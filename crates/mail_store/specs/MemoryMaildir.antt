@@ -1,8 +1,9 @@
 -- What is known of a Maildir in memory, and what its calls do: nobody else is at work.
 use Rattle.std.specs.Prelude.{◌≡◌, ℕ, List, [], ◌∷◌, ◌++◌, Option, Some, None, Result, Ok, Err}
-use Rattle.mail_store.specs.{declared.fault.StoreFault.StoreFault, declared.maildir.disk.Folder.Folder}
-use Rattle.mail_store.specs.declared.maildir.disk.Folder.TheVariants.{New, Cur}
-use Rattle.mail_store.specs.Maildir.{Draft, File, Maildir, draft, file, mail, with_file}
+use Rattle.mail_store.specs.{
+  declared.{fault.StoreFault.StoreFault, maildir.disk.Folder.{Folder, TheVariants.{New, Cur}}},
+  Maildir.{Draft, File, Maildir, draft, file, mail, with_file},
+}
 
 -- what it is as a Maildir, and its files, all in `new`, by their whole names
 pub record MemoryMail : Type 0 where

@@ -1,16 +1,17 @@
 -- What a file has from the place on where an entry was about to be appended when a session was cut, and what becomes of
 -- it.
-use Rattle.std.specs.Prelude.{◌≡◌, ◌⊎◌, ◌≤◌, ◌==◌, ◌&&◌, ◌||◌, ◌+◌, ◌-◌, ◌%◌, not, ℕ, Bool, true, false, List, [], ◌∷◌}
-use Rattle.std.specs.Prelude.{◌++◌}
-use Rattle.std.specs.Prelude.{length, take, drop, Option, Some, None, Result, Ok, Err, nat_eq, nat_lt, nat_le}
-use Rattle.std.specs.Prelude.{bytes_eq, if◌then◌else◌}
-use Rattle.std.specs.List.{ends_with, list_all}
+use Rattle.std.specs.{
+  Prelude.{◌≡◌, ◌⊎◌, ◌≤◌, ◌==◌, ◌&&◌, ◌||◌, ◌+◌, ◌-◌, ◌%◌, not, ℕ, Bool, true, false, List, [], ◌∷◌, ◌++◌, length, Ok},
+  Prelude.{take, drop, Option, Some, None, Result, Err, nat_eq, nat_lt, nat_le, bytes_eq, if◌then◌else◌},
+  List.{ends_with, list_all},
+}
 use Rattle.mail_terms.specs.{Listing.Item, Text.IsWhole}
-use Rattle.mail_store.specs.{declared.fault.StoreFault.StoreFault, declared.mboxrd.settling.Behind.Behind}
-use Rattle.mail_store.specs.declared.fault.StoreFault.TheVariants.{Missing, Refused, NotMbox, NoMemory}
-use Rattle.mail_store.specs.declared.mboxrd.settling.Behind.TheVariants.{Others, Whole, Torn}
-use Rattle.mail_store.specs.FlatFile.{Stored, FailsAs, holding, file_refused}
-use Rattle.mail_store.specs.Mboxrd.{MayGoOn, lines_of, begins_entry, separator, entry_of, text_in, wire_size}
+use Rattle.mail_store.specs.{
+  declared.fault.StoreFault.{StoreFault, TheVariants.{Missing, Refused, NotMbox, NoMemory}},
+  declared.mboxrd.settling.Behind.{Behind, TheVariants.{Others, Whole, Torn}},
+  FlatFile.{Stored, FailsAs, holding, file_refused},
+  Mboxrd.{MayGoOn, lines_of, begins_entry, separator, entry_of, text_in, wire_size},
+}
 
 -- ---- what a loss of power leaves
 

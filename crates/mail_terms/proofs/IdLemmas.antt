@@ -1,13 +1,12 @@
 -- Unique-ids: their characters, and what compares them.
-use Rattle.std.proofs.Common.{All, Bool, Bor, IsUtf8, List, [], arith, bytes_eq, cond, false, get_or, inl, inr}
-use Rattle.std.proofs.Common.{is_eq, length, map, nat_cmp, nat_le, refl, sym, true, ℕ, ◌||◌, ◌∙◌, ◌∷◌, ◌≡◌, ◌≢◌, ◌≤◌}
-use Rattle.mail_terms.specs.Listing.{Item}
-use Rattle.mail_terms.specs.UniqueId.{IsLegalId, has_id, is_id_byte}
-use Rattle.std.proofs.lemmas.Bool.{and_parts, cases_lt, false_from_ne_true, leb-true}
-use Rattle.std.proofs.{lemmas.Cmp.nat_list_eq_equiv, lemmas.List.get_or_past, lemmas.List.Sums.AllPass-from_list_all}
-use Rattle.std.proofs.{lemmas.Map.Text.is_eq-slice_cmp, lemmas.Slice.Eq.bytes_eq-Decides, lemmas.Str.IsUtf8-from_ascii}
-use Rattle.std.specs.Cmp.Lexicographic.{slice_cmp}
-use Rattle.std.specs.List.{list_all, list_any}
+use Rattle.std.{
+  proofs.Common.{All, Bool, Bor, IsUtf8, List, [], arith, bytes_eq, cond, false, get_or, inl, inr, is_eq, length, map, nat_cmp, nat_le, ℕ},
+  proofs.Common.{refl, sym, true, ◌||◌, ◌∙◌, ◌∷◌, ◌≡◌, ◌≢◌, ◌≤◌},
+  proofs.lemmas.{Bool.{and_parts, cases_lt, false_from_ne_true, leb-true}, Cmp.nat_list_eq_equiv, Map.Text.is_eq-slice_cmp},
+  proofs.lemmas.{List.{get_or_past, Sums.AllPass-from_list_all}, Slice.Eq.bytes_eq-Decides, Str.IsUtf8-from_ascii},
+  specs.{Cmp.Lexicographic.slice_cmp, List.{list_all, list_any}},
+}
+use Rattle.mail_terms.specs.{Listing.Item, UniqueId.{IsLegalId, has_id, is_id_byte}}
 
 pub same_from_test : (a b : List ℕ) → bytes_eq a b ≡ true → a ≡ b
 same_from_test a b test = (bytes_eq-Decides a b).0 test

@@ -1,14 +1,18 @@
 -- The rows of a listing, found by their numbers.
-use Rattle.std.proofs.Common.{◌≡◌, ℕ, suc, ◌<◌, ◌≤◌, ◌+◌, ◌-◌, List, [], ◌∷◌, ◌++◌, length, get_or, map, take, drop}
-use Rattle.std.proofs.Common.{All, refl, sym, subst, ◌∙◌, ap, arith, rules, length-append, length-drop, take_all}
-use Rattle.std.proofs.lemmas.List.{get_or-map, get_or_default, length-map, map-append, drop-append-le, take-append-le}
-use Rattle.std.proofs.{Math.Seq.drop-append_seam, lemmas.Simd.map-map}
-use Rattle.std.proofs.lemmas.List.Elements.{All-map, All-push}
-use Rattle.mail_terms.specs.{declared.listing.Span.Span, declared.listing.UidPlace.UidPlace, declared.listing.ItemPlace.ItemPlace}
-use Rattle.mail_terms.specs.{declared.listing.ScanRow.ScanRow, UniqueId.IsLegalId}
-use Rattle.mail_terms.specs.Numbering.{IsNumbering, IsOrderOf}
-use Rattle.mail_terms.specs.Listing.{Item, UidRow, Joins, message_limit}
-use Rattle.mail_terms.specs.IdPlaces.{id_at, row_at, item_at, IsIdAt, HoldRows, AreAt}
+use Rattle.std.proofs.{
+  Common.{◌≡◌, ℕ, suc, ◌<◌, ◌≤◌, ◌+◌, ◌-◌, List, [], ◌∷◌, ◌++◌, length, get_or, map, take, drop, All, refl, sym, subst, ◌∙◌, ap, arith},
+  Common.{rules, length-append, length-drop, take_all},
+  lemmas.List.{get_or-map, get_or_default, length-map, map-append, drop-append-le, take-append-le, Elements.{All-map, All-push}},
+  lemmas.Simd.map-map,
+  Math.Seq.drop-append_seam,
+}
+use Rattle.mail_terms.specs.{
+  declared.listing.{Span.Span, UidPlace.UidPlace, ItemPlace.ItemPlace, ScanRow.ScanRow},
+  UniqueId.IsLegalId,
+  Numbering.{IsNumbering, IsOrderOf},
+  Listing.{Item, UidRow, Joins, message_limit},
+  IdPlaces.{id_at, row_at, item_at, IsIdAt, HoldRows, AreAt},
+}
 
 -- the place that is found for a row's number is the row's own
 pub place_of_row : {Row : Type 0} (number : Row → ℕ) (n : ℕ) (rows : List Row) (places : List ℕ)

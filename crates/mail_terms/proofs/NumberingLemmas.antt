@@ -1,9 +1,9 @@
 -- The table of places and the list of numbers.
-use Rattle.std.proofs.Common.{◌≡◌, ℕ, ◌<◌, ◌≤◌, ◌+◌, ◌-◌, List, Option, Some, None, true, false, length, get_or, set}
-use Rattle.std.proofs.Common.{is_some, sym, ◌∙◌, ap, inl, inr, arith, below_more}
-use Rattle.std.proofs.lemmas.Bool.{cases_eq}
-use Rattle.std.proofs.lemmas.Option.{none-some, same_Some}
-use Rattle.std.proofs.lemmas.List.{get_or-set_same, get_or-set_other, length-set, get_or_default}
+use Rattle.std.proofs.{
+  Common.{◌≡◌, ℕ, ◌<◌, ◌≤◌, ◌+◌, ◌-◌, List, Option, Some, None, true, false, length, get_or, set, is_some, sym, ◌∙◌, ap, inl, inr, arith},
+  Common.below_more,
+  lemmas.{Bool.cases_eq, Option.{none-some, same_Some}, List.{get_or-set_same, get_or-set_other, length-set, get_or_default}},
+}
 use Rattle.mail_terms.specs.Numbering.{IsNumbering, HasPlaces, IsOrderOf}
 
 -- a list with a number whose slot isn't free isn't a numbering

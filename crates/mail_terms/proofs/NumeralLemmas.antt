@@ -1,17 +1,13 @@
 -- The value of the digits that were read so far, and the numeral of a number.
-use Rattle.std.proofs.Common.{◌≡◌, ℕ, ◌+◌, ◌*◌, ◌-◌, ◌<◌, ◌≤◌, ◌==◌, List, [], ◌∷◌, length, take, get_or, Bool, true, false}
-use Rattle.std.proofs.Common.{◌&&◌, ◌^◌, ◌≢◌, Some, None, ap, decimal, nat_le, refl, sym, ◌∙◌, arith, if◌then◌else◌, take_all}
-use Rattle.std.proofs.{Math.Bool.and-false, lemmas.Bool.Decides.nat_tests, lemmas.List.Folds.list_all_more}
-use Rattle.std.proofs.lemmas.Bool.{and_from, le-leb, lt-leb, lt-ltb}
-use Rattle.std.proofs.lemmas.Fmt.{decimal_is_IsNumeral, digits_decimal, length-decimal-le}
-use Rattle.std.proofs.lemmas.List.Elements.{All-from_get_or, recursion_from_All}
-use Rattle.std.proofs.lemmas.Int.Digits.{digits_value_more}
-use Rattle.std.proofs.lemmas.Str.Parse.{IsNumeralModel, digits_value-take-le, not_in_digits, numerals_by_value, tells_all_ascii_digits}
-use Rattle.std.proofs.lemmas.Str.Parse.{tells_digits}
-use Rattle.std.specs.Char.{is_ascii_digit, digit_value}
-use Rattle.std.specs.List.{AllByRecursion, list_all}
-use Rattle.std.specs.Str.{all_ascii_digits}
-use Rattle.std.specs.Str.Parse.{AllDigits, digits_value}
+use Rattle.std.{
+  proofs.Common.{◌≡◌, ℕ, ◌+◌, ◌*◌, ◌-◌, ◌<◌, ◌≤◌, ◌==◌, List, [], ◌∷◌, length, take, get_or, Bool, true, false, ◌&&◌, ◌^◌, ◌≢◌, Some, None},
+  proofs.Common.{ap, decimal, nat_le, refl, sym, ◌∙◌, arith, if◌then◌else◌, take_all},
+  proofs.Math.Bool.and-false,
+  proofs.lemmas.{Bool.{Decides.nat_tests, and_from, le-leb, lt-leb, lt-ltb}, Fmt.{decimal_is_IsNumeral, digits_decimal, length-decimal-le}},
+  proofs.lemmas.{List.{Folds.list_all_more, Elements.{All-from_get_or, recursion_from_All}}, Int.Digits.digits_value_more},
+  proofs.lemmas.Str.Parse.{IsNumeralModel, digits_value-take-le, not_in_digits, numerals_by_value, tells_all_ascii_digits, tells_digits},
+  specs.{Char.{is_ascii_digit, digit_value}, List.{AllByRecursion, list_all}, Str.{all_ascii_digits, Parse.{AllDigits, digits_value}}},
+}
 use Rattle.mail_terms.specs.Numeral.{greatest_size, is_numeral, numeral_value}
 
 -- these octets are digits, and this is their value, which isn't too large

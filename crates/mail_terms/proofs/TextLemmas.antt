@@ -1,8 +1,9 @@
 -- Texts split into lines.
-use Rattle.std.proofs.Common.{◌≡◌, inl, inr, ℕ, zero, suc, ◌+◌, ◌<◌, List, [], ◌∷◌, Option, Some, None, length, take}
-use Rattle.std.proofs.Common.{drop, refl, arith, sym, unwrap_or}
-use Rattle.std.specs.List.{position_or_len}
-use Rattle.std.proofs.{lemmas.Bool.false_from_ne_true, lemmas.Bool.Decides.eqb_tells, lemmas.List.Sums.position_or_len_is}
+use Rattle.std.{
+  proofs.Common.{◌≡◌, inl, inr, ℕ, zero, suc, ◌+◌, ◌<◌, List, [], ◌∷◌, Option, Some, None, length, take, drop, refl, arith, sym, unwrap_or},
+  proofs.lemmas.{Bool.{false_from_ne_true, Decides.eqb_tells}, List.Sums.position_or_len_is},
+  specs.List.position_or_len,
+}
 use Rattle.memchr.specs.Find.{IsFirstByte, is_byte}
 use Rattle.mail_terms.specs.Text.{is_line_feed, lines_of_text}
 

@@ -1,6 +1,5 @@
 -- The arguments that USER and PASS take (RFC 1939, section 7).
-use Rattle.std.specs.Prelude.{ℕ, Bool, not, ◌==◌, ◌&&◌, nat_lt, nat_le, List, length}
-use Rattle.std.specs.List.{list_all}
+use Rattle.std.specs.{Prelude.{ℕ, Bool, not, ◌==◌, ◌&&◌, nat_lt, nat_le, List, length}, List.list_all}
 
 -- a byte other than CR, LF and NUL
 abbrev pub is_plain : ℕ → Bool

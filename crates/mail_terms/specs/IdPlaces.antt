@@ -1,8 +1,10 @@
 -- Unique-ids that stand in one buffer, and the places of rows and of messages in it.
 use Rattle.std.specs.Prelude.{◌≡◌, ℕ, ◌<◌, ◌≤◌, ◌*◌, List, length, slice_index, slice_index_or, slice_range, All}
-use Rattle.mail_terms.specs.{UniqueId.IsLegalId, declared.listing.Span.Span, declared.listing.UidPlace.UidPlace}
-use Rattle.mail_terms.specs.Listing.{Item, UidRow, message_limit}
-use Rattle.mail_terms.specs.{declared.listing.ItemPlace.ItemPlace, declared.listing.ScanRow.ScanRow}
+use Rattle.mail_terms.specs.{
+  UniqueId.IsLegalId,
+  declared.listing.{Span.Span, UidPlace.UidPlace, ItemPlace.ItemPlace, ScanRow.ScanRow},
+  Listing.{Item, UidRow, message_limit},
+}
 
 -- the octets of a span
 abbrev pub id_at : List ℕ → Span → List ℕ

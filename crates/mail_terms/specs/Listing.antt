@@ -1,8 +1,9 @@
 -- The listing of a maildrop: the rows of UIDL and of LIST, joined by their numbers (RFC 1939,
 -- sections 5 and 7).
-use Rattle.std.specs.Prelude.{◌≡◌, ℕ, ◌-◌, Bool, not, ◌&&◌, List, length, map, take}
-use Rattle.std.specs.Prelude.{drop, zip, bytes_eq, All, HoldsAt}
-use Rattle.std.specs.List.{list_any, enumerate_from}
+use Rattle.std.specs.{
+  Prelude.{◌≡◌, ℕ, ◌-◌, Bool, not, ◌&&◌, List, length, map, take, drop, zip, bytes_eq, All, HoldsAt},
+  List.{list_any, enumerate_from},
+}
 use Rattle.mail_terms.specs.{Distinct.AreDistinct, Numbering.IsNumbering, declared.listing.ScanRow.ScanRow}
 
 -- how many messages a listing may hold

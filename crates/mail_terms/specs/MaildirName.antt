@@ -1,6 +1,5 @@
 -- Names of files in a Maildir.
-use Rattle.std.specs.Prelude.{ℕ, Bool, ◌==◌, List}
-use Rattle.std.specs.List.{before_first}
+use Rattle.std.specs.{Prelude.{ℕ, Bool, ◌==◌, List}, List.before_first}
 
 abbrev pub is_colon : ℕ → Bool
 is_colon byte = byte == 58

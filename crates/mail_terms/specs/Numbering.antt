@@ -1,6 +1,6 @@
 -- The numbers 1 to n, each once and in any order, and their places in a list.
-use Rattle.std.specs.Prelude.{◌≡◌, ℕ, ◌<◌, ◌≤◌, ◌+◌, ◌-◌, List, Option, Some, None, length, slice_index, slice_index_or}
-use Rattle.std.specs.Prelude.{All, Contains}
+use Rattle.std.specs.Prelude.{◌≡◌, ℕ, ◌<◌, ◌≤◌, ◌+◌, ◌-◌, List, Option, Some, None, length, slice_index, All}
+use Rattle.std.specs.Prelude.{slice_index_or, Contains}
 use Rattle.mail_terms.specs.Distinct.{AreDistinct}
 
 -- the list holds each number of 1 to n once, and no other number

@@ -1,6 +1,10 @@
 -- Numerals of the protocol (RFC 1939, sections 5 and 7), and the greatest numbers.
-use Rattle.std.specs.Prelude.{ℕ, Bool, ◌&&◌, nat_lt, nat_le, List, length, Option, Some, None, if◌then◌else◌}
-use Rattle.std.specs.{Char.is_ascii_digit, List.list_all, Str.Parse.digits_value}
+use Rattle.std.specs.{
+  Prelude.{ℕ, Bool, ◌&&◌, nat_lt, nat_le, List, length, Option, Some, None, if◌then◌else◌},
+  Char.is_ascii_digit,
+  List.list_all,
+  Str.Parse.digits_value,
+}
 
 -- 1 to 20 digits; leading zeros are allowed
 abbrev pub is_numeral : List ℕ → Bool

@@ -1,6 +1,8 @@
 -- Texts, whose lines end at LF.
-use Rattle.std.specs.Prelude.{◌≡◌, ◌⊎◌, ◌==◌, ℕ, Bool, List, [], ◌∷◌, ◌++◌, if◌then◌else◌, ◌≢◌}
-use Rattle.std.specs.List.{onto_first, AllByRecursion}
+use Rattle.std.specs.{
+  Prelude.{◌≡◌, ◌⊎◌, ◌==◌, ℕ, Bool, List, [], ◌∷◌, ◌++◌, if◌then◌else◌, ◌≢◌},
+  List.{onto_first, AllByRecursion},
+}
 
 abbrev pub is_line_feed : ℕ → Bool
 is_line_feed byte = byte == 10

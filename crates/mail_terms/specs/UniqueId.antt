@@ -1,6 +1,8 @@
 -- Unique-ids (RFC 1939, section 7, UIDL).
-use Rattle.std.specs.Prelude.{ℕ, ◌≤◌, ◌&&◌, nat_lt, nat_le, Bool, List, length, All, IsTrue, bytes_eq}
-use Rattle.std.specs.List.{list_all, list_any}
+use Rattle.std.specs.{
+  Prelude.{ℕ, ◌≤◌, ◌&&◌, nat_lt, nat_le, Bool, List, length, All, IsTrue, bytes_eq},
+  List.{list_all, list_any},
+}
 
 -- a character that a unique-id may hold: 0x21 to 0x7E
 abbrev pub is_id_byte : ℕ → Bool

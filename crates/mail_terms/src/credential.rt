@@ -1,7 +1,6 @@
 //! The arguments that USER and PASS take (RFC 1939, section 7).
 
-ghost use Rattle.std.specs.Prelude.{◌≡◌};
-ghost use Rattle.std.specs.List.{list_all};
+ghost use Rattle.std.specs.{Prelude.◌≡◌, List.list_all};
 ghost use Rattle.mail_terms.specs.Credential.{is_plain, is_credential};
 
 /// Whether bytes hold no CR, LF or NUL.

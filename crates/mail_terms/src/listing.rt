@@ -1,11 +1,9 @@
 //! The listing of a maildrop: what UIDL and LIST answer, joined by message number (RFC 1939,
 //! sections 5 and 7).
 
-ghost use Rattle.std.specs.Prelude.{◌≡◌, ◌↔◌, ◌<◌, ◌≤◌, [], ◌∷◌, ◌++◌, length, map, All, HoldsAt, IfOk, IsTrue};
-ghost use Rattle.std.specs.Prelude.{OnOk, OnErr};
-ghost use Rattle.mail_terms.specs.UniqueId.{IsLegalId};
-ghost use Rattle.mail_terms.specs.Listing.{message_limit};
-ghost use Rattle.mail_terms.specs.IdPlaces.{AreAt};
+ghost use Rattle.std.specs.Prelude.{◌≡◌, ◌↔◌, ◌<◌, ◌≤◌, [], ◌∷◌, ◌++◌, length, map, All, HoldsAt, IfOk, IsTrue, OnOk};
+ghost use Rattle.std.specs.Prelude.{OnErr};
+ghost use Rattle.mail_terms.specs.{UniqueId.IsLegalId, Listing.message_limit, IdPlaces.AreAt};
 
 use crate::numbering::places_in_order;
 use std::alloc::{AllocError, AllocFailed, Global};
@@ -79,8 +77,7 @@ pub struct UidRows {
 
 impl Model for UidRows {
     ghost use Rattle.std.specs.Prelude.{List, map};
-    ghost use Rattle.mail_terms.specs.Listing.{UidRow};
-    ghost use Rattle.mail_terms.specs.IdPlaces.{row_at, HoldRows};
+    ghost use Rattle.mail_terms.specs.{Listing.UidRow, IdPlaces.{row_at, HoldRows}};
 
     ghost Value = { List UidRow };
 
@@ -141,8 +138,7 @@ pub struct Listing {
 
 impl Model for Listing {
     ghost use Rattle.std.specs.Prelude.{List, length, map, All, ◌≤◌};
-    ghost use Rattle.mail_terms.specs.Listing.{Item, message_limit};
-    ghost use Rattle.mail_terms.specs.IdPlaces.{item_at, IsIdAt};
+    ghost use Rattle.mail_terms.specs.{Listing.{Item, message_limit}, IdPlaces.{item_at, IsIdAt}};
 
     ghost Value = { List Item };
 

@@ -1,7 +1,6 @@
 //! Texts, whose lines end at LF.
 
-ghost use Rattle.std.specs.Prelude.{◌≡◌, ◌<◌, ◌≤◌, ◌∷◌, length};
-ghost use Rattle.std.specs.List.{after_first, before_first, position_or_len};
+ghost use Rattle.std.specs.{Prelude.{◌≡◌, ◌<◌, ◌≤◌, ◌∷◌, length}, List.{after_first, before_first, position_or_len}};
 ghost use Rattle.mail_terms.specs.Text.{is_line_feed, lines_of_text};
 
 use memchr::memchr;

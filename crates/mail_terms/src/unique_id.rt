@@ -1,7 +1,6 @@
 //! Unique-ids as a server may give them (RFC 1939, section 7, UIDL).
 
-ghost use Rattle.std.specs.Prelude.{◌≡◌, ◌↔◌, ℕ, List};
-ghost use Rattle.std.specs.List.{list_all};
+ghost use Rattle.std.specs.{Prelude.{◌≡◌, ◌↔◌, ℕ, List}, List.list_all};
 ghost use Rattle.mail_terms.specs.UniqueId.{is_id_byte, is_legal_id, IsLegalId, HasIdRanges};
 
 /// Whether all bytes are characters of a unique-id.

@@ -1,35 +1,35 @@
 -- How the parts of a turn make a turn, and turns make a conversation, and what holds of every conversation.
-use Rattle.pop3_wire.specs.{Link.Link, Reply.IsFirstLine, declared.reply.Status.Status, Commands.line_of, declared.note.Asked.Asked}
-use Rattle.std.proofs.Common.{Some, Option, true, ◌≡◌, inl, inr, ◌<◌, ◌≤◌, ◌+◌, ◌*◌, ℕ, false, List, [], ◌∷◌, ◌++◌}
-use Rattle.std.proofs.Common.{length, take, drop, None, Result, Ok, Err, refl, sym, ap, subst, ◌∙◌, arith, append_assoc}
-use Rattle.std.proofs.Common.{length-append, codes, append-nil, take_all, length-take, ◌≢◌, ◌⊎◌, IfOk, IfErr, rules}
-use Rattle.std.specs.List.{flat_map, AllZip, AllByRecursion}
-use Rattle.pop3_wire.specs.Line.{crlf, IsLine, ended}
-use Rattle.pop3_wire.specs.Reading.{WholeReply, reply_bytes, body_bytes, gives_body, IsUidLine, IsScanLine}
-use Rattle.pop3_wire.specs.Bodies.{Drew, Rest, LeavesRest}
-use Rattle.std.proofs.{lemmas.Bool.false≢true, lemmas.Grind.flat_map-append, lemmas.List.append_cancel_left}
-use Rattle.pop3_wire.specs.declared.reply.Status.TheVariants.{Positive, Negative}
-use Rattle.pop3_wire.specs.Place.{Place, at, GoesOn, Gains, HasLine, HasNoLine}
-use Rattle.pop3_client.specs.declared.fault.ClientFault.{ClientFault}
-use Rattle.pop3_client.specs.declared.fault.ClientFault.TheVariants.{ConnectionEnded, ReplyTooLong, ReadFailed}
-use Rattle.pop3_client.specs.declared.fault.ClientFault.TheVariants.{BadReply, Refused, TooMany, BadListing}
-use Rattle.pop3_client.specs.declared.fault.ClientFault.TheVariants.{ListingsDisagree, NoMemory}
-use Rattle.pop3_client.specs.Turns.{Turn, turn_bytes, Names, stat, Fits, IsBody, IsGood, line_limit, IsShort, most}
-use Rattle.pop3_client.specs.Turns.{asking, uidl, list, IsListingRow, AsksListing, LinesFit, text_limit, retr}
-use Rattle.pop3_client.specs.Causes.{Cause, BeginsPositive, FirstLine, IsPartOfListing, IsPartOfBody, HasRows, RowBehind}
-use Rattle.pop3_client.specs.Conversation.{NoLineCause, Opened, Talked, TakesRefusal, Heard, Broke, NotAnswered}
-use Rattle.pop3_client.specs.Conversation.{Stopped, Sent, GivesFew, AsksTurn, Completes, Talks, most_of, IsFrontOfNext}
-use Rattle.pop3_client.specs.Conversation.{Paced, ConversationsArePaced}
-use Rattle.pop3_wire.specs.declared.command.Command.TheVariants.{UidlAll, ListAll, Retr}
-use Rattle.std.proofs.lemmas.Slice.Zip.{AllZip-long, all_zipped_more}
-use Rattle.mail_terms.specs.Listing.{Item, Agree, Joins, message_limit, UidRow}
-use Rattle.mail_terms.specs.declared.listing.ScanRow.{ScanRow}
-use Rattle.pop3_wire.specs.Body.{dot, Body}
-use Rattle.pop3_client.specs.Listing.{Listed, GetsListing, ListsRows, RowsCause, NotTaken, TakesRows}
-use Rattle.pop3_wire.specs.declared.unstuffer.Spot.TheVariants.{Done}
-use Rattle.pop3_client.specs.Texts.{Fetched, Fetching}
-use Rattle.pop3_wire.proofs.BodiesLemmas.{drew_on}
-use Rattle.mail_terms.proofs.ListLemmas.{all_append}
+use Rattle.pop3_wire.{
+  specs.{Link.Link, Reply.IsFirstLine, Commands.line_of, Line.{crlf, IsLine, ended}, Bodies.{Drew, Rest, LeavesRest}, Body.{dot, Body}},
+  specs.declared.{reply.Status.{Status, TheVariants.{Positive, Negative}}, note.Asked.Asked, unstuffer.Spot.TheVariants.Done},
+  specs.declared.command.Command.TheVariants.{UidlAll, ListAll, Retr},
+  specs.Reading.{WholeReply, reply_bytes, body_bytes, gives_body, IsUidLine, IsScanLine},
+  specs.Place.{Place, at, GoesOn, Gains, HasLine, HasNoLine},
+  proofs.BodiesLemmas.drew_on,
+}
+use Rattle.std.{
+  proofs.Common.{Some, Option, true, ◌≡◌, inl, inr, ◌<◌, ◌≤◌, ◌+◌, ◌*◌, ℕ, false, List, [], ◌∷◌, ◌++◌, length, take, drop, None, Result},
+  proofs.Common.{Ok, Err, refl, sym, ap, subst, ◌∙◌, arith, append_assoc, length-append, codes, append-nil, take_all, length-take, ◌≢◌},
+  proofs.Common.{◌⊎◌, IfOk, IfErr, rules},
+  proofs.lemmas.{Bool.false≢true, Grind.flat_map-append, List.append_cancel_left, Slice.Zip.{AllZip-long, all_zipped_more}},
+  specs.List.{flat_map, AllZip, AllByRecursion},
+}
+use Rattle.pop3_client.specs.{
+  declared.fault.ClientFault.ClientFault,
+  declared.fault.ClientFault.TheVariants.{ConnectionEnded, ReplyTooLong, ReadFailed, BadReply, Refused, TooMany, BadListing, NoMemory},
+  declared.fault.ClientFault.TheVariants.ListingsDisagree,
+  Turns.{Turn, turn_bytes, Names, stat, Fits, IsBody, IsGood, line_limit, IsShort, most, asking, uidl, list, IsListingRow, AsksListing},
+  Turns.{LinesFit, text_limit, retr},
+  Causes.{Cause, BeginsPositive, FirstLine, IsPartOfListing, IsPartOfBody, HasRows, RowBehind},
+  Conversation.{NoLineCause, Opened, Talked, TakesRefusal, Heard, Broke, NotAnswered, Stopped, Sent, GivesFew, AsksTurn, Completes, Talks},
+  Conversation.{most_of, IsFrontOfNext, Paced, ConversationsArePaced},
+  Listing.{Listed, GetsListing, ListsRows, RowsCause, NotTaken, TakesRows},
+  Texts.{Fetched, Fetching},
+}
+use Rattle.mail_terms.{
+  specs.{Listing.{Item, Agree, Joins, message_limit, UidRow}, declared.listing.ScanRow.ScanRow},
+  proofs.ListLemmas.all_append,
+}
 
 -- ---- how many octets a reply has at most
 

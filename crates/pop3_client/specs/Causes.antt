@@ -1,19 +1,24 @@
 -- Why a reply isn't whole and good, by the octets of it that have come.
-use Rattle.std.specs.Prelude.{◌≡◌, ◌⊎◌, ◌<◌, ◌≤◌, ℕ, true, List, ◌++◌, length, take, Some, Ok, IsOk}
-use Rattle.std.specs.List.{flat_map, AllByRecursion}
-use Rattle.pop3_wire.specs.Line.{IsLine, ended}
-use Rattle.pop3_wire.specs.Body.{IsContent, HasNoBody}
-use Rattle.pop3_wire.specs.{Reply.IsFirstLine, Fields.number_and_size, Link.Link, Place.HasNoLine}
-use Rattle.pop3_wire.specs.declared.reply.Status.TheVariants.{Positive, Negative}
-use Rattle.pop3_wire.specs.declared.command.Command.TheVariants.{UidlAll, ListAll, Retr}
-use Rattle.pop3_client.specs.declared.fault.ClientFault.{ClientFault}
-use Rattle.pop3_client.specs.declared.fault.ClientFault.TheVariants.{ConnectionEnded, ReadFailed, WriteFailed}
-use Rattle.pop3_client.specs.declared.fault.ClientFault.TheVariants.{ReplyTooLong, BadReply}
-use Rattle.pop3_client.specs.declared.fault.ClientFault.TheVariants.{Refused, BadListing, ListingsDisagree, TooMany}
-use Rattle.pop3_client.specs.declared.fault.ClientFault.TheVariants.{TextTooLong, NoMemory}
+use Rattle.std.specs.{
+  Prelude.{◌≡◌, ◌⊎◌, ◌<◌, ◌≤◌, ℕ, true, List, ◌++◌, length, take, Some, Ok, IsOk},
+  List.{flat_map, AllByRecursion},
+}
+use Rattle.pop3_wire.specs.{
+  Line.{IsLine, ended},
+  Body.{IsContent, HasNoBody},
+  Reply.IsFirstLine,
+  Fields.number_and_size,
+  Link.Link,
+  Place.HasNoLine,
+  declared.{reply.Status.TheVariants.{Positive, Negative}, command.Command.TheVariants.{UidlAll, ListAll, Retr}},
+}
+use Rattle.pop3_client.specs.{
+  declared.fault.ClientFault.ClientFault,
+  declared.fault.ClientFault.TheVariants.{ConnectionEnded, ReadFailed, WriteFailed, ReplyTooLong, BadReply, Refused},
+  declared.fault.ClientFault.TheVariants.{BadListing, ListingsDisagree, TooMany, TextTooLong, NoMemory},
+  Turns.{Turn, Names, gives_count, retr, line_limit, text_limit, IsShort, AsksListing, IsListingRow},
+}
 use Rattle.mail_terms.specs.Listing.{message_limit}
-use Rattle.pop3_client.specs.Turns.{Turn, Names, gives_count, retr, line_limit, text_limit, IsShort, AsksListing}
-use Rattle.pop3_client.specs.Turns.{IsListingRow}
 
 -- the octets begin with a positive first line, and these follow it
 pub record BeginsPositive (bytes after : List ℕ) : Type 0 where

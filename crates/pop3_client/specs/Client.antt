@@ -1,10 +1,10 @@
 -- A client of a link: where it is, and what is known of its calls.
 use Rattle.std.specs.Prelude.{◌≡◌, Result}
-use Rattle.pop3_wire.specs.declared.wire.Wire.{Ghosts}
-use Rattle.pop3_wire.specs.Link.{Link, CountsRefusal, WhereSound}
-use Rattle.pop3_wire.specs.Place.{Place, at}
-use Rattle.pop3_client.specs.{declared.client.Client.Client, declared.fault.ClientFault.ClientFault}
-use Rattle.pop3_client.specs.Conversation.{is_link_refusal}
+use Rattle.pop3_wire.specs.{declared.wire.Wire.Ghosts, Link.{Link, CountsRefusal, WhereSound}, Place.{Place, at}}
+use Rattle.pop3_client.specs.{
+  declared.{client.Client.Client, fault.ClientFault.ClientFault},
+  Conversation.is_link_refusal,
+}
 
 -- the link, and the octets of it that wait to be used
 abbrev pub place_of : {W : Type 0} → Ghosts W → Client W → Place

@@ -1,22 +1,27 @@
 -- A conversation: turns and the replies to them, whole and in order, or the turn at which it stopped (RFC
 -- 1939, section 3).
-use Rattle.std.specs.Prelude.{◌≡◌, ◌⊎◌, ◌+◌, ◌<◌, ◌≤◌, ℕ, Bool, true, false, List, []}
-use Rattle.std.specs.Prelude.{◌∷◌, ◌++◌, length, take, None, Some, Result, Ok, Err, IsOk}
-use Rattle.std.specs.List.{flat_map, AllZip}
-use Rattle.pop3_wire.specs.Line.{IsLine, ended}
-use Rattle.pop3_wire.specs.{Reply.IsFirstLine, Fields.number_and_size, Link.Link}
-use Rattle.pop3_wire.specs.Reading.{WholeReply, GivesCount, reply_bytes}
-use Rattle.pop3_wire.specs.declared.reply.Status.TheVariants.{Positive, Negative}
-use Rattle.pop3_wire.specs.declared.command.Command.TheVariants.{Retr, Dele}
-use Rattle.pop3_wire.specs.Place.{Place, GoesOn, Gains, HasLine}
-use Rattle.pop3_client.specs.declared.fault.ClientFault.{ClientFault}
-use Rattle.pop3_client.specs.declared.fault.ClientFault.TheVariants.{ConnectionEnded, ReadFailed, WriteFailed}
-use Rattle.pop3_client.specs.declared.fault.ClientFault.TheVariants.{ReplyTooLong}
-use Rattle.pop3_client.specs.declared.fault.ClientFault.TheVariants.{BadReply, Refused, TooMany, NoMemory}
-use Rattle.pop3_client.specs.Turns.{Turn, turn_bytes, asking, greeting, user, pass, stat}
-use Rattle.pop3_client.specs.Turns.{rset, quit, line_limit, IsShort, most, Fits, IsGood}
+use Rattle.std.specs.{
+  Prelude.{◌≡◌, ◌⊎◌, ◌+◌, ◌<◌, ◌≤◌, ℕ, Bool, true, false, List, [], ◌∷◌, ◌++◌, length, take, None, Some, Result, Ok},
+  Prelude.{Err, IsOk},
+  List.{flat_map, AllZip},
+}
+use Rattle.pop3_wire.specs.{
+  Line.{IsLine, ended},
+  Reply.IsFirstLine,
+  Fields.number_and_size,
+  Link.Link,
+  Reading.{WholeReply, GivesCount, reply_bytes},
+  declared.{reply.Status.TheVariants.{Positive, Negative}, command.Command.TheVariants.{Retr, Dele}},
+  Place.{Place, GoesOn, Gains, HasLine},
+}
+use Rattle.pop3_client.specs.{
+  declared.fault.ClientFault.ClientFault,
+  declared.fault.ClientFault.TheVariants.{ConnectionEnded, ReadFailed, WriteFailed, ReplyTooLong, BadReply, Refused},
+  declared.fault.ClientFault.TheVariants.{TooMany, NoMemory},
+  Turns.{Turn, turn_bytes, asking, greeting, user, pass, stat, rset, quit, line_limit, IsShort, most, Fits, IsGood},
+  Causes.{IsPartOfLine, IsOverlong, Cause},
+}
 use Rattle.mail_terms.specs.Listing.{message_limit}
-use Rattle.pop3_client.specs.Causes.{IsPartOfLine, IsOverlong, Cause}
 
 -- these turns were sent, and each was answered by its reply, whole and good, in order; that no turn is sent
 -- before the reply to the one before it is stated by `Stopped`

@@ -1,18 +1,24 @@
 -- The rows of listings, and how two listings are joined with STAT's count (RFC 1939, sections 5 and 7).
-use Rattle.std.specs.Prelude.{◌≡◌, ◌⊎◌, ◌<◌, ℕ, true, List, [], ◌∷◌, ◌++◌, Result, Ok, Err}
-use Rattle.std.specs.List.{AllByRecursion, AllZip}
-use Rattle.pop3_wire.specs.Body.{IsContent, body_of}
-use Rattle.pop3_wire.specs.Reading.{WholeReply, IsUidLine, IsScanLine, HasListing}
-use Rattle.pop3_wire.specs.{Link.Link, Bodies.Drew}
-use Rattle.pop3_wire.specs.Place.{Place, GoesOn}
-use Rattle.mail_terms.specs.Listing.{Item, Agree, Joins, message_limit, UidRow}
-use Rattle.mail_terms.specs.declared.listing.ScanRow.{ScanRow}
-use Rattle.pop3_client.specs.declared.fault.ClientFault.{ClientFault}
-use Rattle.pop3_client.specs.declared.fault.ClientFault.TheVariants.{ConnectionEnded, ReadFailed, ReplyTooLong}
-use Rattle.pop3_client.specs.declared.fault.ClientFault.TheVariants.{BadListing, ListingsDisagree, TooMany, NoMemory}
-use Rattle.pop3_client.specs.Turns.{Turn, uidl, list, IsListingRow, LinesFit}
-use Rattle.pop3_client.specs.Causes.{IsPartOfListing, HasRows, IsOverlong, RowBehind}
-use Rattle.pop3_client.specs.Conversation.{Talked, Stopped, Broke}
+use Rattle.std.specs.{
+  Prelude.{◌≡◌, ◌⊎◌, ◌<◌, ℕ, true, List, [], ◌∷◌, ◌++◌, Result, Ok, Err},
+  List.{AllByRecursion, AllZip},
+}
+use Rattle.pop3_wire.specs.{
+  Body.{IsContent, body_of},
+  Reading.{WholeReply, IsUidLine, IsScanLine, HasListing},
+  Link.Link,
+  Bodies.Drew,
+  Place.{Place, GoesOn},
+}
+use Rattle.mail_terms.specs.{Listing.{Item, Agree, Joins, message_limit, UidRow}, declared.listing.ScanRow.ScanRow}
+use Rattle.pop3_client.specs.{
+  declared.fault.ClientFault.ClientFault,
+  declared.fault.ClientFault.TheVariants.{ConnectionEnded, ReadFailed, ReplyTooLong, BadListing, ListingsDisagree},
+  declared.fault.ClientFault.TheVariants.{TooMany, NoMemory},
+  Turns.{Turn, uidl, list, IsListingRow, LinesFit},
+  Causes.{IsPartOfListing, HasRows, IsOverlong, RowBehind},
+  Conversation.{Talked, Stopped, Broke},
+}
 
 -- both listings were asked for and taken, whole
 pub record Listed (old new : Place) (uids : List UidRow) (sizes : List ScanRow) : Type 0 where

@@ -1,12 +1,18 @@
 -- The text of a message, piece by piece.
 use Rattle.std.specs.Prelude.{◌≡◌, ◌≢◌, ◌≤◌, ◌<◌, ◌↔◌, ◌+◌, ℕ, List, [], ◌∷◌, ◌++◌, length, take, Option, None, Some}
 use Rattle.std.specs.Prelude.{Result, Ok, Err, IsTrue}
-use Rattle.pop3_wire.specs.{Body.text_of, Place.Place, Reading.WholeReply, declared.body_reader.Piece.Piece}
-use Rattle.pop3_wire.specs.Bodies.{Rest, UnderWay}
-use Rattle.pop3_wire.specs.declared.unstuffer.Spot.TheVariants.{Done}
-use Rattle.pop3_client.specs.declared.fault.ClientFault.{ClientFault}
-use Rattle.pop3_client.specs.Turns.{Turn, text_limit}
-use Rattle.pop3_client.specs.Conversation.{Talked, Opened, Broke, NotAnswered}
+use Rattle.pop3_wire.specs.{
+  Body.text_of,
+  Place.Place,
+  Reading.WholeReply,
+  declared.{body_reader.Piece.Piece, unstuffer.Spot.TheVariants.Done},
+  Bodies.{Rest, UnderWay},
+}
+use Rattle.pop3_client.specs.{
+  declared.fault.ClientFault.ClientFault,
+  Turns.{Turn, text_limit},
+  Conversation.{Talked, Opened, Broke, NotAnswered},
+}
 
 -- the text that a reply's body carries
 abbrev pub body_text : Option (List (List ℕ)) → List ℕ

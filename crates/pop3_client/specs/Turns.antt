@@ -1,20 +1,23 @@
 -- The turns of a conversation, and the replies that let it go on (RFC 1939, section 3).
 use Rattle.mail_terms.specs.Listing.{message_limit}
-use Rattle.std.specs.Prelude.{◌≡◌, ◌⊎◌, ◌+◌, ◌*◌, ◌≤◌, ℕ, Bool, true, false, List, [], length, Option, None, Some, Ok}
-use Rattle.std.specs.Prelude.{IsOk}
-use Rattle.std.specs.List.{flat_map, AllByRecursion}
-use Rattle.pop3_wire.specs.Line.{IsLine, ended}
-use Rattle.pop3_wire.specs.Body.{IsContent, unstuffed, body_of}
-use Rattle.pop3_wire.specs.{Reply.IsFirstLine, declared.reply.Status.TheVariants.Positive, Commands.line_of}
-use Rattle.pop3_wire.specs.Reading.{WholeReply, gives_body}
-use Rattle.pop3_wire.specs.Fields.{number_and_size, number_and_id}
-use Rattle.pop3_wire.specs.{declared.command.Command.Command, declared.note.Asked.Asked}
-use Rattle.pop3_wire.specs.declared.command.Command.TheVariants.{User, Pass, Stat, UidlAll, ListAll, Retr, Dele, Rset}
-use Rattle.pop3_wire.specs.declared.command.Command.TheVariants.{Quit}
-use Rattle.pop3_wire.specs.declared.note.Asked.TheVariants.{Greeting as ByGreeting, User as ByUser, Pass as ByPass}
-use Rattle.pop3_wire.specs.declared.note.Asked.TheVariants.{Stat as ByStat, Uidl as ByUidl, Retr as ByRetr}
-use Rattle.pop3_wire.specs.declared.note.Asked.TheVariants.{Dele as ByDele}
-use Rattle.pop3_wire.specs.declared.note.Asked.TheVariants.{Rset as ByRset, Quit as ByQuit, List as ByList}
+use Rattle.std.specs.{
+  Prelude.{◌≡◌, ◌⊎◌, ◌+◌, ◌*◌, ◌≤◌, ℕ, Bool, true, false, List, [], length, Option, None, Some, Ok, IsOk},
+  List.{flat_map, AllByRecursion},
+}
+use Rattle.pop3_wire.specs.{
+  Line.{IsLine, ended},
+  Body.{IsContent, unstuffed, body_of},
+  Reply.IsFirstLine,
+  declared.reply.Status.TheVariants.Positive,
+  declared.command.Command.{Command, TheVariants.{User, Pass, Stat, UidlAll, ListAll, Retr, Dele, Rset, Quit}},
+  declared.note.Asked.Asked,
+  declared.note.Asked.TheVariants.{Greeting as ByGreeting, User as ByUser, Pass as ByPass, Stat as ByStat},
+  declared.note.Asked.TheVariants.{Uidl as ByUidl, Retr as ByRetr, Dele as ByDele, Rset as ByRset, Quit as ByQuit},
+  declared.note.Asked.TheVariants.List as ByList,
+  Commands.line_of,
+  Reading.{WholeReply, gives_body},
+  Fields.{number_and_size, number_and_id},
+}
 
 -- a turn: the command that is sent, or none for the greeting
 abbrev pub Turn : Type 0

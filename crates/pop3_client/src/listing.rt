@@ -1,9 +1,10 @@
 //! The listings of unique-ids and of sizes (RFC 1939, sections 5 and 7).
 ghost use Rattle.std.specs.Prelude.{◌≡◌, ◌≤◌, ◌⊎◌, All, IfOk, IfErr};
-ghost use Rattle.mail_terms.specs.Listing.{Agree, Joins, message_limit};
-ghost use Rattle.mail_terms.specs.UniqueId.{IsLegalId};
-ghost use Rattle.pop3_client.specs.Client.{HasSameLink, CountsRefusals, WhereLinkSound};
-ghost use Rattle.pop3_client.specs.Listing.{rows_taken, TakesRows, ListsRows, GetsListing};
+ghost use Rattle.mail_terms.specs.{Listing.{Agree, Joins, message_limit}, UniqueId.IsLegalId};
+ghost use Rattle.pop3_client.specs.{
+  Client.{HasSameLink, CountsRefusals, WhereLinkSound},
+  Listing.{rows_taken, TakesRows, ListsRows, GetsListing},
+};
 
 use crate::client::Client;
 use crate::fault::ClientFault;

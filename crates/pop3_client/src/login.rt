@@ -1,8 +1,7 @@
 //! The beginning of a session: the greeting, the user and the password.
 ghost use Rattle.std.specs.Prelude.{◌≡◌, true};
 ghost use Rattle.mail_terms.specs.Credential.{is_credential};
-ghost use Rattle.pop3_client.specs.Client.{HasSameLink, CountsRefusals, WhereLinkSound};
-ghost use Rattle.pop3_client.specs.Conversation.{login, Talks};
+ghost use Rattle.pop3_client.specs.{Client.{HasSameLink, CountsRefusals, WhereLinkSound}, Conversation.{login, Talks}};
 
 use crate::client::Client;
 use crate::fault::ClientFault;

@@ -1,8 +1,9 @@
 //! The rows of a listing: UIDL's give unique-ids, LIST's sizes (RFC 1939, sections 5 and 7).
-ghost use Rattle.std.specs.Prelude.{◌≡◌, ◌⊎◌, ◌<◌, ◌++◌, [], ◌∷◌, ℕ, List, length, IfOk, IfErr};
-ghost use Rattle.std.proofs.Common.{inl, inr, refl, ap, is_ok};
-ghost use Rattle.mail_terms.specs.Listing.{UidRow, message_limit};
-ghost use Rattle.mail_terms.specs.declared.listing.ScanRow.{ScanRow as SizeRow};
+ghost use Rattle.std.{
+  specs.Prelude.{◌≡◌, ◌⊎◌, ◌<◌, ◌++◌, [], ◌∷◌, ℕ, List, length, IfOk, IfErr},
+  proofs.Common.{inl, inr, refl, ap, is_ok},
+};
+ghost use Rattle.mail_terms.specs.{Listing.{UidRow, message_limit}, declared.listing.ScanRow.ScanRow as SizeRow};
 ghost use Rattle.pop3_wire.specs.Reading.{IsScanLine, IsUidLine};
 ghost use Rattle.pop3_client.specs.Turns.{Turn, AsksListing, IsListingRow, Names, list, turn_bytes, uidl};
 

@@ -1,7 +1,9 @@
 //! The last turns of a session that was cut.
-ghost use Rattle.pop3_client.specs.Client.{HasSameLink, CountsRefusals, WhereLinkSound};
-ghost use Rattle.pop3_client.specs.Turns.{rset};
-ghost use Rattle.pop3_client.specs.Conversation.{Completes, Talks, undoing};
+ghost use Rattle.pop3_client.specs.{
+  Client.{HasSameLink, CountsRefusals, WhereLinkSound},
+  Turns.rset,
+  Conversation.{Completes, Talks, undoing},
+};
 
 use crate::client::Client;
 use crate::fault::ClientFault;

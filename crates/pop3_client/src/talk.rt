@@ -1,13 +1,13 @@
 //! One turn of a conversation: a command is sent, and the first line of its reply is read
 //! (RFC 1939, section 3).
 ghost use Rattle.std.specs.Prelude.{◌≡◌, ◌≤◌, true, false, ℕ, List, take, Some, IfOk, IfErr};
-ghost use Rattle.pop3_wire.specs.Commands.{can_be_sent};
-ghost use Rattle.pop3_wire.specs.Place.{Gains, HasLine};
-ghost use Rattle.pop3_wire.specs.Reply.{IsFirstLine};
-ghost use Rattle.pop3_client.specs.Client.{HasSameLink, CountsRefusals, WhereLinkSound, link_of};
+ghost use Rattle.pop3_wire.specs.{Commands.can_be_sent, Place.{Gains, HasLine}, Reply.IsFirstLine};
+ghost use Rattle.pop3_client.specs.{
+  Client.{HasSameLink, CountsRefusals, WhereLinkSound, link_of},
+  Turns.{Turn, Names, turn_bytes, gives_count, greeting, dele, quit, line_limit},
+  Conversation.{Waits, Heard, Sent, AsksTurn, CountsMessages, Completes, GivesFew},
+};
 ghost use Rattle.mail_terms.specs.Listing.{message_limit};
-ghost use Rattle.pop3_client.specs.Turns.{Turn, Names, turn_bytes, gives_count, greeting, dele, quit, line_limit};
-ghost use Rattle.pop3_client.specs.Conversation.{Waits, Heard, Sent, AsksTurn, CountsMessages, Completes, GivesFew};
 
 use crate::client::Client;
 use crate::fault::ClientFault;

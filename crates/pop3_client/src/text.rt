@@ -1,10 +1,11 @@
 //! The text of a message.
 ghost use Rattle.std.specs.Prelude.{◌≡◌, ◌≢◌, ◌≤◌, ℕ, List, Ok, IfOk, OnOk, IfErr};
-ghost use Rattle.pop3_wire.specs.declared.unstuffer.Spot.TheVariants.{Done};
-ghost use Rattle.pop3_wire.specs.Place.{Place};
-ghost use Rattle.pop3_client.specs.Client.{HasSameLink, CountsRefusals, WhereLinkSound, place_of};
-ghost use Rattle.pop3_client.specs.Turns.{retr, text_limit};
-ghost use Rattle.pop3_client.specs.Texts.{Fetching, OpensText, TookPiece, FetchesPiece, TakesRest};
+ghost use Rattle.pop3_wire.specs.{declared.unstuffer.Spot.TheVariants.Done, Place.Place};
+ghost use Rattle.pop3_client.specs.{
+  Client.{HasSameLink, CountsRefusals, WhereLinkSound, place_of},
+  Turns.{retr, text_limit},
+  Texts.{Fetching, OpensText, TookPiece, FetchesPiece, TakesRest},
+};
 
 use crate::client::Client;
 use crate::fault::ClientFault;

@@ -1,40 +1,33 @@
 -- The server's conversations are honest: how its rows follow the messages and their marks, and what each answer says.
-use Rattle.std.proofs.Common.{length-append, ◌≡◌, ◌⊎◌, inl, inr, ◌<◌, ◌≤◌, ◌+◌, ◌-◌, ◌*◌, ◌^◌, ℕ, zero, suc, Bool, true}
-use Rattle.std.proofs.Common.{false, cond, List, [], ◌∷◌, ◌++◌, map, length, refl, sym, ap, subst, ◌∙◌, arith}
-use Rattle.std.proofs.Common.{append_assoc, Some, None, codes, not, slice_get, slice_set, decimal, length-append}
-use Rattle.std.proofs.Common.{Option, Ok, bytes_eq, ◌&&◌, ap₂}
-use Rattle.std.specs.List.{flat_map, All, AllByRecursion, AllZip, count_by, enumerate_from}
-use Rattle.std.proofs.lemmas.Bool.{cond-true, cond-false, false≢true}
-use Rattle.std.proofs.lemmas.List.{length-map, append-nil, length-set}
-use Rattle.std.proofs.lemmas.List.Folds.{list_all-append, flat_map-map}
-use Rattle.std.proofs.{lemmas.Bool.Decides.eqb_tells, lemmas.List.Elements.recursion_from_All, lemmas.List.Sorted.IsPermutation-refl}
-use Rattle.std.proofs.lemmas.List.Sums.{sum_by-cons, count_by-le-length}
-use Rattle.pop3_wire.specs.{declared.command.Command.Command, Rows.scan_row, CommandLine.HasNumbers, Stuffed.stuffed_lines}
-use Rattle.pop3_wire.specs.declared.reply.Status.TheVariants.{Positive, Negative}
-use Rattle.pop3_wire.specs.Line.{crlf, ended, HoldsNoLf, IsLine}
-use Rattle.pop3_wire.specs.Body.{dot, IsContent, unstuffed}
-use Rattle.pop3_wire.specs.Fields.{number_and_size, number_and_id}
-use Rattle.pop3_wire.specs.World.{Message, IsMessage}
-use Rattle.pop3_wire.specs.Honest.{SaysAnything, IsScanRow, IsUidRow, ListsAll, Reply, no_marks, Honest, Grants, Replies}
-use Rattle.pop3_server.specs.{declared.rows.MessageRow.MessageRow, declared.state.State.State, AnswersLines.AnswersLines}
-use Rattle.pop3_server.proofs.RemovalLemmas.{few_left, none_gone, left_by_quit}
-use Rattle.pop3_server.proofs.RowLemmas.{row_with, rows_with}
-use Rattle.pop3_server.specs.Maildrop.{max_count, max_size, DropMail, there}
-use Rattle.pop3_server.specs.ServerMachine.{said, is_unmarked, left_count, left_size, left_total, unless_marked}
-use Rattle.pop3_server.specs.ServerMachine.{row_numbered, mark_at, unmarked, message_row, scan_line, uid_line}
-use Rattle.pop3_server.specs.ServerMachine.{lines_from, listed, IsSmall, KeepLimits, Machine, Action, Say, Open, Give}
-use Rattle.pop3_server.specs.ServerMachine.{Leave, DoesAction, action_of, is_open, octets_line, in_authorization}
-use Rattle.pop3_server.specs.ServerMachine.{in_transaction, greeting_line}
-use Rattle.pop3_server.specs.HonestServer.{AreLeftByQuit, IsClosedByQuit, IsOfSession, IsAsked, command_lines, ConversesHonestly, Gone}
-use Rattle.pop3_wire.specs.declared.command.Command.TheVariants.{User, Pass, Stat, UidlAll, ListAll, Retr, Dele, Rset, Noop, Quit}
-use Rattle.pop3_wire.specs.Commands.{line_of, can_be_sent}
+use Rattle.std.{
+  proofs.Common.{length-append, ◌≡◌, ◌⊎◌, inl, inr, ◌<◌, ◌≤◌, ◌+◌, ◌-◌, ◌*◌, ◌^◌, ℕ, zero, suc, Bool, true, false, cond, List, [], ◌∷◌, ap},
+  proofs.Common.{◌++◌, map, length, refl, sym, subst, ◌∙◌, arith, append_assoc, Some, None, codes, not, slice_get, slice_set, decimal, Ok},
+  proofs.Common.{Option, bytes_eq, ◌&&◌, ap₂},
+  proofs.lemmas.Bool.{cond-true, cond-false, false≢true, Decides.eqb_tells},
+  proofs.lemmas.List.{length-map, append-nil, length-set, Folds.{list_all-append, flat_map-map}, Elements.recursion_from_All},
+  proofs.lemmas.List.{Sorted.IsPermutation-refl, Sums.{sum_by-cons, count_by-le-length}},
+  specs.List.{flat_map, All, AllByRecursion, AllZip, count_by, enumerate_from},
+}
+use Rattle.pop3_wire.{
+  specs.declared.command.Command.{Command, TheVariants.{User, Pass, Stat, UidlAll, ListAll, Retr, Dele, Rset, Noop, Quit}},
+  specs.declared.reply.Status.TheVariants.{Positive, Negative},
+  specs.{Rows.scan_row, CommandLine.HasNumbers, Stuffed.stuffed_lines, Line.{crlf, ended, HoldsNoLf, IsLine}, World.{Message, IsMessage}},
+  specs.{Body.{dot, IsContent, unstuffed}, Fields.{number_and_size, number_and_id}, Commands.{line_of, can_be_sent}},
+  specs.Honest.{SaysAnything, IsScanRow, IsUidRow, ListsAll, Reply, no_marks, Honest, Grants, Replies},
+  proofs.RowsLemmas.{first_lines_are_read, is_line, no_lf_decimal, round_trip, scan_fields, scan_rows_are_read, uid_fields},
+  proofs.RowsLemmas.uid_rows_are_read,
+  proofs.BodyLemmas.{one_line, stuffed_is_body},
+}
+use Rattle.pop3_server.{
+  specs.declared.{rows.MessageRow.MessageRow, state.State.{State, TheVariants.{Authorization, Transaction, Closed}}},
+  specs.{AnswersLines.AnswersLines, Maildrop.{max_count, max_size, DropMail, there}, HonestLoop.GivesHonest},
+  specs.ServerMachine.{said, is_unmarked, left_count, left_size, left_total, unless_marked, row_numbered, mark_at, unmarked, message_row},
+  specs.ServerMachine.{scan_line, uid_line, lines_from, listed, IsSmall, KeepLimits, Machine, Action, Say, Open, Give, Leave, DoesAction},
+  specs.ServerMachine.{action_of, is_open, octets_line, in_authorization, in_transaction, greeting_line},
+  specs.HonestServer.{AreLeftByQuit, IsClosedByQuit, IsOfSession, IsAsked, command_lines, ConversesHonestly, Gone},
+  proofs.{RemovalLemmas.{few_left, none_gone, left_by_quit}, RowLemmas.{row_with, rows_with}, SlotLemmas.there_map},
+}
 use Rattle.mail_terms.specs.Text.{lines_of_text, IsWhole, whole_text}
-use Rattle.pop3_server.specs.declared.state.State.TheVariants.{Authorization, Transaction, Closed}
-use Rattle.pop3_server.proofs.SlotLemmas.{there_map}
-use Rattle.pop3_server.specs.HonestLoop.{GivesHonest}
-use Rattle.pop3_wire.proofs.RowsLemmas.{first_lines_are_read, is_line, no_lf_decimal, round_trip, scan_fields}
-use Rattle.pop3_wire.proofs.RowsLemmas.{scan_rows_are_read, uid_fields, uid_rows_are_read}
-use Rattle.pop3_wire.proofs.BodyLemmas.{one_line, stuffed_is_body}
 
 -- ---- messages that PASS listed
 

@@ -1,19 +1,26 @@
 -- Only QUIT closes a server.
-use Rattle.std.proofs.Common.{◌≡◌, ℕ, Bool, true, false, List, [], ◌∷◌, ◌++◌, Option, Some, None, Result, Ok, Err, refl}
-use Rattle.std.proofs.Common.{sym, ap, ◌∙◌, inl, inr, append_assoc, not, cond, bytes_eq, ◌&&◌}
-use Rattle.std.proofs.{lemmas.Bool.false≢true, lemmas.Grind.flat_map-append}
-use Rattle.std.specs.List.{flat_map, AllByRecursion}
-use Rattle.pop3_wire.specs.{declared.command.Command.Command, declared.fault.WireFault.WireFault, CommandLine.command_of}
-use Rattle.pop3_wire.specs.declared.command.Command.TheVariants.{User, Pass, Stat, UidlAll, UidlOne, ListAll, ListOne}
-use Rattle.pop3_wire.specs.declared.command.Command.TheVariants.{Retr, Dele, Rset, Noop, Top, Quit}
-use Rattle.pop3_wire.specs.Line.{IsLine, ended}
-use Rattle.pop3_server.specs.{declared.fault.ServerFault.ServerFault, declared.rows.MessageRow.MessageRow, declared.state.State.State}
-use Rattle.pop3_server.specs.declared.fault.ServerFault.TheVariants.{ReadFailed, WriteFailed, MaildropFailed, NoMemory}
-use Rattle.pop3_server.specs.declared.state.State.TheVariants.{Authorization, Transaction, Closed}
-use Rattle.pop3_server.specs.{declared.text_part.TextBody.TextBody, Maildrop.DropMail, Serving.WentOut, Quitting.OnlyQuitCloses}
-use Rattle.pop3_server.specs.ServerMachine.{Action, Say, Open, Give, Leave, DoesAction, Machine, action_of, dele_action}
-use Rattle.pop3_server.specs.ServerMachine.{give, in_authorization, in_transaction, is_open, row_numbered}
-use Rattle.pop3_server.specs.AnswersLines.{AnswersLines, MakesAnswer}
+use Rattle.std.{
+  proofs.Common.{◌≡◌, ℕ, Bool, true, false, List, [], ◌∷◌, ◌++◌, Option, Some, None, Result, Ok, Err, refl, sym, ap, ◌∙◌, inl, inr, not},
+  proofs.Common.{append_assoc, cond, bytes_eq, ◌&&◌},
+  proofs.lemmas.{Bool.false≢true, Grind.flat_map-append},
+  specs.List.{flat_map, AllByRecursion},
+}
+use Rattle.pop3_wire.specs.{
+  declared.command.Command.{Command, TheVariants.{User, Pass, Stat, UidlAll, UidlOne, ListAll, ListOne, Retr, Dele, Rset, Noop, Top, Quit}},
+  declared.fault.WireFault.WireFault,
+  CommandLine.command_of,
+  Line.{IsLine, ended},
+}
+use Rattle.pop3_server.specs.{
+  declared.{fault.ServerFault.{ServerFault, TheVariants.{ReadFailed, WriteFailed, MaildropFailed, NoMemory}}, rows.MessageRow.MessageRow},
+  declared.{state.State.{State, TheVariants.{Authorization, Transaction, Closed}}, text_part.TextBody.TextBody},
+  Maildrop.DropMail,
+  Serving.WentOut,
+  Quitting.OnlyQuitCloses,
+  ServerMachine.{Action, Say, Open, Give, Leave, DoesAction, Machine, action_of, dele_action, give, in_authorization, in_transaction},
+  ServerMachine.{is_open, row_numbered},
+  AnswersLines.{AnswersLines, MakesAnswer},
+}
 
 -- the action may lead to the end
 abbrev closes : Action → Bool

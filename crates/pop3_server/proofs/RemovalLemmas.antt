@@ -1,14 +1,15 @@
 -- Removals, and what is left.
-use Rattle.std.proofs.Common.{◌≡◌, ◌⊎◌, ℕ, zero, suc, ◌+◌, ◌<◌, ◌≤◌, Bool, true, false, List, [], ◌∷◌, ◌++◌, map}
-use Rattle.std.proofs.Common.{Option, Some, None, slice_get, slice_set, refl, sym, ◌∙◌, ap, inl, inr, arith}
-use Rattle.std.proofs.Common.{if◌then◌else◌, length, append_assoc, length-append}
-use Rattle.std.proofs.{lemmas.Bool.false≢true, lemmas.List.set_at}
+use Rattle.std.proofs.{
+  Common.{◌≡◌, ◌⊎◌, ℕ, zero, suc, ◌+◌, ◌<◌, ◌≤◌, Bool, true, false, List, [], ◌∷◌, ◌++◌, map, Option, Some, None, slice_get, slice_set, ap},
+  Common.{refl, sym, ◌∙◌, inl, inr, arith, if◌then◌else◌, length, append_assoc, length-append},
+  lemmas.{Bool.false≢true, List.set_at},
+}
 use Rattle.pop3_wire.specs.World.{Message}
-use Rattle.pop3_server.specs.{declared.rows.MessageRow.MessageRow, HonestServer.AreLeftByQuit}
-use Rattle.pop3_server.specs.Maildrop.{DropMail, HasPlace, there}
-use Rattle.pop3_server.specs.ServerMachine.{Tries, Empties, none, stays, goes}
-use Rattle.pop3_server.specs.Removal.{holds_message, left_marked}
-use Rattle.pop3_server.proofs.RowLemmas.{rows_with}
+use Rattle.pop3_server.{
+  specs.{declared.rows.MessageRow.MessageRow, HonestServer.AreLeftByQuit, Maildrop.{DropMail, HasPlace, there}},
+  specs.{ServerMachine.{Tries, Empties, none, stays, goes}, Removal.{holds_message, left_marked}},
+  proofs.RowLemmas.rows_with,
+}
 
 slot_removed : (slots : List (Option Message)) (i : ℕ) → holds_message (slice_get (slice_set slots i None) i) ≡ false
 slot_removed [] i = refl

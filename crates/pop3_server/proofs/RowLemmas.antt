@@ -1,11 +1,14 @@
 -- Rows, marked and unmarked.
-use Rattle.std.proofs.Common.{◌≡◌, ℕ, zero, suc, ◌<◌, ◌≤◌, Bool, true, List, [], ◌∷◌, ◌++◌, map, length, get_or}
-use Rattle.std.proofs.Common.{slice_set, refl, ap, arith, All}
-use Rattle.pop3_server.specs.declared.rows.MessageRow.{MessageRow}
-use Rattle.std.proofs.lemmas.List.Elements.{All-push}
+use Rattle.std.proofs.{
+  Common.{◌≡◌, ℕ, zero, suc, ◌<◌, ◌≤◌, Bool, true, List, [], ◌∷◌, ◌++◌, map, length, get_or, slice_set, refl, ap, arith, All},
+  lemmas.List.Elements.All-push,
+}
+use Rattle.pop3_server.specs.{
+  declared.rows.MessageRow.MessageRow,
+  Maildrop.{listed_message, max_size},
+  ServerMachine.{with_mark, unmarked, mark_at, IsSmall, SamePlaces},
+}
 use Rattle.pop3_wire.specs.World.{Message}
-use Rattle.pop3_server.specs.Maildrop.{listed_message, max_size}
-use Rattle.pop3_server.specs.ServerMachine.{with_mark, unmarked, mark_at, IsSmall, SamePlaces}
 
 -- a row that is written back with its mark
 pub set_mark : (rows : List MessageRow) (i : ℕ) (row : MessageRow) → row ≡ get_or rows i row → i < length rows

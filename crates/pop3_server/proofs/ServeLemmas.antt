@@ -1,23 +1,26 @@
 -- How far a server that serves a link has come, and why it ends.
-use Rattle.pop3_wire.specs.{Link.Link, Bodies.Drew, declared.fault.WireFault.TheVariants.BadCommand, CommandLine.command_of}
-use Rattle.std.proofs.Common.{Bool, true, ◌⊎◌, Ok, ◌≡◌, ◌<◌, ◌≤◌, ◌+◌, ℕ, zero, suc, List, [], ◌∷◌, ◌++◌, length, take}
-use Rattle.std.proofs.Common.{drop, refl, sym, ap, subst, ◌∙◌, arith, append_assoc, length-append, length-take-le}
-use Rattle.std.proofs.Common.{take-append-drop, take_all, append-nil, length-drop, inl, inr, false, Option, Some}
-use Rattle.std.proofs.Common.{Result, Err, codes}
-use Rattle.std.proofs.lemmas.List.{nil_from_length, take-append-le}
-use Rattle.std.proofs.{Math.Seq.take-add, lemmas.Grind.flat_map-append}
-use Rattle.pop3_wire.specs.Line.{crlf, IsLine, ended}
-use Rattle.pop3_wire.specs.Place.{HasLine, HasNoLine}
-use Rattle.pop3_server.specs.{Got.Waiting, declared.fault.ServerFault.ServerFault, declared.text_part.TextBody.TextBody, Maildrop.DropMail}
-use Rattle.pop3_server.specs.Serving.{Hears, Queues, LastSent, SendsAnswer, ServedLines, WentOut}
-use Rattle.pop3_server.specs.declared.intake.NextLine.TheVariants.{LongLine, End, Line}
-use Rattle.std.specs.List.{flat_map, AllByRecursion}
-use Rattle.std.proofs.lemmas.Bool.{cond-true, lt-ltb}
-use Rattle.pop3_server.specs.declared.fault.ServerFault.TheVariants.{ReadFailed, WriteFailed, MaildropFailed, NoMemory}
-use Rattle.pop3_server.specs.ServerMachine.{Machine, greeting_line, said, is_open}
-use Rattle.pop3_server.specs.RunLaws.{lines_on, runs_on}
-use Rattle.pop3_server.specs.AnswersLines.{AnswersLines, AnswersLine, MakesAnswer}
-use Rattle.pop3_wire.proofs.BodyLemmas.{IsLine-front, IsLine-back}
+use Rattle.pop3_wire.{
+  specs.{Link.Link, Bodies.Drew, declared.fault.WireFault.TheVariants.BadCommand, CommandLine.command_of, Line.{crlf, IsLine, ended}},
+  specs.Place.{HasLine, HasNoLine},
+  proofs.BodyLemmas.{IsLine-front, IsLine-back},
+}
+use Rattle.std.{
+  proofs.Common.{Bool, true, ◌⊎◌, Ok, ◌≡◌, ◌<◌, ◌≤◌, ◌+◌, ℕ, zero, suc, List, [], ◌∷◌, ◌++◌, length, take, drop, refl, sym, ap, subst, ◌∙◌},
+  proofs.Common.{arith, append_assoc, length-append, length-take-le, take-append-drop, take_all, append-nil, length-drop, inl, inr, false},
+  proofs.Common.{Option, Some, Result, Err, codes},
+  proofs.{lemmas.{List.{nil_from_length, take-append-le}, Grind.flat_map-append, Bool.{cond-true, lt-ltb}}, Math.Seq.take-add},
+  specs.List.{flat_map, AllByRecursion},
+}
+use Rattle.pop3_server.specs.{
+  Got.Waiting,
+  declared.{fault.ServerFault.{ServerFault, TheVariants.{ReadFailed, WriteFailed, MaildropFailed, NoMemory}}, text_part.TextBody.TextBody},
+  declared.intake.NextLine.TheVariants.{LongLine, End, Line},
+  Maildrop.DropMail,
+  Serving.{Hears, Queues, LastSent, SendsAnswer, ServedLines, WentOut},
+  ServerMachine.{Machine, greeting_line, said, is_open},
+  RunLaws.{lines_on, runs_on},
+  AnswersLines.{AnswersLines, AnswersLine, MakesAnswer},
+}
 
 -- ---- octets that are dropped in pieces and make one line
 

@@ -1,14 +1,15 @@
 -- The size of a text by what its bytes add.
-use Rattle.std.proofs.Common.{◌≡◌, ◌==◌, ◌||◌, ℕ, ◌+◌, Bool, true, false, not, List, [], ◌∷◌, ◌++◌, length, refl, sym}
-use Rattle.std.proofs.Common.{◌∙◌, ap, arith, if◌then◌else◌}
-use Rattle.std.specs.List.{flat_map, sum_by, onto_first}
-use Rattle.std.proofs.lemmas.List.Sums.{sum_by-cons, sum_by-append}
+use Rattle.std.{
+  proofs.Common.{◌≡◌, ◌==◌, ◌||◌, ℕ, ◌+◌, Bool, true, false, not, List, [], ◌∷◌, ◌++◌, length, refl, sym, ◌∙◌, ap, arith, if◌then◌else◌},
+  proofs.lemmas.{List.Sums.{sum_by-cons, sum_by-append}, Bool.Decides.eqb_tells},
+  specs.List.{flat_map, sum_by, onto_first},
+}
 use Rattle.pop3_wire.specs.Line.{ended}
 use Rattle.mail_terms.specs.Text.{lines_of_text, HasNoLf}
-use Rattle.pop3_server.specs.{declared.size.SizeCount.SizeCount, TextPiece.is_open_after}
-use Rattle.std.proofs.lemmas.Bool.Decides.{eqb_tells}
-use Rattle.pop3_server.proofs.TextPieceLemmas.{open_append, open_rest}
-use Rattle.pop3_server.specs.Size.{size_of, weight, ends_open, capped, CountsText}
+use Rattle.pop3_server.{
+  specs.{declared.size.SizeCount.SizeCount, TextPiece.is_open_after, Size.{size_of, weight, ends_open, capped, CountsText}},
+  proofs.TextPieceLemmas.{open_append, open_rest},
+}
 
 -- a byte before some lines adds one octet, and an end of a line two
 size_more : (at_end other_end : Bool) (byte other : ℕ) (lines : List (List ℕ))

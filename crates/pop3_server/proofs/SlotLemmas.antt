@@ -1,13 +1,12 @@
 -- The messages at the places of a maildrop.
-use Rattle.std.proofs.Common.{◌≡◌, ℕ, zero, suc, ◌+◌, ◌<◌, ◌≤◌, List, [], ◌∷◌, ◌++◌, map, take, drop, length, get_or}
-use Rattle.std.proofs.Common.{Option, Some, None, slice_set, refl, sym, ◌∙◌, ap, subst, arith, inl, inr, is_some}
-use Rattle.std.proofs.Common.{Contains, filter, remove, ◌⊎◌, ◌≢◌, take-append-drop, drop-cons}
-use Rattle.std.proofs.lemmas.List.{take_more, map-append}
-use Rattle.std.proofs.lemmas.List.Elements.{Contains-append_right, Contains-get_or}
+use Rattle.std.proofs.{
+  Common.{◌≡◌, ℕ, zero, suc, ◌+◌, ◌<◌, ◌≤◌, List, [], ◌∷◌, ◌++◌, map, take, drop, length, get_or, Option, Some, None, slice_set, refl, sym},
+  Common.{◌∙◌, ap, subst, arith, inl, inr, is_some, Contains, filter, remove, ◌⊎◌, ◌≢◌, take-append-drop, drop-cons},
+  lemmas.List.{take_more, map-append, Elements.{Contains-append_right, Contains-get_or}, Quantifiers.{all_pairs_push, all_pairs_remove}},
+}
 use Rattle.mail_terms.specs.Distinct.{AreDistinct}
 use Rattle.pop3_wire.specs.World.{Message}
 use Rattle.pop3_server.specs.Maildrop.{there, ids}
-use Rattle.std.proofs.lemmas.List.Quantifiers.{all_pairs_push, all_pairs_remove}
 
 pub distinct_push : (xs : List (List ℕ)) (x : List ℕ) → AreDistinct xs → (Contains xs x → ⊥) → AreDistinct (xs ++ x ∷ [])
 distinct_push xs x distinct absent =

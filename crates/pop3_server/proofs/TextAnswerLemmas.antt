@@ -1,17 +1,17 @@
 -- Answers with a text, which are made and sent as the text is read.
-use Rattle.std.proofs.Common.{◌≡◌, ◌≤◌, ◌+◌, ℕ, Bool, true, false, List, [], ◌++◌, length, take, drop, Option, Some, Ok}
-use Rattle.std.proofs.Common.{refl, sym, ap, ap₂, ◌∙◌, append_assoc, inr, slice_get, length-append, length-take-le}
-use Rattle.std.proofs.Common.{take-append-drop, take-add}
-use Rattle.std.proofs.lemmas.List.{append-nil, append_cancel_left}
+use Rattle.std.proofs.{
+  Common.{◌≡◌, ◌≤◌, ◌+◌, ℕ, Bool, true, false, List, [], ◌++◌, length, take, drop, Option, Some, Ok, refl, sym, ap, ap₂, ◌∙◌, append_assoc},
+  Common.{inr, slice_get, length-append, length-take-le, take-append-drop, take-add},
+  lemmas.List.{append-nil, append_cancel_left},
+}
 use Rattle.pop3_wire.specs.World.{Message}
-use Rattle.pop3_server.specs.{declared.rows.MessageRow.MessageRow, declared.state.State.State, declared.state.State.TheVariants.Transaction}
-use Rattle.pop3_server.specs.declared.text_part.TextBody.{TextBody}
-use Rattle.pop3_server.specs.Maildrop.{GivesPart, HasPlace, DropMail, there}
-use Rattle.pop3_server.specs.ServerMachine.{Answers, Action, Give, Tied, text_body}
-use Rattle.pop3_server.specs.TextAnswer.{BeginsAnswer, BeginsTextAt, OnlyReads, after_call}
-use Rattle.pop3_server.specs.TextBody.{belonging, still}
-use Rattle.pop3_server.specs.TextPiece.{is_open_after, sent_end, sent_piece}
-use Rattle.pop3_server.proofs.TextBodyLemmas.{none_belongs, still_none, still_on}
+use Rattle.pop3_server.{
+  specs.declared.{rows.MessageRow.MessageRow, state.State.{State, TheVariants.Transaction}, text_part.TextBody.TextBody},
+  specs.{Maildrop.{GivesPart, HasPlace, DropMail, there}, ServerMachine.{Answers, Action, Give, Tied, text_body}},
+  specs.{TextAnswer.{BeginsAnswer, BeginsTextAt, OnlyReads, after_call}, TextBody.{belonging, still}},
+  specs.TextPiece.{is_open_after, sent_end, sent_piece},
+  proofs.TextBodyLemmas.{none_belongs, still_none, still_on},
+}
 
 -- ---- octets of a text
 

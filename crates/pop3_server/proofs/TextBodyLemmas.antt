@@ -1,11 +1,11 @@
 -- The body of a text, by several parts of the text.
 use Rattle.std.proofs.Common.{◌≡◌, ℕ, Bool, true, false, List, [], ◌++◌, Option, Some, None, refl, ap, ◌∙◌, append_assoc}
 use Rattle.pop3_wire.specs.Stuffed.{stuffed_lines}
-use Rattle.pop3_server.specs.{declared.text_part.TextBody.TextBody, declared.text_top.Top.Top, ServerMachine.text_body}
-use Rattle.pop3_server.specs.TextBody.{belonging, ended_body, still}
-use Rattle.pop3_server.specs.TextPiece.{is_open_after, sent_end, sent_piece, top_begun, top_octets}
-use Rattle.pop3_server.proofs.TextPieceLemmas.{open_append, sent_append, sent_whole}
-use Rattle.pop3_server.proofs.TextTopLemmas.{none_taken, lines_of_top}
+use Rattle.pop3_server.{
+  specs.{declared.{text_part.TextBody.TextBody, text_top.Top.Top}, ServerMachine.text_body, TextBody.{belonging, ended_body, still}},
+  specs.TextPiece.{is_open_after, sent_end, sent_piece, top_begun, top_octets},
+  proofs.{TextPieceLemmas.{open_append, sent_append, sent_whole}, TextTopLemmas.{none_taken, lines_of_top}},
+}
 
 -- if no octets come, none belong to it
 pub none_belongs : (top : Option Top) → belonging top [] ≡ []

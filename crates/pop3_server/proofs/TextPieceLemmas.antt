@@ -1,11 +1,11 @@
 -- Pieces of a text, split at their first LF.
-use Rattle.std.proofs.Common.{◌≡◌, ◌==◌, ◌≤◌, ◌||◌, ℕ, Bool, true, false, not, List, [], ◌∷◌, ◌++◌, length, refl}
-use Rattle.std.proofs.Common.{append_assoc, arith, if◌then◌else◌}
-use Rattle.std.specs.List.{flat_map, onto_first}
-use Rattle.std.proofs.lemmas.Bool.Decides.{eqb_tells, nat_tests}
+use Rattle.std.{
+  proofs.Common.{◌≡◌, ◌==◌, ◌≤◌, ◌||◌, ℕ, Bool, true, false, not, List, [], ◌∷◌, ◌++◌, length, refl, append_assoc, arith, if◌then◌else◌},
+  proofs.lemmas.Bool.Decides.{eqb_tells, nat_tests},
+  specs.List.{flat_map, onto_first},
+}
 use Rattle.mail_terms.specs.Text.{lines_of_text, HasNoLf}
-use Rattle.pop3_wire.specs.Line.{crlf, ended}
-use Rattle.pop3_wire.specs.Stuffed.{sent_line, stuffed_lines}
+use Rattle.pop3_wire.specs.{Line.{crlf, ended}, Stuffed.{sent_line, stuffed_lines}}
 use Rattle.pop3_server.specs.TextPiece.{is_open_after, sent_end, sent_piece, stuffing}
 
 -- two pieces in a row

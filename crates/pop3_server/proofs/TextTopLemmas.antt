@@ -1,9 +1,10 @@
 -- The top of a text, by its octets.
-use Rattle.std.proofs.Common.{◌≡◌, ◌==◌, ◌<◌, ◌-◌, ◌||◌, ℕ, zero, suc, Bool, true, false, not, List, [], ◌∷◌, ◌++◌}
-use Rattle.std.proofs.Common.{length, IsTrue, ◌↔◌, refl, sym, ap, ◌∙◌, arith, true≢false}
-use Rattle.std.specs.List.{onto_first}
-use Rattle.std.proofs.lemmas.Bool.{or_right}
-use Rattle.std.proofs.lemmas.Bool.Decides.{eqb_tells, nat_tests}
+use Rattle.std.{
+  proofs.Common.{◌≡◌, ◌==◌, ◌<◌, ◌-◌, ◌||◌, ℕ, zero, suc, Bool, true, false, not, List, [], ◌∷◌, ◌++◌, length, IsTrue, ◌↔◌, refl, sym, ap},
+  proofs.Common.{◌∙◌, arith, true≢false},
+  proofs.lemmas.Bool.{or_right, Decides.{eqb_tells, nat_tests}},
+  specs.List.onto_first,
+}
 use Rattle.mail_terms.specs.Text.{lines_of_text, HasNoLf}
 use Rattle.pop3_server.specs.{ServerMachine.top_from, TextPiece.top_octets}
 

@@ -1,9 +1,12 @@
 -- A server's answers to lines, in order.
 use Rattle.std.specs.Prelude.{IfSome, ◌≡◌, ℕ, true, List, [], ◌∷◌, ◌++◌, Option, None}
 use Rattle.pop3_wire.specs.CommandLine.{command_of}
-use Rattle.pop3_server.specs.{declared.text_part.TextBody.TextBody, Maildrop.DropMail}
-use Rattle.pop3_server.specs.ServerMachine.{Machine, Unanswered, action_of, is_open}
-use Rattle.pop3_server.specs.TextAnswer.{AnswersOrBegins, OnlyReads}
+use Rattle.pop3_server.specs.{
+  declared.text_part.TextBody.TextBody,
+  Maildrop.DropMail,
+  ServerMachine.{Machine, Unanswered, action_of, is_open},
+  TextAnswer.{AnswersOrBegins, OnlyReads},
+}
 
 -- an open server answered one line, which is given here without its CR LF, or began to if a text follows
 pub record MakesAnswer {D : Type 0} (sound : D → Type 0) (mail : D → DropMail) (old : Machine D)

@@ -1,8 +1,10 @@
 -- The events of a session, for a log.
 use Rattle.std.specs.Prelude.{ℕ, zero, suc, ◌-◌, length, Option, Some, None}
-use Rattle.pop3_server.specs.{declared.journal.Event.Event, declared.state.State.State, ServerMachine.left_count}
-use Rattle.pop3_server.specs.declared.journal.Event.TheVariants.{LoggedIn, Refused, Unavailable, Left}
-use Rattle.pop3_server.specs.declared.state.State.TheVariants.{Authorization, Transaction, Closed}
+use Rattle.pop3_server.specs.{
+  declared.journal.Event.{Event, TheVariants.{LoggedIn, Refused, Unavailable, Left}},
+  declared.state.State.{State, TheVariants.{Authorization, Transaction, Closed}},
+  ServerMachine.left_count,
+}
 
 -- the event between one state and the next, if the maildrop refused this number of calls in between
 abbrev pub event_of : State → State → ℕ → Option Event

@@ -1,12 +1,13 @@
 -- What a link to a new server gives is honest, even if its last answers are lost.
-use Rattle.std.specs.Prelude.{◌≡◌, ℕ, Bool, List, [], ◌++◌, None}
-use Rattle.std.specs.List.{flat_map, AllByRecursion}
-use Rattle.pop3_wire.specs.{declared.command.Command.Command, World.IsMessage, Honest.Honest}
-use Rattle.pop3_wire.specs.Line.{IsLine, ended}
-use Rattle.pop3_server.specs.{declared.state.State.TheVariants.Authorization, ServerMachine.greeting_line}
-use Rattle.pop3_server.specs.Maildrop.{DropMail, there}
-use Rattle.pop3_server.specs.HonestServer.{IsAsked, Gone, IsClosedByQuit, command_lines}
-use Rattle.pop3_server.specs.LoopLink.{Loop, Serves}
+use Rattle.std.specs.{Prelude.{◌≡◌, ℕ, Bool, List, [], ◌++◌, None}, List.{flat_map, AllByRecursion}}
+use Rattle.pop3_wire.specs.{declared.command.Command.Command, World.IsMessage, Honest.Honest, Line.{IsLine, ended}}
+use Rattle.pop3_server.specs.{
+  declared.state.State.TheVariants.Authorization,
+  ServerMachine.greeting_line,
+  Maildrop.{DropMail, there},
+  HonestServer.{IsAsked, Gone, IsClosedByQuit, command_lines},
+  LoopLink.{Loop, Serves},
+}
 
 -- a link to a new server, to which nothing was sent yet
 pub record IsUnused {D : Type 0} (loop : Loop D) : Type 0 where

@@ -1,14 +1,22 @@
 -- If the commands are a session's, conversations of the server are honest.
-use Rattle.std.specs.Prelude.{◌≡◌, ◌⊎◌, ℕ, Bool, true, List, [], ◌∷◌, ◌++◌, map, None}
-use Rattle.std.specs.List.{flat_map, AllByRecursion}
-use Rattle.pop3_wire.specs.{declared.command.Command.Command, Line.ended, CommandLine.HasNumbers, Honest.Honest}
-use Rattle.pop3_wire.specs.declared.command.Command.TheVariants.{UidlOne, ListOne, Top, Quit}
-use Rattle.pop3_wire.specs.Commands.{line_of, can_be_sent}
-use Rattle.pop3_wire.specs.World.{Message, IsMessage}
-use Rattle.pop3_server.specs.{declared.state.State.State, declared.state.State.TheVariants.Authorization}
-use Rattle.pop3_server.specs.Maildrop.{DropMail, there}
-use Rattle.pop3_server.specs.ServerMachine.{Machine, greeting_line, is_open}
-use Rattle.pop3_server.specs.AnswersLines.{AnswersLines}
+use Rattle.std.specs.{
+  Prelude.{◌≡◌, ◌⊎◌, ℕ, Bool, true, List, [], ◌∷◌, ◌++◌, map, None},
+  List.{flat_map, AllByRecursion},
+}
+use Rattle.pop3_wire.specs.{
+  declared.command.Command.{Command, TheVariants.{UidlOne, ListOne, Top, Quit}},
+  Line.ended,
+  CommandLine.HasNumbers,
+  Honest.Honest,
+  Commands.{line_of, can_be_sent},
+  World.{Message, IsMessage},
+}
+use Rattle.pop3_server.specs.{
+  declared.state.State.{State, TheVariants.Authorization},
+  Maildrop.{DropMail, there},
+  ServerMachine.{Machine, greeting_line, is_open},
+  AnswersLines.AnswersLines,
+}
 
 -- what a session sends: the commands of its plan, and RSET
 abbrev pub IsOfSession : Command → Type 0

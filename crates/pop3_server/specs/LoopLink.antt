@@ -1,11 +1,11 @@
 -- A link whose answers are a server's.
-use Rattle.std.specs.Prelude.{◌≡◌, Bool, true, false, ℕ, List, [], ◌++◌}
-use Rattle.std.specs.List.{flat_map, AllByRecursion}
-use Rattle.pop3_wire.specs.Line.{IsLine, ended}
-use Rattle.pop3_wire.specs.Link.{Link}
-use Rattle.pop3_server.specs.Maildrop.{DropMail}
-use Rattle.pop3_server.specs.ServerMachine.{Machine, greeting_line, is_open}
-use Rattle.pop3_server.specs.AnswersLines.{AnswersLines, SameServer}
+use Rattle.std.specs.{Prelude.{◌≡◌, Bool, true, false, ℕ, List, [], ◌++◌}, List.{flat_map, AllByRecursion}}
+use Rattle.pop3_wire.specs.{Line.{IsLine, ended}, Link.Link}
+use Rattle.pop3_server.specs.{
+  Maildrop.DropMail,
+  ServerMachine.{Machine, greeting_line, is_open},
+  AnswersLines.{AnswersLines, SameServer},
+}
 
 -- a server and a link to it: its answers so far, what is left to give of the greeting and these answers, what
 -- was sent and isn't answered, and whether the link is down

@@ -1,10 +1,9 @@
 -- A maildrop: what is known of it, and what each call does to it.
-use Rattle.std.specs.Prelude.{◌≡◌, ◌⊎◌, ◌≤◌, ℕ, ◌+◌, length, take, drop, Bool, true, false, List, []}
-use Rattle.std.specs.Prelude.{◌∷◌, map, Option, Some, None, Result, Ok, Err, Vec, slice_get, slice_set}
+use Rattle.std.specs.Prelude.{◌≡◌, ◌⊎◌, ◌≤◌, ℕ, ◌+◌, length, take, drop, Bool, true, false, List, [], ◌∷◌, map, Some}
+use Rattle.std.specs.Prelude.{Option, None, Result, Ok, Err, Vec, slice_get, slice_set}
 use Rattle.mail_terms.specs.FailureCount.{counted_up}
 use Rattle.pop3_wire.specs.World.{Message}
-use Rattle.pop3_server.specs.declared.maildrop.DropFault.{DropFault}
-use Rattle.pop3_server.specs.declared.maildrop.DropFault.TheVariants.{Refused, NoMemory}
+use Rattle.pop3_server.specs.declared.maildrop.DropFault.{DropFault, TheVariants.{Refused, NoMemory}}
 
 -- how many messages a listing may have, and how many octets each may have
 abbrev pub max_count : ℕ

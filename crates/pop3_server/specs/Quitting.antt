@@ -1,10 +1,17 @@
 -- What ends a session that is served over a link: a line QUIT.
-use Rattle.std.specs.Prelude.{◌≡◌, ℕ, true, false, List, [], ◌∷◌, ◌++◌, Result, Ok}
-use Rattle.std.specs.List.{flat_map, AllByRecursion}
-use Rattle.pop3_wire.specs.{declared.command.Command.TheVariants.Quit, CommandLine.command_of, Link.Link}
-use Rattle.pop3_wire.specs.Line.{IsLine, ended}
-use Rattle.pop3_server.specs.{declared.fault.ServerFault.ServerFault, Maildrop.DropMail, Serving.ServedLines}
-use Rattle.pop3_server.specs.ServerMachine.{Machine, is_open}
+use Rattle.std.specs.{Prelude.{◌≡◌, ℕ, true, false, List, [], ◌∷◌, ◌++◌, Result, Ok}, List.{flat_map, AllByRecursion}}
+use Rattle.pop3_wire.specs.{
+  declared.command.Command.TheVariants.Quit,
+  CommandLine.command_of,
+  Link.Link,
+  Line.{IsLine, ended},
+}
+use Rattle.pop3_server.specs.{
+  declared.fault.ServerFault.ServerFault,
+  Maildrop.DropMail,
+  Serving.ServedLines,
+  ServerMachine.{Machine, is_open},
+}
 
 -- of the lines that were read meanwhile, one is QUIT
 pub record ReadsQuit (old new : Link) : Type 0 where

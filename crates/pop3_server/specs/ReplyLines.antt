@@ -1,8 +1,9 @@
 -- Lines of the table's answers, as the code asks for them.
 use Rattle.std.specs.Prelude.{ℕ, List, Option, None, Some, codes}
-use Rattle.pop3_server.specs.ServerMachine.{octets_line, scan_line, uid_line}
-use Rattle.pop3_server.specs.{declared.reply.Column.Column, declared.rows.MessageRow.MessageRow}
-use Rattle.pop3_server.specs.declared.reply.Column.TheVariants.{Size, Uid}
+use Rattle.pop3_server.specs.{
+  ServerMachine.{octets_line, scan_line, uid_line},
+  declared.{reply.Column.{Column, TheVariants.{Size, Uid}}, rows.MessageRow.MessageRow},
+}
 
 -- the line of a message in LIST, or in UIDL
 abbrev pub row_line : Column → ℕ → MessageRow → List ℕ

@@ -1,6 +1,5 @@
 -- Runs of a server over lines, one after another.
-use Rattle.std.specs.List.{AllByRecursion}
-use Rattle.std.proofs.Common.{append_assoc, ℕ, List, [], ◌∷◌, ◌++◌}
+use Rattle.std.{specs.List.AllByRecursion, proofs.Common.{append_assoc, ℕ, List, [], ◌∷◌, ◌++◌}}
 use Rattle.pop3_wire.specs.Line.{IsLine}
 use Rattle.pop3_server.specs.{Maildrop.DropMail, ServerMachine.Machine, AnswersLines.AnswersLines}
 

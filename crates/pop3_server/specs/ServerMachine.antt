@@ -1,19 +1,23 @@
 -- The server as a machine: a state and a line lead to an answer and the next state (RFC 1939, sections 4 to 7).
-use Rattle.std.specs.Prelude.{◌≡◌, ◌⊎◌, ◌≤◌, ◌==◌, ℕ, zero, suc, ◌+◌, ◌-◌, Bool, true, false, not, ◌&&◌}
-use Rattle.std.specs.Prelude.{List, [], ◌∷◌, ◌++◌, map, length, Option, Some, None, Result, Ok, Err}
-use Rattle.std.specs.Prelude.{slice_get, codes, bytes_eq, if◌then◌else◌, All, count_by, sum_by, decimal}
-use Rattle.pop3_wire.specs.{declared.command.Command.Command, declared.fault.WireFault.WireFault, Body.dot}
-use Rattle.pop3_wire.specs.declared.command.Command.TheVariants.{User, Pass, Stat, UidlAll, UidlOne, ListAll}
-use Rattle.pop3_wire.specs.declared.command.Command.TheVariants.{ListOne, Retr, Dele, Rset, Noop, Top, Quit}
-use Rattle.pop3_wire.specs.Line.{crlf, ended}
-use Rattle.pop3_wire.specs.Rows.{scan_row, uid_row}
+use Rattle.std.specs.Prelude.{◌≡◌, ◌⊎◌, ◌≤◌, ◌==◌, ℕ, zero, suc, ◌+◌, ◌-◌, Bool, true, false, not, ◌&&◌, List, [], Ok}
+use Rattle.std.specs.Prelude.{◌∷◌, ◌++◌, map, length, Option, Some, None, Result, Err, slice_get, codes, bytes_eq}
+use Rattle.std.specs.Prelude.{if◌then◌else◌, All, count_by, sum_by, decimal}
+use Rattle.pop3_wire.specs.{
+  declared.command.Command.Command,
+  declared.command.Command.TheVariants.{User, Pass, Stat, UidlAll, UidlOne, ListAll, ListOne, Retr, Dele, Rset, Noop},
+  declared.command.Command.TheVariants.{Top, Quit},
+  declared.fault.WireFault.WireFault,
+  Body.dot,
+  Line.{crlf, ended},
+  Rows.{scan_row, uid_row},
+  Stuffed.stuffed_lines,
+  World.Message,
+}
 use Rattle.mail_terms.specs.{Text.lines_of_text, FailureCount.counted_up}
-use Rattle.pop3_wire.specs.{Stuffed.stuffed_lines, World.Message}
-use Rattle.pop3_server.specs.{declared.rows.MessageRow.MessageRow, declared.state.State.State}
-use Rattle.pop3_server.specs.declared.state.State.TheVariants.{Authorization, Transaction, Closed}
-use Rattle.pop3_server.specs.Maildrop.{ListedMessage, DropMail, there, listed_message, HasPlace, refusing, asked}
-use Rattle.pop3_server.specs.Maildrop.{removed, max_count}
-use Rattle.pop3_server.specs.Maildrop.{max_size}
+use Rattle.pop3_server.specs.{
+  declared.{rows.MessageRow.MessageRow, state.State.{State, TheVariants.{Authorization, Transaction, Closed}}},
+  Maildrop.{ListedMessage, DropMail, there, listed_message, HasPlace, refusing, asked, removed, max_count, max_size},
+}
 
 -- ---- the rows: the messages that PASS found, and their marks
 

@@ -1,15 +1,18 @@
 -- What serving a link does: lines come in, and their answers are sent.
-use Rattle.std.specs.Prelude.{◌≡◌, ◌⊎◌, ◌≤◌, ◌<◌, ◌+◌, ◌-◌, ℕ, Bool, true, false, List}
-use Rattle.std.specs.Prelude.{[], ◌∷◌, ◌++◌, length, Option, Some, Result, Ok, Err}
-use Rattle.std.specs.List.{flat_map, AllByRecursion}
-use Rattle.pop3_wire.specs.Line.{IsLine, ended}
-use Rattle.pop3_wire.specs.{Bodies.Drew, Link.Link, Place.HasLine}
-use Rattle.pop3_server.specs.{declared.fault.ServerFault.ServerFault, declared.intake.NextLine.NextLine}
-use Rattle.pop3_server.specs.declared.fault.ServerFault.TheVariants.{ReadFailed, WriteFailed, MaildropFailed, NoMemory}
-use Rattle.pop3_server.specs.declared.intake.NextLine.TheVariants.{Line, LongLine, End}
-use Rattle.pop3_server.specs.{Maildrop.DropMail, Got.Waiting, declared.text_part.TextBody.TextBody}
-use Rattle.pop3_server.specs.ServerMachine.{Machine, greeting_line, is_open}
-use Rattle.pop3_server.specs.AnswersLines.{AnswersLines, AnswersLine, MakesAnswer, RefusesPart, SameServer}
+use Rattle.std.specs.{
+  Prelude.{◌≡◌, ◌⊎◌, ◌≤◌, ◌<◌, ◌+◌, ◌-◌, ℕ, Bool, true, false, List, [], ◌∷◌, ◌++◌, length, Option, Some, Result, Ok},
+  Prelude.Err,
+  List.{flat_map, AllByRecursion},
+}
+use Rattle.pop3_wire.specs.{Line.{IsLine, ended}, Bodies.Drew, Link.Link, Place.HasLine}
+use Rattle.pop3_server.specs.{
+  declared.fault.ServerFault.{ServerFault, TheVariants.{ReadFailed, WriteFailed, MaildropFailed, NoMemory}},
+  declared.{intake.NextLine.{NextLine, TheVariants.{Line, LongLine, End}}, text_part.TextBody.TextBody},
+  Maildrop.DropMail,
+  Got.Waiting,
+  ServerMachine.{Machine, greeting_line, is_open},
+  AnswersLines.{AnswersLines, AnswersLine, MakesAnswer, RefusesPart, SameServer},
+}
 
 -- how long a line may be, its CR LF included, and how many octets are read from one connection
 abbrev pub max_line : ℕ

@@ -1,13 +1,14 @@
 -- Answers with a text, which are made and sent as the text is read.
-use Rattle.std.specs.Prelude.{◌≡◌, ◌<◌, ◌-◌, ◌^◌, ℕ, Bool, true, false, List, ◌++◌, Option, Some, None, length}
-use Rattle.std.specs.Prelude.{slice_get, take}
+use Rattle.std.specs.Prelude.{◌≡◌, ◌<◌, ◌-◌, ◌^◌, ℕ, Bool, true, false, List, ◌++◌, Option, Some, None, length, take}
+use Rattle.std.specs.Prelude.{slice_get}
 use Rattle.mail_terms.specs.FailureCount.{Tallies}
 use Rattle.pop3_wire.specs.World.{Message}
-use Rattle.pop3_server.specs.{declared.rows.MessageRow.MessageRow, declared.state.State.State}
-use Rattle.pop3_server.specs.{declared.state.State.TheVariants.Transaction, declared.text_part.TextBody.TextBody}
-use Rattle.pop3_server.specs.Maildrop.{DropMail, refusing}
-use Rattle.pop3_server.specs.ServerMachine.{Answers, Action, Give, Known, text_body}
-use Rattle.pop3_server.specs.TextBody.{still}
+use Rattle.pop3_server.specs.{
+  declared.{rows.MessageRow.MessageRow, state.State.{State, TheVariants.Transaction}, text_part.TextBody.TextBody},
+  Maildrop.{DropMail, refusing},
+  ServerMachine.{Answers, Action, Give, Known, text_body},
+  TextBody.still,
+}
 
 -- a call was refused or not, and nothing else changed
 abbrev pub after_call : Bool → DropMail → DropMail

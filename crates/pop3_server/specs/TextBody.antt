@@ -1,7 +1,9 @@
 -- The place in the body of a text that comes in parts.
 use Rattle.std.specs.Prelude.{ℕ, Bool, List, ◌++◌, Option, Some, None}
-use Rattle.pop3_server.specs.{declared.text_part.TextBody.TextBody, declared.text_top.Top.Top}
-use Rattle.pop3_server.specs.TextPiece.{is_open_after, sent_end, sent_piece, taken_of_top}
+use Rattle.pop3_server.specs.{
+  declared.{text_part.TextBody.TextBody, text_top.Top.Top},
+  TextPiece.{is_open_after, sent_end, sent_piece, taken_of_top},
+}
 
 -- those of the next octets of a text that belong to its body, or to that of its top
 abbrev pub belonging : Option Top → List ℕ → List ℕ

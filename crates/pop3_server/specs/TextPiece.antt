@@ -1,7 +1,6 @@
 -- Pieces of a text.
 use Rattle.std.specs.Prelude.{◌==◌, ℕ, zero, suc, Bool, true, false, not, List, [], ◌∷◌, ◌++◌, if◌then◌else◌}
-use Rattle.pop3_wire.specs.Line.{crlf, ended}
-use Rattle.pop3_wire.specs.Body.{dot}
+use Rattle.pop3_wire.specs.{Line.{crlf, ended}, Body.dot}
 use Rattle.pop3_server.specs.declared.text_top.Top.{Top}
 
 -- whether a line is open after a piece, given whether one was open before it

@@ -1,16 +1,15 @@
 //! What a server does for each command: the table of states and commands (RFC 1939, sections 4 to 7).
-ghost use Rattle.std.specs.Prelude.{◌≡◌, ◌<◌, ◌-◌, ℕ, Option, slice_get, Some};
-ghost use Rattle.std.specs.Prelude.{true, None, IfOk, IfErr, IfSome, MatchResult, bytes_eq, codes, ◌++◌};
-ghost use Rattle.pop3_server.specs.declared.rows.MessageRow.{MessageRow};
-ghost use Rattle.pop3_server.specs.declared.state.State.{State};
-ghost use Rattle.pop3_server.specs.declared.state.State.TheVariants.{Authorization, Transaction, Closed};
+ghost use Rattle.std.specs.Prelude.{◌≡◌, ◌<◌, ◌-◌, ℕ, Option, slice_get, Some, true, None, IfOk, IfErr, IfSome, ◌++◌};
+ghost use Rattle.std.specs.Prelude.{MatchResult, bytes_eq, codes};
+ghost use Rattle.pop3_server.specs.{
+  declared.{rows.MessageRow.MessageRow, state.State.{State, TheVariants.{Authorization, Transaction, Closed}}},
+  Maildrop.HasPlace,
+  ServerMachine.{Say, Open, SamePlaces, Unanswered, Tied, Tries, Empties, with_marked, in_authorization, give, next_of},
+  ServerMachine.{in_transaction, is_about_rows, said, of_row, row_numbered},
+  ReplyLines.{row_line, text_line},
+  TextAnswer.{AnswersOrBegins, Follows},
+};
 ghost use Rattle.mail_terms.specs.FailureCount.{counted_up};
-ghost use Rattle.pop3_server.specs.Maildrop.{HasPlace};
-ghost use Rattle.pop3_server.specs.ServerMachine.{Say, Open, SamePlaces, Unanswered, Tied};
-ghost use Rattle.pop3_server.specs.ServerMachine.{Tries, Empties, with_marked, in_authorization, in_transaction};
-ghost use Rattle.pop3_server.specs.ServerMachine.{give, is_about_rows, next_of, said, of_row, row_numbered};
-ghost use Rattle.pop3_server.specs.ReplyLines.{row_line, text_line};
-ghost use Rattle.pop3_server.specs.TextAnswer.{AnswersOrBegins, Follows};
 
 use crate::fault::ServerFault;
 use crate::maildrop::{DropFault, Maildrop};

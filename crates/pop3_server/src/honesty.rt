@@ -1,6 +1,5 @@
 //! The server is honest: laws about its definitions.
-ghost use Rattle.pop3_server.specs.HonestServer.{ConversesHonestly};
-ghost use Rattle.pop3_server.specs.HonestLoop.{GivesHonest};
+ghost use Rattle.pop3_server.specs.{HonestServer.ConversesHonestly, HonestLoop.GivesHonest};
 
 use crate::maildrop::Maildrop;
 

@@ -1,12 +1,12 @@
 //! Reads the lines that a server gets, within its limits.
-ghost use Rattle.std.specs.Prelude.{◌≡◌, ◌≤◌, ◌<◌, ◌+◌, ◌-◌, ◌*◌, ◌++◌, ℕ, List, [], length};
-ghost use Rattle.std.specs.Prelude.{drop, true, false, IfOk, IfErr, IfSome, IfNone, Ok, Err};
-ghost use Rattle.pop3_wire.specs.Link.{CountsFailure, WhereSound};
-ghost use Rattle.pop3_wire.specs.Place.{HasLine, HasNoLine};
-ghost use Rattle.pop3_server.specs.declared.intake.NextLine.TheVariants.{LongLine};
-ghost use Rattle.pop3_server.specs.Got.{Waiting};
-ghost use Rattle.pop3_server.specs.Serving.{Hears, TakesMore, Found};
-ghost use Rattle.pop3_wire.specs.Bodies.{Drew};
+ghost use Rattle.std.specs.Prelude.{◌≡◌, ◌≤◌, ◌<◌, ◌+◌, ◌-◌, ◌*◌, ◌++◌, ℕ, List, [], length, drop, true, false, IfOk};
+ghost use Rattle.std.specs.Prelude.{IfErr, IfSome, IfNone, Ok, Err};
+ghost use Rattle.pop3_wire.specs.{Link.{CountsFailure, WhereSound}, Place.{HasLine, HasNoLine}, Bodies.Drew};
+ghost use Rattle.pop3_server.specs.{
+  declared.intake.NextLine.TheVariants.LongLine,
+  Got.Waiting,
+  Serving.{Hears, TakesMore, Found},
+};
 
 use crate::fault::ServerFault;
 use pop3_wire::{LineReader, Note, Wire};

@@ -1,6 +1,8 @@
 //! Laws of the server's table.
-ghost use Rattle.pop3_server.specs.Quitting.{OnlyQuitCloses};
-ghost use Rattle.pop3_server.specs.Removal.{FewAreLeft, AllAreRemoved, SomeAreRefused, OthersStay};
+ghost use Rattle.pop3_server.specs.{
+  Quitting.OnlyQuitCloses,
+  Removal.{FewAreLeft, AllAreRemoved, SomeAreRefused, OthersStay},
+};
 
 use crate::maildrop::Maildrop;
 

@@ -1,12 +1,14 @@
 //! Maildrops: messages that a server lists, gives and removes (RFC 1939, section 4).
 ghost use Rattle.std.specs.Prelude.{◌≡◌, ◌≤◌, ◌<◌, ◌+◌, ◌^◌, length, IsTrue, IfOk, IfErr, map, vec_len};
-ghost use Rattle.mail_terms.specs.UniqueId.{is_legal_id};
-ghost use Rattle.mail_terms.specs.Distinct.{AreDistinct};
-ghost use Rattle.mail_terms.specs.FailureCount.{Tallies, counted_up, refuses};
-ghost use Rattle.pop3_server.specs.declared.maildrop.DropFault.TheVariants.{NoMemory};
-ghost use Rattle.pop3_server.specs.Maildrop.{DropMail, ListedMessage, HasPlace, ListsMessages, Gives, GivesPart};
-ghost use Rattle.pop3_server.specs.Maildrop.{Removes};
-ghost use Rattle.pop3_server.specs.Maildrop.{is_drop_refusal, max_size};
+ghost use Rattle.mail_terms.specs.{
+  UniqueId.is_legal_id,
+  Distinct.AreDistinct,
+  FailureCount.{Tallies, counted_up, refuses},
+};
+ghost use Rattle.pop3_server.specs.{
+  declared.maildrop.DropFault.TheVariants.NoMemory,
+  Maildrop.{DropMail, ListedMessage, HasPlace, ListsMessages, Gives, GivesPart, Removes, is_drop_refusal, max_size},
+};
 
 use pop3_wire::Bytes;
 use std::alloc::AllocError;

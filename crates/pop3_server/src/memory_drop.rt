@@ -1,12 +1,12 @@
 //! A maildrop in memory.
-ghost use Rattle.std.specs.Prelude.{◌≡◌, ◌≤◌, ◌<◌, ◌+◌, ◌^◌, ◌∷◌, [], ◌++◌, ◌↔◌, ◌==◌, IsTrue, IfOk};
-ghost use Rattle.std.specs.Prelude.{OnErr, map, length, take, drop, slice_get, Some};
-ghost use Rattle.std.specs.List.{Contains};
-ghost use Rattle.mail_terms.specs.UniqueId.{is_legal_id};
+ghost use Rattle.std.specs.{
+  Prelude.{◌≡◌, ◌≤◌, ◌<◌, ◌+◌, ◌^◌, ◌∷◌, [], ◌++◌, ◌↔◌, ◌==◌, IsTrue, IfOk, OnErr, map, length, take, drop, slice_get},
+  Prelude.Some,
+  List.Contains,
+};
+ghost use Rattle.mail_terms.specs.{UniqueId.is_legal_id, Distinct.AreDistinct};
 ghost use Rattle.pop3_wire.specs.World.{Message};
-ghost use Rattle.pop3_server.specs.Size.{size_of};
-ghost use Rattle.mail_terms.specs.Distinct.{AreDistinct};
-ghost use Rattle.pop3_server.specs.Maildrop.{DropMail, there, ids, listed_message, HasPlace, max_count};
+ghost use Rattle.pop3_server.specs.{Size.size_of, Maildrop.{DropMail, there, ids, listed_message, HasPlace, max_count}};
 
 use crate::maildrop::{DropFault, Entry, MAX_COUNT, MAX_SIZE, Maildrop};
 use crate::size::size_of;

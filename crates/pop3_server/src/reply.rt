@@ -1,9 +1,9 @@
 //! The replies of a server, each whole, with its CR LF (RFC 1939, sections 5 to 7).
-ghost use Rattle.std.specs.Prelude.{◌≡◌, ◌≤◌, ◌<◌, ◌++◌, length, IfOk, IfErr, codes};
-ghost use Rattle.std.specs.Fmt.{decimal};
-ghost use Rattle.pop3_server.specs.ServerMachine.{said, listed};
-ghost use Rattle.pop3_server.specs.ReplyLines.{row_line};
-ghost use Rattle.pop3_server.specs.ServerMachine.{left_count, left_total, octets_line};
+ghost use Rattle.std.specs.{Prelude.{◌≡◌, ◌≤◌, ◌<◌, ◌++◌, length, IfOk, IfErr, codes}, Fmt.decimal};
+ghost use Rattle.pop3_server.specs.{
+  ServerMachine.{said, listed, left_count, left_total, octets_line},
+  ReplyLines.row_line,
+};
 
 use crate::fault::ServerFault;
 use crate::maildrop::MAX_COUNT;

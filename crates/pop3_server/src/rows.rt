@@ -1,10 +1,10 @@
 //! The messages that PASS found, in order of their numbers (RFC 1939, section 4).
-ghost use Rattle.std.specs.Prelude.{◌≡◌, ◌≤◌, ◌<◌, ◌+◌, ◌-◌, ℕ, List, map, length, slice_get, Some, None, MatchOption};
-ghost use Rattle.std.specs.Prelude.{IfOk, vec_len};
-ghost use Rattle.pop3_server.specs.declared.rows.MessageRow.{MessageRow};
-ghost use Rattle.pop3_server.specs.ServerMachine.{row_numbered, row_of_entry, mark_at, unmarked, left_count};
-ghost use Rattle.pop3_server.specs.ServerMachine.{left_total};
-ghost use Rattle.pop3_server.specs.ServerMachine.{KeepLimits};
+ghost use Rattle.std.specs.Prelude.{◌≡◌, ◌≤◌, ◌<◌, ◌+◌, ◌-◌, ℕ, List, map, length, slice_get, Some, None, IfOk};
+ghost use Rattle.std.specs.Prelude.{MatchOption, vec_len};
+ghost use Rattle.pop3_server.specs.{
+  declared.rows.MessageRow.MessageRow,
+  ServerMachine.{row_numbered, row_of_entry, mark_at, unmarked, left_count, left_total, KeepLimits},
+};
 
 use crate::maildrop::{Entry, MAX_COUNT, MAX_SIZE};
 use pop3_wire::Bytes;
@@ -26,8 +26,7 @@ pub struct Rows {
 
 impl Model for Rows {
     ghost use Rattle.std.specs.Prelude.{◌≤◌, List, length};
-    ghost use Rattle.pop3_server.specs.declared.rows.MessageRow.{MessageRow};
-    ghost use Rattle.pop3_server.specs.Maildrop.{max_count};
+    ghost use Rattle.pop3_server.specs.{declared.rows.MessageRow.MessageRow, Maildrop.max_count};
 
     ghost Value = { List MessageRow };
 

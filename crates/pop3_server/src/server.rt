@@ -1,12 +1,14 @@
 //! The server: it takes lines and gives answers (RFC 1939).
-ghost use Rattle.std.specs.Prelude.{◌≡◌, ◌≤◌, ◌<◌, ◌+◌, ◌-◌, ◌++◌, ℕ, List, not, true};
-ghost use Rattle.std.specs.Prelude.{None, Some, Ok, IfOk, IfErr, IfSome, vec_len, vec_capacity};
-ghost use Rattle.pop3_server.specs.declared.state.State.TheVariants.{Authorization};
-ghost use Rattle.pop3_server.specs.AnswersLines.{AnswersLine, MakesAnswer, RefusesPart, SameServer};
-ghost use Rattle.pop3_server.specs.Events.{event_of};
-ghost use Rattle.pop3_server.specs.Maildrop.{HasPlace};
-ghost use Rattle.pop3_server.specs.ServerMachine.{Machine, greeting_line, is_open, next_of};
-ghost use Rattle.pop3_server.specs.TextAnswer.{Follows, IsFurther};
+ghost use Rattle.std.specs.Prelude.{◌≡◌, ◌≤◌, ◌<◌, ◌+◌, ◌-◌, ◌++◌, ℕ, List, not, true, None, Some, Ok, IfOk, IfErr};
+ghost use Rattle.std.specs.Prelude.{IfSome, vec_len, vec_capacity};
+ghost use Rattle.pop3_server.specs.{
+  declared.state.State.TheVariants.Authorization,
+  AnswersLines.{AnswersLine, MakesAnswer, RefusesPart, SameServer},
+  Events.event_of,
+  Maildrop.HasPlace,
+  ServerMachine.{Machine, greeting_line, is_open, next_of},
+  TextAnswer.{Follows, IsFurther},
+};
 
 use crate::commands::{Outcome, authorize, transact};
 use crate::fault::ServerFault;

@@ -1,8 +1,7 @@
 //! Serving a link: the greeting, and an answer to each line.
 ghost use Rattle.std.specs.Prelude.{◌≡◌, ◌≤◌, ◌+◌, not, true, IfOk, IfErr, IfSome, IsSome, vec_capacity};
 ghost use Rattle.pop3_wire.specs.Link.{CountsFailure, CountsRefusal, Sends, WhereSound};
-ghost use Rattle.pop3_server.specs.ServerMachine.{is_open};
-ghost use Rattle.pop3_server.specs.Serving.{SendsAnswer, ServedLines, is_server_refusal};
+ghost use Rattle.pop3_server.specs.{ServerMachine.is_open, Serving.{SendsAnswer, ServedLines, is_server_refusal}};
 
 use crate::fault::ServerFault;
 use crate::intake::{Intake, NextLine};

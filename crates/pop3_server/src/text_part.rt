@@ -1,11 +1,13 @@
 //! Texts of a maildrop, read part by part.
-ghost use Rattle.std.specs.Prelude.{◌≡◌, ◌≤◌, ◌<◌, ◌+◌, ◌*◌, ◌^◌, ◌-◌, ◌++◌, ℕ, List, [], length};
-ghost use Rattle.std.specs.Prelude.{IsTrue, IfOk, IfErr, IfSome, vec_len, vec_capacity};
+ghost use Rattle.std.specs.Prelude.{◌≡◌, ◌≤◌, ◌<◌, ◌+◌, ◌*◌, ◌^◌, ◌-◌, ◌++◌, ℕ, List, [], length, IsTrue, IfOk};
+ghost use Rattle.std.specs.Prelude.{IfErr, IfSome, vec_len, vec_capacity};
 ghost use Rattle.mail_terms.specs.FailureCount.{refuses};
-ghost use Rattle.pop3_server.specs.Maildrop.{HasPlace, is_drop_refusal};
-ghost use Rattle.pop3_server.specs.ServerMachine.{text_body};
-ghost use Rattle.pop3_server.specs.TextAnswer.{ContinuesAnswer, IsFurther, OnlyReads};
-ghost use Rattle.pop3_server.specs.TextBody.{belonging, still};
+ghost use Rattle.pop3_server.specs.{
+  Maildrop.{HasPlace, is_drop_refusal},
+  ServerMachine.text_body,
+  TextAnswer.{ContinuesAnswer, IsFurther, OnlyReads},
+  TextBody.{belonging, still},
+};
 
 use crate::maildrop::{DropFault, Maildrop};
 use crate::stuffer::Stuffer;

@@ -1,13 +1,13 @@
 -- Taking a body from a link, piece by piece.
-use Rattle.std.proofs.Common.{◌≡◌, ◌≢◌, ◌<◌, ◌≤◌, ◌+◌, ◌-◌, ℕ, List, [], ◌++◌, length, take, drop, refl, sym, ap, ◌∙◌}
-use Rattle.std.proofs.Common.{arith, append_assoc, take-append-drop, length-append, length-take-le, append-nil, take_at}
-use Rattle.pop3_wire.specs.{Body.HasNoBody, Link.Link, declared.body_reader.BodyFault.BodyFault, declared.unstuffer.Spot.Spot}
-use Rattle.pop3_wire.specs.Place.{Place, at, GoesOn}
-use Rattle.pop3_wire.specs.Bodies.{Drew, DrawsNothing, BodyCause, LeavesRest, Rest, rest_of, UnderWay}
-use Rattle.pop3_wire.specs.declared.body_reader.BodyFault.TheVariants.{Ended, Failed, TooLong}
-use Rattle.pop3_wire.specs.declared.unstuffer.Spot.TheVariants.{Start, Done}
-use Rattle.pop3_wire.specs.Unstuffing.{Reaches}
-use Rattle.pop3_wire.proofs.BodyLemmas.{reached_no_body, partly_none}
+use Rattle.std.proofs.Common.{◌≡◌, ◌≢◌, ◌<◌, ◌≤◌, ◌+◌, ◌-◌, ℕ, List, [], ◌++◌, length, take, drop, refl, sym, ap, ◌∙◌, arith, append-nil}
+use Rattle.std.proofs.Common.{append_assoc, take-append-drop, length-append, length-take-le, take_at}
+use Rattle.pop3_wire.{
+  specs.{Body.HasNoBody, Link.Link, Place.{Place, at, GoesOn}, Bodies.{Drew, DrawsNothing, BodyCause, LeavesRest, Rest, rest_of, UnderWay}},
+  specs.declared.body_reader.BodyFault.{BodyFault, TheVariants.{Ended, Failed, TooLong}},
+  specs.declared.unstuffer.Spot.{Spot, TheVariants.{Start, Done}},
+  specs.Unstuffing.Reaches,
+  proofs.BodyLemmas.{reached_no_body, partly_none},
+}
 
 -- nothing was read yet
 pub under_way_none : (limit : ℕ) (place : Place) → UnderWay limit place place (rest_of Start limit) []

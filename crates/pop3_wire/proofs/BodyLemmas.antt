@@ -1,24 +1,27 @@
 -- Lines and bodies: where a line ends, that a body ends at one place only, and what an octet does to a body that is read octet by octet.
-use Rattle.std.proofs.Common.{◌≡◌, ◌==◌, ◌⊎◌, inl, inr, ℕ, zero, suc, Bool, ◌+◌, ◌-◌, ◌<◌, ◌≤◌, slice_index, List, []}
-use Rattle.std.proofs.Common.{◌∷◌, ◌++◌, length, take, drop, refl, sym, ap, subst, ◌∙◌, arith, append_assoc}
-use Rattle.std.proofs.Common.{take-append-drop, length-append, length-take-le, eqb-true, ◌≢◌, append-nil, get_or}
-use Rattle.std.proofs.Common.{ne_eqb, take-add, flat_map, map, true, false, Option, None, Some}
-use Rattle.std.proofs.Math.Seq.{drop-append_seam, take-suc}
-use Rattle.std.proofs.{Math.Logic.⊎_elim, lemmas.Grind.flat_map-append, lemmas.List.Folds.flat_map-map}
-use Rattle.memchr.specs.Find.{OccursAt, Nowhere, NoneBefore, Passes, is_byte}
-use Rattle.memchr.proofs.lemmas.MatchLemmas.{OccursAt-split, OccursAt-from_part}
-use Rattle.pop3_wire.specs.Line.{crlf, IsLine, OneLine, ended}
-use Rattle.std.proofs.lemmas.List.{take_at, flat_map_more, append-nil, same_from_push, take_rest}
-use Rattle.std.specs.List.{flat_map, AllByRecursion, onto_first, AllZip}
-use Rattle.pop3_wire.specs.Body.{dot, IsContent, lf_line, body_of, text_of, Body, HasNoBody, unstuffed}
-use Rattle.pop3_wire.specs.Stuffed.{OneBody, stuffed, stuffed_lines, StuffedIsBody, StuffedIsRead}
-use Rattle.pop3_wire.specs.{declared.unstuffer.Spot.Spot, Reply.IsFirstLine, declared.command.Command.Command}
-use Rattle.pop3_wire.specs.declared.unstuffer.Spot.TheVariants.{Middle, Cr, Done}
-use Rattle.pop3_wire.specs.Unstuffing.{Partly, NoCr, InLine, AtCr, Reaches}
-use Rattle.std.proofs.lemmas.Bool.Decides.{eqb_tells, nat_tests}
+use Rattle.std.{
+  proofs.Common.{◌≡◌, ◌==◌, ◌⊎◌, inl, inr, ℕ, zero, suc, Bool, ◌+◌, ◌-◌, ◌<◌, ◌≤◌, slice_index, List, [], ◌∷◌, ◌++◌, length, take, drop},
+  proofs.Common.{refl, sym, ap, subst, ◌∙◌, arith, append_assoc, take-append-drop, length-append, length-take-le, eqb-true, ◌≢◌, get_or},
+  proofs.Common.{append-nil, ne_eqb, take-add, flat_map, map, true, false, Option, None, Some},
+  proofs.Math.{Seq.{drop-append_seam, take-suc}, Logic.⊎_elim},
+  proofs.lemmas.{Grind.flat_map-append, List.{Folds.flat_map-map, take_at, flat_map_more, append-nil, same_from_push, take_rest}},
+  proofs.lemmas.Bool.Decides.{eqb_tells, nat_tests},
+  specs.List.{flat_map, AllByRecursion, onto_first, AllZip},
+}
+use Rattle.memchr.{
+  specs.Find.{OccursAt, Nowhere, NoneBefore, Passes, is_byte},
+  proofs.lemmas.MatchLemmas.{OccursAt-split, OccursAt-from_part},
+}
+use Rattle.pop3_wire.specs.{
+  Line.{crlf, IsLine, OneLine, ended},
+  Body.{dot, IsContent, lf_line, body_of, text_of, Body, HasNoBody, unstuffed},
+  Stuffed.{OneBody, stuffed, stuffed_lines, StuffedIsBody, StuffedIsRead},
+  declared.{unstuffer.Spot.{Spot, TheVariants.{Middle, Cr, Done}}, command.Command.Command, reply.Status.TheVariants.{Positive, Negative}},
+  Reply.IsFirstLine,
+  Unstuffing.{Partly, NoCr, InLine, AtCr, Reaches},
+  Reading.{WholeReply, body_bytes, reply_bytes, gives_body, IsBodyIf, IsReplyTo},
+}
 use Rattle.mail_terms.specs.Text.{lines_of_text, whole_text, HasNoLf}
-use Rattle.pop3_wire.specs.declared.reply.Status.TheVariants.{Positive, Negative}
-use Rattle.pop3_wire.specs.Reading.{WholeReply, body_bytes, reply_bytes, gives_body, IsBodyIf, IsReplyTo}
 
 -- a list is empty, or has a last element
 pub last_split : (xs : List ℕ) → (xs ≡ []) ⊎ ((ys : List ℕ) × (y : ℕ) × (xs ≡ ys ++ y ∷ []))

@@ -1,13 +1,12 @@
 -- The octets that wait: where the search for a line's end goes on, and what it finds.
-use Rattle.std.proofs.Common.{◌≡◌, inl, inr, ◌≤◌, ◌<◌, ◌+◌, ◌-◌, ℕ, List, ◌++◌, length, take, drop, min, max, refl, sym}
-use Rattle.std.proofs.Common.{ap, ◌∙◌, arith, append_assoc, take-append-drop, length-append, length-take-le}
-use Rattle.std.proofs.Common.{length-take}
-use Rattle.std.proofs.{Math.Logic.⊎_elim, lemmas.Bool.cases_lt, Math.Seq.take-append-add, lemmas.Slice.take-put_mid}
-use Rattle.std.proofs.lemmas.List.{take-take, take_all, take_min, drop-append-le, drop-take, drop-drop, take_at, drop_at}
+use Rattle.std.proofs.{
+  Common.{◌≡◌, inl, inr, ◌≤◌, ◌<◌, ◌+◌, ◌-◌, ℕ, List, ◌++◌, length, take, drop, min, max, refl, sym, ap, ◌∙◌, arith, append_assoc},
+  Common.{take-append-drop, length-append, length-take-le, length-take},
+  Math.{Logic.⊎_elim, Seq.take-append-add},
+  lemmas.{Bool.cases_lt, Slice.take-put_mid, List.{take-take, take_all, take_min, drop-append-le, drop-take, drop-drop, take_at, drop_at}},
+}
+use Rattle.pop3_wire.{specs.{Line.{crlf, IsLine}, Place.{HasLine, HasNoLine}}, proofs.BodyLemmas.{IsLine-nil, IsLine-front, IsLine-back}}
 use borrow.Rule.Slice.PartMut.{put_mid}
-use Rattle.pop3_wire.specs.Line.{crlf, IsLine}
-use Rattle.pop3_wire.specs.Place.{HasLine, HasNoLine}
-use Rattle.pop3_wire.proofs.BodyLemmas.{IsLine-nil, IsLine-front, IsLine-back}
 
 pub no_line_zero : (w : List ℕ) → HasNoLine 0 w
 no_line_zero w = record { none = IsLine-nil }

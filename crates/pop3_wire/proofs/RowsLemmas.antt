@@ -1,38 +1,37 @@
 -- Rows of listings and lines of commands: what is read has the form, and what is written is read and holds no line break.
-use Rattle.std.proofs.Common.{ℕ, ◌+◌, ◌≤◌, ◌<◌, ◌≡◌, ◌≢◌, true, false, List, [], ◌∷◌, ◌++◌, length, take, drop, refl}
-use Rattle.std.proofs.Common.{sym, ap, ap₂, subst, ◌∙◌, arith, inl, inr, Result, Ok, Err, take-append-drop, nat_lt}
-use Rattle.std.proofs.Common.{nat_le, ◌&&◌, ◌==◌, Bool, IsTrue, cond, take_while, append-nil, take_at, drop_at, get_or}
-use Rattle.std.proofs.Common.{length-drop, ◌-◌, ◌*◌, ◌^◌, rules, length-append, append_assoc, not, codes, decimal}
-use Rattle.std.proofs.Common.{ne_eqb, ◌⊎◌}
-use Rattle.std.specs.List.{filter, prefix_len, list_all, before_first, suffix_len, All, AllByRecursion, slice_split, count_by}
-use Rattle.std.specs.{Char.is_ascii_digit, Str.Parse.digits_value}
-use Rattle.std.proofs.lemmas.Bool.{and_parts, and_from, cond-true, cond-false, leb-true, le-leb, ltb-true, not-true, le-ltb, eqb-false}
-use Rattle.std.proofs.{lemmas.Bool.Decides.nat_tests, lemmas.List.Folds.list_all-append}
-use Rattle.std.proofs.lemmas.List.Sums.{AllPass-from_list_all, list_all-from_AllPass, take_while-cons, prefix_len_stops, suffix_len_is}
-use Rattle.std.proofs.lemmas.List.{get_or-drop, get_or-append_right, take_all, nil_from_length}
-use Rattle.pop3_wire.specs.Fields.{◌>>=◌, is_space, is_in_field, past, number, next_field, message_number}
-use Rattle.pop3_wire.specs.Fields.{number_and_size, legal_id, nothing_more, number_and_id}
-use Rattle.mail_terms.specs.Numeral.{is_numeral, greatest_number, greatest_size}
-use Rattle.mail_terms.specs.UniqueId.{is_id_byte, is_legal_id, IsLegalId}
-use Rattle.pop3_wire.specs.{declared.fault.WireFault.WireFault, declared.command.Command.Command}
-use Rattle.std.proofs.Math.Logic.{⊎_elim, ⊎_map}
-use Rattle.pop3_wire.specs.Rows.{AreSpaces, StandsForNumber, HasNumber, HasScanForm, HasUidForm, NumbersAreRead}
-use Rattle.pop3_wire.specs.Rows.{IsSentAsIs, ScanRowsAreRead, UidRowsAreRead}
-use Rattle.std.proofs.lemmas.Fmt.{digits_decimal, decimal_is_IsNumeral, length-decimal-le, decimal_nonempty}
-use Rattle.std.proofs.lemmas.Str.Parse.{IsNumeralModel, numerals_by_fold}
-use Rattle.std.proofs.lemmas.List.Splits.{slice_split_none, slice_split_at, slice_split-cons_yes, length-slice_split}
-use Rattle.pop3_wire.specs.declared.command.Command.TheVariants.{User, Pass, UidlOne, ListOne, Retr, Dele, Top}
-use Rattle.mail_terms.specs.Credential.{is_credential, is_plain}
-use Rattle.pop3_wire.specs.Commands.{line_of, can_be_sent, octets_of}
-use Rattle.pop3_wire.specs.CommandLine.{keyword_of, trimmed, arguments, after_keyword, text_argument, argument_number}
-use Rattle.pop3_wire.specs.CommandLine.{no_argument, one_number, number_or_none, two_numbers, command_by, command_of}
-use Rattle.pop3_wire.specs.CommandLine.{ReadAsWritten, HasNumbers, CommandsAreLines}
-use Rattle.pop3_wire.specs.Line.{IsLine, is_no_lf, ended}
-use Rattle.pop3_wire.specs.declared.reply.Status.TheVariants.{Positive, Negative}
-use Rattle.pop3_wire.specs.Honest.{FirstLinesAreRead, fields, HasFields, UidRowsHaveFields, ScanRowsHaveFields, HasSent}
-use Rattle.pop3_wire.specs.Honest.{OneListOfCommands, FrontsAreAsked}
-use Rattle.mail_terms.specs.Text.{HasNoLf}
-use Rattle.pop3_wire.proofs.BodyLemmas.{no_pair, first_line_same}
+use Rattle.std.{
+  proofs.Common.{ℕ, ◌+◌, ◌≤◌, ◌<◌, ◌≡◌, ◌≢◌, true, false, List, [], ◌∷◌, ◌++◌, length, take, drop, refl, sym, ap, ap₂, subst, ◌∙◌, arith},
+  proofs.Common.{inl, inr, Result, Ok, Err, take-append-drop, nat_lt, nat_le, ◌&&◌, ◌==◌, Bool, IsTrue, cond, take_while, append-nil, ◌-◌},
+  proofs.Common.{take_at, drop_at, get_or, length-drop, ◌*◌, ◌^◌, rules, length-append, append_assoc, not, codes, decimal, ne_eqb, ◌⊎◌},
+  proofs.lemmas.Bool.{and_parts, and_from, cond-true, cond-false, leb-true, le-leb, ltb-true, not-true, le-ltb, eqb-false},
+  proofs.lemmas.Bool.Decides.nat_tests,
+  proofs.lemmas.List.{Folds.list_all-append, get_or-drop, get_or-append_right, take_all, nil_from_length},
+  proofs.lemmas.List.Sums.{AllPass-from_list_all, list_all-from_AllPass, take_while-cons, prefix_len_stops, suffix_len_is},
+  proofs.lemmas.List.Splits.{slice_split_none, slice_split_at, slice_split-cons_yes, length-slice_split},
+  proofs.lemmas.Fmt.{digits_decimal, decimal_is_IsNumeral, length-decimal-le, decimal_nonempty},
+  proofs.lemmas.Str.Parse.{IsNumeralModel, numerals_by_fold},
+  proofs.Math.Logic.{⊎_elim, ⊎_map},
+  specs.{List.{filter, prefix_len, list_all, before_first, suffix_len, All, AllByRecursion, slice_split, count_by}, Char.is_ascii_digit},
+  specs.Str.Parse.digits_value,
+}
+use Rattle.pop3_wire.{
+  specs.Fields.{◌>>=◌, is_space, is_in_field, past, number, next_field, message_number, number_and_size, legal_id, nothing_more},
+  specs.Fields.number_and_id,
+  specs.declared.{fault.WireFault.WireFault, command.Command.{Command, TheVariants.{User, Pass, UidlOne, ListOne, Retr, Dele, Top}}},
+  specs.declared.reply.Status.TheVariants.{Positive, Negative},
+  specs.Rows.{AreSpaces, StandsForNumber, HasNumber, HasScanForm, HasUidForm, NumbersAreRead, IsSentAsIs, ScanRowsAreRead, UidRowsAreRead},
+  specs.{Commands.{line_of, can_be_sent, octets_of}, Line.{IsLine, is_no_lf, ended}},
+  specs.CommandLine.{keyword_of, trimmed, arguments, after_keyword, text_argument, argument_number, no_argument, one_number, two_numbers},
+  specs.CommandLine.{number_or_none, command_by, command_of, ReadAsWritten, HasNumbers, CommandsAreLines},
+  specs.Honest.{FirstLinesAreRead, fields, HasFields, UidRowsHaveFields, ScanRowsHaveFields, HasSent, OneListOfCommands, FrontsAreAsked},
+  proofs.BodyLemmas.{no_pair, first_line_same},
+}
+use Rattle.mail_terms.specs.{
+  Numeral.{is_numeral, greatest_number, greatest_size},
+  UniqueId.{is_id_byte, is_legal_id, IsLegalId},
+  Credential.{is_credential, is_plain},
+  Text.HasNoLf,
+}
 
 -- ---- the prefix of bytes that pass a test, and what follows
 

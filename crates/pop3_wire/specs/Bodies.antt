@@ -1,10 +1,14 @@
 -- Taking one body from a link.
 use Rattle.std.specs.Prelude.{◌≡◌, ◌+◌, ◌<◌, ◌≤◌, ℕ, Bool, true, false, List, [], ◌++◌, length, take, Result, Ok, Err}
 use Rattle.std.specs.Prelude.{Vec}
-use Rattle.pop3_wire.specs.{Body.HasNoBody, Link.Link, Unstuffing.Reaches, declared.body_reader.Piece.Piece}
-use Rattle.pop3_wire.specs.Place.{Place, GoesOn}
-use Rattle.pop3_wire.specs.{declared.unstuffer.Spot.Spot, declared.body_reader.BodyFault.BodyFault}
-use Rattle.pop3_wire.specs.declared.body_reader.BodyFault.TheVariants.{Ended, Failed, TooLong}
+use Rattle.pop3_wire.specs.{
+  Body.HasNoBody,
+  Link.Link,
+  Unstuffing.Reaches,
+  declared.body_reader.{Piece.Piece, BodyFault.{BodyFault, TheVariants.{Ended, Failed, TooLong}}},
+  declared.unstuffer.Spot.Spot,
+  Place.{Place, GoesOn},
+}
 
 -- nothing was sent, and these octets were got
 pub record Drew (old new : Link) (gained : List ℕ) : Type 0 where

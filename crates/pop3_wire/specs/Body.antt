@@ -1,6 +1,5 @@
 -- The body of a multi-line reply, and the text that it carries (RFC 1939, section 3).
-use Rattle.std.specs.Prelude.{◌≡◌, ◌≢◌, ◌==◌, ℕ, List, [], ◌∷◌, ◌++◌, if◌then◌else◌}
-use Rattle.std.specs.List.{flat_map, AllByRecursion}
+use Rattle.std.specs.{Prelude.{◌≡◌, ◌≢◌, ◌==◌, ℕ, List, [], ◌∷◌, ◌++◌, if◌then◌else◌}, List.{flat_map, AllByRecursion}}
 use Rattle.pop3_wire.specs.Line.{IsLine, ended}
 
 -- the line that ends a body: a full stop alone

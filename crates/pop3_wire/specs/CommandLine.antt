@@ -1,17 +1,22 @@
 -- The command that a line asks for, or why it asks for none (RFC 1939, sections 3 and 5 to 7).
-use Rattle.std.specs.Prelude.{◌≡◌, ◌<◌, ◌^◌, true, ℕ, List, [], ◌∷◌, ◌-◌, if◌then◌else◌, nat_lt}
-use Rattle.std.specs.Prelude.{nat_le, length, take, drop, codes, Option, Some, None, Result, Ok, Err}
-use Rattle.std.specs.List.{before_first, after_first, slice_split, suffix_len}
-use Rattle.std.specs.{Option.option_map_or, Str.str_eq_ignore_ascii_case}
-use Rattle.pop3_wire.specs.{declared.fault.WireFault.WireFault, declared.command.Command.Command}
-use Rattle.pop3_wire.specs.declared.fault.WireFault.TheVariants.{BadNumber, BadCommand, BadArgument}
-use Rattle.pop3_wire.specs.declared.command.Command.TheVariants.{User, Pass, Stat, UidlAll, UidlOne, ListAll}
-use Rattle.pop3_wire.specs.declared.command.Command.TheVariants.{ListOne, Retr, Dele, Rset, Noop, Top, Quit}
-use Rattle.pop3_wire.specs.{declared.keyword.Keyword.Keyword, Line.IsLine}
-use Rattle.pop3_wire.specs.declared.keyword.Keyword.TheVariants as keyword
+use Rattle.std.specs.{
+  Prelude.{◌≡◌, ◌<◌, ◌^◌, true, ℕ, List, [], ◌∷◌, ◌-◌, if◌then◌else◌, nat_lt, nat_le, length, take, drop, codes, Some},
+  Prelude.{Option, None, Result, Ok, Err},
+  List.{before_first, after_first, slice_split, suffix_len},
+  Option.option_map_or,
+  Str.str_eq_ignore_ascii_case,
+}
+use Rattle.pop3_wire.specs.{
+  declared.{fault.WireFault.{WireFault, TheVariants.{BadNumber, BadCommand, BadArgument}}, keyword.Keyword.Keyword},
+  declared.command.Command.Command,
+  declared.command.Command.TheVariants.{User, Pass, Stat, UidlAll, UidlOne, ListAll, ListOne, Retr, Dele, Rset, Noop},
+  declared.command.Command.TheVariants.{Top, Quit},
+  Line.IsLine,
+  Commands.{can_be_sent, line_of},
+  Fields.{◌>>=◌, is_space, number},
+}
 use Rattle.mail_terms.specs.{Credential.is_credential, Numeral.greatest_number}
-use Rattle.pop3_wire.specs.Commands.{can_be_sent, line_of}
-use Rattle.pop3_wire.specs.Fields.{◌>>=◌, is_space, number}
+use Rattle.pop3_wire.specs.declared.keyword.Keyword.TheVariants as keyword
 
 -- the keyword that a word is, in upper or lower case or both
 unfoldable pub keyword_of : List ℕ → Option Keyword

@@ -1,9 +1,12 @@
 -- The lines of commands (RFC 1939, sections 3 and 5 to 7).
 use Rattle.std.specs.Prelude.{ℕ, Bool, true, List, ◌++◌, codes, decimal, flat_map}
 use Rattle.mail_terms.specs.Credential.{is_credential}
-use Rattle.pop3_wire.specs.{Line.ended, declared.command.Command.Command}
-use Rattle.pop3_wire.specs.declared.command.Command.TheVariants.{User, Pass, Stat, UidlAll, UidlOne, ListAll}
-use Rattle.pop3_wire.specs.declared.command.Command.TheVariants.{ListOne, Retr, Dele, Rset, Noop, Top, Quit}
+use Rattle.pop3_wire.specs.{
+  Line.ended,
+  declared.command.Command.Command,
+  declared.command.Command.TheVariants.{User, Pass, Stat, UidlAll, UidlOne, ListAll, ListOne, Retr, Dele, Rset, Noop},
+  declared.command.Command.TheVariants.{Top, Quit},
+}
 
 -- the command can be sent
 abbrev pub can_be_sent : Command → Bool

@@ -1,11 +1,12 @@
 -- Fields and numerals of reply lines (RFC 1939, sections 5 and 7). Spaces separate the fields.
-use Rattle.std.specs.Prelude.{◌==◌, ◌&&◌, not, nat_le, ℕ, Bool, List, length, drop, take_while, if◌then◌else◌, Result}
-use Rattle.std.specs.Prelude.{Ok, Err}
-use Rattle.std.specs.{List.prefix_len, Char.is_ascii_digit, Str.Parse.digits_value}
-use Rattle.mail_terms.specs.Numeral.{is_numeral, greatest_number, greatest_size}
-use Rattle.mail_terms.specs.UniqueId.{is_legal_id}
-use Rattle.pop3_wire.specs.declared.fault.WireFault.{WireFault}
-use Rattle.pop3_wire.specs.declared.fault.WireFault.TheVariants.{BadNumber, BadField}
+use Rattle.std.specs.{
+  Prelude.{◌==◌, ◌&&◌, not, nat_le, ℕ, Bool, List, length, drop, take_while, if◌then◌else◌, Result, Ok, Err},
+  List.prefix_len,
+  Char.is_ascii_digit,
+  Str.Parse.digits_value,
+}
+use Rattle.mail_terms.specs.{Numeral.{is_numeral, greatest_number, greatest_size}, UniqueId.is_legal_id}
+use Rattle.pop3_wire.specs.declared.fault.WireFault.{WireFault, TheVariants.{BadNumber, BadField}}
 
 -- the first step's fault, or what the next step makes of its result
 infixl 10 ◌>>=◌

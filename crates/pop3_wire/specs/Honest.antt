@@ -1,17 +1,22 @@
 -- What a server may answer to the commands of a session, and whole conversations (RFC 1939, sections 3 to 7).
-use Rattle.std.specs.Prelude.{◌≡◌, ◌⊎◌, ◌-◌, ℕ, Bool, true, false, List, [], ◌∷◌, ◌++◌, map, length, take_while, nat_lt}
-use Rattle.std.specs.Prelude.{Some, Ok, slice_get, slice_set, IsPermutation}
-use Rattle.std.specs.{Char.is_ascii_digit, Str.Parse.digits_value}
-use Rattle.std.specs.List.{filter, slice_split, enumerate_from, AllZip, AllByRecursion}
-use Rattle.pop3_wire.specs.{declared.command.Command.Command, declared.reply.Status.Status, CommandLine.HasNumbers}
-use Rattle.pop3_wire.specs.declared.command.Command.TheVariants.{Stat, UidlAll, ListAll, Retr, Dele, Rset, Top}
-use Rattle.pop3_wire.specs.declared.reply.Status.TheVariants.{Positive, Negative}
-use Rattle.pop3_wire.specs.Line.{IsLine, ended, HoldsNoLf}
-use Rattle.pop3_wire.specs.Body.{IsContent, unstuffed, body_of, Body}
-use Rattle.pop3_wire.specs.Reply.{IsFirstLine, indicator, without_space}
-use Rattle.pop3_wire.specs.Fields.{is_space, number_and_size, number_and_id}
-use Rattle.pop3_wire.specs.Commands.{line_of, can_be_sent, octets_of}
-use Rattle.pop3_wire.specs.World.{Message}
+use Rattle.std.specs.{
+  Prelude.{◌≡◌, ◌⊎◌, ◌-◌, ℕ, Bool, true, false, List, [], ◌∷◌, ◌++◌, map, length, take_while, nat_lt, Some, Ok},
+  Prelude.{slice_get, slice_set, IsPermutation},
+  Char.is_ascii_digit,
+  Str.Parse.digits_value,
+  List.{filter, slice_split, enumerate_from, AllZip, AllByRecursion},
+}
+use Rattle.pop3_wire.specs.{
+  declared.command.Command.{Command, TheVariants.{Stat, UidlAll, ListAll, Retr, Dele, Rset, Top}},
+  declared.reply.Status.{Status, TheVariants.{Positive, Negative}},
+  CommandLine.HasNumbers,
+  Line.{IsLine, ended, HoldsNoLf},
+  Body.{IsContent, unstuffed, body_of, Body},
+  Reply.{IsFirstLine, indicator, without_space},
+  Fields.{is_space, number_and_size, number_and_id},
+  Commands.{line_of, can_be_sent, octets_of},
+  World.Message,
+}
 
 -- a first line of this status with its CR LF, and what follows the status on it
 abbrev pub Says : Status → List ℕ → List ℕ → Type 0

@@ -1,6 +1,5 @@
 -- Lines of the protocol: a line ends at the pair CR LF and nowhere else (RFC 1939, section 3).
-use Rattle.std.specs.Prelude.{◌≡◌, ◌==◌, ℕ, Bool, not, List, [], ◌∷◌, ◌++◌, IsTrue}
-use Rattle.std.specs.List.{list_all}
+use Rattle.std.specs.{Prelude.{◌≡◌, ◌==◌, ℕ, Bool, not, List, [], ◌∷◌, ◌++◌, IsTrue}, List.list_all}
 
 -- CR LF
 abbrev pub crlf : List ℕ

@@ -1,9 +1,11 @@
 -- A link, those of its octets that wait to be used, and what reading on gains.
 use Rattle.std.specs.Prelude.{◌≡◌, ◌+◌, ◌<◌, ◌≤◌, ◌==◌, ◌||◌, ℕ, Bool, true, false, List, ◌++◌, length, take, drop}
 use Rattle.std.specs.Prelude.{Result, Ok, Err}
-use Rattle.pop3_wire.specs.Line.{crlf, IsLine}
-use Rattle.pop3_wire.specs.{Link.Link, declared.line_reader.LineFault.LineFault}
-use Rattle.pop3_wire.specs.declared.line_reader.LineFault.TheVariants.{Ended, Failed, TooLong}
+use Rattle.pop3_wire.specs.{
+  Line.{crlf, IsLine},
+  Link.Link,
+  declared.line_reader.LineFault.{LineFault, TheVariants.{Ended, Failed, TooLong}},
+}
 
 -- a link, and those of its octets that wait to be used
 pub record Place : Type 0 where

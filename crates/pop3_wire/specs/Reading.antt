@@ -1,14 +1,18 @@
 -- Replies as a client reads them: a first line, and after a positive one the body that its command asks for
 -- (RFC 1939, section 3).
-use Rattle.std.specs.Prelude.{◌≡◌, ◌⊎◌, ℕ, Bool, true, false, List, [], ◌++◌, Option, None, Some, Ok}
-use Rattle.std.specs.List.{flat_map, AllByRecursion, AllZip}
-use Rattle.pop3_wire.specs.Line.{IsLine, ended}
-use Rattle.pop3_wire.specs.Body.{IsContent, body_of, unstuffed}
-use Rattle.pop3_wire.specs.Fields.{number_and_size, number_and_id}
-use Rattle.pop3_wire.specs.{Reply.IsFirstLine, declared.command.Command.Command}
+use Rattle.std.specs.{
+  Prelude.{◌≡◌, ◌⊎◌, ℕ, Bool, true, false, List, [], ◌++◌, Option, None, Some, Ok},
+  List.{flat_map, AllByRecursion, AllZip},
+}
+use Rattle.pop3_wire.specs.{
+  Line.{IsLine, ended},
+  Body.{IsContent, body_of, unstuffed},
+  Fields.{number_and_size, number_and_id},
+  Reply.IsFirstLine,
+  declared.command.Command.{Command, TheVariants.{UidlAll, ListAll, Retr, Top}},
+  declared.reply.Status.TheVariants.{Positive, Negative},
+}
 use Rattle.mail_terms.specs.{Listing.UidRow, declared.listing.ScanRow.ScanRow}
-use Rattle.pop3_wire.specs.declared.reply.Status.TheVariants.{Positive, Negative}
-use Rattle.pop3_wire.specs.declared.command.Command.TheVariants.{UidlAll, ListAll, Retr, Top}
 
 -- a whole reply: its first line, and the lines of its body if it has one
 pub record WholeReply : Type 0 where

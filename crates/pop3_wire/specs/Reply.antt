@@ -1,7 +1,6 @@
 -- The first line of a reply (RFC 1939, section 3).
 use Rattle.std.specs.Prelude.{◌≡◌, ◌==◌, ℕ, List, [], ◌∷◌, ◌++◌, if◌then◌else◌, codes}
-use Rattle.pop3_wire.specs.declared.reply.Status.{Status}
-use Rattle.pop3_wire.specs.declared.reply.Status.TheVariants.{Positive, Negative}
+use Rattle.pop3_wire.specs.declared.reply.Status.{Status, TheVariants.{Positive, Negative}}
 
 -- the status indicator that a first line begins with, in upper case
 abbrev pub indicator : Status → List ℕ

@@ -1,10 +1,12 @@
 -- The forms of a row of LIST, of STAT's rest, and of a row of UIDL (RFC 1939, sections 5 and 7).
-use Rattle.std.specs.Prelude.{◌≡◌, ◌≢◌, ◌≤◌, ◌↔◌, false, ℕ, List, [], ◌∷◌, ◌++◌, codes, IsTrue, Ok, decimal}
-use Rattle.std.specs.{List.list_all, Char.is_ascii_digit, Str.Parse.digits_value}
-use Rattle.mail_terms.specs.Numeral.{is_numeral, greatest_number, greatest_size}
-use Rattle.mail_terms.specs.UniqueId.{IsLegalId}
-use Rattle.pop3_wire.specs.Body.{IsContent, unstuffed}
-use Rattle.pop3_wire.specs.Fields.{is_space, number_and_size, number_and_id}
+use Rattle.std.specs.{
+  Prelude.{◌≡◌, ◌≢◌, ◌≤◌, ◌↔◌, false, ℕ, List, [], ◌∷◌, ◌++◌, codes, IsTrue, Ok, decimal},
+  List.list_all,
+  Char.is_ascii_digit,
+  Str.Parse.digits_value,
+}
+use Rattle.mail_terms.specs.{Numeral.{is_numeral, greatest_number, greatest_size}, UniqueId.IsLegalId}
+use Rattle.pop3_wire.specs.{Body.{IsContent, unstuffed}, Fields.{is_space, number_and_size, number_and_id}}
 
 -- only spaces
 abbrev pub AreSpaces : List ℕ → Type 0

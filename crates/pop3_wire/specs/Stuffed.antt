@@ -1,8 +1,7 @@
 -- The body of a text, as a writer sends it (RFC 1939, section 3).
 use Rattle.std.specs.Prelude.{◌≡◌, ◌==◌, ℕ, List, [], ◌∷◌, ◌++◌, if◌then◌else◌, flat_map}
 use Rattle.mail_terms.specs.Text.{lines_of_text, whole_text}
-use Rattle.pop3_wire.specs.Line.{ended}
-use Rattle.pop3_wire.specs.Body.{dot, Body}
+use Rattle.pop3_wire.specs.{Line.ended, Body.{dot, Body}}
 
 -- a line with one more full stop in front, if it begins with one
 abbrev pub stuffed : List ℕ → List ℕ

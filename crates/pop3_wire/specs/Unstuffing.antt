@@ -1,11 +1,11 @@
 -- A body that is read octet by octet: the octets that were read, and the part of the text that they give.
-use Rattle.std.specs.Prelude.{◌≡◌, ◌≢◌, ℕ, List, [], ◌∷◌, ◌++◌}
-use Rattle.std.specs.List.{flat_map, AllByRecursion}
-use Rattle.pop3_wire.specs.Line.{IsLine, ended}
-use Rattle.pop3_wire.specs.Body.{dot, IsContent, unstuffed, text_of, Body}
-use Rattle.pop3_wire.specs.{declared.unstuffer.Spot.Spot, declared.unstuffer.Given.Given}
-use Rattle.pop3_wire.specs.declared.unstuffer.Spot.TheVariants.{Start, Dot, DotCr, Middle, Cr, Done}
-use Rattle.pop3_wire.specs.declared.unstuffer.Given.TheVariants.{Nothing, One, CrAnd}
+use Rattle.std.specs.{Prelude.{◌≡◌, ◌≢◌, ℕ, List, [], ◌∷◌, ◌++◌}, List.{flat_map, AllByRecursion}}
+use Rattle.pop3_wire.specs.{
+  Line.{IsLine, ended},
+  Body.{dot, IsContent, unstuffed, text_of, Body},
+  declared.unstuffer.Spot.{Spot, TheVariants.{Start, Dot, DotCr, Middle, Cr, Done}},
+  declared.unstuffer.Given.{Given, TheVariants.{Nothing, One, CrAnd}},
+}
 
 -- the bytes are whole lines of a body and then a part of one; the text is that of the lines, and then what is
 -- shown of the part

@@ -1,6 +1,5 @@
 -- What a server's maildrop holds over time (RFC 1939, sections 4 and 7).
-use Rattle.std.specs.Prelude.{ℕ, not, List, take, map, bytes_eq}
-use Rattle.std.specs.List.{filter, list_any, AllByRecursion}
+use Rattle.std.specs.{Prelude.{ℕ, not, List, take, map, bytes_eq}, List.{filter, list_any, AllByRecursion}}
 use Rattle.mail_terms.specs.{Distinct.AreDistinct, UniqueId.IsLegalId, Text.IsWhole}
 
 -- a message: its unique id, its size in octets as a listing gives it, and its text, whose lines end at LF

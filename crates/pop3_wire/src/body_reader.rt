@@ -1,11 +1,13 @@
 //! Taking one body from a link, into its text (RFC 1939, section 3).
-ghost use Rattle.std.specs.Prelude.{◌≡◌, ◌≢◌, ◌≤◌, ◌<◌, ◌+◌, ◌-◌, ◌++◌, ◌↔◌, ℕ, List, []};
-ghost use Rattle.std.specs.Prelude.{length, take, drop, min, IsTrue, IfOk, IfErr, OnOk, OnErr};
-ghost use Rattle.pop3_wire.specs.Bodies.{Drew, DrawsNothing, Rest, UnderWay, TakesPiece, rest_of, is_body_refusal};
-ghost use Rattle.pop3_wire.specs.Link.{CountsRefusal, WhereSound};
-ghost use Rattle.pop3_wire.specs.Place.{Place, at, GoesOn};
-ghost use Rattle.pop3_wire.specs.Unstuffing.{Reaches};
-ghost use Rattle.pop3_wire.specs.declared.unstuffer.Spot.TheVariants.{Start, Done};
+ghost use Rattle.std.specs.Prelude.{◌≡◌, ◌≢◌, ◌≤◌, ◌<◌, ◌+◌, ◌-◌, ◌++◌, ◌↔◌, ℕ, List, [], length, take, drop, min};
+ghost use Rattle.std.specs.Prelude.{IsTrue, IfOk, IfErr, OnOk, OnErr};
+ghost use Rattle.pop3_wire.specs.{
+  Bodies.{Drew, DrawsNothing, Rest, UnderWay, TakesPiece, rest_of, is_body_refusal},
+  Link.{CountsRefusal, WhereSound},
+  Place.{Place, at, GoesOn},
+  Unstuffing.Reaches,
+  declared.unstuffer.Spot.TheVariants.{Start, Done},
+};
 
 use crate::line_reader::{LineReader, MOST_WAITING};
 use crate::unstuffer::{Fed, Unstuffer};

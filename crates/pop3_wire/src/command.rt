@@ -1,10 +1,8 @@
 //! Commands, and the lines that ask for them (RFC 1939, sections 3 and 5 to 7).
 
-ghost use Rattle.std.specs.Prelude.{ℕ, ◌≡◌, ◌++◌, ◌⊎◌, true, false, IfOk, IfErr, codes};
-ghost use Rattle.std.specs.Fmt.{decimal};
-ghost use Rattle.pop3_wire.specs.Line.{crlf};
+ghost use Rattle.std.specs.{Prelude.{ℕ, ◌≡◌, ◌++◌, ◌⊎◌, true, false, IfOk, IfErr, codes}, Fmt.decimal};
+ghost use Rattle.pop3_wire.specs.{Line.crlf, Commands.{can_be_sent, line_of}};
 ghost use Rattle.mail_terms.specs.Credential.{is_credential};
-ghost use Rattle.pop3_wire.specs.Commands.{can_be_sent, line_of};
 
 use crate::fault::WireFault;
 use mail_terms::{Bytes, is_credential};

@@ -1,12 +1,15 @@
 //! The command that a line asks for (RFC 1939, sections 3 and 5 to 7).
 
-ghost use Rattle.std.specs.Prelude.{◌≡◌, ◌⊎◌, [], ◌∷◌, Ok, Err, IfOk, IfErr, IsOk, MatchOption};
-ghost use Rattle.std.specs.List.{before_first, after_first, slice_split};
-ghost use Rattle.pop3_wire.specs.Fields.{is_space};
-ghost use Rattle.pop3_wire.specs.CommandLine.{trimmed, arguments, after_keyword, text_argument, argument_number};
-ghost use Rattle.pop3_wire.specs.CommandLine.{no_argument, one_number, number_or_none, two_numbers, command_by};
-ghost use Rattle.pop3_wire.specs.CommandLine.{command_of, CarriesBytes, ReadAsWritten, CommandsAreLines};
-ghost use Rattle.pop3_wire.specs.Honest.{OneListOfCommands, FrontsAreAsked};
+ghost use Rattle.std.specs.{
+  Prelude.{◌≡◌, ◌⊎◌, [], ◌∷◌, Ok, Err, IfOk, IfErr, IsOk, MatchOption},
+  List.{before_first, after_first, slice_split},
+};
+ghost use Rattle.pop3_wire.specs.{
+  Fields.is_space,
+  CommandLine.{trimmed, arguments, after_keyword, text_argument, argument_number, no_argument, one_number, two_numbers},
+  CommandLine.{number_or_none, command_by, command_of, CarriesBytes, ReadAsWritten, CommandsAreLines},
+  Honest.{OneListOfCommands, FrontsAreAsked},
+};
 
 use crate::command::Command;
 use crate::fault::WireFault;

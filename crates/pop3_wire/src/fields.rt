@@ -1,13 +1,16 @@
 //! Fields of reply lines, separated by one or more spaces (RFC 1939, sections 5 and 7).
-ghost use Rattle.std.specs.Prelude.{◌≡◌, ◌≤◌, IfOk, IfErr, Ok, Err, length, take_while};
-ghost use Rattle.std.specs.Char.{is_ascii_digit};
-ghost use Rattle.std.specs.List.{prefix_len};
-ghost use Rattle.pop3_wire.specs.Fields.{is_space, is_in_field, past, number, next_field, legal_id};
-ghost use Rattle.pop3_wire.specs.Fields.{nothing_more, message_number, number_and_size, number_and_id};
-ghost use Rattle.mail_terms.specs.UniqueId.{is_legal_id, IsLegalId};
-ghost use Rattle.mail_terms.specs.Numeral.{greatest_number, greatest_size};
-ghost use Rattle.pop3_wire.specs.Honest.{ScanRowsHaveFields, UidRowsHaveFields};
-ghost use Rattle.pop3_wire.specs.Rows.{ScanRowsHaveForm, UidRowsHaveForm};
+ghost use Rattle.std.specs.{
+  Prelude.{◌≡◌, ◌≤◌, IfOk, IfErr, Ok, Err, length, take_while},
+  Char.is_ascii_digit,
+  List.prefix_len,
+};
+ghost use Rattle.pop3_wire.specs.{
+  Fields.{is_space, is_in_field, past, number, next_field, legal_id, nothing_more, message_number, number_and_size},
+  Fields.number_and_id,
+  Honest.{ScanRowsHaveFields, UidRowsHaveFields},
+  Rows.{ScanRowsHaveForm, UidRowsHaveForm},
+};
+ghost use Rattle.mail_terms.specs.{UniqueId.{is_legal_id, IsLegalId}, Numeral.{greatest_number, greatest_size}};
 
 use crate::fault::WireFault;
 use mail_terms::{is_legal_id, read_numeral};

@@ -1,9 +1,10 @@
 //! Reads lines from any link: the replies that a client gets, and the commands that a server gets.
-ghost use Rattle.std.specs.Prelude.{◌≡◌, ◌≤◌, ◌<◌, ◌+◌, ◌-◌, ℕ, List, [], ◌++◌, length, take, drop, IfOk, IfErr, OnErr};
-ghost use Rattle.std.specs.Prelude.{IfSome, IfNone};
-ghost use Rattle.pop3_wire.specs.Link.{CountsFailure, CountsRefusal, WhereSound};
-ghost use Rattle.pop3_wire.specs.Place.{most_waiting, at, GotPiece, WasRefused, Gains, HasLine, HasNoLine, ReadsLine};
-ghost use Rattle.pop3_wire.specs.Place.{is_line_refusal};
+ghost use Rattle.std.specs.Prelude.{◌≡◌, ◌≤◌, ◌<◌, ◌+◌, ◌-◌, ℕ, List, [], ◌++◌, length, take, drop, IfOk, IfErr};
+ghost use Rattle.std.specs.Prelude.{OnErr, IfSome, IfNone};
+ghost use Rattle.pop3_wire.specs.{
+  Link.{CountsFailure, CountsRefusal, WhereSound},
+  Place.{most_waiting, at, GotPiece, WasRefused, Gains, HasLine, HasNoLine, ReadsLine, is_line_refusal},
+};
 
 use crate::line::cut_line;
 use crate::wire::{Wire, WireDown};

@@ -1,9 +1,11 @@
 //! First lines of replies (RFC 1939, section 3).
 ghost use Rattle.std.specs.Prelude.{◌≡◌, ℕ, List, IfOk, IfErr};
-ghost use Rattle.pop3_wire.specs.Honest.{FirstLinesAreRead};
-ghost use Rattle.pop3_wire.specs.Reading.{OneReading, OneListOfLines};
-ghost use Rattle.pop3_wire.specs.Reply.{IsFirstLine, without_space};
-ghost use Rattle.pop3_wire.specs.Rows.{NumbersAreRead, ScanRowsAreRead, UidRowsAreRead};
+ghost use Rattle.pop3_wire.specs.{
+  Honest.FirstLinesAreRead,
+  Reading.{OneReading, OneListOfLines},
+  Reply.{IsFirstLine, without_space},
+  Rows.{NumbersAreRead, ScanRowsAreRead, UidRowsAreRead},
+};
 
 use crate::fault::WireFault;
 

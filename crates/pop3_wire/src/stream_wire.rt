@@ -1,6 +1,5 @@
 //! A link over a reader and a writer: the two ends of a socket, or the standard streams.
-ghost use Rattle.std.specs.Prelude.{◌≡◌, ◌≤◌, ◌<◌, length, IfOk, OnOk};
-ghost use Rattle.std.specs.Io.KnownBytes.{Appends, Keeps, ReadConsumes};
+ghost use Rattle.std.specs.{Prelude.{◌≡◌, ◌≤◌, ◌<◌, length, IfOk, OnOk}, Io.KnownBytes.{Appends, Keeps, ReadConsumes}};
 ghost use Rattle.pop3_wire.specs.Link.{uncharted, CountsFailure};
 
 use crate::wire::{Wire, WireDown};

@@ -1,6 +1,5 @@
 //! Bodies of multi-line replies as a writer sends them, dot-stuffed (RFC 1939, section 3).
-ghost use Rattle.std.specs.Prelude.{◌≡◌, ◌<◌, ◌≤◌, ◌++◌, ◌∷◌, length, IfOk, IfErr};
-ghost use Rattle.std.specs.Io.{StartsWith};
+ghost use Rattle.std.specs.{Prelude.{◌≡◌, ◌<◌, ◌≤◌, ◌++◌, ◌∷◌, length, IfOk, IfErr}, Io.StartsWith};
 ghost use Rattle.mail_terms.specs.Text.{lines_of_text};
 ghost use Rattle.pop3_wire.specs.Stuffed.{sent_line, stuffed_lines, StuffedIsBody, StuffedIsRead, OneBody};
 

@@ -1,9 +1,11 @@
 //! Reads bodies piece by piece, wherever the pieces are cut (RFC 1939, section 3).
 ghost use Rattle.std.specs.Prelude.{◌≡◌, ◌≢◌, ◌≤◌, ◌<◌, ◌+◌, ◌++◌, ◌↔◌, ◌∷◌, ℕ, List, [], length, slice_index, take};
 ghost use Rattle.std.specs.Prelude.{IsTrue, IfSome};
-ghost use Rattle.pop3_wire.specs.Body.{Body, HasNoBody};
-ghost use Rattle.pop3_wire.specs.Unstuffing.{Reaches, held_back, bytes_given};
-ghost use Rattle.pop3_wire.specs.declared.unstuffer.Spot.{Spot};
+ghost use Rattle.pop3_wire.specs.{
+  Body.{Body, HasNoBody},
+  Unstuffing.{Reaches, held_back, bytes_given},
+  declared.unstuffer.Spot.Spot,
+};
 
 use memchr::memchr;
 use std::marker::Model;

@@ -1,9 +1,13 @@
 -- What clap's matches of the command line are.
-use Rattle.std.proofs.Common.{◌≡◌, ◌∙◌, ℕ, List, Option, None, Some, Result, Ok, Err, true, ap, refl, unwrap_or}
-use Rattle.std.specs.Str.Parse.{ParsesUnsigned}
-use Rattle.clap.specs.{Kinds.HasKind, declared.error.Error.Error, declared.parser.matches.ArgMatches.ArgMatches}
-use Rattle.clap.specs.Words.{App, HasMatchesOf, ReadsOne, fault_of, found_of, is_simple, is_simple_and_free, matches_of, rows_of}
-use Rattle.clap.proofs.OnLiterals.{clap_on_literals}
+use Rattle.std.{
+  proofs.Common.{◌≡◌, ◌∙◌, ℕ, List, Option, None, Some, Result, Ok, Err, true, ap, refl, unwrap_or},
+  specs.Str.Parse.ParsesUnsigned,
+}
+use Rattle.clap.{
+  specs.{Kinds.HasKind, declared.{error.Error.Error, parser.matches.ArgMatches.ArgMatches}},
+  specs.Words.{App, HasMatchesOf, ReadsOne, fault_of, found_of, is_simple, is_simple_and_free, matches_of, rows_of},
+  proofs.OnLiterals.clap_on_literals,
+}
 use Rattle.popd_program.specs.CommandLine.{Numbers, popd}
 
 popd_is_simple : is_simple popd ≡ true

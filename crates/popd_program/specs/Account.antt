@@ -1,8 +1,10 @@
 -- Whose mail is served.
-use Rattle.std.specs.Prelude.{◌≡◌, ◌-◌, ◌^◌, ℕ, true, List, Some, option_map}
-use Rattle.std.specs.String.{string_bytes}
-use Rattle.popd_program.specs.{Password.password_of, Failures.has_right_count, declared.account.Account.Account}
-use Rattle.popd_program.specs.declared.words.Words.{Words}
+use Rattle.std.specs.{Prelude.{◌≡◌, ◌-◌, ◌^◌, ℕ, true, List, Some, option_map}, String.string_bytes}
+use Rattle.popd_program.specs.{
+  Password.password_of,
+  Failures.has_right_count,
+  declared.{account.Account.Account, words.Words.Words},
+}
 
 -- the words name this account: its user first and its Maildir last; and its password is in the octets that a read of
 -- the password file gave, whose path is between them

@@ -1,11 +1,14 @@
 -- The command line: its options, and what words ask for.
-use Rattle.std.specs.Prelude.{◌≡◌, ◌<◌, ◌^◌, ◌==◌, ◌&&◌, ℕ, Bool, not, List, [], Option, None, Some}
-use Rattle.std.specs.Prelude.{◌∷◌, codes, fold, is_some, length, map, option_map, pos, unwrap_or}
-use Rattle.std.specs.String.{string_bytes}
-use Rattle.std.specs.Str.Parse.{IsNumeral, digits_value, without_leading_plus}
-use Rattle.clap.specs.Words.{App, Row, Rule, all_of, first_of, new_rule, one_of, with_rule}
-use Rattle.clap.specs.declared.builder.action.ArgAction.TheVariants.{Append}
-use Rattle.clap.specs.declared.builder.value_parser.ValueParser.TheVariants.{Signed}
+use Rattle.std.specs.{
+  Prelude.{◌≡◌, ◌<◌, ◌^◌, ◌==◌, ◌&&◌, ℕ, Bool, not, List, [], Option, None, Some, ◌∷◌, codes, fold, is_some, length},
+  Prelude.{map, option_map, pos, unwrap_or},
+  String.string_bytes,
+  Str.Parse.{IsNumeral, digits_value, without_leading_plus},
+}
+use Rattle.clap.specs.{
+  Words.{App, Row, Rule, all_of, first_of, new_rule, one_of, with_rule},
+  declared.builder.{action.ArgAction.TheVariants.Append, value_parser.ValueParser.TheVariants.Signed},
+}
 use Rattle.command_line.specs.Rules.{is_given, long_flag_rule, long_value_rule, program, word_rule}
 use Rattle.popd_program.specs.declared.words.Words.{Words}
 

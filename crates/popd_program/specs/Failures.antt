@@ -1,11 +1,13 @@
 -- How the program ends: the exit status, and what each failure says of the words.
-use Rattle.std.specs.Prelude.{◌≡◌, ◌≢◌, ◌||◌, ℕ, Bool, true, false, not, List, Some, Result, Ok, Err, is_some}
-use Rattle.std.specs.Prelude.{option_map, if◌then◌else◌}
-use Rattle.std.specs.String.{string_bytes}
+use Rattle.std.specs.{
+  Prelude.{◌≡◌, ◌≢◌, ◌||◌, ℕ, Bool, true, false, not, List, Some, Result, Ok, Err, is_some, option_map, if◌then◌else◌},
+  String.string_bytes,
+}
 use Rattle.pop3_server.specs.declared.fault.ServerFault.TheVariants.{NoMemory}
-use Rattle.popd_program.specs.CommandLine.{is_bare, has_all_words}
-use Rattle.popd_program.specs.{declared.failure.Failure.Failure, declared.words.Words.Words}
-use Rattle.popd_program.specs.declared.failure.Failure.TheVariants.{WrongCount, CannotRead, CannotListen, Fault}
+use Rattle.popd_program.specs.{
+  CommandLine.{is_bare, has_all_words},
+  declared.{failure.Failure.{Failure, TheVariants.{WrongCount, CannotRead, CannotListen, Fault}}, words.Words.Words},
+}
 
 -- 0: served; 1: a file, an address, the link or memory failed; 2: usage
 abbrev pub status_of_serving : Result (Unit {0}) Failure → ℕ

@@ -1,6 +1,5 @@
 -- The password in a password file.
-use Rattle.std.specs.Prelude.{ℕ, List}
-use Rattle.std.specs.{Io.BufRead.strip_last, List.before_first}
+use Rattle.std.specs.{Prelude.{ℕ, List}, Io.BufRead.strip_last, List.before_first}
 use Rattle.mail_terms.specs.Text.{is_line_feed}
 
 -- the bytes before the first LF, or all if there is none, without the CR at their end

@@ -1,8 +1,11 @@
 -- How many removals a Maildir was asked for once sessions were served over it, and what one of them leaves.
 use Rattle.std.specs.Prelude.{◌≡◌, ℕ, Option, None, Some, Result}
 use Rattle.pop3_wire.specs.Link.{Link}
-use Rattle.pop3_server.specs.{declared.fault.ServerFault.ServerFault, ServerMachine.Machine, Serving.ServedLines}
-use Rattle.pop3_server.specs.declared.maildrop.Maildrop.{Ghosts as DropGhosts}
+use Rattle.pop3_server.specs.{
+  declared.{fault.ServerFault.ServerFault, maildrop.Maildrop.Ghosts as DropGhosts},
+  ServerMachine.Machine,
+  Serving.ServedLines,
+}
 use Rattle.popd_program.specs.declared.visit.Quit.{Quit}
 
 -- as many as the session that came to QUIT left, or as before

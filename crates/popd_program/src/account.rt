@@ -1,9 +1,6 @@
 //! The account that is served: user, password and Maildir.
-ghost use Rattle.std.specs.Prelude.{◌≡◌, [], true, false, IfOk, IfErr, codes};
-ghost use Rattle.std.specs.String.{string_bytes};
-ghost use Rattle.popd_program.specs.Account.{IsAccount};
-ghost use Rattle.popd_program.specs.Failures.{IsCause, IsUnread};
-ghost use Rattle.popd_program.specs.Start.{at_start};
+ghost use Rattle.std.specs.{Prelude.{◌≡◌, [], true, false, IfOk, IfErr, codes}, String.string_bytes};
+ghost use Rattle.popd_program.specs.{Account.IsAccount, Failures.{IsCause, IsUnread}, Start.at_start};
 
 use crate::failure::{Failure, failure_of};
 use crate::password::password;

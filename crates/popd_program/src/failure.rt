@@ -1,9 +1,7 @@
 //! Why the program serves nothing, or ends early: its line on standard error and its exit status.
-ghost use Rattle.std.specs.Prelude.{◌≡◌, ◌≢◌, ◌⊎◌, ◌≤◌};
-ghost use Rattle.std.specs.IoError.{error_kind};
+ghost use Rattle.std.specs.{Prelude.{◌≡◌, ◌≢◌, ◌⊎◌, ◌≤◌}, IoError.error_kind};
 ghost use Rattle.pop3_server.specs.declared.fault.ServerFault.TheVariants.{NoMemory};
-ghost use Rattle.popd_program.specs.declared.failure.Failure.TheVariants.{Fault};
-ghost use Rattle.popd_program.specs.Failures.{status_of_serving};
+ghost use Rattle.popd_program.specs.{declared.failure.Failure.TheVariants.Fault, Failures.status_of_serving};
 
 use pop3_server::ServerFault;
 use std::alloc::AllocError;

@@ -1,7 +1,6 @@
 //! The rehearsal: two small messages, served to user `u` with password `p`.
 ghost use Rattle.std.specs.Prelude.{◌≡◌, IfOk, codes};
-ghost use Rattle.popd_program.specs.Rehearsal.{rehearsal};
-ghost use Rattle.popd_program.specs.Start.{at_start};
+ghost use Rattle.popd_program.specs.{Rehearsal.rehearsal, Start.at_start};
 
 use pop3_server::{MemoryDrop, Server};
 use std::alloc::{AllocError, Global};

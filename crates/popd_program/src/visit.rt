@@ -2,8 +2,7 @@
 ghost use Rattle.std.specs.Prelude.{◌≡◌, false, true, None, IfSome, IsSome};
 ghost use Rattle.pop3_server.specs.Quitting.{ReadsQuit};
 ghost use Rattle.pop3_wire.specs.Link.{WhereSound};
-ghost use Rattle.popd_program.specs.Start.{at_start};
-ghost use Rattle.popd_program.specs.Visits.{LeavesDrop, removals_by};
+ghost use Rattle.popd_program.specs.{Start.at_start, Visits.{LeavesDrop, removals_by}};
 
 use crate::account::Account;
 use crate::warning::{Warning, warn};

@@ -1,7 +1,6 @@
 //! How long a client may keep the server waiting (RFC 1939, section 3, asks for at least ten minutes
 //! after the login).
-ghost use Rattle.std.specs.Prelude.{◌≡◌, ◌≤◌, ◌+◌, ◌*◌, length, IfOk, IfSome, None};
-ghost use Rattle.std.specs.Duration.{as_nanos};
+ghost use Rattle.std.specs.{Prelude.{◌≡◌, ◌≤◌, ◌+◌, ◌*◌, length, IfOk, IfSome, None}, Duration.as_nanos};
 
 use pop3_server::{Event, Journal};
 use std::cell::Cell;

@@ -1,13 +1,13 @@
 -- Where a line may be split: next to a blank or a sign, which are ASCII.
-use Rattle.std.proofs.Common.{IsUtf8, IsCharBoundary, ◌≡◌, ℕ, ◌+◌, ◌-◌, ◌<◌, ◌≤◌, List, length, true, false, get_or}
-use Rattle.std.proofs.Common.{arith, reverse, subst, ap, ◌∙◌, refl, inl, inr, sym, Some, position}
-use Rattle.std.proofs.lemmas.Bool.{cases_lt, both_ways}
-use Rattle.std.proofs.lemmas.List.{get_or_past, get_or-reverse, get_or-take}
-use Rattle.std.proofs.lemmas.List.Quantifiers.{position-Some}
-use Rattle.std.proofs.lemmas.List.Sums.{prefix_len-le-length, suffix_len-le-length, prefix_len_passes}
-use Rattle.std.proofs.lemmas.Str.{IsCharBoundary-before_ascii, IsCharBoundary-after_ascii, IsCharBoundary-end}
-use Rattle.std.proofs.lemmas.Str.{IsUtf8-from_is_utf8, is_utf8-from_IsUtf8}
-use Rattle.std.specs.List.{prefix_len, suffix_len}
+use Rattle.std.{
+  proofs.Common.{IsUtf8, IsCharBoundary, ◌≡◌, ℕ, ◌+◌, ◌-◌, ◌<◌, ◌≤◌, List, length, true, false, get_or, arith, reverse, subst, ap, ◌∙◌},
+  proofs.Common.{refl, inl, inr, sym, Some, position},
+  proofs.lemmas.Bool.{cases_lt, both_ways},
+  proofs.lemmas.List.{get_or_past, get_or-reverse, get_or-take, Quantifiers.position-Some},
+  proofs.lemmas.List.Sums.{prefix_len-le-length, suffix_len-le-length, prefix_len_passes},
+  proofs.lemmas.Str.{IsCharBoundary-before_ascii, IsCharBoundary-after_ascii, IsCharBoundary-end, IsUtf8-from_is_utf8, is_utf8-from_IsUtf8},
+  specs.List.{prefix_len, suffix_len},
+}
 use Rattle.rc_file.specs.LineRules.{is_blank, is_sign, before_blanks}
 
 blank_ascii : (byte : ℕ) → is_blank byte ≡ true → byte < 128

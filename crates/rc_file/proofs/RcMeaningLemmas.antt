@@ -1,17 +1,16 @@
 -- The meaning of a file, from what its reader finds; the search for what has no effect, and that no warning depends on a value.
-use Rattle.std.proofs.Common.{Bool, append-nil, ◌≡◌, ℕ, ◌≤◌, List, [], ◌∷◌, ◌++◌, length, map, None, Ok, refl, ◌∙◌}
-use Rattle.std.proofs.Common.{le-ltb, BuildHasherDefault, FoldHasher, arith, ◌+◌, ◌<◌, drop, get_or, add-one, true}
-use Rattle.std.proofs.Common.{false, cond, ◌&&◌, ◌||◌, ap, drop-cons, append_assoc, bytes_eq}
-use Rattle.std.specs.HashSet.{HashSet, contains}
-use Rattle.std.specs.List.{list_any, filter}
-use Rattle.rc_file.specs.FileRows.{RcRow, rows_of, section_row, key_row, bad_row}
-use Rattle.rc_file.specs.RcMeaning.{first_bad, missing_section, settings_in, warnings_in, rc_meaning, Warned, firsts}
-use Rattle.rc_file.specs.RcMeaning.{has_no_effect, is_same, warned}
-use Rattle.rc_file.specs.{RcText.without_value, KeyReading.key_fault, declared.row.ReadRow.ReadRow}
-use Rattle.rc_file.specs.RowReading.{rows_in, row_of}
-use Rattle.rc_file.specs.WarningSearch.{Name, TellsWarning, name_eq}
-use Rattle.rc_file.specs.declared.key.Section.TheVariants.{Retriever, Destination}
-use Rattle.rc_file.proofs.RowLemmas.{continued-nil, first_bad-read}
+use Rattle.std.{
+  proofs.Common.{Bool, append-nil, ◌≡◌, ℕ, ◌≤◌, List, [], ◌∷◌, ◌++◌, length, map, None, Ok, refl, ◌∙◌, le-ltb, BuildHasherDefault, arith},
+  proofs.Common.{FoldHasher, ◌+◌, ◌<◌, drop, get_or, add-one, true, false, cond, ◌&&◌, ◌||◌, ap, drop-cons, append_assoc, bytes_eq},
+  specs.{HashSet.{HashSet, contains}, List.{list_any, filter}},
+}
+use Rattle.rc_file.{
+  specs.{FileRows.{RcRow, rows_of, section_row, key_row, bad_row}, RcText.without_value, KeyReading.key_fault},
+  specs.RcMeaning.{first_bad, missing_section, settings_in, warnings_in, rc_meaning, Warned, firsts, has_no_effect, is_same, warned},
+  specs.{declared.{row.ReadRow.ReadRow, key.Section.TheVariants.{Retriever, Destination}}, RowReading.{rows_in, row_of}},
+  specs.WarningSearch.{Name, TellsWarning, name_eq},
+  proofs.RowLemmas.{continued-nil, first_bad-read},
+}
 
 -- what a whole file means
 

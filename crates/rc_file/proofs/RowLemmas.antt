@@ -1,15 +1,19 @@
 -- Reading a file line by line gives its rows.
-use Rattle.std.proofs.Common.{◌≡◌, ℕ, ◌+◌, suc, Result, Ok, Err, List, [], ◌∷◌, ◌++◌, length, take, get_or, set, map}
-use Rattle.std.proofs.Common.{true, false, Option, Some, None, ap, ◌∙◌, refl, inl, inr, arith}
-use Rattle.std.proofs.{lemmas.Grind.common_steps, Math.Seq.split_at, lemmas.Bool.false≢true}
-use Rattle.std.proofs.lemmas.List.{drop_all, take-set, append-nil, append_assoc, map-append, nil_from_length}
-use Rattle.std.specs.Char.{to_ascii_lowercase}
-use Rattle.rc_file.specs.LineRules.{RcLine, more, key}
-use Rattle.rc_file.specs.FileRows.{RcRow, section_row, key_row, bad_row}
-use Rattle.rc_file.specs.{RcMeaning.first_bad, declared.fault.RcFault.RcFault, declared.fault.RcFault.TheVariants.BadLine}
-use Rattle.rc_file.specs.RowReading.{row_of, entry_row, rows_in, continued_row, continued, section_in, last_section}
-use Rattle.rc_file.specs.RowReading.{is_key_row, ends_in_key, file_rows, AddsText, TakesLine}
-use Rattle.rc_file.specs.{declared.row.ReadRow.ReadRow, declared.row.Entry.Entry}
+use Rattle.std.{
+  proofs.Common.{◌≡◌, ℕ, ◌+◌, suc, Result, Ok, Err, List, [], ◌∷◌, ◌++◌, length, take, get_or, set, map, true, false, Option, Some, None},
+  proofs.Common.{ap, ◌∙◌, refl, inl, inr, arith},
+  proofs.lemmas.{Grind.common_steps, Bool.false≢true, List.{drop_all, take-set, append-nil, append_assoc, map-append, nil_from_length}},
+  proofs.Math.Seq.split_at,
+  specs.Char.to_ascii_lowercase,
+}
+use Rattle.rc_file.specs.{
+  LineRules.{RcLine, more, key},
+  FileRows.{RcRow, section_row, key_row, bad_row},
+  RcMeaning.first_bad,
+  declared.{fault.RcFault.{RcFault, TheVariants.BadLine}, row.{ReadRow.ReadRow, Entry.Entry}},
+  RowReading.{row_of, entry_row, rows_in, continued_row, continued, section_in, last_section, is_key_row, ends_in_key, file_rows, AddsText},
+  RowReading.TakesLine,
+}
 
 -- the last of some rows
 

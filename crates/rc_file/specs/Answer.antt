@@ -1,10 +1,14 @@
 -- What the result for an rc file has to be.
-use Rattle.std.specs.Prelude.{◌≡◌, ◌⊎◌, List, map, Option, Some, None, Result, Ok, Err, Vec}
-use Rattle.std.specs.declared.alloc.Global.{Global}
-use Rattle.rc_file.specs.{RcMeaning.Warned, WarningSearch.warning_of, declared.fault.RcFault.RcFault}
-use Rattle.rc_file.specs.Settings.{Content, content_of}
-use Rattle.rc_file.specs.{declared.fault.RcFault.TheVariants.NoMemory, declared.warning.Warning.Warning}
-use Rattle.rc_file.specs.declared.settings.Settings.{Settings}
+use Rattle.std.specs.{
+  Prelude.{◌≡◌, ◌⊎◌, List, map, Option, Some, None, Result, Ok, Err, Vec},
+  declared.alloc.Global.Global,
+}
+use Rattle.rc_file.specs.{
+  RcMeaning.Warned,
+  WarningSearch.warning_of,
+  declared.{fault.RcFault.{RcFault, TheVariants.NoMemory}, warning.Warning.Warning, settings.Settings.Settings},
+  Settings.{Content, content_of},
+}
 
 -- the fault is the one that is meant, or memory ran out
 abbrev pub IsFaultMeant : Option RcFault → RcFault → Type 0

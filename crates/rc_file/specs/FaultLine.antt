@@ -1,13 +1,17 @@
 -- The line of an rc file's fault.
-use Rattle.std.specs.Prelude.{◌&&◌, ◌||◌, ◌+◌, ℕ, Bool, false, List, length, take, drop, if◌then◌else◌, bytes_eq}
-use Rattle.std.specs.Prelude.{Option, Some, None}
-use Rattle.std.specs.List.{filter_map, last_or, list_any, range_with_len}
-use Rattle.rc_file.specs.{Answer.fault_in, KeyTable.rule, declared.fault.RcFault.RcFault}
-use Rattle.rc_file.specs.FileRows.{RcRow, section_row, key_row, bad_row, rows_of}
-use Rattle.rc_file.specs.RcMeaning.{is_named, rc_meaning}
-use Rattle.rc_file.specs.declared.fault.RcFault.TheVariants.{TooLong, BadLine, MissingKey, UnknownType, BadValue}
-use Rattle.rc_file.specs.declared.fault.RcFault.TheVariants.{Unsupported, BadPath}
-use Rattle.rc_file.specs.declared.key.Key.TheVariants.{Path}
+use Rattle.std.specs.{
+  Prelude.{◌&&◌, ◌||◌, ◌+◌, ℕ, Bool, false, List, length, take, drop, if◌then◌else◌, bytes_eq, Option, Some, None},
+  List.{filter_map, last_or, list_any, range_with_len},
+}
+use Rattle.rc_file.specs.{
+  Answer.fault_in,
+  KeyTable.rule,
+  declared.fault.RcFault.RcFault,
+  declared.fault.RcFault.TheVariants.{TooLong, BadLine, MissingKey, UnknownType, BadValue, Unsupported, BadPath},
+  declared.key.Key.TheVariants.Path,
+  FileRows.{RcRow, section_row, key_row, bad_row, rows_of},
+  RcMeaning.{is_named, rc_meaning},
+}
 
 -- two names are the same but for one letter after the first n: another, one more or one less
 abbrev pub is_near_after : List ℕ → List ℕ → ℕ → Bool

@@ -1,6 +1,8 @@
 -- The rows of an rc file: its section lines, its keys with their values, and the lines that are bad in their place.
-use Rattle.std.specs.Prelude.{ℕ, ◌+◌, Bool, true, false, List, [], ◌∷◌, ◌++◌, map, Option, Some, None, is_some}
-use Rattle.std.specs.Char.{to_ascii_lowercase}
+use Rattle.std.specs.{
+  Prelude.{ℕ, ◌+◌, Bool, true, false, List, [], ◌∷◌, ◌++◌, map, Option, Some, None, is_some},
+  Char.to_ascii_lowercase,
+}
 use Rattle.rc_file.specs.LineRules.{RcLine, skipped, more, section, key, bad, file_lines, judge}
 
 -- a section line: its line number and name. A key: its line number, its section, the key in ASCII lower case and its

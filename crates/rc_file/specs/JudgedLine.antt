@@ -1,7 +1,8 @@
 -- The program's kinds of lines as values.
-use Rattle.rc_file.specs.LineRules.{RcLine, skipped, more, section, key, bad}
-use Rattle.rc_file.specs.declared.line.JudgedLine.{JudgedLine}
-use Rattle.rc_file.specs.declared.line.JudgedLine.TheVariants.{Skipped, More, Section, Key, Bad}
+use Rattle.rc_file.specs.{
+  LineRules.{RcLine, skipped, more, section, key, bad},
+  declared.line.JudgedLine.{JudgedLine, TheVariants.{Skipped, More, Section, Key, Bad}},
+}
 
 abbrev pub judged_line : JudgedLine → RcLine
 judged_line Skipped = skipped

@@ -1,10 +1,13 @@
 -- What the readers of keys, and of all settings, return.
-use Rattle.std.specs.Prelude.{◌≡◌, ℕ, List, map, Option, Some, None, Result, Ok, Err}
-use Rattle.std.specs.Borrow.{Bor}
-use Rattle.rc_file.specs.{Answer.IsFaultMeant, FileRows.RcRow, KeyTable.all_keys, declared.fault.RcFault.RcFault}
-use Rattle.rc_file.specs.RcMeaning.{fault_at, first_fault, settings_in}
-use Rattle.rc_file.specs.Settings.{content_of, IsValid}
-use Rattle.rc_file.specs.declared.settings.Settings.{Settings}
+use Rattle.std.specs.{Prelude.{◌≡◌, ℕ, List, map, Option, Some, None, Result, Ok, Err}, Borrow.Bor}
+use Rattle.rc_file.specs.{
+  Answer.IsFaultMeant,
+  FileRows.RcRow,
+  KeyTable.all_keys,
+  declared.{fault.RcFault.RcFault, settings.Settings.Settings},
+  RcMeaning.{fault_at, first_fault, settings_in},
+  Settings.{content_of, IsValid},
+}
 
 -- the value if there is no fault, else the fault
 abbrev pub ReadsAs : {V : Type 0} → Option RcFault → V → Result V RcFault → Type 0

@@ -1,15 +1,19 @@
 -- The keys that have an effect, as a table, and the forms of their values.
-use Rattle.std.specs.Prelude.{ℕ, Bool, ◌&&◌, ◌||◌, List, [], ◌∷◌, map, nat_le, if◌then◌else◌, Option, Some, None, codes}
-use Rattle.std.specs.Prelude.{bytes_eq}
-use Rattle.std.specs.{Char.to_ascii_lowercase, List.list_any, Str.Parse.digits_value}
+use Rattle.std.specs.{
+  Prelude.{ℕ, Bool, ◌&&◌, ◌||◌, List, [], ◌∷◌, map, nat_le, if◌then◌else◌, Option, Some, None, codes, bytes_eq},
+  Char.to_ascii_lowercase,
+  List.list_any,
+  Str.Parse.digits_value,
+}
 use Rattle.mail_terms.specs.{Credential.is_credential, Numeral.is_numeral}
-use Rattle.rc_file.specs.Settings.{is_server, is_destination, destination_at}
-use Rattle.rc_file.specs.{declared.settings.TheConstants.DELETE_AFTER_LIMIT, declared.key.Key.Key}
-use Rattle.rc_file.specs.declared.key.Key.TheVariants.{RetrieverKind, UseApop, Server, Port, Username, Password}
-use Rattle.rc_file.specs.declared.key.Key.TheVariants.{DestinationKind}
-use Rattle.rc_file.specs.declared.key.Key.TheVariants.{Path, ReadAll, Delete, DeleteAfter, MaxSize, MaxCount, Verbose}
-use Rattle.rc_file.specs.declared.fault.RcFault.{RcFault}
-use Rattle.rc_file.specs.declared.fault.RcFault.TheVariants.{UnknownType, BadValue, Unsupported, BadPath}
+use Rattle.rc_file.specs.{
+  Settings.{is_server, is_destination, destination_at},
+  declared.settings.TheConstants.DELETE_AFTER_LIMIT,
+  declared.key.Key.Key,
+  declared.key.Key.TheVariants.{RetrieverKind, UseApop, Server, Port, Username, Password, DestinationKind, Path},
+  declared.key.Key.TheVariants.{ReadAll, Delete, DeleteAfter, MaxSize, MaxCount, Verbose},
+  declared.fault.RcFault.{RcFault, TheVariants.{UnknownType, BadValue, Unsupported, BadPath}},
+}
 
 -- the form of a key's values: one of these words; a boolean; a boolean that may not be true; a number from
 -- low to high; the name of a server; a username or a password; a path

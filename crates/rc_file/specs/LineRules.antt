@@ -1,8 +1,9 @@
 -- What each line of an rc file is, whatever its place.
-use Rattle.std.specs.Prelude.{ℕ, Bool, not, ◌&&◌, ◌||◌, List, ◌-◌, length, take, drop, map, ◌==◌, nat_lt, slice_index}
-use Rattle.std.specs.Prelude.{if◌then◌else◌}
-use Rattle.std.specs.List.{prefix_len, suffix_len, position_or_len, before_first, after_first}
-use Rattle.std.specs.Str.{is_utf8}
+use Rattle.std.specs.{
+  Prelude.{ℕ, Bool, not, ◌&&◌, ◌||◌, List, ◌-◌, length, take, drop, map, ◌==◌, nat_lt, slice_index, if◌then◌else◌},
+  List.{prefix_len, suffix_len, position_or_len, before_first, after_first},
+  Str.is_utf8,
+}
 use Rattle.bstr.specs.Text.{lines_of, without_terminator}
 
 -- the lines of a file: each ends at LF, and one CR before the LF is dropped; a last line without LF counts

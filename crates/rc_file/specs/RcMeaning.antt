@@ -1,17 +1,21 @@
 -- What an rc file means: its rows are read first, and then everything is looked up in them.
-use Rattle.std.specs.Prelude.{ℕ, Bool, false, not, ◌&&◌, List, [], ◌∷◌, length, map, min, nat_lt, if◌then◌else◌}
-use Rattle.std.specs.Prelude.{Option, Some, None, Result, Ok, Err, codes, unwrap_or, bytes_eq}
-use Rattle.std.specs.List.{filter, filter_map, last_or, list_any}
-use Rattle.std.specs.Str.Parse.{digits_value}
-use Rattle.rc_file.specs.KeyTable.{rule, value_fault, is_yes, retriever_section, destination_section, all_keys}
-use Rattle.rc_file.specs.FileRows.{RcRow, section_row, key_row, bad_row, rows_of}
-use Rattle.rc_file.specs.Settings.{Content, Destination, destination_at}
-use Rattle.rc_file.specs.{declared.file.TheConstants.RC_LIMIT, declared.key.Section.Section, declared.key.Key.Key}
-use Rattle.rc_file.specs.declared.key.Section.TheVariants.{Retriever, Destination as DestinationSection}
-use Rattle.rc_file.specs.declared.key.Key.TheVariants.{Server, Port, Username, Password, DestinationKind, Path}
-use Rattle.rc_file.specs.declared.key.Key.TheVariants.{ReadAll, Delete, DeleteAfter, MaxSize, MaxCount, Verbose}
-use Rattle.rc_file.specs.declared.fault.RcFault.{RcFault}
-use Rattle.rc_file.specs.declared.fault.RcFault.TheVariants.{TooLong, BadLine, MissingSection, MissingKey}
+use Rattle.std.specs.{
+  Prelude.{ℕ, Bool, false, not, ◌&&◌, List, [], ◌∷◌, length, map, min, nat_lt, if◌then◌else◌, Option, Some, None, Ok},
+  Prelude.{Result, Err, codes, unwrap_or, bytes_eq},
+  List.{filter, filter_map, last_or, list_any},
+  Str.Parse.digits_value,
+}
+use Rattle.rc_file.specs.{
+  KeyTable.{rule, value_fault, is_yes, retriever_section, destination_section, all_keys},
+  FileRows.{RcRow, section_row, key_row, bad_row, rows_of},
+  Settings.{Content, Destination, destination_at},
+  declared.file.TheConstants.RC_LIMIT,
+  declared.key.Section.{Section, TheVariants.{Retriever, Destination as DestinationSection}},
+  declared.key.Key.Key,
+  declared.key.Key.TheVariants.{Server, Port, Username, Password, DestinationKind, Path, ReadAll, Delete, DeleteAfter},
+  declared.key.Key.TheVariants.{MaxSize, MaxCount, Verbose},
+  declared.fault.RcFault.{RcFault, TheVariants.{TooLong, BadLine, MissingSection, MissingKey}},
+}
 
 -- the first bad line
 abbrev pub first_bad : List RcRow → Option RcFault

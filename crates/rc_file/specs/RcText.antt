@@ -1,10 +1,14 @@
 -- The texts of an rc file's faults and warnings.
 use Rattle.std.specs.Prelude.{ℕ, List, [], ◌++◌, length, ◌==◌, if◌then◌else◌, codes, decimal}
-use Rattle.rc_file.specs.{KeyTable.rule, declared.fault.RcFault.RcFault, declared.key.Key.Key}
-use Rattle.rc_file.specs.RcMeaning.{Warned, section_name}
-use Rattle.rc_file.specs.FileRows.{RcRow, section_row, key_row, bad_row}
-use Rattle.rc_file.specs.declared.fault.RcFault.TheVariants.{TooLong, BadLine, MissingSection, MissingKey, UnknownType}
-use Rattle.rc_file.specs.declared.fault.RcFault.TheVariants.{BadValue, Unsupported, BadPath, Contradiction, NoMemory}
+use Rattle.rc_file.specs.{
+  KeyTable.rule,
+  declared.fault.RcFault.RcFault,
+  declared.fault.RcFault.TheVariants.{TooLong, BadLine, MissingSection, MissingKey, UnknownType, BadValue, Unsupported},
+  declared.fault.RcFault.TheVariants.{BadPath, Contradiction, NoMemory},
+  declared.key.Key.Key,
+  RcMeaning.{Warned, section_name},
+  FileRows.{RcRow, section_row, key_row, bad_row},
+}
 
 -- a key with its section, as "retriever.port"
 abbrev pub key_text : Key → List ℕ

@@ -1,11 +1,16 @@
 -- The program's rows as values, and what it has read of a file.
-use Rattle.std.specs.Prelude.{◌≡◌, ◌⊎◌, ℕ, ◌+◌, Bool, true, false, List, [], ◌∷◌, ◌++◌}
-use Rattle.std.specs.Prelude.{map, Option, Some, None, Result, Ok, Err, Vec, string_bytes}
-use Rattle.std.specs.declared.alloc.Global.{Global}
-use Rattle.rc_file.specs.{Answer.IsFaultMeant, LineRules.RcLine, RcMeaning.first_bad, declared.fault.RcFault.RcFault}
-use Rattle.rc_file.specs.FileRows.{RcRow, section_row, key_row, bad_row, added, rows_from}
-use Rattle.rc_file.specs.declared.fault.RcFault.TheVariants.{BadLine, NoMemory}
-use Rattle.rc_file.specs.{declared.row.ReadRow.ReadRow, declared.row.Entry.Entry}
+use Rattle.std.specs.{
+  Prelude.{◌≡◌, ◌⊎◌, ℕ, ◌+◌, Bool, true, false, List, [], ◌∷◌, ◌++◌, map, Option, Some, None, Result, Ok, Err, Vec},
+  Prelude.string_bytes,
+  declared.alloc.Global.Global,
+}
+use Rattle.rc_file.specs.{
+  Answer.IsFaultMeant,
+  LineRules.RcLine,
+  RcMeaning.first_bad,
+  declared.{fault.RcFault.{RcFault, TheVariants.{BadLine, NoMemory}}, row.{ReadRow.ReadRow, Entry.Entry}},
+  FileRows.{RcRow, section_row, key_row, bad_row, added, rows_from},
+}
 
 abbrev pub entry_row : ℕ → List ℕ → Option Entry → RcRow
 entry_row line name None = section_row line name

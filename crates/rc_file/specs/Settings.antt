@@ -1,11 +1,15 @@
 -- What settings hold, and which values they may hold.
-use Rattle.std.specs.Prelude.{ℕ, ◌≤◌, Bool, not, ◌&&◌, List, length, ◌==◌, nat_lt, nat_eq, if◌then◌else◌, true, IsTrue}
-use Rattle.std.specs.Prelude.{codes, string_bytes}
-use Rattle.std.specs.List.{list_all, starts_with, ends_with}
+use Rattle.std.specs.{
+  Prelude.{ℕ, ◌≤◌, Bool, not, ◌&&◌, List, length, ◌==◌, nat_lt, nat_eq, if◌then◌else◌, true, IsTrue, codes},
+  Prelude.string_bytes,
+  List.{list_all, starts_with, ends_with},
+}
 use Rattle.mail_terms.specs.Credential.{is_credential}
-use Rattle.rc_file.specs.{declared.settings.TheConstants.DELETE_AFTER_LIMIT, declared.settings.Settings.Settings}
-use Rattle.rc_file.specs.declared.settings.Dest.{Dest}
-use Rattle.rc_file.specs.declared.settings.Dest.TheVariants.{Maildir, Mboxrd}
+use Rattle.rc_file.specs.declared.settings.{
+  TheConstants.DELETE_AFTER_LIMIT,
+  Settings.Settings,
+  Dest.{Dest, TheVariants.{Maildir, Mboxrd}},
+}
 
 -- a byte other than LF and NUL
 abbrev pub is_server_byte : ℕ → Bool

@@ -1,10 +1,12 @@
 -- The program's warnings as values, and how warnings are found.
-use Rattle.std.specs.Prelude.{◌≡◌, ℕ, Bool, ◌&&◌, List, ◌∷◌, ◌++◌, bytes_eq, string_bytes}
-use Rattle.std.specs.{Borrow.Bor, List.list_any, declared.hash.BuildHasherDefault.BuildHasherDefault}
-use Rattle.std.specs.HashSet.{HashSet, contains}
-use Rattle.std.specs.declared.hash.FoldHasher.{FoldHasher}
-use Rattle.rc_file.specs.RcMeaning.{Warned, firsts}
-use Rattle.rc_file.specs.declared.warning.Warning.{Warning}
+use Rattle.std.specs.{
+  Prelude.{◌≡◌, ℕ, Bool, ◌&&◌, List, ◌∷◌, ◌++◌, bytes_eq, string_bytes},
+  Borrow.Bor,
+  List.list_any,
+  declared.hash.{BuildHasherDefault.BuildHasherDefault, FoldHasher.FoldHasher},
+  HashSet.{HashSet, contains},
+}
+use Rattle.rc_file.specs.{RcMeaning.{Warned, firsts}, declared.warning.Warning.Warning}
 
 abbrev pub warning_of : Warning → Warned
 warning_of warning = record {

@@ -1,9 +1,11 @@
 //! The settings that an rc file's rows give.
 ghost use Rattle.std.specs.Prelude.{◌≡◌, IfOk, IsTrue};
-ghost use Rattle.rc_file.specs.KeyReading.{ReadsAs, ReadsSettings, ReadsValue};
-ghost use Rattle.rc_file.specs.RcMeaning.{fault_at, is_folder, value_text};
-ghost use Rattle.rc_file.specs.RowReading.{rows_in};
-ghost use Rattle.rc_file.specs.Settings.{destination_at, destination_of, is_destination};
+ghost use Rattle.rc_file.specs.{
+  KeyReading.{ReadsAs, ReadsSettings, ReadsValue},
+  RcMeaning.{fault_at, is_folder, value_text},
+  RowReading.rows_in,
+  Settings.{destination_at, destination_of, is_destination},
+};
 
 use crate::fault::RcFault;
 use crate::form::{read_boolean, read_credential, read_number, read_server, refuse_true};

@@ -2,9 +2,7 @@
 //!
 //! A file is read line by line into rows; settings and warnings are looked up in these rows.
 ghost use Rattle.std.specs.Prelude.{IfOk};
-ghost use Rattle.rc_file.specs.Answer.{IsMeant};
-ghost use Rattle.rc_file.specs.RcMeaning.{rc_meaning};
-ghost use Rattle.rc_file.specs.Settings.{IsValid};
+ghost use Rattle.rc_file.specs.{Answer.IsMeant, RcMeaning.rc_meaning, Settings.IsValid};
 
 use crate::account::read_settings;
 use crate::fault::RcFault;

@@ -1,7 +1,6 @@
 //! The flags of a command line, which override the rc file.
 ghost use Rattle.std.specs.Prelude.{◌≡◌, ◌↔◌, false, IfErr, IfOk, IsOk};
-ghost use Rattle.rc_file.specs.Flags.{is_contradiction, louder, overridden, switched};
-ghost use Rattle.rc_file.specs.Settings.{IsValid, content_of};
+ghost use Rattle.rc_file.specs.{Flags.{is_contradiction, louder, overridden, switched}, Settings.{IsValid, content_of}};
 
 use crate::fault::RcFault;
 use crate::settings::Settings;

@@ -1,24 +1,15 @@
 //! Reads the values of keys, each by its form.
 #![tactic(auto, unfolding(crate::specs::RcMeaning::fault_at))]
 
-ghost use Rattle.std.specs.Prelude.{◌≡◌, ◌≤◌, map, IfOk, IsTrue};
-ghost use Rattle.std.specs.Char.{to_ascii_lowercase};
+ghost use Rattle.std.specs.{Prelude.{◌≡◌, ◌≤◌, map, IfOk, IsTrue}, Char.to_ascii_lowercase};
 ghost use Rattle.mail_terms.specs.Credential.{is_credential};
-ghost use Rattle.rc_file.specs.KeyTable.{
-  rule,
-  boolean,
-  never,
-  number,
-  server,
-  credential,
-  is_boolean_word,
-  is_yes,
-  is_no,
+ghost use Rattle.rc_file.specs.{
+  KeyTable.{rule, boolean, never, number, server, credential, is_boolean_word, is_yes, is_no},
+  RcMeaning.{fault_at, is_true, number_in, value_text},
+  KeyReading.{ReadsAs, ReadsValue},
+  RowReading.rows_in,
+  Settings.is_server,
 };
-ghost use Rattle.rc_file.specs.RcMeaning.{fault_at, is_true, number_in, value_text};
-ghost use Rattle.rc_file.specs.KeyReading.{ReadsAs, ReadsValue};
-ghost use Rattle.rc_file.specs.RowReading.{rows_in};
-ghost use Rattle.rc_file.specs.Settings.{is_server};
 
 use crate::fault::RcFault;
 use crate::key::Key;

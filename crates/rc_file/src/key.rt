@@ -1,8 +1,6 @@
 //! The keys of an rc file that have an effect, and their sections.
-ghost use Rattle.std.specs.Prelude.{◌≡◌};
-ghost use Rattle.std.specs.Option.{option_copied};
-ghost use Rattle.rc_file.specs.KeyTable.{rule};
-ghost use Rattle.rc_file.specs.RcMeaning.{section_name};
+ghost use Rattle.std.specs.{Prelude.◌≡◌, Option.option_copied};
+ghost use Rattle.rc_file.specs.{KeyTable.rule, RcMeaning.section_name};
 
 /// A section that an rc file must have.
 #[derive(Clone, Copy, Debug, PartialEq, Eq)]

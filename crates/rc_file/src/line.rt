@@ -1,17 +1,9 @@
 //! The kinds of lines of an rc file.
-ghost use Rattle.std.specs.Prelude.{◌≡◌, ◌≤◌, length, slice_index};
-ghost use Rattle.std.specs.List.{position, prefix_len, suffix_len};
-ghost use Rattle.rc_file.specs.LineRules.{
-  is_blank,
-  is_sign,
-  is_skipped,
-  without_blanks,
-  before_blanks,
-  section_line,
-  key_line,
-  judge,
+ghost use Rattle.std.specs.{Prelude.{◌≡◌, ◌≤◌, length, slice_index}, List.{position, prefix_len, suffix_len}};
+ghost use Rattle.rc_file.specs.{
+  LineRules.{is_blank, is_sign, is_skipped, without_blanks, before_blanks, section_line, key_line, judge},
+  JudgedLine.judged_line,
 };
-ghost use Rattle.rc_file.specs.JudgedLine.{judged_line};
 
 use std::str;
 

@@ -1,8 +1,10 @@
 //! The line of an rc file's fault.
 ghost use Rattle.std.specs.Prelude.{◌≡◌, drop, take, IfOk};
-ghost use Rattle.rc_file.specs.FaultLine.{fault_line, is_about, is_near, is_near_after, last_line, line_at};
-ghost use Rattle.rc_file.specs.RcMeaning.{is_named};
-ghost use Rattle.rc_file.specs.RowReading.{row_of, rows_in};
+ghost use Rattle.rc_file.specs.{
+  FaultLine.{fault_line, is_about, is_near, is_near_after, last_line, line_at},
+  RcMeaning.is_named,
+  RowReading.{row_of, rows_in},
+};
 
 use crate::fault::RcFault;
 use crate::file::{RC_LIMIT, read_rc};

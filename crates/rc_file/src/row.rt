@@ -1,12 +1,13 @@
 //! The rows of an rc file: its section lines and its keys, each with its line number.
 #![tactic(auto, using(crate::proofs::RowLemmas::one_more), unfolding(crate::specs::RowReading::file_rows))]
 
-ghost use Rattle.std.specs.Prelude.{◌≡◌, ◌≤◌, ◌∷◌, ◌++◌, length, IfErr, OnOk};
-ghost use Rattle.std.specs.String.{string_bytes};
-ghost use Rattle.rc_file.specs.JudgedLine.{judged_line};
-ghost use Rattle.rc_file.specs.LineRules.{more, section, key};
-ghost use Rattle.rc_file.specs.RowReading.{row_of, AddsText, ReadsRows, TakesLine};
-ghost use Rattle.rc_file.specs.FileRows.{rows_of};
+ghost use Rattle.std.specs.{Prelude.{◌≡◌, ◌≤◌, ◌∷◌, ◌++◌, length, IfErr, OnOk}, String.string_bytes};
+ghost use Rattle.rc_file.specs.{
+  JudgedLine.judged_line,
+  LineRules.{more, section, key},
+  RowReading.{row_of, AddsText, ReadsRows, TakesLine},
+  FileRows.rows_of,
+};
 
 use crate::fault::RcFault;
 use crate::file::RC_LIMIT;

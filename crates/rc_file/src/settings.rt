@@ -1,7 +1,5 @@
 //! The settings: the account, where its messages go, and which of them are fetched.
-ghost use Rattle.std.specs.Prelude.{◌≡◌, ◌++◌, drop, if◌then◌else◌, IfOk};
-ghost use Rattle.std.specs.String.{string_bytes};
-ghost use Rattle.std.specs.List.{list_all};
+ghost use Rattle.std.specs.{Prelude.{◌≡◌, ◌++◌, drop, if◌then◌else◌, IfOk}, String.string_bytes, List.list_all};
 ghost use Rattle.rc_file.specs.Settings.{begins_at_home, is_server_byte, is_path_byte, is_server, is_path};
 ghost use Rattle.rc_file.specs.Settings.{destination_at, is_destination};
 

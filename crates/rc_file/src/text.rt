@@ -1,17 +1,11 @@
 //! The texts of an rc file's faults and warnings. They hold no part of a value, and so no password.
-ghost use Rattle.std.specs.Prelude.{◌≡◌, ◌++◌, List, map, IfOk};
-ghost use Rattle.rc_file.specs.RcMeaning.{warnings_in};
-ghost use Rattle.rc_file.specs.FileRows.{RcRow};
-ghost use Rattle.std.specs.String.{string_bytes};
-ghost use Rattle.rc_file.specs.RcText.{
-  key_text,
-  key_warning,
-  rc_text,
-  section_warning,
-  warning_text,
-  without_value,
+ghost use Rattle.std.specs.{Prelude.{◌≡◌, ◌++◌, List, map, IfOk}, String.string_bytes};
+ghost use Rattle.rc_file.specs.{
+  RcMeaning.warnings_in,
+  FileRows.RcRow,
+  RcText.{key_text, key_warning, rc_text, section_warning, warning_text, without_value},
+  WarningSearch.warning_of,
 };
-ghost use Rattle.rc_file.specs.WarningSearch.{warning_of};
 
 use crate::fault::RcFault;
 use crate::key::Key;

@@ -1,10 +1,10 @@
 //! Looks up keys in the rows of an rc file.
-ghost use Rattle.std.specs.Prelude.{◌≡◌, IfErr, IfOk, None, Some};
-ghost use Rattle.std.specs.Option.{option_copied};
-ghost use Rattle.std.specs.List.{list_any};
-ghost use Rattle.rc_file.specs.RcMeaning.{is_section, section_name, value_at, value_of, missing_section};
-ghost use Rattle.rc_file.specs.Answer.{fault_in};
-ghost use Rattle.rc_file.specs.RowReading.{row_of, rows_in};
+ghost use Rattle.std.specs.{Prelude.{◌≡◌, IfErr, IfOk, None, Some}, Option.option_copied, List.list_any};
+ghost use Rattle.rc_file.specs.{
+  RcMeaning.{is_section, section_name, value_at, value_of, missing_section},
+  Answer.fault_in,
+  RowReading.{row_of, rows_in},
+};
 
 use crate::fault::RcFault;
 use crate::key::{Key, Section};

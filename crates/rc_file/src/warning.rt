@@ -1,14 +1,10 @@
 //! Sections and keys of an rc file that have no effect.
 ghost use Rattle.std.specs.Prelude.{◌≡◌, map, IfOk, OnOk};
-ghost use Rattle.rc_file.specs.RcMeaning.{
-  has_no_effect,
-  is_known_key,
-  is_known_section,
-  warned,
-  warnings_in,
+ghost use Rattle.rc_file.specs.{
+  RcMeaning.{has_no_effect, is_known_key, is_known_section, warned, warnings_in},
+  RowReading.{row_of, rows_in},
+  WarningSearch.{TellsWarning, warning_of},
 };
-ghost use Rattle.rc_file.specs.RowReading.{row_of, rows_in};
-ghost use Rattle.rc_file.specs.WarningSearch.{TellsWarning, warning_of};
 
 use crate::key::Key;
 use crate::row::ReadRow;

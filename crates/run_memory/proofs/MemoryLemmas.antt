@@ -1,25 +1,21 @@
 -- What is written is read back as the same.
-use Rattle.std.proofs.Common.{All, Bool, Err, None, Ok, OnErr, OnOk, Result, List, Option, Some, [], ap, append-nil}
-use Rattle.std.proofs.Common.{append_assoc, arith, bytes_eq, decimal, drop, false, flat_map, inl, inr, length}
-use Rattle.std.proofs.Common.{length-append, nat_lt, refl, remove, subst, suc, take, true, ℕ, ◌++◌, ◌+◌}
-use Rattle.std.proofs.Common.{◌<◌, ◌==◌, ◌^◌, ◌∙◌, ◌∷◌, ◌≡◌, ◌≢◌, ◌≤◌, option_map, if◌then◌else◌}
-use Rattle.mail_terms.specs.Text.{lines_of_text}
-use Rattle.std.proofs.{Math.Seq.take-append_seam, lemmas.Fmt.length-decimal-le, lemmas.List.length-drop, lemmas.List.Edits.length-remove}
-use Rattle.std.proofs.lemmas.Bool.{cases_lt, le-ltb, lt-ltb}
-use Rattle.std.proofs.lemmas.Bool.Decides.{eqb_tells, nat_tests}
-use Rattle.std.proofs.lemmas.List.Concat.{flat_map-cons, length-flat_map}
-use Rattle.std.proofs.lemmas.List.Elements.{All-append, All-drop, All-push, All-take, recursion_from_All}
-use Rattle.std.proofs.lemmas.List.Sums.{list_all-from_AllPass, sum_by-le}
-use Rattle.std.specs.List.{AllByRecursion, after_first, before_first, position_or_len}
-use Rattle.std.specs.Option.{option_map_or}
-use Rattle.run_memory.specs.Fields.{IsFaultKey, is_digit, key_in, numbers_in}
-use Rattle.run_memory.specs.Lines.{AreNumbers, IsReadableFault, counts_of, known_fault_in, known_fault_line, left_line}
-use Rattle.run_memory.specs.Lines.{line_in, notice_line, numbers_text}
-use Rattle.run_memory.specs.Memory.{IsKept, IsReadBack, Told, end, with_lf, nothing, room, memory_text}
-use Rattle.run_memory.specs.Memory.{told_after, told_in, with_line}
-use Rattle.run_memory.specs.{declared.line.KnownFault.KnownFault, declared.line.Line.Line, declared.times.Counts.Counts}
-use Rattle.run_memory.specs.declared.line.Line.TheVariants.{Left, Fault, Notice}
-use Rattle.mail_terms.proofs.NumeralLemmas.{HasNo, HasNo-decimal, numeral_value-decimal}
+use Rattle.std.{
+  proofs.Common.{All, Bool, Err, None, Ok, OnErr, OnOk, Result, List, Option, Some, [], ap, append-nil, append_assoc, arith, bytes_eq, inl},
+  proofs.Common.{decimal, drop, false, flat_map, inr, length, length-append, nat_lt, refl, remove, subst, suc, take, true, ℕ, ◌++◌, ◌+◌},
+  proofs.Common.{◌<◌, ◌==◌, ◌^◌, ◌∙◌, ◌∷◌, ◌≡◌, ◌≢◌, ◌≤◌, option_map, if◌then◌else◌},
+  proofs.Math.Seq.take-append_seam,
+  proofs.lemmas.{Fmt.length-decimal-le, Bool.{cases_lt, le-ltb, lt-ltb, Decides.{eqb_tells, nat_tests}}},
+  proofs.lemmas.List.{length-drop, Edits.length-remove, Concat.{flat_map-cons, length-flat_map}, Sums.{list_all-from_AllPass, sum_by-le}},
+  proofs.lemmas.List.Elements.{All-append, All-drop, All-push, All-take, recursion_from_All},
+  specs.{List.{AllByRecursion, after_first, before_first, position_or_len}, Option.option_map_or},
+}
+use Rattle.mail_terms.{specs.Text.lines_of_text, proofs.NumeralLemmas.{HasNo, HasNo-decimal, numeral_value-decimal}}
+use Rattle.run_memory.specs.{
+  Fields.{IsFaultKey, is_digit, key_in, numbers_in},
+  Lines.{AreNumbers, IsReadableFault, counts_of, known_fault_in, known_fault_line, left_line, line_in, notice_line, numbers_text},
+  Memory.{IsKept, IsReadBack, Told, end, with_lf, nothing, room, memory_text, told_after, told_in, with_line},
+  declared.{line.{KnownFault.KnownFault, Line.{Line, TheVariants.{Left, Fault, Notice}}}, times.Counts.Counts},
+}
 
 -- ---- a line that is read
 

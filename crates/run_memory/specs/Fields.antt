@@ -1,6 +1,8 @@
 -- The fields of a line, each but the last with a space after it.
-use Rattle.std.specs.Prelude.{◌≡◌, ◌==◌, ◌&&◌, ◌||◌, nat_le, ℕ, Bool, List, length, Option, Some, None, if◌then◌else◌}
-use Rattle.std.specs.List.{AllPass, list_all, before_first, after_first}
+use Rattle.std.specs.{
+  Prelude.{◌≡◌, ◌==◌, ◌&&◌, ◌||◌, nat_le, ℕ, Bool, List, length, Option, Some, None, if◌then◌else◌},
+  List.{AllPass, list_all, before_first, after_first},
+}
 use Rattle.mail_terms.specs.Numeral.{numeral_value}
 
 abbrev pub is_separator : ℕ → Bool

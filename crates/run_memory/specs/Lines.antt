@@ -1,11 +1,14 @@
 -- The lines of the file that keeps what was told, after the first one.
-use Rattle.std.specs.Prelude.{◌≡◌, ◌<◌, ◌^◌, ℕ, List, [], ◌∷◌, ◌++◌, Option, Some, None, codes, decimal, bytes_eq}
-use Rattle.std.specs.Prelude.{option_map, if◌then◌else◌}
-use Rattle.std.specs.List.{before_first, after_first}
-use Rattle.run_memory.specs.Fields.{◌>>=◌, IsFaultKey, is_separator, key_in, numbers_in}
-use Rattle.run_memory.specs.{declared.line.KnownFault.KnownFault, declared.line.Line.Line, declared.times.Counts.Counts}
-use Rattle.run_memory.specs.declared.line.Line.TheVariants.{Left, Fault, Notice}
-use Rattle.run_memory.specs.declared.times.Times.{Times}
+use Rattle.std.specs.{
+  Prelude.{◌≡◌, ◌<◌, ◌^◌, ℕ, List, [], ◌∷◌, ◌++◌, Option, Some, None, codes, decimal, bytes_eq, option_map},
+  Prelude.if◌then◌else◌,
+  List.{before_first, after_first},
+}
+use Rattle.run_memory.specs.{
+  Fields.{◌>>=◌, IsFaultKey, is_separator, key_in, numbers_in},
+  declared.line.{KnownFault.KnownFault, Line.{Line, TheVariants.{Left, Fault, Notice}}},
+  declared.times.{Counts.Counts, Times.Times},
+}
 
 -- three numbers, as a line has them
 abbrev pub numbers_text : ℕ → ℕ → ℕ → List ℕ

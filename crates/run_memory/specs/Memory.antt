@@ -1,13 +1,15 @@
 -- What earlier runs told, and the file that keeps it.
-use Rattle.std.specs.Prelude.{◌≡◌, ◌≤◌, ℕ, List, [], ◌∷◌, ◌++◌, length, take, drop, flat_map, nat_lt, position}
-use Rattle.std.specs.Prelude.{remove, codes, All}
-use Rattle.std.specs.Prelude.{bytes_eq, if◌then◌else◌}
-use Rattle.std.specs.Option.{option_map_or}
+use Rattle.std.specs.{
+  Prelude.{◌≡◌, ◌≤◌, ℕ, List, [], ◌∷◌, ◌++◌, length, take, drop, flat_map, nat_lt, position, remove, codes, All},
+  Prelude.{bytes_eq, if◌then◌else◌},
+  Option.option_map_or,
+}
 use Rattle.mail_terms.specs.Text.{lines_of_text}
-use Rattle.run_memory.specs.{Fields.IsFaultKey, declared.line.KnownFault.KnownFault, declared.line.Line.Line}
-use Rattle.run_memory.specs.Lines.{AreNumbers, IsReadableFault, known_fault_line, left_line, line_in, notice_line}
-use Rattle.run_memory.specs.declared.line.Line.TheVariants.{Left, Fault, Notice}
-use Rattle.run_memory.specs.declared.times.Counts.{Counts}
+use Rattle.run_memory.specs.{
+  Fields.IsFaultKey,
+  declared.{line.{KnownFault.KnownFault, Line.{Line, TheVariants.{Left, Fault, Notice}}}, times.Counts.Counts},
+  Lines.{AreNumbers, IsReadableFault, known_fault_line, left_line, line_in, notice_line},
+}
 
 -- the faults that were seen, how many messages were left out of the last run, and the keys of notices that were told
 pub record Told : Type 0 where

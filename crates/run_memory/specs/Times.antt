@@ -1,8 +1,11 @@
 -- What an unattended run tells, by what earlier ones told.
 use Rattle.std.specs.Prelude.{◌+◌, ◌-◌, ◌^◌, ◌&&◌, ◌||◌, ℕ, Bool, true, false, Option, None, Some, max, min, nat_le}
 use Rattle.std.specs.Prelude.{nat_lt, if◌then◌else◌}
-use Rattle.run_memory.specs.{declared.times.Counts.Counts, declared.times.Telling.Telling, declared.times.Times.Times}
-use Rattle.run_memory.specs.declared.times.Telling.TheVariants.{First, Again, Nothing}
+use Rattle.run_memory.specs.declared.times.{
+  Counts.Counts,
+  Telling.{Telling, TheVariants.{First, Again, Nothing}},
+  Times.Times,
+}
 
 -- so many seconds have passed, or the clock was set back
 abbrev pub has_passed : ℕ → ℕ → ℕ → Bool

@@ -1,6 +1,5 @@
 //! The fields of a line.
-ghost use Rattle.std.specs.Prelude.{◌≡◌, ◌≤◌, length};
-ghost use Rattle.std.specs.List.{after_first, before_first, position_or_len};
+ghost use Rattle.std.specs.{Prelude.{◌≡◌, ◌≤◌, length}, List.{after_first, before_first, position_or_len}};
 ghost use Rattle.run_memory.specs.Fields.{is_separator, numbers_in};
 
 use mail_terms::read_numeral;

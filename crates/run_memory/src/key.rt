@@ -1,6 +1,5 @@
 //! What faults and notices are known by.
-ghost use Rattle.std.specs.Prelude.{◌≡◌};
-ghost use Rattle.std.specs.List.{list_all};
+ghost use Rattle.std.specs.{Prelude.◌≡◌, List.list_all};
 ghost use Rattle.run_memory.specs.Fields.{IsFaultKey, is_digit, key_in};
 
 use std::marker::Model;

@@ -1,10 +1,10 @@
 //! What earlier unattended runs told, and the octets of the file that keeps it.
 ghost use Rattle.std.specs.Prelude.{◌≡◌, ◌<◌, ◌≤◌, ◌++◌, ◌∷◌, [], bytes_eq, flat_map, length, position, IfOk, IfSome};
 ghost use Rattle.std.specs.Prelude.{OnErr, OnOk};
-ghost use Rattle.run_memory.specs.Lines.{AreNumbers, known_fault_line, notice_line};
-ghost use Rattle.run_memory.specs.Memory.{IsReadBack, with_lf, nothing, room, memory_text, told_in, with_fault};
-ghost use Rattle.run_memory.specs.Memory.{with_line};
-ghost use Rattle.run_memory.specs.Memory.{with_notice, told_without};
+ghost use Rattle.run_memory.specs.{
+  Lines.{AreNumbers, known_fault_line, notice_line},
+  Memory.{IsReadBack, with_lf, nothing, room, memory_text, told_in, with_fault, with_line, with_notice, told_without},
+};
 
 use crate::key::Key;
 use crate::line::{KnownFault, Line, put_fault, put_left, put_notice, read_line};

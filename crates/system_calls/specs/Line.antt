@@ -1,8 +1,11 @@
 -- The lines of a trace.
-use Rattle.std.specs.Prelude.{◌≡◌, ◌↔◌, ◌==◌, ◌&&◌, ◌||◌, ℕ, Bool, false, not, nat_le}
-use Rattle.std.specs.Prelude.{nat_lt, List, [], ◌∷◌, ◌++◌, IsTrue, Option, codes, if◌then◌else◌}
-use Rattle.std.specs.List.{flat_map, list_any}
-use Rattle.std.specs.{Str.IsUtf8, Io.KnownBytes.Appends}
+use Rattle.std.specs.{
+  Prelude.{◌≡◌, ◌↔◌, ◌==◌, ◌&&◌, ◌||◌, ℕ, Bool, false, not, nat_le, nat_lt, List, [], ◌∷◌, ◌++◌, IsTrue, Option, codes},
+  Prelude.if◌then◌else◌,
+  List.{flat_map, list_any},
+  Str.IsUtf8,
+  Io.KnownBytes.Appends,
+}
 use Rattle.hex.specs.Hex.{encode_lower}
 
 -- UTF-8 with no character from U+0080 to U+00BF

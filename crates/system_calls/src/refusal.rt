@@ -1,6 +1,5 @@
 //! The lines of refused calls of the system.
-ghost use Rattle.std.specs.Prelude.{◌≡◌, ◌++◌, IfOk, OnOk, codes};
-ghost use Rattle.std.specs.String.{string_bytes};
+ghost use Rattle.std.specs.{Prelude.{◌≡◌, ◌++◌, IfOk, OnOk, codes}, String.string_bytes};
 ghost use Rattle.system_calls.specs.Line.{TellsRefusal};
 
 use crate::line::write_line;

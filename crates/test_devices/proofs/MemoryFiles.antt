@@ -1,23 +1,27 @@
 -- The files that a folder in memory keeps, as entries.
-use Rattle.std.proofs.Common.{◌≡◌, ◌⊎◌, ◌≢◌, ℕ, zero, suc, ◌<◌, length, get_or, slice_set, refl, List, [], ◌∷◌, ◌++◌}
-use Rattle.std.proofs.Common.{sym, ap, ◌∙◌, arith, false, Option, Some, None, Result, Ok, Err, OnOk, OnErr, Contains}
-use Rattle.std.proofs.Common.{HoldsAt, bytes_eq, inl, inr, ⊎_elim, String, Global, string_bytes, ◌-◌, ◌≤◌, take, drop}
-use Rattle.std.proofs.Common.{map, subst, true, option_map, append_assoc, append-nil, length-append, length-take}
-use Rattle.std.proofs.Common.{take-append-drop, take-take, get_or-take, slice_index, true≢false}
-use Rattle.std.proofs.{lemmas.Slice.Eq.bytes_eq-Decides, lemmas.Option.none-some, lemmas.List.Quantifiers.all_pairs_push}
-use Rattle.std.proofs.lemmas.Bool.{cases_Bool, cases_lt, cond_both, false_from_ne_true}
-use Rattle.std.proofs.lemmas.List.{map-append, get_or_default, get_or_append_left, get_or-append_right}
-use Rattle.std.proofs.lemmas.List.Recursion.{found_at as found_first}
+use Rattle.std.proofs.{
+  Common.{◌≡◌, ◌⊎◌, ◌≢◌, ℕ, zero, suc, ◌<◌, length, get_or, slice_set, refl, List, [], ◌∷◌, ◌++◌, sym, ap, ◌∙◌, arith, false, Option, Some},
+  Common.{None, Result, Ok, Err, OnOk, OnErr, Contains, HoldsAt, bytes_eq, inl, inr, ⊎_elim, String, Global, string_bytes, ◌-◌, ◌≤◌, take},
+  Common.{drop, map, subst, true, option_map, append_assoc, append-nil, length-append, length-take, take-append-drop, take-take},
+  Common.{get_or-take, slice_index, true≢false},
+  lemmas.{Slice.Eq.bytes_eq-Decides, Option.none-some, Bool.{cases_Bool, cases_lt, cond_both, false_from_ne_true}},
+  lemmas.List.{Quantifiers.all_pairs_push, map-append, get_or_default, get_or_append_left, get_or-append_right, Elements.Contains-get_or},
+  lemmas.List.{Recursion.found_at as found_first, Kept.AllPairs-cons},
+}
 use Rattle.mail_terms.specs.Distinct.{AreDistinct}
-use Rattle.test_devices.specs.declared.memory_folder.MemoryBlob.{MemoryBlob}
-use Rattle.mail_store.specs.declared.fault.StoreFault.{StoreFault}
-use Rattle.mail_store.specs.Durable.{Blob, IsLeft, IsLeftOf, secured}
-use Rattle.folder_store.specs.FileFolder.{Directory, DirEntry, names_in, find, placed, AltersInPart, with_blob, Older, entry}
-use Rattle.test_devices.specs.MemoryFolder.{blob_of, folder_entry, folder_entries, older_of, IsZeroed, MayBeOf, Survive}
-use Rattle.std.proofs.{lemmas.List.Elements.Contains-get_or, lemmas.List.Kept.AllPairs-cons}
-use Rattle.folder_store.specs.PowerLoss.{WasOnce, Loses, left_under}
-use Rattle.folder_store.proofs.Files.{may_now, may_once, find_here, find_later}
-use Rattle.mail_store.proofs.DurableLemmas.{flushed_all, seen_all}
+use Rattle.test_devices.specs.{
+  declared.memory_folder.MemoryBlob.MemoryBlob,
+  MemoryFolder.{blob_of, folder_entry, folder_entries, older_of, IsZeroed, MayBeOf, Survive},
+}
+use Rattle.mail_store.{
+  specs.{declared.fault.StoreFault.StoreFault, Durable.{Blob, IsLeft, IsLeftOf, secured}},
+  proofs.DurableLemmas.{flushed_all, seen_all},
+}
+use Rattle.folder_store.{
+  specs.FileFolder.{Directory, DirEntry, names_in, find, placed, AltersInPart, with_blob, Older, entry},
+  specs.PowerLoss.{WasOnce, Loses, left_under},
+  proofs.Files.{may_now, may_once, find_here, find_later},
+}
 
 differ : (one two : List ℕ) → (one ≡ two → ⊥) → bytes_eq one two ≡ false
 differ one two apart = false_from_ne_true (bytes_eq one two) (λ same. apart ((bytes_eq-Decides one two).0 same))

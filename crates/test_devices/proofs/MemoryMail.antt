@@ -1,19 +1,17 @@
 -- The folders of a Maildir in memory.
-use Rattle.std.proofs.Common.{◌≡◌, ◌↔◌, ◌&&◌, ◌||◌, IsTrue, bytes_eq, inl, inr, ℕ, zero, suc, ◌<◌, Bool, true, false}
-use Rattle.std.proofs.Common.{not, List, [], ◌∷◌, ◌++◌, length, map, get_or, set, Contains, Option, Some, None}
-use Rattle.std.proofs.Common.{if◌then◌else◌, refl, sym, ap, ◌∙◌, arith, String, Global, string_bytes, append-nil}
-use Rattle.std.proofs.Common.{true≢false, filter}
-use Rattle.std.proofs.{lemmas.Bool.not-false, lemmas.List.Folds.list_any_at, lemmas.Map.Views.Contains-from_any}
-use Rattle.std.specs.List.{list_any}
-use Rattle.std.proofs.lemmas.Slice.Eq.{bytes_eq-Decides}
-use Rattle.mail_store.specs.{Loss.is_among, declared.maildir.disk.Folder.Folder}
-use Rattle.mail_store.specs.declared.maildir.disk.Folder.TheVariants.{New, Cur}
-use Rattle.mail_store.specs.Maildir.{File, all_there}
-use Rattle.test_devices.specs.declared.memory_folders.StoredMail.{StoredMail}
-use Rattle.folder_store.specs.MailFolders.{MailFile, Directories, MovesFile, RestsFile, Moved, OneMoves}
-use Rattle.folder_store.specs.MailFolders.{is_in, is_left, name_at, rests_in}
-use Rattle.folder_store.specs.MailPower.{EntriesLeftAs}
-use Rattle.test_devices.specs.MemoryFolders.{MayBeLeftAs, list_of, stored_file}
+use Rattle.std.{
+  proofs.Common.{◌≡◌, ◌↔◌, ◌&&◌, ◌||◌, IsTrue, bytes_eq, inl, inr, ℕ, zero, suc, ◌<◌, Bool, true, false, not, List, [], ◌∷◌, ◌++◌, length},
+  proofs.Common.{map, get_or, set, Contains, Option, Some, None, if◌then◌else◌, refl, sym, ap, ◌∙◌, arith, String, Global, string_bytes},
+  proofs.Common.{append-nil, true≢false, filter},
+  proofs.lemmas.{Bool.not-false, List.Folds.list_any_at, Map.Views.Contains-from_any, Slice.Eq.bytes_eq-Decides},
+  specs.List.list_any,
+}
+use Rattle.mail_store.specs.{Loss.is_among, declared.maildir.disk.Folder.{Folder, TheVariants.{New, Cur}}, Maildir.{File, all_there}}
+use Rattle.test_devices.specs.{declared.memory_folders.StoredMail.StoredMail, MemoryFolders.{MayBeLeftAs, list_of, stored_file}}
+use Rattle.folder_store.specs.{
+  MailFolders.{MailFile, Directories, MovesFile, RestsFile, Moved, OneMoves, is_in, is_left, name_at, rests_in},
+  MailPower.EntriesLeftAs,
+}
 
 any_of_bytes : (names : List (String Global)) (name : List ℕ) → list_any (bytes_eq name) (map string_bytes names) ≡ is_among names name
 any_of_bytes [] name = refl

@@ -1,9 +1,12 @@
 -- Files that readers took, behind a fuse too, and bytes that may be left.
 use Rattle.std.proofs.Common.{◌≡◌, ◌+◌, ◌<◌, ℕ, List, refl, ap, arith, Result, Ok, Err, Vec, String}
 use Rattle.mail_terms.specs.FailureCount.{Tallies, counted_up, greatest_count, refuses}
-use Rattle.mail_store.specs.{declared.fault.StoreFault.StoreFault, declared.maildir.disk.Folder.Folder, Fault.is_refusal}
-use Rattle.mail_store.specs.declared.fault.StoreFault.TheVariants.{Missing, Refused}
-use Rattle.mail_store.specs.{Held.ListsAmong, Maildir.AfterTaking, Maildir.Lists, Maildir.Maildir, Maildir.WereTaken}
+use Rattle.mail_store.specs.{
+  declared.{fault.StoreFault.{StoreFault, TheVariants.{Missing, Refused}}, maildir.disk.Folder.Folder},
+  Fault.is_refusal,
+  Held.ListsAmong,
+  Maildir.{AfterTaking, Lists, Maildir, WereTaken},
+}
 
 -- ---- names that a device told, and its fuse, which has a count of its own
 

@@ -1,11 +1,9 @@
 -- A folder in memory.
 use Rattle.std.specs.Prelude.{◌≡◌, ◌⊎◌, ℕ, List, [], ◌∷◌, Some, map, false, None, option_map, String, string_bytes}
 use Rattle.std.specs.Prelude.{Option, ◌++◌, ◌≤◌, take, length, slice_index}
-use Rattle.test_devices.specs.declared.memory_folder.MemoryBlob.{MemoryBlob}
-use Rattle.test_devices.specs.declared.new_file.MemoryNewFile.{MemoryNewFile}
+use Rattle.test_devices.specs.declared.{memory_folder.MemoryBlob.MemoryBlob, new_file.MemoryNewFile.MemoryNewFile}
 use Rattle.mail_store.specs.Durable.{Blob, IsLeftOf, secured}
-use Rattle.folder_store.specs.FileFolder.{DirEntry, MadeFile, Older, entry}
-use Rattle.folder_store.specs.PowerLoss.{WasOnce}
+use Rattle.folder_store.specs.{FileFolder.{DirEntry, MadeFile, Older, entry}, PowerLoss.WasOnce}
 
 -- a file that was made
 abbrev pub made_of : MemoryNewFile → MadeFile

@@ -1,12 +1,14 @@
 -- A device behind a fuse: how many calls still pass, what is behind it, and what a call does.
-use Rattle.std.specs.Prelude.{◌≡◌, ℕ, ◌-◌, ◌/◌, ◌<◌, ◌==◌, if◌then◌else◌, List, length, take, Bool, true, false, Result}
-use Rattle.std.specs.Prelude.{Err}
-use Rattle.mail_store.specs.{declared.fault.StoreFault.StoreFault, declared.fault.StoreFault.TheVariants.Refused}
+use Rattle.std.specs.Prelude.{◌≡◌, ℕ, ◌-◌, ◌/◌, ◌<◌, ◌==◌, if◌then◌else◌, List, length, take, Bool, true, false, Err}
+use Rattle.std.specs.Prelude.{Result}
+use Rattle.mail_store.specs.{
+  declared.fault.StoreFault.{StoreFault, TheVariants.Refused},
+  Fault.is_refusal,
+  Maildir.{Maildir, Settles, dropped},
+  FlatFile.{Stored, Appends, Replaces},
+}
 use Rattle.test_devices.specs.declared.fused.Fused.{Fused}
 use Rattle.mail_terms.specs.FailureCount.{Tallies, refuses, greatest_count}
-use Rattle.mail_store.specs.Fault.{is_refusal}
-use Rattle.mail_store.specs.Maildir.{Maildir, Settles, dropped}
-use Rattle.mail_store.specs.FlatFile.{Stored, Appends, Replaces}
 
 -- the device behind the fuse
 abbrev pub device_of : {D : Type 0} → Fused D → D

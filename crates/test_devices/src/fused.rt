@@ -101,12 +101,9 @@ impl<D: MaildirDisk> MaildirDisk for Fused<D> {
     ghost use Rattle.std.specs.Prelude.{◌≡◌, ◌<◌, false, true, IfErr, IsSome, Ok, OnErr, OnOk, Some, None, map};
     ghost use Rattle.std.specs.Prelude.{string_bytes};
     ghost use Rattle.mail_terms.specs.FailureCount.{Tallies, refuses, greatest_count};
-    ghost use Rattle.mail_store.specs.Fault.{IsDeviceFault};
-    ghost use Rattle.mail_store.specs.Held.{ListsAmong};
-    ghost use Rattle.mail_store.specs.Loss.{Flushes};
-    ghost use Rattle.mail_store.specs.Maildir.{AfterTaking, IsThere, Lists, Checks, Begins, Adds};
-    ghost use Rattle.mail_store.specs.Maildir.{Settles};
-    ghost use Rattle.mail_store.specs.Maildir.{dropped, name_begun};
+    ghost use Rattle.mail_store.specs.{Fault.IsDeviceFault, Held.ListsAmong, Loss.Flushes};
+    ghost use Rattle.mail_store.specs.Maildir.{AfterTaking, IsThere, Lists, Checks, Begins, Adds, Settles, dropped};
+    ghost use Rattle.mail_store.specs.Maildir.{name_begun};
     ghost use Rattle.mail_store.specs.Devices.{DiskDoes, DiskRefuses};
     ghost use Rattle.test_devices.specs.StoreFuse.{device_of, passes_left, effect_is_due, refusals, fused_maildir};
     ghost use Rattle.test_devices.specs.StoreFuse.{FusedIsSound, BurnsForStore, Fuses, SettlesBehind};

@@ -2,14 +2,13 @@
 
 ghost use Rattle.std.specs.Prelude.{◌≡◌, ◌≢◌, ◌<◌, ◌≤◌, ◌++◌, ℕ, [], ◌∷◌, length, map, slice_index_or, string_bytes};
 ghost use Rattle.std.specs.Prelude.{HoldsAt, IfErr, IfNone, IfOk, IfSome, IsOk, OnErr, OnOk, option_map, take, true};
-ghost use Rattle.mail_store.specs.Fault.{IsDeviceFault};
-ghost use Rattle.folder_store.specs.FileFolder.{Makes, find, placed, put_in, with_blob};
-ghost use Rattle.folder_store.specs.FileFolder.{FlushesNames, MeasuresFile, ReadsPiece, TellsFileSize};
-ghost use Rattle.folder_store.specs.PowerLoss.{Loses, left_under};
-ghost use Rattle.mail_store.specs.DiskCalls.{appended, cut, flushed};
-ghost use Rattle.mail_store.specs.Durable.{IsLeft, secured};
-ghost use Rattle.test_devices.specs.MemoryFolder.{MayBeOf, Survive, blob_of, folder_entries, folder_entry};
-ghost use Rattle.test_devices.specs.MemoryFolder.{made_of, older_of};
+ghost use Rattle.mail_store.specs.{Fault.IsDeviceFault, DiskCalls.{appended, cut, flushed}, Durable.{IsLeft, secured}};
+ghost use Rattle.folder_store.specs.{
+  FileFolder.{Makes, find, placed, put_in, with_blob, FlushesNames, MeasuresFile, ReadsPiece, TellsFileSize},
+  PowerLoss.{Loses, left_under},
+};
+ghost use Rattle.test_devices.specs.MemoryFolder.{MayBeOf, Survive, blob_of, folder_entries, folder_entry, made_of};
+ghost use Rattle.test_devices.specs.MemoryFolder.{older_of};
 
 use crate::new_file::MemoryNewFile;
 use folder_store::{FileFolder, FolderState};

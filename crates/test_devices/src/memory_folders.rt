@@ -1,16 +1,17 @@
 //! The folders of a Maildir in memory.
 
-ghost use Rattle.std.specs.Prelude.{◌≡◌, ◌↔◌, ◌≤◌, ◌||◌, ◌++◌, [], ◌∷◌, Contains, HoldsAt, IfNone, IfOk, IfSome};
-ghost use Rattle.std.specs.Prelude.{IsTrue, OnErr, OnOk};
-ghost use Rattle.std.specs.Prelude.{false, if◌then◌else◌, length, true, map, option_map, string_bytes};
-ghost use Rattle.std.specs.List.{filter};
+ghost use Rattle.std.specs.{
+  Prelude.{◌≡◌, ◌↔◌, ◌≤◌, ◌||◌, ◌++◌, [], ◌∷◌, Contains, HoldsAt, IfNone, IfOk, IfSome, IsTrue, OnErr, OnOk, false},
+  Prelude.{if◌then◌else◌, length, true, map, option_map, string_bytes},
+  List.filter,
+};
 ghost use Rattle.mail_terms.specs.MaildirName.{base};
-ghost use Rattle.mail_store.specs.Maildir.{all_there};
-ghost use Rattle.mail_store.specs.Loss.{is_among};
-ghost use Rattle.folder_store.specs.MailCalls.{entry_flushed_by, named_by, names_sought, without_taken};
-ghost use Rattle.folder_store.specs.MailFolders.{Moved, MovesFile, entries_in, is_in, is_taken, is_told, name_at};
-ghost use Rattle.folder_store.specs.MailFolders.{touches};
-ghost use Rattle.folder_store.specs.MailPower.{EntriesLeftAs, LosesMail};
+ghost use Rattle.mail_store.specs.{Maildir.all_there, Loss.is_among};
+ghost use Rattle.folder_store.specs.{
+  MailCalls.{entry_flushed_by, named_by, names_sought, without_taken},
+  MailFolders.{Moved, MovesFile, entries_in, is_in, is_taken, is_told, name_at, touches},
+  MailPower.{EntriesLeftAs, LosesMail},
+};
 ghost use Rattle.test_devices.specs.MemoryFolders.{list_of, stored_file};
 
 use crate::new_file::MemoryNewFile;

@@ -1,9 +1,11 @@
 //! A link in memory with prepared replies.
-ghost use Rattle.std.specs.Prelude.{◌≡◌, ◌≤◌, ◌<◌, ◌-◌, ◌^◌, ◌++◌, ℕ, List, [], false, length, take, min, IsOk, IfOk};
+ghost use Rattle.std.{
+  specs.Prelude.{◌≡◌, ◌≤◌, ◌<◌, ◌-◌, ◌^◌, ◌++◌, ℕ, List, [], false, length, take, min, IsOk, IfOk},
+  proofs.Common.{refl, ◌∙◌},
+};
 ghost use Rattle.mail_terms.specs.FailureCount.{greatest_count};
 ghost use Rattle.pop3_wire.specs.Link.{Receives, CountsFailure, WhereSound};
 ghost use Rattle.test_devices.specs.Script.{Script, is_script_sound, gives_on, TellsReplies};
-ghost use Rattle.std.proofs.Common.{refl, ◌∙◌};
 
 use mail_terms::FailureCount;
 use pop3_wire::{Wire, WireDown};

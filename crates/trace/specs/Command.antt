@@ -1,6 +1,5 @@
 -- What is shown of a command.
-use Rattle.std.specs.Prelude.{ℕ, Bool, List, codes, take, if◌then◌else◌}
-use Rattle.std.specs.Str.{str_eq_ignore_ascii_case}
+use Rattle.std.specs.{Prelude.{ℕ, Bool, List, codes, take, if◌then◌else◌}, Str.str_eq_ignore_ascii_case}
 
 abbrev pub is_word : List ℕ → List ℕ → Bool
 is_word command word = str_eq_ignore_ascii_case (take 4 command) word

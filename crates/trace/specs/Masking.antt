@@ -1,9 +1,10 @@
 -- What an answer tells of the password, and what is shown of such an answer.
-use Rattle.std.specs.Prelude.{◌≡◌, ◌≤◌, ◌<◌, ◌⊎◌, ◌+◌, ◌*◌, ◌-◌, ◌/◌, ◌%◌, ◌^◌, ◌==◌, ◌||◌, ℕ, Bool, true, false}
-use Rattle.std.specs.Prelude.{List, [], ◌∷◌, Option, None, Some, codes, drop, length, map, min, nat_lt, slice_index}
-use Rattle.std.specs.Prelude.{take, if◌then◌else◌}
-use Rattle.std.specs.List.{flat_map, starts_with}
-use Rattle.std.specs.Char.{to_ascii_lowercase}
+use Rattle.std.specs.{
+  Prelude.{◌≡◌, ◌≤◌, ◌<◌, ◌⊎◌, ◌+◌, ◌*◌, ◌-◌, ◌/◌, ◌%◌, ◌^◌, ◌==◌, ◌||◌, ℕ, Bool, true, false, List, [], ◌∷◌, Option},
+  Prelude.{None, Some, codes, drop, length, map, min, nat_lt, slice_index, take, if◌then◌else◌},
+  List.{flat_map, starts_with},
+  Char.to_ascii_lowercase,
+}
 use Rattle.memchr.specs.Find.{OccursAt}
 use Rattle.trace.specs.Command.{is_word}
 

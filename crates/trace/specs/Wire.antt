@@ -1,13 +1,16 @@
 -- What a trace shows of a conversation.
-use Rattle.std.specs.Prelude.{◌≡◌, ◌==◌, ◌+◌, ◌-◌, ◌^◌, ◌++◌, ℕ, true, false, List, Option, None, Some, IsSome}
-use Rattle.std.specs.Prelude.{MatchOption, codes, count_by, min, option_map, take}
-use Rattle.std.specs.Fmt.{decimal}
-use Rattle.pop3_wire.specs.declared.note.Note.{Note}
-use Rattle.pop3_wire.specs.declared.note.Note.TheVariants.{Command, Reply, Refused, Count, Body}
-use Rattle.trace.specs.Command.{most_shown, shown_command}
+use Rattle.std.specs.{
+  Prelude.{◌≡◌, ◌==◌, ◌+◌, ◌-◌, ◌^◌, ◌++◌, ℕ, true, false, List, Option, None, Some, IsSome, MatchOption, codes, min},
+  Prelude.{count_by, option_map, take},
+  Fmt.decimal,
+}
+use Rattle.pop3_wire.specs.declared.note.Note.{Note, TheVariants.{Command, Reply, Refused, Count, Body}}
+use Rattle.trace.specs.{
+  Command.{most_shown, shown_command},
+  Masking.{IsShown, is_login},
+  declared.wire.{Trace.Trace, TracedWire.TracedWire},
+}
 use Rattle.system_calls.specs.Line.{HasTraceLine}
-use Rattle.trace.specs.Masking.{IsShown, is_login}
-use Rattle.trace.specs.{declared.wire.Trace.Trace, declared.wire.TracedWire.TracedWire}
 
 -- a line was written, if there is a writer
 abbrev pub AddsTraceLine : {E : Type 0} → (E → Option (List ℕ)) → Option E → Option E → List ℕ → List ℕ → Type 0

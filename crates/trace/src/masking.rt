@@ -1,9 +1,10 @@
 //! What is shown of an answer that tells of the password.
 ghost use Rattle.std.specs.Prelude.{◌≡◌, ◌≤◌, ◌<◌, ◌⊎◌, ◌+◌, ◌++◌, ◌↔◌, IfOk, OnOk, IsTrue, length, option_map, take};
-ghost use Rattle.trace.specs.Command.{most_shown};
-ghost use Rattle.trace.specs.Masking.{IsShown, Occurs, OccursInBase64, Tells, TellsARow};
-ghost use Rattle.trace.specs.Masking.{hidden_answer, is_login, octet_at, password_row, row_length, sextet, symbol};
-ghost use Rattle.trace.specs.Masking.{symbol_at, symbols};
+ghost use Rattle.trace.specs.{
+  Command.most_shown,
+  Masking.{IsShown, Occurs, OccursInBase64, Tells, TellsARow, hidden_answer, is_login, octet_at, password_row, sextet},
+  Masking.{row_length, symbol, symbol_at, symbols},
+};
 
 use crate::command::{cut, is_word};
 use memchr::memmem;

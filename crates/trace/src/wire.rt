@@ -1,8 +1,10 @@
 //! A link that is traced.
 ghost use Rattle.std.specs.Prelude.{◌≡◌, ◌-◌, ℕ, List, Some, IsSome, OnOk, codes, option_map, take};
-ghost use Rattle.trace.specs.Command.{most_shown, shown_command};
-ghost use Rattle.trace.specs.Masking.{is_login};
-ghost use Rattle.trace.specs.Wire.{AddsTraceLine, Counts, Hides, ShowsAnswer, ShowsPart, count_text};
+ghost use Rattle.trace.specs.{
+  Command.{most_shown, shown_command},
+  Masking.is_login,
+  Wire.{AddsTraceLine, Counts, Hides, ShowsAnswer, ShowsPart, count_text},
+};
 
 use crate::command::{cut, shown_command};
 use crate::masking::{Shown, is_login};

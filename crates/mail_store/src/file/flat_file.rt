@@ -1,7 +1,9 @@
 //! Devices that keep one file.
 
-ghost use Rattle.mail_store.specs.DiskCalls.{DurableAppends, DurableCuts, DurableFlushes, DurableReplaces};
-ghost use Rattle.mail_store.specs.Durable.{CrashesHappen, DurableIsLeft};
+ghost use Rattle.mail_store.specs.{
+  DiskCalls.{DurableAppends, DurableCuts, DurableFlushes, DurableReplaces},
+  Durable.{CrashesHappen, DurableIsLeft},
+};
 
 use crate::fault::StoreFault;
 
@@ -20,9 +22,8 @@ pub struct Edges {
 pub trait FlatFile {
     ghost use Rattle.std.specs.Prelude.{◌≡◌, ◌≤◌, length, IfErr, IfOk, IsSome};
     ghost use Rattle.mail_terms.specs.FailureCount.{Tallies, refuses};
-    ghost use Rattle.mail_store.specs.Fault.{is_refusal, IsDeviceFault};
+    ghost use Rattle.mail_store.specs.{Fault.{is_refusal, IsDeviceFault}, Durable.{Disk, seen_on}};
     ghost use Rattle.mail_store.specs.DiskCalls.{AppendsDisk, CutsDisk, FlushesDisk, ReplacesDisk};
-    ghost use Rattle.mail_store.specs.Durable.{Disk, seen_on};
     ghost use Rattle.mail_store.specs.FlatFile.{Stored, Loads, Measures, ReadsAt, Appends, Cuts, Replaces, HasBytes};
 
     // What calls see of the file.

@@ -62,12 +62,10 @@ impl MemoryFile {
 }
 
 impl FlatFile for MemoryFile {
-    ghost use Rattle.std.specs.Prelude.{◌≡◌, ◌≢◌, ◌≤◌, ◌<◌, length, IfOk, IsOk, None, Some};
-    ghost use Rattle.std.proofs.Common.{refl};
+    ghost use Rattle.std.{specs.Prelude.{◌≡◌, ◌≢◌, ◌≤◌, ◌<◌, length, IfOk, IsOk, None, Some}, proofs.Common.refl};
     ghost use Rattle.mail_terms.specs.FailureCount.{greatest_count};
     ghost use Rattle.mail_store.specs.Devices.{FileDoes, DurableDoes, FilePeeks, FileReads, FileRefuses};
-    ghost use Rattle.mail_store.specs.DiskCalls.{CutsDisk};
-    ghost use Rattle.mail_store.specs.Durable.{all_durable, seen_on};
+    ghost use Rattle.mail_store.specs.{DiskCalls.CutsDisk, Durable.{all_durable, seen_on}};
     ghost use Rattle.mail_store.specs.FlatFile.{Measures, ReadsAt, Cuts, HasBytes};
 
     ghost stored = { λ f. f };

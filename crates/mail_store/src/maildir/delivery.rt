@@ -2,9 +2,7 @@
 
 ghost use Rattle.std.specs.Prelude.{◌≡◌, ◌≢◌, None, length};
 ghost use Rattle.mail_terms.specs.FailureCount.{Tallies, refuses};
-ghost use Rattle.mail_store.specs.Fault.{is_refusal};
-ghost use Rattle.mail_store.specs.Maildir.{IsThere, Delivers};
-ghost use Rattle.mail_store.specs.FileName.{sized, sized_file};
+ghost use Rattle.mail_store.specs.{Fault.is_refusal, Maildir.{IsThere, Delivers}, FileName.{sized, sized_file}};
 
 use crate::fault::StoreFault;
 use crate::maildir::disk::MaildirDisk;

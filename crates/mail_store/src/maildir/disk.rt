@@ -26,11 +26,9 @@ pub trait MaildirDisk {
     ghost use Rattle.std.specs.Prelude.{◌≡◌, ℕ, List, false, true, IfErr, IsSome, Ok, OnErr, OnOk, Some, None, map};
     ghost use Rattle.std.specs.Prelude.{string_bytes};
     ghost use Rattle.mail_terms.specs.FailureCount.{Tallies, refuses};
-    ghost use Rattle.mail_store.specs.Fault.{is_refusal, IsDeviceFault};
-    ghost use Rattle.mail_store.specs.Held.{ListsAmong};
-    ghost use Rattle.mail_store.specs.Loss.{Flushes};
-    ghost use Rattle.mail_store.specs.Maildir.{Maildir, AfterTaking, IsThere, Lists, Checks};
-    ghost use Rattle.mail_store.specs.Maildir.{Begins, Adds, Settles, dropped, name_begun};
+    ghost use Rattle.mail_store.specs.{Fault.{is_refusal, IsDeviceFault}, Held.ListsAmong, Loss.Flushes};
+    ghost use Rattle.mail_store.specs.Maildir.{Maildir, AfterTaking, IsThere, Lists, Checks, Begins, Adds, Settles};
+    ghost use Rattle.mail_store.specs.Maildir.{dropped, name_begun};
 
     // What is known of the Maildir, and of what a loss of power leaves of it (see `LosesPower`). Whether
     // a file is begun, its name and the count of refusals are known even if the device isn't sound.

@@ -3,13 +3,14 @@
 ghost use Rattle.std.specs.Prelude.{◌≡◌, List, ℕ, ◌∷◌, ◌++◌, ◌||◌, ◌&&◌, map, length, vec_len, bytes_eq, IfOk, OnOk};
 ghost use Rattle.std.specs.Prelude.{◌≢◌};
 ghost use Rattle.hex.specs.Hex.{encode_lower};
-ghost use Rattle.mail_terms.specs.FailureCount.{Tallies, refuses};
-ghost use Rattle.mail_store.specs.Fault.{is_refusal};
-ghost use Rattle.mail_store.specs.FileName.{stem, is_held};
-ghost use Rattle.mail_terms.specs.Listing.{Item, has_item, is_flagged};
-ghost use Rattle.mail_store.specs.Maildir.{AfterTaking, Maildir};
-ghost use Rattle.mail_store.specs.Held.{AreById, Finds, FindsAsked, FindsDurable, FindsFlags, HasStems, any_name};
-ghost use Rattle.mail_store.specs.Held.{flags_of, flags_sought, has_text, odd_flags, sought_among};
+ghost use Rattle.mail_terms.specs.{FailureCount.{Tallies, refuses}, Listing.{Item, has_item, is_flagged}};
+ghost use Rattle.mail_store.specs.{
+  Fault.is_refusal,
+  FileName.{stem, is_held},
+  Maildir.{AfterTaking, Maildir},
+  Held.{AreById, Finds, FindsAsked, FindsDurable, FindsFlags, HasStems, any_name, flags_of, flags_sought, has_text},
+  Held.{odd_flags, sought_among},
+};
 
 use crate::account::AccountId;
 use crate::fault::StoreFault;

@@ -1,10 +1,11 @@
 //! What a loss of power leaves of a Maildir.
 
 ghost use Rattle.std.specs.Prelude.{◌≡◌, ◌++◌, List, ℕ, Contains, Result};
-ghost use Rattle.mail_store.specs.declared.fault.StoreFault.{StoreFault};
-ghost use Rattle.mail_store.specs.Loss.{AreLeftAs, LosesPower};
-ghost use Rattle.mail_store.specs.Maildir.{AllDurable, AllFlushed, AreReached, Delivers, File, IsDurableFile, IsNamed};
-ghost use Rattle.mail_store.specs.Maildir.{IsPart, Maildir, mail, names_of};
+ghost use Rattle.mail_store.specs.{
+  declared.fault.StoreFault.StoreFault,
+  Loss.{AreLeftAs, LosesPower},
+  Maildir.{AllDurable, AllFlushed, AreReached, Delivers, File, IsDurableFile, IsNamed, IsPart, Maildir, mail, names_of},
+};
 
 /// A loss of power leaves each durable name and each durable file; if the bytes of all files are durable, only
 /// whole files, in order; and if all of them are durable, just these. What it leaves is durable. It is possible

@@ -1,10 +1,7 @@
 //! A Maildir in memory.
 
-ghost use Rattle.std.specs.Prelude.{◌≡◌, map, IfOk};
-ghost use Rattle.std.specs.List.{filter};
-ghost use Rattle.std.specs.String.{string_bytes};
-ghost use Rattle.mail_store.specs.Held.{is_sought};
-ghost use Rattle.mail_store.specs.Maildir.{names_of, memory_file};
+ghost use Rattle.std.specs.{Prelude.{◌≡◌, map, IfOk}, List.filter, String.string_bytes};
+ghost use Rattle.mail_store.specs.{Held.is_sought, Maildir.{names_of, memory_file}};
 
 use crate::fault::StoreFault;
 use crate::maildir::disk::{Folder, MaildirDisk};
@@ -26,8 +23,7 @@ pub struct MemoryMaildir {
 
 impl Model for MemoryMaildir {
     ghost use Rattle.std.specs.Prelude.{[], map, option_map};
-    ghost use Rattle.mail_store.specs.Maildir.{all_there, draft_of, memory_file};
-    ghost use Rattle.mail_store.specs.MemoryMaildir.{MemoryMail, shown};
+    ghost use Rattle.mail_store.specs.{Maildir.{all_there, draft_of, memory_file}, MemoryMaildir.{MemoryMail, shown}};
 
     ghost Value = { MemoryMail };
 
@@ -46,8 +42,7 @@ impl Model for MemoryMaildir {
 
 impl MemoryMaildir {
     ghost use Rattle.std.specs.Prelude.{◌≡◌, ◌↔◌, ◌++◌, ◌∷◌, [], None, map, IsTrue, IsSome, OnErr, OnOk};
-    ghost use Rattle.mail_store.specs.Maildir.{all_there, file, memory_file, mail};
-    ghost use Rattle.mail_store.specs.MemoryMaildir.{files_of_folder};
+    ghost use Rattle.mail_store.specs.{Maildir.{all_there, file, memory_file, mail}, MemoryMaildir.files_of_folder};
 
     /// A Maildir without files.
     pub fn new(alloc: Global) -> MemoryMaildir
@@ -121,14 +116,12 @@ fn names_among(
 }
 
 impl MaildirDisk for MemoryMaildir {
-    ghost use Rattle.std.specs.Prelude.{◌≡◌, ◌<◌, ◌++◌, false, map, true, None, Some, Ok};
-    ghost use Rattle.std.specs.Prelude.{IfOk, IsOk, IsSome, OnErr, OnOk};
+    ghost use Rattle.std.specs.Prelude.{◌≡◌, ◌<◌, ◌++◌, false, map, true, None, Some, Ok, IfOk, IsOk, IsSome, OnErr};
+    ghost use Rattle.std.specs.Prelude.{OnOk};
     ghost use Rattle.mail_terms.specs.FailureCount.{greatest_count};
-    ghost use Rattle.mail_store.specs.Devices.{DiskDoes, DiskRefuses};
-    ghost use Rattle.mail_store.specs.Loss.{Flushes};
-    ghost use Rattle.mail_store.specs.Maildir.{Adds, AfterTaking, Begins, Checks, IsThere, Lists};
-    ghost use Rattle.mail_store.specs.Maildir.{Settles};
-    ghost use Rattle.mail_store.specs.Maildir.{dropped, name_begun};
+    ghost use Rattle.mail_store.specs.{Devices.{DiskDoes, DiskRefuses}, Loss.Flushes};
+    ghost use Rattle.mail_store.specs.Maildir.{Adds, AfterTaking, Begins, Checks, IsThere, Lists, Settles, dropped};
+    ghost use Rattle.mail_store.specs.Maildir.{name_begun};
     ghost use Rattle.mail_store.specs.MemoryMaildir.{AddsAlone, BeginsAlone, ChangesOnlyCount, SettlesAlone};
     ghost use Rattle.mail_store.specs.MemoryMaildir.{files_of_folder, with_begun};
 

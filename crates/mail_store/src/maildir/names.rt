@@ -1,16 +1,18 @@
 //! The names of an account's files in a Maildir.
 
-ghost use Rattle.std.specs.Prelude.{◌≡◌, false, ℕ, ◌≢◌, ◌≤◌, List, ◌∷◌, ◌++◌, length, ◌||◌, bytes_eq, IfOk};
-ghost use Rattle.std.specs.Prelude.{IfSome, IfNone, MatchOption, OnOk, [], if◌then◌else◌, map, string_bytes};
-ghost use Rattle.std.specs.List.{filter};
+ghost use Rattle.std.specs.{
+  Prelude.{◌≡◌, false, ℕ, ◌≢◌, ◌≤◌, List, ◌∷◌, ◌++◌, length, ◌||◌, bytes_eq, IfOk, IfSome, IfNone, MatchOption, OnOk},
+  Prelude.{[], if◌then◌else◌, map, string_bytes},
+  List.filter,
+};
 ghost use Rattle.hex.specs.Hex.{encode_lower};
-ghost use Rattle.mail_terms.specs.UniqueId.{IsLegalId};
-ghost use Rattle.mail_terms.specs.MaildirName.{base};
-ghost use Rattle.mail_store.specs.FileName.{HasRoomForSize, IsAccountText, NamesAreBases, NamesHaveStems};
-ghost use Rattle.mail_store.specs.FileName.{StemsAreStems, StemsDiffer, is_held, longest_name, longest_stem};
-ghost use Rattle.mail_store.specs.FileName.{mail_file, name_of, sized, stem, stem_of};
-ghost use Rattle.mail_store.specs.Held.{is_sought};
-ghost use Rattle.mail_store.specs.Maildir.{Maildir, IsThere, with_file};
+ghost use Rattle.mail_terms.specs.{UniqueId.IsLegalId, MaildirName.base};
+ghost use Rattle.mail_store.specs.{
+  FileName.{HasRoomForSize, IsAccountText, NamesAreBases, NamesHaveStems, StemsAreStems, StemsDiffer, is_held, name_of},
+  FileName.{longest_name, longest_stem, mail_file, sized, stem, stem_of},
+  Held.is_sought,
+  Maildir.{Maildir, IsThere, with_file},
+};
 
 use crate::account::AccountId;
 use hex::FromHexError;

@@ -2,16 +2,16 @@
 
 ghost use Rattle.std.specs.Prelude.{◌≡◌, ◌≢◌, ◌↔◌, ◌≤◌, ◌+◌, ◌-◌, ◌++◌, List, ℕ, drop, length, take, IfErr, IfOk};
 ghost use Rattle.std.specs.Prelude.{IsTrue, OnOk};
-ghost use Rattle.mail_terms.specs.FailureCount.{Tallies, refuses};
-ghost use Rattle.mail_store.specs.DiskCalls.{FlushesDisk};
-ghost use Rattle.mail_store.specs.Durable.{IsDurable, Trusted, MayLeave};
-ghost use Rattle.mail_store.specs.Fault.{is_refusal};
-ghost use Rattle.mail_store.specs.FlatFile.{HasBytes, edges_of};
-ghost use Rattle.mail_terms.specs.Text.{IsWhole};
-ghost use Rattle.mail_store.specs.Mboxrd.{MayGoOn, entry_of, separator, EntryAddsText, OneListOfTexts, TextsMayGoOn};
-ghost use Rattle.mail_store.specs.Power.{KeepsWhole, LeavesPart};
-ghost use Rattle.mail_store.specs.MboxCalls.{Looks, ChecksMbox, ChecksFront, AppendsEntry, IsStillDurable};
-ghost use Rattle.mail_store.specs.MboxCalls.{TalliesEntry};
+ghost use Rattle.mail_terms.specs.{FailureCount.{Tallies, refuses}, Text.IsWhole};
+ghost use Rattle.mail_store.specs.{
+  DiskCalls.FlushesDisk,
+  Durable.{IsDurable, Trusted, MayLeave},
+  Fault.is_refusal,
+  FlatFile.{HasBytes, edges_of},
+  Mboxrd.{MayGoOn, entry_of, separator, EntryAddsText, OneListOfTexts, TextsMayGoOn},
+  Power.{KeepsWhole, LeavesPart},
+  MboxCalls.{Looks, ChecksMbox, ChecksFront, AppendsEntry, IsStillDurable, TalliesEntry},
+};
 
 use crate::fault::{EntryFault, StoreFault};
 use crate::file::flat_file::{Edges, FlatFile};

@@ -1,8 +1,8 @@
 //! Quoting of texts for an mboxrd file, in which `From ` at the start of a line begins an entry: a
 //! line that is `>` any number of times and then `From ` gets one more `>` (mboxrd).
 
-ghost use Rattle.std.specs.Prelude.{◌≡◌, ◌↔◌, ◌<◌, ◌≤◌, ◌*◌, ◌+◌, ◌++◌, length};
-ghost use Rattle.std.specs.Prelude.{take, drop, slice_range, IfOk, IsTrue, OnOk, false};
+ghost use Rattle.std.specs.Prelude.{◌≡◌, ◌↔◌, ◌<◌, ◌≤◌, ◌*◌, ◌+◌, ◌++◌, length, take, drop, slice_range, IfOk, OnOk};
+ghost use Rattle.std.specs.Prelude.{IsTrue, false};
 ghost use Rattle.mail_terms.specs.Text.{IsWhole};
 ghost use Rattle.mail_store.specs.Mboxrd.{IsMboxLine, begins_entry, is_marked, quoted, quoted_text, unquoted};
 ghost use Rattle.mail_store.specs.Mboxrd.{unquoted_text, wire_size, UnquotesQuoted, CutsLine};

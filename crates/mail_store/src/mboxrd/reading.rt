@@ -1,8 +1,7 @@
 //! Reading an mboxrd file.
 
 ghost use Rattle.std.specs.Prelude.{◌<◌, List, ℕ, length, IfNone, IfSome};
-ghost use Rattle.mail_store.specs.MboxCalls.{ReadsMbox};
-ghost use Rattle.mail_store.specs.Mboxrd.{CutsGroup, HoldsText};
+ghost use Rattle.mail_store.specs.{MboxCalls.ReadsMbox, Mboxrd.{CutsGroup, HoldsText}};
 
 use crate::fault::StoreFault;
 use crate::mboxrd::quoting::{begins_entry, cut_line, is_whole, unquote};

@@ -1,16 +1,16 @@
 //! What is left of an entry that was about to be appended when a session was cut.
 
-ghost use Rattle.std.specs.Prelude.{◌≡◌, ◌≢◌, ◌==◌, ◌&&◌, ◌+◌, ◌%◌, ◌≤◌, ◌<◌, ◌^◌, ◌∷◌, ℕ, List, true, length};
-ghost use Rattle.std.specs.Prelude.{IfErr, OnOk, drop};
+ghost use Rattle.std.specs.Prelude.{◌≡◌, ◌≢◌, ◌==◌, ◌&&◌, ◌+◌, ◌%◌, ◌≤◌, ◌<◌, ◌^◌, ◌∷◌, ℕ, List, true, length, IfErr};
+ghost use Rattle.std.specs.Prelude.{OnOk, drop};
 ghost use Rattle.mail_terms.specs.FailureCount.{Tallies, refuses};
-ghost use Rattle.mail_store.specs.Durable.{IsDurable, Trusted, MayLeave};
-ghost use Rattle.mail_store.specs.Fault.{is_refusal};
-ghost use Rattle.mail_store.specs.Mboxrd.{text_in};
-ghost use Rattle.mail_store.specs.Power.{LeavesCut, LeavesFront, LeavesNoMore};
-ghost use Rattle.mail_store.specs.Settling.{block_size, begin_with, has_size, is_lost, is_one_entry, is_ours, is_torn};
-ghost use Rattle.mail_store.specs.Settling.{is_whole};
-ghost use Rattle.mail_store.specs.Settling.{IsBehind, LeftoversAreSettled, LooksBehind};
-ghost use Rattle.mail_store.specs.Settling.{PeeksSettled, SettlesFile, WholeEntriesCount, listed_size};
+ghost use Rattle.mail_store.specs.{
+  Durable.{IsDurable, Trusted, MayLeave},
+  Fault.is_refusal,
+  Mboxrd.text_in,
+  Power.{LeavesCut, LeavesFront, LeavesNoMore},
+  Settling.{block_size, begin_with, has_size, is_lost, is_one_entry, is_ours, is_torn, is_whole, IsBehind, LooksBehind},
+  Settling.{LeftoversAreSettled, PeeksSettled, SettlesFile, WholeEntriesCount, listed_size},
+};
 
 use crate::fault::StoreFault;
 use crate::file::flat_file::FlatFile;

@@ -1,9 +1,9 @@
-use Rattle.std.proofs.Common.{◌∙◌, List, ℕ, [], ◌∷◌, take, nat_eq, sym, ap, arith, true≢false}
-use Rattle.std.specs.Cmp.Lexicographic.{pointwise}
-use Rattle.fetch_record.proofs.LineLemmas.{stripped, behind_sign, number_behind}
+use Rattle.std.{proofs.Common.{◌∙◌, List, ℕ, [], ◌∷◌, take, nat_eq, sym, ap, arith, true≢false}, specs.Cmp.Lexicographic.pointwise}
+use Rattle.fetch_record.proofs.{
+  LineLemmas.{stripped, behind_sign, number_behind},
+  line.read_group_line.Goals.{then-count-eq0-via-then-count-eq0, then-count-eq0-via-else-count-eq0+then-count-from},
+}
 use Rattle.fetch_record.proofs.line.read_group_line.Goals as goal
-use Rattle.fetch_record.proofs.line.read_group_line.Goals.{then-count-eq0-via-then-count-eq0}
-use Rattle.fetch_record.proofs.line.read_group_line.Goals.{then-count-eq0-via-else-count-eq0+then-count-from}
 
 pub returns-in_default-clause-none : goal.returns-in_default-clause-none
 returns-in_default-clause-none c = λ count behind some small is.

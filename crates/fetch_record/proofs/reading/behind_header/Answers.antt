@@ -1,5 +1,4 @@
-use Rattle.fetch_record.specs.RecordFile.{One, header}
-use Rattle.fetch_record.proofs.LineLemmas.{stripped}
+use Rattle.fetch_record.{specs.RecordFile.{One, header}, proofs.LineLemmas.stripped}
 use Rattle.fetch_record.proofs.reading.behind_header.Goals as goal
 
 pub returns-in-Some-strip_prefix-clause-found : goal.returns-in-Some-strip_prefix-clause-found

@@ -1,8 +1,5 @@
-use Rattle.std.proofs.Common.{◌∙◌, ap, false, length, sym}
-use Rattle.std.proofs.lemmas.List.{length-map}
-use Rattle.std.proofs.{lemmas.Result.IfOk-weaker, lemmas.Simd.splat_is_map}
-use Rattle.fetch_rules.specs.Wanted.{none_odd}
-use Rattle.fetch_rules.proofs.PlanLemmas.{retrieved-planned}
+use Rattle.std.proofs.{Common.{◌∙◌, ap, false, length, sym}, lemmas.{List.length-map, Result.IfOk-weaker, Simd.splat_is_map}}
+use Rattle.fetch_rules.{specs.Wanted.none_odd, proofs.PlanLemmas.retrieved-planned}
 use Rattle.fetch_rules.proofs.plans.plan.Goals as goal
 
 pub plan_without-requires : goal.plan_without-requires

@@ -1,7 +1,8 @@
-use Rattle.std.proofs.Common.{◌∙◌, Some, false, refl, sym, arith, get_or, inl, rules}
-use Rattle.std.proofs.lemmas.Result.{IfOk-weaker}
-use Rattle.fetch_rules.specs.{Plan.seen_since, declared.plans.Skip.TheVariants.Delivered}
-use Rattle.fetch_rules.proofs.PlanLemmas.{all_known, never_due, HasPlanned-more, HasPlanned-all}
+use Rattle.std.proofs.{Common.{◌∙◌, Some, false, refl, sym, arith, get_or, inl, rules}, lemmas.Result.IfOk-weaker}
+use Rattle.fetch_rules.{
+  specs.{Plan.seen_since, declared.plans.Skip.TheVariants.Delivered},
+  proofs.PlanLemmas.{all_known, never_due, HasPlanned-more, HasPlanned-all},
+}
 use Rattle.fetch_rules.proofs.plans.plan_of_known.Goals as goal
 
 pub returns-then-may_delete : goal.returns-then-may_delete

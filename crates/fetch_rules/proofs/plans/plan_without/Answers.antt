@@ -1,12 +1,15 @@
-use Rattle.std.proofs.Common.{◌≡◌, List, map, rules, ℕ, ◌+◌, Bool, true, false, ◌&&◌, ◌∙◌, ap, inl, inr, arith, refl, cond, get_or}
-use Rattle.std.proofs.Common.{Option, Some, None, not}
-use Rattle.std.specs.Prelude.{is_none, is_some}
-use Rattle.fetch_rules.specs.{declared.plans.Skip.Skip, Wanted.skip_for, Due.may_delete}
-use mir.Val.{bool_byte}
-use Rattle.std.proofs.lemmas.Bool.{cases_Bool}
+use Rattle.std.{
+  proofs.Common.{◌≡◌, List, map, rules, ℕ, ◌+◌, Bool, true, false, ◌&&◌, ◌∙◌, ap, inl, inr, arith, refl, cond, get_or, Option, Some, None},
+  proofs.Common.not,
+  proofs.lemmas.Bool.cases_Bool,
+  specs.Prelude.{is_none, is_some},
+}
+use Rattle.fetch_rules.{
+  specs.{declared.plans.Skip.Skip, Wanted.skip_for, Due.may_delete, Plan.{seen_since, is_deleted}},
+  proofs.PlanLemmas.{never_due, HasPlanned-more, HasPlanned-all, flags_count, flag_at, odd_at},
+}
 use Rattle.mail_terms.specs.Listing.{Item, is_first, is_last}
-use Rattle.fetch_rules.specs.Plan.{seen_since, is_deleted}
-use Rattle.fetch_rules.proofs.PlanLemmas.{never_due, HasPlanned-more, HasPlanned-all, flags_count, flag_at, odd_at}
+use mir.Val.{bool_byte}
 use Rattle.fetch_rules.proofs.plans.plan_without.Goals as goal
 
 byte_of : (b : Bool) → bool_byte b ≡ cond b 1 0

@@ -1,21 +1,21 @@
-use Rattle.std.proofs.Common.{inl, inr, ◌≡◌, List, ℕ, length, refl, ap, ◌∙◌, sym, subst, Option, None, Some}
-use Rattle.std.specs.Prelude.{IfErr}
-use Rattle.std.proofs.{lemmas.Option.same_Some, lemmas.Result.err_from_is_err_and}
+use Rattle.std.{
+  proofs.Common.{inl, inr, ◌≡◌, List, ℕ, length, refl, ap, ◌∙◌, sym, subst, Option, None, Some},
+  proofs.lemmas.{Option.same_Some, Result.err_from_is_err_and},
+  specs.Prelude.IfErr,
+}
 use Rattle.fetch_record.specs.Record.{Intent, RecordState, Row, none_open}
-use Rattle.mail_store.specs.{declared.file.flat_file.Edges.Edges, FlatFile.Stored, Mboxrd.entry_of, MboxCalls.IsStillDurable}
-use Rattle.mail_store.specs.Durable.{Trusted, MayLeave}
-use Rattle.mail_store.specs.Power.{KeepsWhole, LeavesPart}
-use Rattle.mail_store.proofs.DurableLemmas.{durable_is_left}
-use Rattle.fetch_session.specs.Durable.{IsGrownAtMost, IsSafeFile, LeavesFile}
-use Rattle.mail_store.proofs.DiskLemmas.{all_trust, durable_trust, durable_flush}
-use Rattle.fetch_session.proofs.TalkLemmas.{err_is}
-use Rattle.fetch_session.specs.Mbox.{IsIntended, intent_of}
-use Rattle.fetch_session.specs.Record.{intent_at, with_open}
-use Rattle.fetch_session.proofs.SessionLemmas.{cut_back, durable_safe, grown_left, no_more_keeps, same_grown, same_left}
-use Rattle.fetch_session.proofs.TextLemmas.{entry_none, entry_refused, not_intended, not_measured}
+use Rattle.mail_store.{
+  specs.{declared.file.flat_file.Edges.Edges, FlatFile.Stored, Mboxrd.entry_of, MboxCalls.IsStillDurable, Durable.{Trusted, MayLeave}},
+  specs.Power.{KeepsWhole, LeavesPart},
+  proofs.{DurableLemmas.durable_is_left, DiskLemmas.{all_trust, durable_trust, durable_flush}},
+}
+use Rattle.fetch_session.{
+  specs.{Durable.{IsGrownAtMost, IsSafeFile, LeavesFile}, Mbox.{IsIntended, intent_of}, Record.{intent_at, with_open}},
+  proofs.{TalkLemmas.err_is, SessionLemmas.{cut_back, durable_safe, grown_left, no_more_keeps, same_grown, same_left}},
+  proofs.TextLemmas.{entry_none, entry_refused, not_intended, not_measured},
+  proofs.appending.append_text.Goals.{After-append_entry, After-edges, After-entry_len-len, After-take_back, In_ok-size},
+}
 use Rattle.fetch_session.proofs.appending.append_text.Goals as goal
-use Rattle.fetch_session.proofs.appending.append_text.Goals.{After-append_entry, After-edges, After-entry_len-len}
-use Rattle.fetch_session.proofs.appending.append_text.Goals.{After-take_back, In_ok-size}
 
 long : (g : _) (c : After-entry_len-len g) → c.entry_len-len.result ≡ length (entry_of c.args.text.items)
 long g c = c.entry_len-len.ensures ∙ ap (λ (l : List ℕ). length (entry_of l)) c.deref.ensures.value

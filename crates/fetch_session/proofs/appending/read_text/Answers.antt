@@ -1,7 +1,6 @@
-use Rattle.std.proofs.Common.{refl, inl, inr, ◌++◌, take, sym, ◌∙◌}
+use Rattle.std.proofs.{Common.{refl, inl, inr, ◌++◌, take, sym, ◌∙◌}, lemmas.Bool.false≢true}
 use Rattle.pop3_wire.proofs.LinkLemmas.{and_then}
 use Rattle.fetch_session.proofs.TalkLemmas.{err_is, before_cut, cut_by}
-use Rattle.std.proofs.lemmas.Bool.{false≢true}
 use Rattle.fetch_session.proofs.appending.read_text.Goals as goal
 
 pub returns-in_err-piece-clause-holds : goal.returns-in_err-piece-clause-holds

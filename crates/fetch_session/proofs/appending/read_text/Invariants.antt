@@ -1,7 +1,6 @@
 use Rattle.std.proofs.Common.{◌≡◌, ◌≢◌, ℕ, []}
 use Rattle.pop3_wire.specs.{Place.Place, declared.unstuffer.Spot.TheVariants.Done}
-use Rattle.pop3_client.specs.Client.{HasSameLink, place_of}
-use Rattle.pop3_client.specs.{Turns.retr, Texts.Fetching}
+use Rattle.pop3_client.specs.{Client.{HasSameLink, place_of}, Turns.retr, Texts.Fetching}
 use Rattle.fetch_session.proofs.appending.read_text.Given as goal
 
 abbrev pub invariant-pieces : goal.invariant-pieces

@@ -1,22 +1,19 @@
-use Rattle.std.proofs.Common.{rules, ◌≡◌, ℕ, List, [], ◌∷◌, inl, inr, ◌++◌, Vec, Ok, Err, length, arith, sym, ap, subst, ◌∙◌}
-use Rattle.std.proofs.Common.{refl, true≢false}
+use Rattle.std.proofs.{
+  Common.{rules, ◌≡◌, ℕ, List, [], ◌∷◌, inl, inr, ◌++◌, Vec, Ok, Err, length, arith, sym, ap, subst, ◌∙◌, refl, true≢false},
+  lemmas.Option.same_Some,
+}
 use Rattle.fetch_record.specs.Record.{marked}
-use Rattle.pop3_wire.specs.Link.{WhereSound}
-use Rattle.pop3_client.specs.Client.{link_of, place_of}
-use Rattle.pop3_client.specs.Texts.{Fetched}
-use Rattle.pop3_client.specs.Turns.{most, retr}
-use Rattle.fetch_session.specs.{Target.AsEntries, Refusal.TookTillCut, declared.report.ReportLine.ReportLine}
-use Rattle.fetch_session.specs.{declared.report.ReportLine.TheVariants.Delivered, Parts.KeepsLink, Report.AddsLines, Task.stores}
-use Rattle.fetch_session.proofs.TextLemmas.{text_broken, body_whole, entry_not_saved, entry_stored, not_held, text_refused}
-use Rattle.pop3_wire.proofs.LinkLemmas.{and_then, in_words}
-use Rattle.fetch_session.proofs.TalkLemmas.{took_talked, takes_held, before_cut, err_is, did_both, did_so}
-use Rattle.fetch_session.proofs.PartLemmas.{link_broke, link_then_cut, marked_ledger, same_ledger}
-use Rattle.fetch_session.specs.Durable.{IsEntryLeft, IsSafeFile, LeavesBoth}
+use Rattle.pop3_wire.{specs.Link.WhereSound, proofs.LinkLemmas.{and_then, in_words}}
+use Rattle.pop3_client.specs.{Client.{link_of, place_of}, Texts.Fetched, Turns.{most, retr}}
+use Rattle.fetch_session.{
+  specs.{Target.AsEntries, Refusal.TookTillCut, declared.report.ReportLine.{ReportLine, TheVariants.Delivered}, Parts.KeepsLink},
+  specs.{Report.AddsLines, Task.stores, Durable.{IsEntryLeft, IsSafeFile, LeavesBoth}},
+  proofs.{TextLemmas.{text_broken, body_whole, entry_not_saved, entry_stored, not_held, text_refused}, SessionLemmas.none_left_of},
+  proofs.{TalkLemmas.{took_talked, takes_held, before_cut, err_is, did_both, did_so}, SceneLemmas.{both_sound, link_alone}},
+  proofs.PartLemmas.{link_broke, link_then_cut, marked_ledger, same_ledger},
+  proofs.appending.take_into_mbox.Goals.{After-len-length, After-note, After-remember, In_ok-text},
+}
 use Rattle.mail_store.specs.{Durable.Trusted, FlatFile.Stored, Mboxrd.entry_of}
-use Rattle.std.proofs.lemmas.Option.{same_Some}
-use Rattle.fetch_session.proofs.SessionLemmas.{none_left_of}
-use Rattle.fetch_session.proofs.SceneLemmas.{both_sound, link_alone}
-use Rattle.fetch_session.proofs.appending.take_into_mbox.Goals.{After-len-length, After-note, After-remember, In_ok-text}
 use Rattle.fetch_session.proofs.appending.take_into_mbox.Goals as goal
 
 long : (g : _) (c : After-len-length g) → c.len-length.result ≡ length c.in_ok-text.text.items

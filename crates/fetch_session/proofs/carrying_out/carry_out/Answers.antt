@@ -1,26 +1,20 @@
-use Rattle.std.proofs.Common.{refl, ◌≡◌, ◌*◌, ℕ, List, [], ◌∷◌, ◌++◌, ◌⊎◌, All, true, inl, arith, length, Result, Ok}
-use Rattle.std.proofs.Common.{Err, sym, ap, subst, ◌∙◌, append-nil}
+use Rattle.std.proofs.Common.{refl, ◌≡◌, ◌*◌, ℕ, List, [], ◌∷◌, ◌++◌, ◌⊎◌, All, true, inl, arith, length, Result, Ok, Err, sym, ap, subst}
+use Rattle.std.proofs.Common.{◌∙◌, append-nil}
 use Rattle.mail_store.specs.Maildir.{AllNamed}
 use Rattle.mail_terms.specs.UniqueId.{IsLegalId}
 use Rattle.fetch_record.specs.Record.{has_row}
-use Rattle.fetch_rules.specs.Plan.{IsQuiet, planned}
-use Rattle.fetch_rules.specs.declared.plans.Step.{Step}
+use Rattle.fetch_rules.specs.{Plan.{IsQuiet, planned}, declared.plans.Step.Step}
 use Rattle.pop3_client.specs.{Turns.quit, declared.client.Client.Client}
-use Rattle.fetch_session.proofs.TalkLemmas.{err_is}
-use Rattle.fetch_session.specs.Target.{AfterTakingIn, is_sound, kind_of, stores_of, target_of}
-use Rattle.fetch_session.specs.Hearing.{AreMerged, HearsOne, IsPlanned}
-use Rattle.fetch_session.proofs.HearingLemmas.{heard_as, heard_then}
-use Rattle.fetch_session.specs.{Durable.DurableCarries, CarryingOut.Carries, declared.fault.Cut.Cut, declared.account.Store.Store}
-use Rattle.fetch_session.specs.declared.work.Work.{Work}
-use Rattle.fetch_session.specs.Task.{Task, says, tasks_planned}
-use Rattle.fetch_session.specs.Report.{AddsLines, HasRoom, skips_of}
-use Rattle.fetch_session.specs.Refusal.{TookTillCut, step_limit}
-use Rattle.fetch_session.specs.Parts.{RunsTasks, IsReadyFor, KeepsLink, KeepsStore, WhereWorkSound}
-use Rattle.fetch_session.proofs.ReadyLemmas.{flags_same, fresh_firsts, followed}
-use Rattle.fetch_session.proofs.SessionLemmas.{named_ahead, carried, in_kind}
-use Rattle.fetch_session.proofs.PartLemmas.{runs_before, goes_on, link_idle, link_less, link_on_tail, link_with_tail}
-use Rattle.fetch_session.proofs.PartLemmas.{most_planned, planned_all, store_less, store_on}
-use Rattle.fetch_session.proofs.carrying_out.carry_out.Goals.{After-deref-3, After-do_steps, In_ok-do_steps}
+use Rattle.fetch_session.{
+  proofs.{TalkLemmas.err_is, HearingLemmas.{heard_as, heard_then}, ReadyLemmas.{flags_same, fresh_firsts, followed}},
+  proofs.{SessionLemmas.{named_ahead, carried, in_kind}, carrying_out.carry_out.Goals.{After-deref-3, After-do_steps, In_ok-do_steps}},
+  proofs.PartLemmas.{runs_before, goes_on, link_idle, link_less, link_on_tail, link_with_tail, most_planned, planned_all, store_less},
+  proofs.PartLemmas.store_on,
+  specs.{Target.{AfterTakingIn, is_sound, kind_of, stores_of, target_of}, Hearing.{AreMerged, HearsOne, IsPlanned}, Durable.DurableCarries},
+  specs.{CarryingOut.Carries, declared.{fault.Cut.Cut, account.Store.Store, work.Work.Work}, Task.{Task, says, tasks_planned}},
+  specs.{Report.{AddsLines, HasRoom, skips_of}, Refusal.{TookTillCut, step_limit}},
+  specs.Parts.{RunsTasks, IsReadyFor, KeepsLink, KeepsStore, WhereWorkSound},
+}
 use Rattle.fetch_session.proofs.carrying_out.carry_out.Goals as goal
 
 pub returns-in_err-ready-clause-carries : goal.returns-in_err-ready-clause-carries

@@ -1,13 +1,13 @@
 use Rattle.std.proofs.Common.{[], ◌∷◌, Ok, refl, sym, append-nil, arith}
 use Rattle.pop3_client.specs.{Client.link_of, Turns.quit}
 use Rattle.pop3_wire.proofs.LinkLemmas.{in_words}
-use Rattle.fetch_session.proofs.TalkLemmas.{err_is, did_so, quit_broke, took_completing, took_less, cut_by}
-use Rattle.fetch_session.specs.Task.{says}
-use Rattle.fetch_session.specs.Target.{kind_of, target_of}
-use Rattle.fetch_session.proofs.PartLemmas.{Looked, runs_quitting, look_maildir, look_told, not_left, quitting_store}
-use Rattle.fetch_session.proofs.PartLemmas.{link_broke, link_idle, link_on_tail, link_still, link_with_tail}
-use Rattle.fetch_session.proofs.TextLemmas.{taken_idle, text_broken}
-use Rattle.fetch_session.proofs.ending.end.Goals.{After-look_again}
+use Rattle.fetch_session.{
+  proofs.{TalkLemmas.{err_is, did_so, quit_broke, took_completing, took_less, cut_by}, TextLemmas.{taken_idle, text_broken}},
+  proofs.PartLemmas.{Looked, runs_quitting, look_maildir, look_told, not_left, quitting_store, link_broke, link_idle, link_on_tail},
+  proofs.PartLemmas.{link_still, link_with_tail},
+  proofs.ending.end.Goals.After-look_again,
+  specs.{Task.says, Target.{kind_of, target_of}},
+}
 use Rattle.fetch_session.proofs.ending.end.Goals as goal
 
 looked : (g : _) (c : After-look_again g) → Looked g.D.MaildirDisk g.F.FlatFile c.args.work.now c.look_again.new.store

@@ -1,6 +1,7 @@
-use Rattle.fetch_session.specs.{Account.digits_of, Durable.DurableSession, Target.AfterTakingIn}
-use Rattle.fetch_session.specs.Session.{SessionIn, keeping}
-use Rattle.fetch_session.proofs.SessionLemmas.{entries_session, files_session}
+use Rattle.fetch_session.{
+  specs.{Account.digits_of, Durable.DurableSession, Target.AfterTakingIn, Session.{SessionIn, keeping}},
+  proofs.SessionLemmas.{entries_session, files_session},
+}
 use Rattle.fetch_session.proofs.laws.sessions_by_store.Goals as goal
 
 pub returns-clause-maildir : goal.returns-clause-maildir

@@ -1,6 +1,5 @@
 use Rattle.std.proofs.Common.{◌<◌, length, arith, refl}
-use Rattle.fetch_session.proofs.ReadyLemmas.{no_item}
-use Rattle.fetch_session.proofs.MessagePreviewLemmas.{told_more, told_all}
+use Rattle.fetch_session.proofs.{ReadyLemmas.no_item, MessagePreviewLemmas.{told_more, told_all}}
 use Rattle.fetch_session.proofs.message_preview.message_previews.Goals as goal
 
 pub loop-i-preserved : goal.loop-i-preserved

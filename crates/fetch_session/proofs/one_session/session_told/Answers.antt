@@ -1,8 +1,10 @@
 use Rattle.std.proofs.Common.{ℕ, List, Ok, Err, refl, ap, ◌∙◌}
 use Rattle.pop3_client.specs.Client.{place_of}
-use Rattle.fetch_session.specs.{Session.noted, Target.target_of}
-use Rattle.fetch_session.proofs.TalkLemmas.{ended_within, left_alone, took_leaving, took_less}
-use Rattle.fetch_session.proofs.{ReadyLemmas.followed, SessionLemmas.left_session, HearingLemmas.heard_as}
+use Rattle.fetch_session.{
+  specs.{Session.noted, Target.target_of},
+  proofs.{TalkLemmas.{ended_within, left_alone, took_leaving, took_less}, ReadyLemmas.followed, SessionLemmas.left_session},
+  proofs.HearingLemmas.heard_as,
+}
 use Rattle.fetch_session.proofs.one_session.session_told.Goals as goal
 
 pub returns-in-Err-clause-session : goal.returns-in-Err-clause-session

@@ -1,6 +1,5 @@
 use Rattle.std.proofs.Common.{ap, refl, sym, ◌∙◌}
-use Rattle.fetch_session.proofs.TalkLemmas.{err_is}
-use Rattle.fetch_session.specs.Target.{in_maildir}
+use Rattle.fetch_session.{proofs.TalkLemmas.err_is, specs.Target.in_maildir}
 use Rattle.fetch_session.proofs.preview.look_at_maildir.Goals as goal
 
 pub returns-clause-flags : goal.returns-clause-flags

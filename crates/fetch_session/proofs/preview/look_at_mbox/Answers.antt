@@ -1,7 +1,5 @@
-use Rattle.std.proofs.Common.{false, refl, rules, sym, ◌∙◌}
-use Rattle.std.proofs.lemmas.Simd.{splat_is_map}
-use Rattle.fetch_session.proofs.TalkLemmas.{err_is}
-use Rattle.fetch_session.proofs.SessionLemmas.{judged_bad, judged_full, judged_good}
+use Rattle.std.proofs.{Common.{false, refl, rules, sym, ◌∙◌}, lemmas.Simd.splat_is_map}
+use Rattle.fetch_session.proofs.{TalkLemmas.err_is, SessionLemmas.{judged_bad, judged_full, judged_good}}
 use Rattle.fetch_session.proofs.preview.look_at_mbox.Goals as goal
 
 pub returns-in_err-stored-clause-looks : goal.returns-in_err-stored-clause-looks

@@ -1,7 +1,6 @@
 use Rattle.std.proofs.Common.{ℕ, List, Ok, Err, ap, refl}
 use Rattle.pop3_client.specs.Client.{place_of}
-use Rattle.fetch_session.specs.Target.{target_of}
-use Rattle.fetch_session.proofs.{SessionLemmas.left_preview, ReadyLemmas.followed}
+use Rattle.fetch_session.{specs.Target.target_of, proofs.{SessionLemmas.left_preview, ReadyLemmas.followed}}
 use Rattle.fetch_session.proofs.preview.pretend_over.Goals as goal
 
 pub returns-in-Err-clause-pretends : goal.returns-in-Err-clause-pretends

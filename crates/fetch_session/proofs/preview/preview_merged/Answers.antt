@@ -1,10 +1,9 @@
-use Rattle.std.proofs.Common.{Bool, List, ap, length, ◌∙◌}
-use Rattle.std.proofs.lemmas.Result.{IfOk-weaker}
-use Rattle.fetch_record.specs.Intents.{closed_rows}
-use Rattle.fetch_record.specs.Record.{Loaded, merged}
-use Rattle.fetch_session.specs.MessagePreview.{message_previews}
-use Rattle.fetch_session.proofs.ReadyLemmas.{by_ids_length, planned_length}
-use Rattle.fetch_session.proofs.SessionLemmas.{previews_are}
+use Rattle.std.proofs.{Common.{Bool, List, ap, length, ◌∙◌}, lemmas.Result.IfOk-weaker}
+use Rattle.fetch_record.specs.{Intents.closed_rows, Record.{Loaded, merged}}
+use Rattle.fetch_session.{
+  specs.MessagePreview.message_previews,
+  proofs.{ReadyLemmas.{by_ids_length, planned_length}, SessionLemmas.previews_are},
+}
 use Rattle.fetch_session.proofs.preview.preview_merged.Goals as goal
 
 pub message_previews-requires-clause-all_steps : goal.message_previews-requires-clause-all_steps

@@ -1,10 +1,10 @@
 use Rattle.std.proofs.Common.{refl, rules, inl, Ok, Err}
-use Rattle.fetch_session.proofs.ReadyLemmas.{followed, untaken}
+use Rattle.fetch_session.{
+  proofs.{ReadyLemmas.{followed, untaken}, TalkLemmas.{completes_talks, err_is}, SessionLemmas.not_ended, SceneLemmas.link_alone},
+  specs.Target.target_of,
+}
 use Rattle.pop3_client.specs.Turns.{quit}
 use Rattle.pop3_wire.proofs.LinkLemmas.{in_words}
-use Rattle.fetch_session.proofs.TalkLemmas.{completes_talks, err_is}
-use Rattle.fetch_session.specs.Target.{target_of}
-use Rattle.fetch_session.proofs.{SessionLemmas.not_ended, SceneLemmas.link_alone}
 use Rattle.fetch_session.proofs.preview.preview_session.Goals as goal
 
 pub returns-in_err-quit-clause-previews : goal.returns-in_err-quit-clause-previews

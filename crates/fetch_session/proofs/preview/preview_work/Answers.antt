@@ -1,7 +1,7 @@
-use Rattle.fetch_session.proofs.TalkLemmas.{err_is}
-use Rattle.fetch_session.proofs.ReadyLemmas.{asked, untaken}
-use Rattle.fetch_session.specs.Target.{target_of}
-use Rattle.fetch_session.proofs.SessionLemmas.{not_looked, not_read, not_told, work_preview}
+use Rattle.fetch_session.{
+  proofs.{TalkLemmas.err_is, ReadyLemmas.{asked, untaken}, SessionLemmas.{not_looked, not_read, not_told, work_preview}},
+  specs.Target.target_of,
+}
 use Rattle.fetch_session.proofs.preview.preview_work.Goals as goal
 
 pub returns-clause-previews : goal.returns-clause-previews

@@ -1,12 +1,13 @@
-use Rattle.std.proofs.Common.{false, rules, sym, refl, ◌∙◌, ℕ, List, Option, None, Some}
-use Rattle.std.proofs.{lemmas.Result.err_from_is_err_and, lemmas.Simd.splat_is_map}
+use Rattle.std.proofs.{
+  Common.{false, rules, sym, refl, ◌∙◌, ℕ, List, Option, None, Some},
+  lemmas.{Result.err_from_is_err_and, Simd.splat_is_map},
+}
 use Rattle.fetch_record.specs.Record.{Intent}
-use Rattle.mail_store.specs.Durable.{Trusted, MayLeave}
-use Rattle.mail_store.specs.Power.{LeavesNoMore}
-use Rattle.mail_store.proofs.DiskLemmas.{all_trust, durable_flush}
-use Rattle.fetch_session.specs.Durable.{LeavesSettled}
-use Rattle.fetch_session.proofs.{SessionLemmas.durable_safe, SceneLemmas.and_so, readiness.ask_mbox.Goals.After-check_mbox}
-use Rattle.fetch_session.proofs.TextLemmas.{asks_ok, asks_refused}
+use Rattle.mail_store.{specs.{Durable.{Trusted, MayLeave}, Power.LeavesNoMore}, proofs.DiskLemmas.{all_trust, durable_flush}}
+use Rattle.fetch_session.{
+  specs.Durable.LeavesSettled,
+  proofs.{SessionLemmas.durable_safe, SceneLemmas.and_so, readiness.ask_mbox.Goals.After-check_mbox, TextLemmas.{asks_ok, asks_refused}},
+}
 use Rattle.fetch_session.proofs.readiness.ask_mbox.Goals as goal
 
 pub returns-in_err-check_mbox-clause-asks : goal.returns-in_err-check_mbox-clause-asks

@@ -1,8 +1,9 @@
 use Rattle.std.proofs.Common.{ap, inl, inr, length, refl, sym, ◌∙◌, Ok, Err}
-use Rattle.fetch_session.proofs.{TalkLemmas.err_is, SceneLemmas.read_keeps}
-use Rattle.fetch_session.specs.{Record.record_state_in, Target.target_of}
-use Rattle.fetch_session.proofs.ReadyLemmas.{all_have_rows, asked, by_ids_length, found_as_held, not_before, not_found}
-use Rattle.fetch_session.proofs.ReadyLemmas.{planned_length, ready, unready}
+use Rattle.fetch_session.{
+  proofs.{TalkLemmas.err_is, SceneLemmas.read_keeps},
+  proofs.ReadyLemmas.{all_have_rows, asked, by_ids_length, found_as_held, not_before, not_found, planned_length, ready, unready},
+  specs.{Record.record_state_in, Target.target_of},
+}
 use Rattle.fetch_session.proofs.readiness.prepare_by_store.Goals as goal
 
 pub plan_without-requires : goal.plan_without-requires

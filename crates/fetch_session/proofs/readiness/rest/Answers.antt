@@ -1,6 +1,5 @@
-use Rattle.fetch_session.specs.Target.{kind_of, stores_of}
+use Rattle.fetch_session.{specs.Target.{kind_of, stores_of}, proofs.ReadyLemmas.no_place}
 use Rattle.std.proofs.lemmas.Result.{err_from_is_err_and}
-use Rattle.fetch_session.proofs.ReadyLemmas.{no_place}
 use Rattle.fetch_session.proofs.readiness.rest.Goals as goal
 
 pub returns-in_err-check_store-clause-finds : goal.returns-in_err-check_store-clause-finds

@@ -1,9 +1,9 @@
 use Rattle.std.proofs.Common.{◌∙◌, Err, inl, inr, refl, sym}
-use Rattle.fetch_session.specs.Record.{record_state_in}
-use Rattle.fetch_session.proofs.TalkLemmas.{err_is}
-use Rattle.fetch_session.proofs.SceneLemmas.{read_keeps, read_steady, writes_merges}
-use Rattle.fetch_session.proofs.SessionLemmas.{untouched, written_merged}
-use Rattle.fetch_session.proofs.ReadyLemmas.{is_anew, rested, unrenewed, unrested}
+use Rattle.fetch_session.{
+  specs.Record.record_state_in,
+  proofs.{TalkLemmas.err_is, SceneLemmas.{read_keeps, read_steady, writes_merges}, SessionLemmas.{untouched, written_merged}},
+  proofs.ReadyLemmas.{is_anew, rested, unrenewed, unrested},
+}
 use Rattle.fetch_session.proofs.readiness.stay_idle.Goals as goal
 
 pub returns-in_err-ready-clause-readies : goal.returns-in_err-ready-clause-readies

@@ -1,12 +1,11 @@
 use Rattle.std.proofs.Common.{◌≡◌, List, None, false, inl, sym, ap, subst, ◌∙◌}
-use Rattle.fetch_record.specs.{Intents.closed_rows, RecordGrowth.Updates}
-use Rattle.fetch_record.specs.Record.{Row, RecordState, none_open, merged}
-use Rattle.fetch_session.specs.Durable.{LeavesMerged}
+use Rattle.fetch_record.specs.{Intents.closed_rows, RecordGrowth.Updates, Record.{Row, RecordState, none_open, merged}}
+use Rattle.fetch_session.{
+  specs.{Durable.LeavesMerged, Record.{Merges, Steady, record_state_in}},
+  proofs.{SessionLemmas.{grown_merged, written_merged}, readiness.take_in.Goals.After-grow},
+  proofs.SceneLemmas.{saves_merges, writes_merges, read_keeps, read_steady, held_is, and_so},
+}
 use Rattle.mail_store.specs.Durable.{MayLeave}
-use Rattle.fetch_session.specs.Record.{Merges, Steady, record_state_in}
-use Rattle.fetch_session.proofs.SessionLemmas.{grown_merged, written_merged}
-use Rattle.fetch_session.proofs.SceneLemmas.{saves_merges, writes_merges, read_keeps, read_steady, held_is, and_so}
-use Rattle.fetch_session.proofs.readiness.take_in.Goals.{After-grow}
 use Rattle.fetch_session.proofs.readiness.take_in.Goals as goal
 
 -- ---- the rows were appended

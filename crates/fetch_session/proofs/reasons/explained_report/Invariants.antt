@@ -1,5 +1,4 @@
-use Rattle.std.proofs.Common.{◌≡◌, ◌++◌, take, flat_map}
-use Rattle.std.specs.String.{string_bytes}
+use Rattle.std.{proofs.Common.{◌≡◌, ◌++◌, take, flat_map}, specs.String.string_bytes}
 use Rattle.fetch_session.specs.{Reasons.explained_line, Text.heading}
 use Rattle.fetch_session.proofs.reasons.explained_report.Given as goal
 

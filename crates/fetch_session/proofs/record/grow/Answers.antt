@@ -1,9 +1,10 @@
 use Rattle.std.proofs.Common.{inl, inr, List, ℕ, sym, ap, ◌++◌, ◌∙◌, append-nil}
-use Rattle.mail_store.specs.FlatFile.{Stored}
-use Rattle.mail_store.proofs.DiskLemmas.{durable_append}
-use Rattle.fetch_session.specs.Record.{bytes_in}
-use Rattle.fetch_session.proofs.SessionLemmas.{grown_safe, leaves_part, longer_rows, part_left, safe_left}
-use Rattle.fetch_session.proofs.SceneLemmas.{all_empty, is_there, not_empty, grown, cut_short, and_so}
+use Rattle.mail_store.{specs.FlatFile.Stored, proofs.DiskLemmas.durable_append}
+use Rattle.fetch_session.{
+  specs.Record.bytes_in,
+  proofs.SessionLemmas.{grown_safe, leaves_part, longer_rows, part_left, safe_left},
+  proofs.SceneLemmas.{all_empty, is_there, not_empty, grown, cut_short, and_so},
+}
 use Rattle.fetch_session.proofs.record.grow.Goals as goal
 
 pub returns-in-Ok-clause-saves : goal.returns-in-Ok-clause-saves

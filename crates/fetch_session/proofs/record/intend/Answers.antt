@@ -1,13 +1,12 @@
 use Rattle.std.proofs.Common.{◌≡◌, List, ◌++◌, None, Some, Result, Ok, Err, subst, ◌∙◌}
-use Rattle.fetch_record.specs.Record.{Row, none_open}
-use Rattle.fetch_record.specs.RecordGrowth.{Grows}
-use Rattle.fetch_session.specs.Durable.{IsGrownAtMost, IsSafeFile, LeavesFile, StillDurable}
+use Rattle.fetch_record.specs.{Record.{Row, none_open}, RecordGrowth.Grows}
+use Rattle.fetch_session.{
+  specs.{Durable.{IsGrownAtMost, IsSafeFile, LeavesFile, StillDurable}, Record.{Saves, bytes_in, intent_at, with_open}},
+  specs.declared.fault.Fault.Fault,
+  proofs.{TalkLemmas.err_is, record.intend.Goals.After-grow, SessionLemmas.{no_more_left, part_grown, same_grown}},
+  proofs.SceneLemmas.{row_begun, opens, same_bytes, size_untold, stands_till},
+}
 use Rattle.mail_store.specs.FlatFile.{Stored}
-use Rattle.fetch_session.specs.Record.{Saves, bytes_in, intent_at, with_open}
-use Rattle.fetch_session.specs.declared.fault.Fault.{Fault}
-use Rattle.fetch_session.proofs.{TalkLemmas.err_is, record.intend.Goals.After-grow}
-use Rattle.fetch_session.proofs.SessionLemmas.{no_more_left, part_grown, same_grown}
-use Rattle.fetch_session.proofs.SceneLemmas.{row_begun, opens, same_bytes, size_untold, stands_till}
 use Rattle.fetch_session.proofs.record.intend.Goals as goal
 
 pub measure-requires : goal.measure-requires

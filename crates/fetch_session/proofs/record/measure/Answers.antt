@@ -1,9 +1,6 @@
 use Rattle.std.proofs.Common.{List, ℕ, Option, length, ap, sym, ◌∙◌}
-use Rattle.mail_store.specs.declared.file.flat_file.Edges.{Edges}
-use Rattle.mail_store.proofs.DiskLemmas.{all_trust, durable_flush}
-use Rattle.fetch_session.specs.Record.{bytes_in}
-use Rattle.fetch_session.proofs.SceneLemmas.{not_there, and_so}
-use Rattle.fetch_session.proofs.SessionLemmas.{durable_safe}
+use Rattle.mail_store.{specs.declared.file.flat_file.Edges.Edges, proofs.DiskLemmas.{all_trust, durable_flush}}
+use Rattle.fetch_session.{specs.Record.bytes_in, proofs.{SceneLemmas.{not_there, and_so}, SessionLemmas.durable_safe}}
 use Rattle.fetch_session.proofs.record.measure.Goals as goal
 
 pub returns-in-Ok-clause-size : goal.returns-in-Ok-clause-size

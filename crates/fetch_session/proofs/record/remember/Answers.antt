@@ -1,11 +1,9 @@
-use Rattle.std.proofs.Common.{List, None, inl, sym, ap, subst}
-use Rattle.std.specs.Prelude.{OnOk}
-use Rattle.fetch_record.specs.Record.{Row, Loaded, marked, none_open}
-use Rattle.fetch_record.specs.RecordGrowth.{Updates}
-use Rattle.fetch_session.specs.Record.{Steady, record_state_in}
-use Rattle.fetch_session.proofs.SessionLemmas.{part_grown, same_grown}
-use Rattle.fetch_session.proofs.SceneLemmas.{saves_steady, mark_begun, and_so}
-use Rattle.fetch_session.proofs.record.remember.Goals.{After-grow}
+use Rattle.std.{proofs.Common.{List, None, inl, sym, ap, subst}, specs.Prelude.OnOk}
+use Rattle.fetch_record.specs.{Record.{Row, Loaded, marked, none_open}, RecordGrowth.Updates}
+use Rattle.fetch_session.{
+  specs.Record.{Steady, record_state_in},
+  proofs.{SessionLemmas.{part_grown, same_grown}, SceneLemmas.{saves_steady, mark_begun, and_so}, record.remember.Goals.After-grow},
+}
 use Rattle.fetch_session.proofs.record.remember.Goals as goal
 
 pub grow-requires : goal.grow-requires

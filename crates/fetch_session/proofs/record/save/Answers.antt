@@ -1,7 +1,6 @@
 use Rattle.std.proofs.Common.{◌≡◌, ◌∙◌, ℕ, List, Option, None, Ok, ap, subst}
 use Rattle.fetch_record.specs.{Record.Intent, RecordFile.file_of}
-use Rattle.mail_store.specs.{Durable.MayLeave, Power.LeavesEither}
-use Rattle.mail_store.proofs.DiskLemmas.{durable_replace}
+use Rattle.mail_store.{specs.{Durable.MayLeave, Power.LeavesEither}, proofs.DiskLemmas.durable_replace}
 use Rattle.fetch_session.proofs.{SessionLemmas.durable_safe, record.save.Goals.After-replace}
 use Rattle.fetch_session.proofs.record.save.Goals as goal
 

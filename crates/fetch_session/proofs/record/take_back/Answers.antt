@@ -1,7 +1,6 @@
 use Rattle.std.proofs.Common.{◌∙◌, inl, inr, sym, ⊎_elim}
 use Rattle.mail_store.proofs.DiskLemmas.{durable_cut}
-use Rattle.fetch_session.proofs.SessionLemmas.{front_rows}
-use Rattle.fetch_session.proofs.SceneLemmas.{taken_back, and_so}
+use Rattle.fetch_session.proofs.{SessionLemmas.front_rows, SceneLemmas.{taken_back, and_so}}
 use Rattle.fetch_session.proofs.record.take_back.Goals as goal
 
 pub returns-clause-closes : goal.returns-clause-closes

@@ -1,5 +1,4 @@
-use Rattle.std.specs.Prelude.{not}
-use Rattle.std.proofs.lemmas.List.Elements.{filter_from_retain}
+use Rattle.std.{specs.Prelude.not, proofs.lemmas.List.Elements.filter_from_retain}
 use Rattle.fetch_session.specs.{declared.report.ReportLine.ReportLine, Report.is_deletion}
 use Rattle.fetch_session.proofs.report.kept_lines.Goals as goal
 

@@ -1,12 +1,11 @@
-use Rattle.std.proofs.Common.{◌∷◌, [], Ok, refl, arith}
-use Rattle.std.proofs.lemmas.Bool.{not-false, not-true}
+use Rattle.std.proofs.{Common.{◌∷◌, [], Ok, refl, arith}, lemmas.Bool.{not-false, not-true}}
 use Rattle.pop3_client.specs.Turns.{dele}
 use Rattle.pop3_wire.proofs.LinkLemmas.{in_words}
-use Rattle.fetch_session.specs.Task.{deletes}
-use Rattle.fetch_session.specs.Target.{target_of}
-use Rattle.fetch_session.proofs.TalkLemmas.{err_is, did_so, took_completing}
-use Rattle.fetch_session.proofs.PartLemmas.{link_broke, runs_nothing, runs_talking}
-use Rattle.fetch_session.proofs.TextLemmas.{taken_idle, text_broken}
+use Rattle.fetch_session.{
+  specs.{Task.deletes, Target.target_of},
+  proofs.{TalkLemmas.{err_is, did_so, took_completing}, PartLemmas.{link_broke, runs_nothing, runs_talking}},
+  proofs.TextLemmas.{taken_idle, text_broken},
+}
 use Rattle.fetch_session.proofs.step.delete.Goals as goal
 
 pub returns-then-not-step : goal.returns-then-not-step

@@ -1,12 +1,9 @@
-use Rattle.std.proofs.Common.{◌∷◌, [], Ok, sym, subst, refl, inl, arith}
-use Rattle.std.proofs.lemmas.Result.{on_ok_weaker}
-use Rattle.fetch_session.specs.declared.account.Store.{Store}
-use Rattle.fetch_session.specs.declared.account.Store.TheVariants.{Maildir, Mboxrd}
-use Rattle.fetch_session.specs.Parts.{RunsTasks}
-use Rattle.fetch_session.specs.Target.{stores_of, target_of}
-use Rattle.fetch_session.specs.Task.{stores, skips, rereads}
-use Rattle.fetch_session.proofs.PartLemmas.{err_if, link_still, runs_taking, runs_talking}
-use Rattle.fetch_session.proofs.{SceneLemmas.on_any, TextLemmas.taken_idle, TalkLemmas.talked_none}
+use Rattle.std.proofs.{Common.{◌∷◌, [], Ok, sym, subst, refl, inl, arith}, lemmas.Result.on_ok_weaker}
+use Rattle.fetch_session.{
+  specs.{declared.account.Store.{Store, TheVariants.{Maildir, Mboxrd}}, Parts.RunsTasks, Target.{stores_of, target_of}},
+  specs.Task.{stores, skips, rereads},
+  proofs.{PartLemmas.{err_if, link_still, runs_taking, runs_talking}, SceneLemmas.on_any, TextLemmas.taken_idle, TalkLemmas.talked_none},
+}
 use Rattle.fetch_session.proofs.step.do_task.Goals as goal
 
 pub returns-in-Maildir : goal.returns-in-Maildir

@@ -1,8 +1,6 @@
 use Rattle.std.proofs.Common.{◌≡◌, ◌≢◌, ◌≤◌, ◌+◌, ◌*◌, ℕ, List, [], length}
 use Rattle.pop3_wire.specs.{Place.Place, declared.unstuffer.Spot.TheVariants.Done}
-use Rattle.pop3_client.specs.Client.{HasSameLink, place_of}
-use Rattle.pop3_client.specs.Turns.{retr, text_limit}
-use Rattle.pop3_client.specs.Texts.{Fetching}
+use Rattle.pop3_client.specs.{Client.{HasSameLink, place_of}, Turns.{retr, text_limit}, Texts.Fetching}
 use Rattle.fetch_session.proofs.storing.pass_text.Given as goal
 
 abbrev pub invariant-pieces : goal.invariant-pieces

@@ -1,10 +1,10 @@
 use Rattle.std.proofs.Common.{◌∷◌, [], refl, ◌∙◌}
 use Rattle.pop3_client.specs.Turns.{retr}
 use Rattle.pop3_wire.proofs.LinkLemmas.{in_words, and_then}
-use Rattle.fetch_session.proofs.TalkLemmas.{err_is, did_both, took_talked}
-use Rattle.fetch_session.specs.Task.{rereads}
-use Rattle.fetch_session.proofs.TextLemmas.{taken_idle, text_broken}
-use Rattle.fetch_session.proofs.PartLemmas.{link_broke}
+use Rattle.fetch_session.{
+  proofs.{TalkLemmas.{err_is, did_both, took_talked}, TextLemmas.{taken_idle, text_broken}, PartLemmas.link_broke},
+  specs.Task.rereads,
+}
 use Rattle.fetch_session.proofs.storing.reread.Goals as goal
 
 pub returns-clause-rereads : goal.returns-clause-rereads

@@ -1,7 +1,7 @@
 use Rattle.std.proofs.Common.{◌≡◌, rules, string_bytes}
-use mathlib.Core.Logic.{⊎_map}
 use Rattle.mail_store.specs.FileName.{sized}
 use Rattle.fetch_session.proofs.TextLemmas.{named_before}
+use mathlib.Core.Logic.{⊎_map}
 use Rattle.fetch_session.proofs.storing.settle_file.Goals as goal
 
 pub returns-in-Ok : goal.returns-in-Ok

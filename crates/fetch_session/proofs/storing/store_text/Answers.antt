@@ -1,13 +1,13 @@
-use Rattle.std.proofs.Common.{⊎_elim, ◌≡◌, ◌≢◌, Ok, inr, ◌<◌, ◌+◌, [], ◌++◌, length, take, arith, sym, ap, ◌∙◌, inl}
-use Rattle.std.proofs.Common.{is_some, string_bytes, refl}
-use Rattle.std.proofs.lemmas.Bool.{false≢true}
+use Rattle.std.proofs.{
+  Common.{⊎_elim, ◌≡◌, ◌≢◌, Ok, inr, ◌<◌, ◌+◌, [], ◌++◌, length, take, arith, sym, ap, ◌∙◌, inl, is_some, string_bytes, refl},
+  lemmas.Bool.false≢true,
+}
 use Rattle.mail_store.specs.Maildir.{Maildir, maildir_refused, draft, dropped}
-use Rattle.pop3_wire.specs.declared.unstuffer.Spot.TheVariants.{Done}
-use Rattle.fetch_session.specs.Store.{PutsBytes, begun_with}
-use Rattle.fetch_session.proofs.TextLemmas.{dropped_none_begun, settled, longer}
-use Rattle.pop3_wire.proofs.LinkLemmas.{and_then}
-use Rattle.fetch_session.proofs.TalkLemmas.{before_cut, cut_by}
-use Rattle.fetch_session.proofs.storing.store_text.Goals.{After-put_piece}
+use Rattle.pop3_wire.{specs.declared.unstuffer.Spot.TheVariants.Done, proofs.LinkLemmas.and_then}
+use Rattle.fetch_session.{
+  specs.Store.{PutsBytes, begun_with},
+  proofs.{TextLemmas.{dropped_none_begun, settled, longer}, TalkLemmas.{before_cut, cut_by}, storing.store_text.Goals.After-put_piece},
+}
 use Rattle.fetch_session.proofs.storing.store_text.Goals as goal
 
 pub returns-in-Err-clause-stores : goal.returns-in-Err-clause-stores

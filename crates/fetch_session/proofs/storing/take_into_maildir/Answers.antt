@@ -1,17 +1,16 @@
 use Rattle.std.proofs.Common.{rules, List, ℕ, Ok, Err, inl, inr, arith, refl, sym, subst, ◌∙◌, string_bytes}
 use Rattle.fetch_record.specs.Record.{RecordState, none_open, marked}
-use Rattle.fetch_session.specs.{Record.Saves, Store.MayGain, Target.AsFiles, Refusal.TookTillCut, Parts.KeepsLink, Report.AddsLines}
-use Rattle.fetch_session.proofs.SceneLemmas.{held_is, all_sound, link_alone}
-use Rattle.pop3_client.specs.{declared.fault.ClientFault.TheVariants.NoMemory, Client.link_of}
-use Rattle.pop3_client.specs.Turns.{most, retr}
-use Rattle.mail_store.specs.Maildir.{IsThere}
-use Rattle.mail_store.specs.FileName.{sized, sized_file, stem_of}
-use Rattle.fetch_session.proofs.SessionLemmas.{same_left}
-use Rattle.fetch_session.proofs.TextLemmas.{named_more, stores_grows, text_broken, text_stops, text_stored, text_not_saved}
+use Rattle.fetch_session.{
+  specs.{Record.Saves, Store.MayGain, Target.AsFiles, Refusal.TookTillCut, Parts.KeepsLink, Report.AddsLines},
+  proofs.{SceneLemmas.{held_is, all_sound, link_alone}, SessionLemmas.same_left},
+  proofs.TextLemmas.{named_more, stores_grows, text_broken, text_stops, text_stored, text_not_saved},
+  proofs.TalkLemmas.{took_talked, takes_stopped, before_cut, err_is, did_both},
+  proofs.PartLemmas.{link_broke, link_idle, link_then_cut, marked_ledger, same_ledger},
+  proofs.storing.take_into_maildir.Goals.{After-note, After-store_text, In_ok-length},
+}
+use Rattle.pop3_client.specs.{declared.fault.ClientFault.TheVariants.NoMemory, Client.link_of, Turns.{most, retr}}
+use Rattle.mail_store.specs.{Maildir.IsThere, FileName.{sized, sized_file, stem_of}}
 use Rattle.pop3_wire.proofs.LinkLemmas.{and_then, in_words}
-use Rattle.fetch_session.proofs.TalkLemmas.{took_talked, takes_stopped, before_cut, err_is, did_both}
-use Rattle.fetch_session.proofs.PartLemmas.{link_broke, link_idle, link_then_cut, marked_ledger, same_ledger}
-use Rattle.fetch_session.proofs.storing.take_into_maildir.Goals.{After-note, After-store_text, In_ok-length}
 use Rattle.fetch_session.proofs.storing.take_into_maildir.Goals as goal
 
 pub store_text-requires-clause-not_there : goal.store_text-requires-clause-not_there

@@ -1,5 +1,4 @@
-use Rattle.std.proofs.Common.{◌∙◌, ap, ap₂}
-use Rattle.std.proofs.lemmas.Result.{IfOk-weaker}
+use Rattle.std.proofs.{Common.{◌∙◌, ap, ap₂}, lemmas.Result.IfOk-weaker}
 use Rattle.fetch_session.specs.Telling.{counts_text, deleted_ahead, fetched_in}
 use Rattle.fetch_session.proofs.telling.counts.Goals as goal
 

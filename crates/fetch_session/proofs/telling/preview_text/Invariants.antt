@@ -1,5 +1,4 @@
-use Rattle.std.proofs.Common.{◌≡◌, ◌++◌, take, flat_map}
-use Rattle.std.specs.String.{string_bytes}
+use Rattle.std.{proofs.Common.{◌≡◌, ◌++◌, take, flat_map}, specs.String.string_bytes}
 use Rattle.fetch_session.specs.{Telling.message_preview_text, Text.heading}
 use Rattle.fetch_session.proofs.telling.preview_text.Given as goal
 

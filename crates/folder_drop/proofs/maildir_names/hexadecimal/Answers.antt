@@ -1,6 +1,5 @@
-use Rattle.std.proofs.Common.{◌≡◌, ◌∙◌, ap, arith, rules}
+use Rattle.std.{proofs.Common.{◌≡◌, ◌∙◌, ap, arith, rules}, specs.List.list_all}
 use Rattle.hex.specs.Hex.{encode_lower}
-use Rattle.std.specs.List.{list_all}
 use Rattle.mail_terms.specs.UniqueId.{is_id_byte}
 use Rattle.folder_drop.proofs.DigestLemmas.{visible_hex}
 use Rattle.folder_drop.proofs.maildir_names.hexadecimal.Goals as goal

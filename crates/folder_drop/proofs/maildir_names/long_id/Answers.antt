@@ -1,9 +1,10 @@
-use Rattle.std.proofs.Common.{◌∙◌, arith, sym}
-use Rattle.std.proofs.lemmas.Bool.{false≢true}
-use Rattle.folder_drop.proofs.MaildirLemmas.{long_unless}
+use Rattle.std.proofs.{Common.{◌∙◌, arith, sym}, lemmas.Bool.false≢true}
+use Rattle.folder_drop.proofs.{
+  MaildirLemmas.long_unless,
+  maildir_names.long_id.Goals.else-base-ne-DIGEST_LENGTH-via-then-base-ne-DIGEST_LENGTH+else-is_legal_id,
+  maildir_names.long_id.Goals.else-base-ne-DIGEST_LENGTH-via-else-base-ne-DIGEST_LENGTH,
+}
 use Rattle.folder_drop.proofs.maildir_names.long_id.Goals as goal
-use Rattle.folder_drop.proofs.maildir_names.long_id.Goals.{else-base-ne-DIGEST_LENGTH-via-then-base-ne-DIGEST_LENGTH+else-is_legal_id}
-use Rattle.folder_drop.proofs.maildir_names.long_id.Goals.{else-base-ne-DIGEST_LENGTH-via-else-base-ne-DIGEST_LENGTH}
 
 pub returns : goal.returns
 returns c = (

@@ -1,5 +1,4 @@
-use Rattle.std.proofs.Common.{◌≡◌, false}
-use Rattle.std.specs.List.{AllWithin}
+use Rattle.std.{proofs.Common.{◌≡◌, false}, specs.List.AllWithin}
 use Rattle.folder_drop.specs.declared.removal.Namesake.{Namesake}
 use Rattle.folder_drop.proofs.removal.place_listed.Given as goal
 

@@ -1,5 +1,4 @@
-use Rattle.std.proofs.Common.{◌≢◌}
-use Rattle.std.specs.List.{AllWithin}
+use Rattle.std.{proofs.Common.◌≢◌, specs.List.AllWithin}
 use Rattle.folder_drop.specs.declared.removal.Namesake.{Namesake}
 use Rattle.folder_drop.proofs.removal.place_stamped.Given as goal
 

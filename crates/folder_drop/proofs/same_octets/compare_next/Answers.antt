@@ -1,6 +1,4 @@
-use Rattle.std.proofs.Common.{◌≡◌, take, subst, rules, arith}
-use Rattle.std.specs.Io.BufRead.{FillKeeps}
-use Rattle.std.proofs.BufReadLemmas.{Consumes_shown}
+use Rattle.std.{proofs.{Common.{◌≡◌, take, subst, rules, arith}, BufReadLemmas.Consumes_shown}, specs.Io.BufRead.FillKeeps}
 use Rattle.folder_drop.proofs.SameOctetsLemmas.{different, later_same}
 use Rattle.folder_drop.proofs.same_octets.compare_next.Goals as goal
 

@@ -1,8 +1,6 @@
-use Rattle.std.proofs.Common.{◌++◌, Err, append_assoc}
-use Rattle.std.proofs.lemmas.Result.{err_from_is_err_and}
+use Rattle.std.proofs.{Common.{◌++◌, Err, append_assoc}, lemmas.Result.err_from_is_err_and}
 use Rattle.mail_store.proofs.DiskLemmas.{front_of_all}
-use Rattle.folder_store.specs.PowerLoss.{disk_at}
-use Rattle.folder_store.proofs.Files.{later_refused, later_done, in_parts}
+use Rattle.folder_store.{specs.PowerLoss.disk_at, proofs.Files.{later_refused, later_done, in_parts}}
 use Rattle.folder_store.proofs.durable_file.append_blocks.Goals as goal
 
 pub returns-in_err-append_flushed : goal.returns-in_err-append_flushed

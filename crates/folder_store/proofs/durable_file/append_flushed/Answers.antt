@@ -1,7 +1,5 @@
-use Rattle.std.proofs.Common.{[], append-nil, inl, sym}
-use Rattle.std.proofs.lemmas.Result.{err_from_is_err_and}
-use Rattle.mail_store.specs.{Durable.Blob, DiskCalls.appended}
-use Rattle.mail_store.proofs.DiskLemmas.{one_piece}
+use Rattle.std.proofs.{Common.{[], append-nil, inl, sym}, lemmas.Result.err_from_is_err_and}
+use Rattle.mail_store.{specs.{Durable.Blob, DiskCalls.appended}, proofs.DiskLemmas.one_piece}
 use Rattle.folder_store.proofs.Files.{flushed_becomes, refused_becomes}
 use Rattle.folder_store.proofs.durable_file.append_flushed.Goals as goal
 

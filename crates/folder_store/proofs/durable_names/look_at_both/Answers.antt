@@ -1,8 +1,10 @@
 use Rattle.std.proofs.Common.{Ok, rules}
 use Rattle.mail_store.specs.declared.maildir.disk.Folder.TheVariants.{New, Cur}
-use Rattle.folder_store.proofs.MailCalls.{Learned, lacked, leads_learns, learned, learns_same, lists_learns, looked}
-use Rattle.folder_store.proofs.{MailMoves.moved_same, durable_names.look_at_both.Given.Over}
-use Rattle.folder_store.proofs.durable_names.look_at_both.Goals.{In_ok-in_new, In_ok-in_cur, In_ok-rests}
+use Rattle.folder_store.proofs.{
+  MailCalls.{Learned, lacked, leads_learns, learned, learns_same, lists_learns, looked},
+  MailMoves.moved_same,
+  durable_names.look_at_both.{Given.Over, Goals.{In_ok-in_new, In_ok-in_cur, In_ok-rests}},
+}
 use Rattle.folder_store.proofs.durable_names.look_at_both.Goals as goal
 
 -- each call begins four steps after the one before it went well

@@ -1,6 +1,5 @@
 use Rattle.std.proofs.{Common.inl, lemmas.Result.err_from_is_err_and}
-use Rattle.folder_store.proofs.MailCalls.{not_put, put_all}
-use Rattle.folder_store.proofs.MailMoves.{moved_rests, rests_on_at}
+use Rattle.folder_store.proofs.{MailCalls.{not_put, put_all}, MailMoves.{moved_rests, rests_on_at}}
 use Rattle.folder_store.proofs.durable_names.put_durably.Goals as goal
 
 pub returns-in-Err : goal.returns-in-Err

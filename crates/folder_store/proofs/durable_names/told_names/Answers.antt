@@ -1,10 +1,11 @@
 use Rattle.std.proofs.Common.{List, String, Global, Ok, subst, sym}
 use Rattle.mail_terms.proofs.ErrLemmas.{is_err}
 use Rattle.mail_store.specs.declared.maildir.disk.Folder.TheVariants.{New, Cur}
-use Rattle.folder_store.specs.MailCalls.{ToldBoth}
-use Rattle.folder_store.proofs.MailCalls.{Learned, flushes_leads, leads_learns, learned, told, unflushed}
-use Rattle.folder_store.proofs.durable_names.told_names.Given.{Over}
-use Rattle.folder_store.proofs.durable_names.told_names.Goals.{In_ok-both, In_ok-flush_names, In_ok-flush_names-2}
+use Rattle.folder_store.{
+  specs.MailCalls.ToldBoth,
+  proofs.MailCalls.{Learned, flushes_leads, leads_learns, learned, told, unflushed},
+  proofs.durable_names.told_names.{Given.Over, Goals.{In_ok-both, In_ok-flush_names, In_ok-flush_names-2}},
+}
 use Rattle.folder_store.proofs.durable_names.told_names.Goals as goal
 
 by_both : (g : Over) (c : In_ok-both g)

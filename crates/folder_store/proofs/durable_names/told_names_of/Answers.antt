@@ -1,6 +1,8 @@
 use Rattle.std.proofs.Common.{Ok, inl}
-use Rattle.folder_store.specs.declared.mail_folders.Sought.TheVariants.{All}
-use Rattle.folder_store.proofs.MailCalls.{learns_same, lists_learns, one_unflushed, told_one}
+use Rattle.folder_store.{
+  specs.declared.mail_folders.Sought.TheVariants.All,
+  proofs.MailCalls.{learns_same, lists_learns, one_unflushed, told_one},
+}
 use Rattle.mail_terms.proofs.ErrLemmas.{is_err}
 use Rattle.folder_store.proofs.durable_names.told_names_of.Goals as goal
 

@@ -1,9 +1,13 @@
-use Rattle.std.proofs.Common.{◌∙◌, ◌≡◌, ◌||◌, ℕ, List, [], Bool, Bor, arith, append-nil, get_or, sym, not, refl}
-use Rattle.std.proofs.lemmas.List.Elements.{filter_more}
+use Rattle.std.proofs.{
+  Common.{◌∙◌, ◌≡◌, ◌||◌, ℕ, List, [], Bool, Bor, arith, append-nil, get_or, sym, not, refl},
+  lemmas.List.Elements.filter_more,
+}
 use Rattle.mail_store.specs.Held.{has_text}
-use Rattle.folder_store.specs.FlushPass.{has_flushed, has_missed, was_flushed}
+use Rattle.folder_store.{
+  specs.FlushPass.{has_flushed, has_missed, was_flushed},
+  proofs.flush_pass.unsettled.Goals.{then-is_left+in_ok-push, else-is_left},
+}
 use Rattle.folder_store.proofs.flush_pass.unsettled.Goals as goal
-use Rattle.folder_store.proofs.flush_pass.unsettled.Goals.{then-is_left+in_ok-push, else-is_left}
 
 pub loop-stem-preserved : goal.loop-stem-preserved
 loop-stem-preserved c =

@@ -1,5 +1,4 @@
-use Rattle.std.proofs.Common.{◌≡◌, not, take}
-use Rattle.std.specs.List.{filter}
+use Rattle.std.{proofs.Common.{◌≡◌, not, take}, specs.List.filter}
 use Rattle.folder_store.specs.FlushPass.{was_flushed}
 use Rattle.folder_store.proofs.flush_pass.unsettled.Given as goal
 

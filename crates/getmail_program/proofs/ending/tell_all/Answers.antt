@@ -1,6 +1,5 @@
 use Rattle.std.proofs.Common.{◌∙◌, ap}
-use Rattle.getmail_program.specs.Telling.{status_when}
-use Rattle.getmail_program.proofs.OutputLemmas.{said}
+use Rattle.getmail_program.{specs.Telling.status_when, proofs.OutputLemmas.said}
 use Rattle.getmail_program.proofs.ending.tell_all.Goals as goal
 
 pub returns-clause-told : goal.returns-clause-told

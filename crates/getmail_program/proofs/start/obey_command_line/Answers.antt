@@ -1,5 +1,4 @@
-use Rattle.std.proofs.Common.{inr, sym, ◌∙◌}
-use Rattle.std.proofs.lemmas.Bool.{false≢true}
+use Rattle.std.proofs.{Common.{inr, sym, ◌∙◌}, lemmas.Bool.false≢true}
 use Rattle.getmail_program.proofs.start.obey_command_line.Goals as goal
 
 pub returns-then-words-5-clause-leads : goal.returns-then-words-5-clause-leads

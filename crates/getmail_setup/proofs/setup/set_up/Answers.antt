@@ -1,7 +1,5 @@
-use Rattle.std.proofs.Common.{rules, ℕ, List, option_map, Bor}
-use Rattle.std.proofs.lemmas.Result.{err_from_is_err_and}
-use Rattle.getmail_setup.specs.Places.{AreRead}
-use Rattle.getmail_setup.proofs.SetupLemmas.{no_places}
+use Rattle.std.proofs.{Common.{rules, ℕ, List, option_map, Bor}, lemmas.Result.err_from_is_err_and}
+use Rattle.getmail_setup.{specs.Places.AreRead, proofs.SetupLemmas.no_places}
 use Rattle.getmail_setup.proofs.setup.set_up.Goals as goal
 
 pub returns-in_err-paths-clause-err : goal.returns-in_err-paths-clause-err

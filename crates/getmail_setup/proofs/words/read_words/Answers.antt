@@ -1,8 +1,6 @@
-use Rattle.std.proofs.Common.{◌∙◌, List, ap, map, subst, sym}
-use Rattle.std.specs.String.{string_bytes}
+use Rattle.std.{proofs.Common.{◌∙◌, List, ap, map, subst, sym}, specs.String.string_bytes}
 use Rattle.clap.specs.Words.{App, Row, fault_of, is_simple_and_free}
-use Rattle.getmail_setup.specs.CommandLine.{AsksFor}
-use Rattle.getmail_setup.proofs.WordsLemmas.{getmail_is_free, has_kind, rows_are}
+use Rattle.getmail_setup.{specs.CommandLine.AsksFor, proofs.WordsLemmas.{getmail_is_free, has_kind, rows_are}}
 use Rattle.getmail_setup.proofs.words.read_words.Goals as goal
 
 pub returns-in_ok-words_of-in-Ok-clause-faults : goal.returns-in_ok-words_of-in-Ok-clause-faults

@@ -1,8 +1,6 @@
 use Rattle.std.proofs.Common.{ap}
 use Rattle.pop3_server.specs.LoopLink.{Loop}
-use Rattle.fetch_session.specs.Account.{digits_of}
-use Rattle.fetch_session.specs.Session.{account_files, mbox_account_files}
-use Rattle.fetch_session.specs.Target.{maildir_of, mbox_of}
+use Rattle.fetch_session.specs.{Account.digits_of, Session.{account_files, mbox_account_files}, Target.{maildir_of, mbox_of}}
 use Rattle.local_fetch.proofs.LocalLemmas.{by_kind, fetches, mbox_fetches, few_refused}
 use Rattle.local_fetch.proofs.fetch.fetch_local.Goals as goal
 

@@ -1,5 +1,4 @@
-use Rattle.std.proofs.Common.{◌+◌, arith}
-use Rattle.std.proofs.lemmas.List.{take_rest}
+use Rattle.std.proofs.{Common.{◌+◌, arith}, lemmas.List.take_rest}
 use Rattle.mail_terms.proofs.TextLemmas.{first_text_line}
 use Rattle.mail_terms.proofs.text.cut_text.Goals as goal
 

@@ -1,8 +1,9 @@
-use Rattle.std.proofs.Common.{◌≡◌, refl, ◌+◌, ◌&&◌, drop, arith, true, []}
-use Rattle.std.proofs.Math.Bool.{and_assoc, and-true}
-use Rattle.std.proofs.{lemmas.Grind.common_steps, lemmas.List.drop_more, lemmas.Option.slice_get_read}
-use Rattle.pop3_server.specs.ServerMachine.{none, stays, goes}
-use Rattle.pop3_server.proofs.RemovalLemmas.{later_place}
+use Rattle.std.proofs.{
+  Common.{◌≡◌, refl, ◌+◌, ◌&&◌, drop, arith, true, []},
+  Math.Bool.{and_assoc, and-true},
+  lemmas.{Grind.common_steps, List.drop_more, Option.slice_get_read},
+}
+use Rattle.pop3_server.{specs.ServerMachine.{none, stays, goes}, proofs.RemovalLemmas.later_place}
 use Rattle.pop3_server.proofs.commands.leave.Goals as goal
 
 pub remove_at-done-requires : goal.remove_at-done-requires

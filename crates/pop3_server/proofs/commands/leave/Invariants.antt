@@ -1,7 +1,5 @@
 use Rattle.std.proofs.Common.{◌≡◌, ◌≤◌, ℕ, ◌&&◌, Bool, drop, Some, slice_get}
-use Rattle.pop3_server.specs.declared.rows.MessageRow.{MessageRow}
-use Rattle.pop3_server.specs.Maildrop.{DropMail, HasPlace}
-use Rattle.pop3_server.specs.ServerMachine.{Empties, with_marked}
+use Rattle.pop3_server.specs.{declared.rows.MessageRow.MessageRow, Maildrop.{DropMail, HasPlace}, ServerMachine.{Empties, with_marked}}
 use Rattle.pop3_server.proofs.commands.leave.Given as goal
 
 abbrev pub invariant-loop-i : goal.invariant-loop-i

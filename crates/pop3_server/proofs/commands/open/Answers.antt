@@ -1,10 +1,11 @@
-use Rattle.std.proofs.Common.{◌≡◌, ℕ, zero, suc, List, [], ◌∷◌, map, Some, Vec, Ok, slice_get, refl, ◌∙◌, ap, inr}
-use Rattle.std.proofs.lemmas.Simd.{map-map}
+use Rattle.std.proofs.{Common.{◌≡◌, ℕ, zero, suc, List, [], ◌∷◌, map, Some, Vec, Ok, slice_get, refl, ◌∙◌, ap, inr}, lemmas.Simd.map-map}
 use Rattle.pop3_wire.specs.World.{Message}
-use Rattle.pop3_server.specs.{declared.rows.MessageRow.MessageRow, declared.state.State.TheVariants.Transaction}
-use Rattle.pop3_server.specs.Maildrop.{ListedMessage, DropMail, there, listed_message, ListsMessages}
-use Rattle.pop3_server.specs.ServerMachine.{message_row, row_of_entry, Unanswered, Tied}
-use Rattle.pop3_server.proofs.SlotLemmas.{there_map}
+use Rattle.pop3_server.{
+  specs.declared.{rows.MessageRow.MessageRow, state.State.TheVariants.Transaction},
+  specs.Maildrop.{ListedMessage, DropMail, there, listed_message, ListsMessages},
+  specs.ServerMachine.{message_row, row_of_entry, Unanswered, Tied},
+  proofs.SlotLemmas.there_map,
+}
 use Rattle.mail_terms.proofs.ErrLemmas.{err_is}
 use Rattle.pop3_server.proofs.commands.open.Goals as goal
 

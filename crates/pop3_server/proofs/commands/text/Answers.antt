@@ -1,6 +1,5 @@
 use Rattle.std.proofs.Common.{◌≡◌, []}
-use Rattle.pop3_server.specs.{declared.state.State.TheVariants.Transaction, ServerMachine.Give}
-use Rattle.pop3_server.proofs.TextAnswerLemmas.{begins_new}
+use Rattle.pop3_server.{specs.{declared.state.State.TheVariants.Transaction, ServerMachine.Give}, proofs.TextAnswerLemmas.begins_new}
 use Rattle.pop3_server.proofs.commands.text.Goals as goal
 
 pub returns-in-Ok-clause-ok : goal.returns-in-Ok-clause-ok

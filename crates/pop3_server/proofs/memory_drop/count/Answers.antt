@@ -1,7 +1,6 @@
 use Rattle.std.proofs.Common.{length, ap, arith, length-append}
-use Rattle.pop3_server.proofs.SlotLemmas.{there_more}
+use Rattle.pop3_server.proofs.{SlotLemmas.there_more, memory_drop.count.Goals.{in-None, in-Some}}
 use Rattle.pop3_server.proofs.memory_drop.count.Goals as goal
-use Rattle.pop3_server.proofs.memory_drop.count.Goals.{in-None, in-Some}
 
 pub loop-slot-preserved : goal.loop-slot-preserved
 loop-slot-preserved c =

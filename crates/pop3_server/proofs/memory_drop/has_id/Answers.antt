@@ -1,9 +1,12 @@
-use Rattle.std.proofs.Common.{◌≡◌, take, sym, ◌∙◌, arith, subst, refl, Contains, append-nil, inl, inr}
-use Rattle.std.proofs.{lemmas.Bool.false≢true, lemmas.List.map-append, lemmas.List.Elements.Contains-push_cases, lemmas.Grind.common_steps}
-use Rattle.pop3_server.specs.Maildrop.{ids}
-use Rattle.pop3_server.proofs.SlotLemmas.{Contains-slot, there_more}
+use Rattle.std.proofs.{
+  Common.{◌≡◌, take, sym, ◌∙◌, arith, subst, refl, Contains, append-nil, inl, inr},
+  lemmas.{Bool.false≢true, List.{map-append, Elements.Contains-push_cases}, Grind.common_steps},
+}
+use Rattle.pop3_server.{
+  specs.Maildrop.ids,
+  proofs.{SlotLemmas.{Contains-slot, there_more}, memory_drop.has_id.Goals.{in-None, in-Some+else-is}},
+}
 use Rattle.pop3_server.proofs.memory_drop.has_id.Goals as goal
-use Rattle.pop3_server.proofs.memory_drop.has_id.Goals.{in-None, in-Some+else-is}
 
 pub returns-then-is : goal.returns-then-is
 returns-then-is c = (

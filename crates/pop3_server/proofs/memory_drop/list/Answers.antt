@@ -1,7 +1,6 @@
 use Rattle.std.proofs.{Common.append-nil, lemmas.List.map-append}
-use Rattle.pop3_server.proofs.SlotLemmas.{there_more}
+use Rattle.pop3_server.proofs.{SlotLemmas.there_more, memory_drop.list.Goals.{in-None, in-Some+in_ok-listed-in-Some+in_ok-push-in-Some}}
 use Rattle.pop3_server.proofs.memory_drop.list.Goals as goal
-use Rattle.pop3_server.proofs.memory_drop.list.Goals.{in-None, in-Some+in_ok-listed-in-Some+in_ok-push-in-Some}
 
 pub loop-slot-preserved : goal.loop-slot-preserved
 loop-slot-preserved c =

@@ -1,8 +1,8 @@
-use Rattle.std.proofs.Common.{◌≡◌, true, None, refl, sym, subst, ◌∙◌}
-use Rattle.std.proofs.lemmas.Bool.{not-true, not-false}
-use Rattle.pop3_server.specs.{declared.fault.ServerFault.TheVariants.WriteFailed, ServerMachine.is_open, AnswersLines.MakesAnswer}
-use Rattle.pop3_server.proofs.ServeLemmas.{greeted, served_unmade, served_ungreeted, served_stopped, served_closed}
-use Rattle.pop3_server.proofs.ServeLemmas.{progress_line, long_turn, line_came}
+use Rattle.std.proofs.{Common.{◌≡◌, true, None, refl, sym, subst, ◌∙◌}, lemmas.Bool.{not-true, not-false}}
+use Rattle.pop3_server.{
+  specs.{declared.fault.ServerFault.TheVariants.WriteFailed, ServerMachine.is_open, AnswersLines.MakesAnswer},
+  proofs.ServeLemmas.{greeted, served_unmade, served_ungreeted, served_stopped, served_closed, progress_line, long_turn, line_came},
+}
 use Rattle.pop3_wire.proofs.LinkLemmas.{and_then_two}
 use Rattle.mail_terms.proofs.ErrLemmas.{err_is}
 use Rattle.pop3_server.proofs.serving.serve_and_note.Goals as goal

@@ -1,7 +1,6 @@
 use Rattle.std.proofs.Common.{◌≡◌, ◌+◌, ◌*◌, true, length}
 use Rattle.pop3_wire.specs.Link.{WhereSound}
-use Rattle.pop3_server.specs.ServerMachine.{is_open}
-use Rattle.pop3_server.proofs.ServeLemmas.{Progress}
+use Rattle.pop3_server.{specs.ServerMachine.is_open, proofs.ServeLemmas.Progress}
 use Rattle.pop3_server.proofs.serving.serve_and_note.Given as goal
 
 abbrev pub invariant-loop-hello : goal.invariant-loop-hello

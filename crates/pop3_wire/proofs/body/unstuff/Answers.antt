@@ -1,7 +1,5 @@
-use Rattle.std.proofs.Common.{◌≡◌, refl, ap, subst, sym, ◌∙◌, ◌++◌, ◌∷◌, [], List, ℕ, append_assoc}
-use Rattle.std.proofs.lemmas.Bool.{false≢true}
-use Rattle.pop3_wire.specs.Body.{lf_line, unstuffed}
-use Rattle.pop3_wire.proofs.BodyLemmas.{Reads, no_body, reads_end, reads_more}
+use Rattle.std.proofs.{Common.{◌≡◌, refl, ap, subst, sym, ◌∙◌, ◌++◌, ◌∷◌, [], List, ℕ, append_assoc}, lemmas.Bool.false≢true}
+use Rattle.pop3_wire.{specs.Body.{lf_line, unstuffed}, proofs.BodyLemmas.{Reads, no_body, reads_end, reads_more}}
 use Rattle.pop3_wire.proofs.body.unstuff.Goals as goal
 
 pub returns-then-is_end_mark-clause-found : goal.returns-then-is_end_mark-clause-found

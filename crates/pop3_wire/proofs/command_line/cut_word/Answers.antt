@@ -1,8 +1,8 @@
-use Rattle.std.proofs.Common.{◌≡◌, ◌+◌, ◌<◌, length, arith, refl, ℕ, List, [], ◌∷◌, false}
-use Rattle.std.specs.List.{position_or_len, slice_split}
-use Rattle.std.proofs.lemmas.List.{take_rest, drop_all}
-use Rattle.std.proofs.lemmas.List.Splits.{slice_split_none, slice_split_first}
-use Rattle.std.proofs.{lemmas.List.Sums.fails_before_first, lemmas.List.Elements.All-from_get_or}
+use Rattle.std.{
+  proofs.Common.{◌≡◌, ◌+◌, ◌<◌, length, arith, refl, ℕ, List, [], ◌∷◌, false},
+  proofs.lemmas.List.{take_rest, drop_all, Splits.{slice_split_none, slice_split_first}, Sums.fails_before_first, Elements.All-from_get_or},
+  specs.List.{position_or_len, slice_split},
+}
 use Rattle.pop3_wire.specs.Fields.{is_space}
 use Rattle.pop3_wire.proofs.command_line.cut_word.Goals as goal
 

@@ -1,8 +1,9 @@
-use Rattle.std.proofs.Common.{arith, ne_eqb, ap, take}
-use Rattle.std.proofs.lemmas.List.Sums.{suffix_len_is}
-use Rattle.pop3_wire.specs.Fields.{is_space}
+use Rattle.std.proofs.{Common.{arith, ne_eqb, ap, take}, lemmas.List.Sums.suffix_len_is}
+use Rattle.pop3_wire.{
+  specs.Fields.is_space,
+  proofs.command_line.without_spaces.Goals.{then-loop-length-test+else-line-length-eq32, else-loop-length-test},
+}
 use Rattle.pop3_wire.proofs.command_line.without_spaces.Goals as goal
-use Rattle.pop3_wire.proofs.command_line.without_spaces.Goals.{then-loop-length-test+else-line-length-eq32, else-loop-length-test}
 
 pub returns : goal.returns
 returns c =

@@ -1,7 +1,5 @@
-use Rattle.std.proofs.Common.{◌++◌, ◌+◌, ◌-◌, take, ap, sym, ◌∙◌, List, ℕ}
-use Rattle.std.proofs.lemmas.List.{take_rest}
-use Rattle.pop3_wire.specs.Line.{crlf}
-use Rattle.pop3_wire.proofs.BodyLemmas.{IsLine-nowhere, IsLine-without_lf, line_by_lf, line_found}
+use Rattle.std.proofs.{Common.{◌++◌, ◌+◌, ◌-◌, take, ap, sym, ◌∙◌, List, ℕ}, lemmas.List.take_rest}
+use Rattle.pop3_wire.{specs.Line.crlf, proofs.BodyLemmas.{IsLine-nowhere, IsLine-without_lf, line_by_lf, line_found}}
 use Rattle.pop3_wire.proofs.line.cut_line.Goals as goal
 
 pub returns-in_err-length-clause-none : goal.returns-in_err-length-clause-none

@@ -1,5 +1,4 @@
-use Rattle.std.proofs.Common.{◌≡◌, ◌++◌, length, flat_map}
-use Rattle.std.specs.Io.{StartsWith}
+use Rattle.std.{proofs.Common.{◌≡◌, ◌++◌, length, flat_map}, specs.Io.StartsWith}
 use Rattle.mail_terms.specs.Text.{lines_of_text}
 use Rattle.pop3_wire.specs.Stuffed.{sent_line}
 use Rattle.pop3_wire.proofs.stuffing.put_body.Given as goal

@@ -1,5 +1,4 @@
-use Rattle.std.proofs.Common.{◌∙◌, ap, ap₂}
-use Rattle.std.proofs.lemmas.Result.{IfOk-weaker}
+use Rattle.std.proofs.{Common.{◌∙◌, ap, ap₂}, lemmas.Result.IfOk-weaker}
 use Rattle.clap.specs.{Simple.app_of_fields, Words.with_rule}
 use Rattle.popd_program.proofs.words.command.Goals as goal
 

@@ -1,6 +1,5 @@
 use Rattle.std.proofs.Common.{◌≡◌, ◌∙◌, Some, ap, codes, pos}
-use Rattle.clap.specs.Words.{Rule, rule_of}
-use Rattle.clap.specs.{declared.builder.arg.Arg.Arg, declared.builder.value_parser.ValueParser.TheVariants.Signed}
+use Rattle.clap.specs.{Words.{Rule, rule_of}, declared.builder.{arg.Arg.Arg, value_parser.ValueParser.TheVariants.Signed}}
 use Rattle.command_line.specs.Rules.{long_value_rule}
 use Rattle.popd_program.proofs.words.connections_option.Goals as goal
 

@@ -1,7 +1,5 @@
-use Rattle.std.proofs.Common.{◌∙◌, ℕ, List, [], Option, ap, codes, unwrap_or}
-use Rattle.std.proofs.lemmas.Result.{IfOk-weaker}
-use Rattle.clap.specs.Words.{found_of}
-use Rattle.clap.proofs.WalkLemmas.{raw_values-rows}
+use Rattle.std.proofs.{Common.{◌∙◌, ℕ, List, [], Option, ap, codes, unwrap_or}, lemmas.Result.IfOk-weaker}
+use Rattle.clap.{specs.Words.found_of, proofs.WalkLemmas.raw_values-rows}
 use Rattle.popd_program.proofs.words.words_after.Goals as goal
 
 pub returns-in-None : goal.returns-in-None

@@ -1,7 +1,5 @@
-use Rattle.std.proofs.Common.{◌∙◌, codes}
-use Rattle.std.specs.Str.Parse.{ParsesUnsigned, ExplainsUnsignedError, HasUnsignedDigitsIfOk}
-use Rattle.clap.specs.Words.{found_of, one_of, rows_of}
-use Rattle.clap.proofs.WalkLemmas.{one_text-rows}
+use Rattle.std.{proofs.Common.{◌∙◌, codes}, specs.Str.Parse.{ParsesUnsigned, ExplainsUnsignedError, HasUnsignedDigitsIfOk}}
+use Rattle.clap.{specs.Words.{found_of, one_of, rows_of}, proofs.WalkLemmas.one_text-rows}
 use Rattle.popd_program.proofs.WordsLemmas.{numbers}
 use Rattle.popd_program.proofs.words.words_of.Goals as goal
 

@@ -1,6 +1,5 @@
 use Rattle.std.proofs.Common.{arith, rules}
-use Rattle.rc_file.specs.{KeyReading.key_fault, RcMeaning.rc_meaning}
-use Rattle.rc_file.proofs.RcMeaningLemmas.{all_meant, good_rows}
+use Rattle.rc_file.{specs.{KeyReading.key_fault, RcMeaning.rc_meaning}, proofs.RcMeaningLemmas.{all_meant, good_rows}}
 use Rattle.rc_file.proofs.file.read_rc.Goals as goal
 
 pub returns-in_err-settings-clause-meaning : goal.returns-in_err-settings-clause-meaning

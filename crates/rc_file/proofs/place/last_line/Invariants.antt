@@ -1,7 +1,5 @@
-use Rattle.std.proofs.Common.{◌≡◌, drop}
-use Rattle.std.specs.List.{filter_map, last_or}
-use Rattle.rc_file.specs.FaultLine.{last_line, line_at}
-use Rattle.rc_file.specs.RowReading.{rows_in}
+use Rattle.std.{proofs.Common.{◌≡◌, drop}, specs.List.{filter_map, last_or}}
+use Rattle.rc_file.specs.{FaultLine.{last_line, line_at}, RowReading.rows_in}
 use Rattle.rc_file.proofs.place.last_line.Given as goal
 
 -- the last of what was found and of what is still to come decides

@@ -1,6 +1,5 @@
 use Rattle.std.proofs.Common.{◌-◌, arith, length}
-use Rattle.rc_file.specs.RowReading.{rows_in}
-use Rattle.rc_file.proofs.RowLemmas.{file_rows-key, rows_in-push, last_section-read}
+use Rattle.rc_file.{specs.RowReading.rows_in, proofs.RowLemmas.{file_rows-key, rows_in-push, last_section-read}}
 use Rattle.rc_file.proofs.row.add_key.Goals as goal
 
 pub returns : goal.returns

@@ -1,6 +1,5 @@
 use Rattle.std.proofs.Common.{◌≡◌, ◌≤◌, ◌+◌, length, map}
-use Rattle.rc_file.specs.{LineRules.judge, FileRows.rows_of}
-use Rattle.rc_file.specs.RowReading.{rows_in, file_rows}
+use Rattle.rc_file.specs.{LineRules.judge, FileRows.rows_of, RowReading.{rows_in, file_rows}}
 use Rattle.rc_file.proofs.row.read_rows.Given as goal
 
 -- the rows so far and the lines still to come make the file

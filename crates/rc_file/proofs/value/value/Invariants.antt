@@ -1,7 +1,5 @@
-use Rattle.std.proofs.Common.{◌≡◌, drop, option_copied}
-use Rattle.std.specs.List.{filter_map, last_or}
-use Rattle.rc_file.specs.RcMeaning.{value_at, value_of}
-use Rattle.rc_file.specs.RowReading.{rows_in}
+use Rattle.std.{proofs.Common.{◌≡◌, drop, option_copied}, specs.List.{filter_map, last_or}}
+use Rattle.rc_file.specs.{RcMeaning.{value_at, value_of}, RowReading.rows_in}
 use Rattle.rc_file.proofs.value.value.Given as goal
 
 -- the last of what was found and of what is still to come decides

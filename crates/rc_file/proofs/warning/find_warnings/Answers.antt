@@ -1,7 +1,6 @@
 use Rattle.std.proofs.Common.{sym, arith}
-use Rattle.rc_file.proofs.RcMeaningLemmas.{row_at}
+use Rattle.rc_file.proofs.{RcMeaningLemmas.row_at, warning.find_warnings.Goals.{then-has_no_effect+in_ok-tell, else-has_no_effect}}
 use Rattle.rc_file.proofs.warning.find_warnings.Goals as goal
-use Rattle.rc_file.proofs.warning.find_warnings.Goals.{then-has_no_effect+in_ok-tell, else-has_no_effect}
 
 pub loop-row-preserved : goal.loop-row-preserved
 loop-row-preserved c =

@@ -1,7 +1,5 @@
 use Rattle.std.proofs.Common.{drop, map, filter}
-use Rattle.rc_file.specs.RcMeaning.{has_no_effect, warned, warnings_in}
-use Rattle.rc_file.specs.RowReading.{rows_in}
-use Rattle.rc_file.specs.WarningSearch.{IsFinding, warning_of}
+use Rattle.rc_file.specs.{RcMeaning.{has_no_effect, warned, warnings_in}, RowReading.rows_in, WarningSearch.{IsFinding, warning_of}}
 use Rattle.rc_file.proofs.warning.find_warnings.Given as goal
 
 abbrev pub invariant-loop-row : goal.invariant-loop-row

@@ -1,10 +1,12 @@
-use Rattle.std.proofs.Common.{◌≡◌, ◌∷◌, [], ◌++◌, map, sym, ◌∙◌, true, false}
-use Rattle.std.proofs.lemmas.Bool.{MatchBool-at_false, not-true, not-false}
-use Rattle.std.proofs.lemmas.List.{map-append}
-use Rattle.std.specs.HashSet.{contains, IsUnchanged}
-use Rattle.rc_file.specs.{RcMeaning.warned, RowReading.row_of}
-use Rattle.rc_file.specs.WarningSearch.{name_eq, warning_of}
-use Rattle.rc_file.proofs.RcMeaningLemmas.{tells_new, tells_again}
+use Rattle.std.{
+  proofs.Common.{◌≡◌, ◌∷◌, [], ◌++◌, map, sym, ◌∙◌, true, false},
+  proofs.lemmas.{Bool.{MatchBool-at_false, not-true, not-false}, List.map-append},
+  specs.HashSet.{contains, IsUnchanged},
+}
+use Rattle.rc_file.{
+  specs.{RcMeaning.warned, RowReading.row_of, WarningSearch.{name_eq, warning_of}},
+  proofs.RcMeaningLemmas.{tells_new, tells_again},
+}
 use Rattle.rc_file.proofs.warning.tell.Goals as goal
 
 pub returns-then-not-branch : goal.returns-then-not-branch

@@ -1,6 +1,8 @@
 use Rattle.std.proofs.Common.{List, Some, ap, sym, string_bytes, ◌∙◌}
-use Rattle.test_devices.specs.MemoryFolder.{blob_of, folder_entries}
-use Rattle.test_devices.proofs.MemoryFiles.{Pair, found_at, not_found, push_placed, set_placed}
+use Rattle.test_devices.{
+  specs.MemoryFolder.{blob_of, folder_entries},
+  proofs.MemoryFiles.{Pair, found_at, not_found, push_placed, set_placed},
+}
 use Rattle.test_devices.proofs.memory_folder.place.Goals as goal
 
 pub returns-in-Some-clause-placed : goal.returns-in-Some-clause-placed

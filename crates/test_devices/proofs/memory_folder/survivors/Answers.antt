@@ -1,7 +1,5 @@
-use Rattle.std.proofs.Common.{map, option_map}
-use Rattle.std.proofs.lemmas.List.{map_more}
-use Rattle.test_devices.specs.MemoryFolder.{folder_entries, folder_entry, older_of}
-use Rattle.test_devices.proofs.MemoryFiles.{survives_next}
+use Rattle.std.proofs.{Common.{map, option_map}, lemmas.List.map_more}
+use Rattle.test_devices.{specs.MemoryFolder.{folder_entries, folder_entry, older_of}, proofs.MemoryFiles.survives_next}
 use Rattle.test_devices.proofs.memory_folder.survivors.Goals as goal
 
 pub loop-i-preserved : goal.loop-i-preserved

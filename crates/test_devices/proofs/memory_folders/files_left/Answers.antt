@@ -1,7 +1,5 @@
-use Rattle.std.proofs.Common.{map, option_map}
-use Rattle.std.proofs.lemmas.List.{map_more}
-use Rattle.test_devices.specs.MemoryFolders.{stored_file}
-use Rattle.test_devices.proofs.MemoryMail.{left_on}
+use Rattle.std.proofs.{Common.{map, option_map}, lemmas.List.map_more}
+use Rattle.test_devices.{specs.MemoryFolders.stored_file, proofs.MemoryMail.left_on}
 use Rattle.test_devices.proofs.memory_folders.files_left.Goals as goal
 
 pub loop-i-preserved : goal.loop-i-preserved

@@ -1,5 +1,4 @@
-use Rattle.std.proofs.Common.{rules, bytes_eq, string_bytes}
-use Rattle.std.proofs.{lemmas.Iterator.YieldsList-from_slice, lemmas.Iterator.Search.any_from_yields_List}
+use Rattle.std.proofs.{Common.{rules, bytes_eq, string_bytes}, lemmas.Iterator.{YieldsList-from_slice, Search.any_from_yields_List}}
 use Rattle.test_devices.proofs.MemoryMail.{among_has}
 use Rattle.test_devices.proofs.memory_folders.is_one_of.Goals as goal
 

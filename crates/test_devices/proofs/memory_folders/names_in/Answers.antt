@@ -1,8 +1,6 @@
-use Rattle.std.proofs.Common.{map, sym, take}
-use Rattle.std.proofs.lemmas.List.{map_more}
+use Rattle.std.proofs.{Common.{map, sym, take}, lemmas.List.map_more}
 use Rattle.folder_store.specs.MailFolders.{is_in}
-use Rattle.test_devices.specs.MemoryFolders.{stored_file}
-use Rattle.test_devices.proofs.MemoryMail.{told_on}
+use Rattle.test_devices.{specs.MemoryFolders.stored_file, proofs.MemoryMail.told_on}
 use Rattle.test_devices.proofs.memory_folders.names_in.Goals as goal
 
 pub loop-file-preserved : goal.loop-file-preserved

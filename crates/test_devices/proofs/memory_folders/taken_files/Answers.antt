@@ -1,5 +1,4 @@
-use Rattle.std.proofs.Common.{[], ◌∷◌, map, sym, take}
-use Rattle.std.proofs.{lemmas.List.map_more, lemmas.List.Elements.filter-append}
+use Rattle.std.proofs.{Common.{[], ◌∷◌, map, sym, take}, lemmas.List.{map_more, Elements.filter-append}}
 use Rattle.folder_store.specs.MailFolders.{is_taken}
 use Rattle.test_devices.specs.MemoryFolders.{stored_file}
 use Rattle.test_devices.proofs.memory_folders.taken_files.Goals as goal

@@ -1,5 +1,4 @@
-use Rattle.std.proofs.Common.{◌∙◌, ℕ, ap, take}
-use Rattle.std.proofs.lemmas.List.{take_min}
+use Rattle.std.proofs.{Common.{◌∙◌, ℕ, ap, take}, lemmas.List.take_min}
 use Rattle.trace.proofs.command.cut.Goals as goal
 
 pub returns : goal.returns

@@ -1,5 +1,8 @@
-use Rattle.std.proofs.Common.{◌∙◌, ◌≡◌, ◌⊎◌, ◌↔◌, ℕ, List, Bool, IsTrue, ap, arith, inl, inr, rules, subst, sym}
-use Rattle.std.proofs.{Math.Nat.eq-or-lt_of_le, lemmas.Bool.false≢true}
+use Rattle.std.proofs.{
+  Common.{◌∙◌, ◌≡◌, ◌⊎◌, ◌↔◌, ℕ, List, Bool, IsTrue, ap, arith, inl, inr, rules, subst, sym},
+  Math.Nat.eq-or-lt_of_le,
+  lemmas.Bool.false≢true,
+}
 use Rattle.trace.specs.Masking.{Occurs, OccursInBase64, TellsRow, password_row}
 use Rattle.trace.proofs.masking.tells_a_row.Goals as goal
 

@@ -1,6 +1,4 @@
-use Rattle.std.proofs.Common.{◌∙◌, sym, arith}
-use Rattle.std.proofs.Math.Seq.{take-append_seam}
-use Rattle.std.proofs.lemmas.Bool.{cond-true, cond-false}
+use Rattle.std.proofs.{Common.{◌∙◌, sym, arith}, Math.Seq.take-append_seam, lemmas.Bool.{cond-true, cond-false}}
 use Rattle.fetch_record.proofs.{MergeLemmas.added_next, RowLemmas.state_in_none}
 use Rattle.fetch_record.proofs.row_map.RowMap.add_until_refused.Goals as goal
 

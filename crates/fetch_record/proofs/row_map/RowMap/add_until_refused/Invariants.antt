@@ -1,5 +1,4 @@
-use Rattle.fetch_record.specs.Record.{IsRecord}
-use Rattle.fetch_record.proofs.MergeLemmas.{HasAdded}
+use Rattle.fetch_record.{specs.Record.IsRecord, proofs.MergeLemmas.HasAdded}
 use Rattle.fetch_record.proofs.row_map.RowMap.add_until_refused.Given as goal
 
 abbrev pub invariant-loop-i : goal.invariant-loop-i

@@ -1,6 +1,7 @@
-use Rattle.std.proofs.Common.{◌≡◌, ◌∙◌, ap, arith, true}
-use Rattle.std.proofs.lemmas.Bool.{not-false}
-use Rattle.std.proofs.lemmas.List.Elements.{AllWithin-none, AllWithin-more, AllWithin-upto, All-from_all_within}
+use Rattle.std.proofs.{
+  Common.{◌≡◌, ◌∙◌, ap, arith, true},
+  lemmas.{Bool.not-false, List.Elements.{AllWithin-none, AllWithin-more, AllWithin-upto, All-from_all_within}},
+}
 use Rattle.fetch_record.specs.Record.{Row}
 use Rattle.fetch_record.proofs.row_map.RowMap.are_delivered.Goals as goal
 

@@ -1,5 +1,4 @@
-use Rattle.std.proofs.Common.{◌≡◌, true}
-use Rattle.std.specs.List.{AllWithin}
+use Rattle.std.{proofs.Common.{◌≡◌, true}, specs.List.AllWithin}
 use Rattle.fetch_record.proofs.row_map.RowMap.are_delivered.Given as goal
 
 abbrev pub invariant-loop-place : goal.invariant-loop-place

@@ -1,8 +1,5 @@
-use Rattle.std.proofs.Common.{◌∙◌, take, arith}
-use Rattle.std.proofs.lemmas.List.{flat_map_more}
-use Rattle.fetch_record.specs.RecordFile.{Two, header, record_row_line}
-use Rattle.fetch_record.specs.Rows.{row_from}
-use Rattle.fetch_record.proofs.MergeLemmas.{next_rows}
+use Rattle.std.proofs.{Common.{◌∙◌, take, arith}, lemmas.List.flat_map_more}
+use Rattle.fetch_record.{specs.{RecordFile.{Two, header, record_row_line}, Rows.row_from}, proofs.MergeLemmas.next_rows}
 use Rattle.fetch_record.proofs.row_map.RowMap.bytes.Goals as goal
 
 pub loop-place-preserved : goal.loop-place-preserved

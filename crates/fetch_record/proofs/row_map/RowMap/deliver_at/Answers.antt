@@ -1,6 +1,5 @@
 use Rattle.std.proofs.Common.{[], refl, subst, sym}
-use Rattle.fetch_record.specs.{Record.IsRecord, Rows.row_from}
-use Rattle.fetch_record.proofs.RowLemmas.{IsRecord-marked, set_at}
+use Rattle.fetch_record.{specs.{Record.IsRecord, Rows.row_from}, proofs.RowLemmas.{IsRecord-marked, set_at}}
 use Rattle.fetch_record.proofs.row_map.RowMap.deliver_at.Goals as goal
 
 pub returns-clause-rows : goal.returns-clause-rows

@@ -1,11 +1,11 @@
-use Rattle.std.proofs.Common.{take_all, ◌≡◌, ◌≢◌, ◌⊎◌, ◌≤◌, ◌+◌, ◌++◌, ◌∙◌, ◌||◌, Bool, refl, sym, ap, arith}
-use Rattle.std.proofs.lemmas.Bool.{OnTrue_at}
+use Rattle.std.proofs.{Common.{take_all, ◌≡◌, ◌≢◌, ◌⊎◌, ◌≤◌, ◌+◌, ◌++◌, ◌∙◌, ◌||◌, Bool, refl, sym, ap, arith}, lemmas.Bool.OnTrue_at}
 use Rattle.mail_terms.specs.Listing.{is_flagged}
-use Rattle.fetch_record.specs.{Record.Row, Rows.row_from, RecordFile.record_row_line}
-use Rattle.fetch_record.proofs.RowLemmas.{with_held_same, changed_same, is_delivered-at}
-use Rattle.fetch_record.proofs.MergeLemmas.{HasWritten-skips, HasWritten-adds}
+use Rattle.fetch_record.{
+  specs.{Record.Row, Rows.row_from, RecordFile.record_row_line},
+  proofs.{RowLemmas.{with_held_same, changed_same, is_delivered-at}, MergeLemmas.{HasWritten-skips, HasWritten-adds}},
+  proofs.row_map.RowMap.group_of_changes.Goals.After-is_marked-delivered,
+}
 use Rattle.fetch_record.proofs.row_map.RowMap.group_of_changes.Goals as goal
-use Rattle.fetch_record.proofs.row_map.RowMap.group_of_changes.Goals.{After-is_marked-delivered}
 
 pub is_marked-delivered-requires : goal.is_marked-delivered-requires
 is_marked-delivered-requires g c =

@@ -1,7 +1,6 @@
 use Rattle.std.proofs.Common.{◌≤◌}
 use Rattle.mail_terms.specs.Listing.{is_flagged}
-use Rattle.fetch_record.specs.Record.{Row}
-use Rattle.fetch_record.proofs.MergeLemmas.{HasWritten}
+use Rattle.fetch_record.{specs.Record.Row, proofs.MergeLemmas.HasWritten}
 use Rattle.fetch_record.proofs.row_map.RowMap.group_of_changes.Given as goal
 
 abbrev pub invariant-loop-place : goal.invariant-loop-place

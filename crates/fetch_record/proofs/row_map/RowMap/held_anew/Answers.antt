@@ -1,11 +1,10 @@
-use Rattle.std.proofs.Common.{◌∙◌, true, false, refl, sym, arith}
-use Rattle.std.proofs.Math.Bool.{and-false}
-use Rattle.fetch_record.proofs.MergeLemmas.{HasHeldAnew-more, HasHeldAnew-all}
+use Rattle.std.proofs.{Common.{◌∙◌, true, false, refl, sym, arith}, Math.Bool.and-false}
+use Rattle.fetch_record.proofs.{
+  MergeLemmas.{HasHeldAnew-more, HasHeldAnew-all},
+  row_map.RowMap.held_anew.Goals.{then-held-i+then-not-is_delivered+in_ok-insert, else-held-i, else-held-i-via-else-held-i},
+  row_map.RowMap.held_anew.Goals.else-held-i-via-then-held-i+else-not-is_delivered,
+}
 use Rattle.fetch_record.proofs.row_map.RowMap.held_anew.Goals as goal
-use Rattle.fetch_record.proofs.row_map.RowMap.held_anew.Goals.{then-held-i+then-not-is_delivered+in_ok-insert}
-use Rattle.fetch_record.proofs.row_map.RowMap.held_anew.Goals.{else-held-i}
-use Rattle.fetch_record.proofs.row_map.RowMap.held_anew.Goals.{else-held-i-via-then-held-i+else-not-is_delivered}
-use Rattle.fetch_record.proofs.row_map.RowMap.held_anew.Goals.{else-held-i-via-else-held-i}
 
 pub loop-i-init : goal.loop-i-init
 loop-i-init g c = c.new-ids.ensures

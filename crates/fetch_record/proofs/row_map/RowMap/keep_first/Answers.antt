@@ -1,8 +1,5 @@
-use Rattle.std.proofs.Common.{◌∙◌, sym, ap, subst, take}
-use Rattle.std.proofs.lemmas.List.{take-map}
-use Rattle.fetch_record.specs.Record.{IsRecord}
-use Rattle.fetch_record.specs.Rows.{row_of_state, rows_of_states}
-use Rattle.fetch_record.proofs.RowLemmas.{IsRecord-take}
+use Rattle.std.proofs.{Common.{◌∙◌, sym, ap, subst, take}, lemmas.List.take-map}
+use Rattle.fetch_record.{specs.{Record.IsRecord, Rows.{row_of_state, rows_of_states}}, proofs.RowLemmas.IsRecord-take}
 use Rattle.fetch_record.proofs.row_map.RowMap.keep_first.Goals as goal
 
 pub returns-clause-rows : goal.returns-clause-rows

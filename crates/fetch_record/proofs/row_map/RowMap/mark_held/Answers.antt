@@ -1,7 +1,9 @@
 use Rattle.std.proofs.Common.{arith}
-use Rattle.fetch_record.proofs.MergeLemmas.{HasMarked-none, HasMarked-held, HasMarked-free, HasMarked-all}
+use Rattle.fetch_record.proofs.{
+  MergeLemmas.{HasMarked-none, HasMarked-held, HasMarked-free, HasMarked-all},
+  row_map.RowMap.mark_held.Goals.{then-held-i, else-held-i},
+}
 use Rattle.fetch_record.proofs.row_map.RowMap.mark_held.Goals as goal
-use Rattle.fetch_record.proofs.row_map.RowMap.mark_held.Goals.{then-held-i, else-held-i}
 
 pub loop-i-init : goal.loop-i-init
 loop-i-init g c = HasMarked-none _ c.len.ensures.is_record

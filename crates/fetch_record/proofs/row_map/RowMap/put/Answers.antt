@@ -1,8 +1,9 @@
 use Rattle.std.proofs.Common.{◌∙◌, subst, arith}
-use Rattle.fetch_record.specs.Record.{IsRecord}
-use Rattle.fetch_record.proofs.RowLemmas.{Puts, known_at, put_added, put_marked, put_is_record}
+use Rattle.fetch_record.{
+  specs.Record.IsRecord,
+  proofs.{RowLemmas.{Puts, known_at, put_added, put_marked, put_is_record}, row_map.RowMap.put.Goals.In_ok-insert},
+}
 use Rattle.fetch_record.proofs.row_map.RowMap.put.Goals as goal
-use Rattle.fetch_record.proofs.row_map.RowMap.put.Goals.{In_ok-insert}
 
 puts : (g : _) (c : In_ok-insert g)
     → Puts c.args.uid.now c.args.state c.self.inside.states.entries c.insert.new.self.entries c.args.self.now

@@ -1,6 +1,5 @@
 use Rattle.std.proofs.lemmas.Result.{err_from_is_err_and}
-use Rattle.fetch_record.specs.Lines.{open_seen}
-use Rattle.fetch_record.proofs.ReadLemmas.{rows_again, no_fault_again}
+use Rattle.fetch_record.{specs.Lines.open_seen, proofs.ReadLemmas.{rows_again, no_fault_again}}
 use Rattle.fetch_record.proofs.row_map.RowMap.read.Goals as goal
 
 pub returns-in_err-read_lines-in-Open-clause-err : goal.returns-in_err-read_lines-in-Open-clause-err

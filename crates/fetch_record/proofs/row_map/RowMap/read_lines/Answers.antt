@@ -1,13 +1,10 @@
 use Rattle.std.proofs.lemmas.Result.{err_from_is_err_and}
-use Rattle.fetch_record.specs.RecordFile.{RowLine, IntentLine}
-use Rattle.fetch_record.specs.Rows.{row_from}
-use Rattle.fetch_record.specs.Lines.{open_seen, intent_seen}
-use Rattle.fetch_record.proofs.ReadLemmas.{seen_behind, Reads-none, Reads-row, Reads-group, Reads-intent, Reads-fails}
-use Rattle.fetch_record.proofs.ReadLemmas.{Reads-group_fails}
+use Rattle.fetch_record.{
+  specs.{RecordFile.{RowLine, IntentLine}, Rows.row_from, Lines.{open_seen, intent_seen}},
+  proofs.ReadLemmas.{seen_behind, Reads-none, Reads-row, Reads-group, Reads-intent, Reads-fails, Reads-group_fails},
+  proofs.row_map.RowMap.read_lines.Goals.{in-Row+in_ok-part-in-Row, in-Group+in_ok-part-in-Group, in-Opening+in_ok-take_intent-in-Opening},
+}
 use Rattle.fetch_record.proofs.row_map.RowMap.read_lines.Goals as goal
-use Rattle.fetch_record.proofs.row_map.RowMap.read_lines.Goals.{in-Row+in_ok-part-in-Row}
-use Rattle.fetch_record.proofs.row_map.RowMap.read_lines.Goals.{in-Group+in_ok-part-in-Group}
-use Rattle.fetch_record.proofs.row_map.RowMap.read_lines.Goals.{in-Opening+in_ok-take_intent-in-Opening}
 
 pub loop-line-init : goal.loop-line-init
 loop-line-init g c = Reads-none c.in-Some.older c.args.bytes.now c.in-Some.lines.now c.in-Some.ensures.found

@@ -1,6 +1,5 @@
 use Rattle.std.proofs.Common.{length}
-use Rattle.fetch_record.specs.Lines.{open_seen}
-use Rattle.fetch_record.proofs.ReadLemmas.{Reads}
+use Rattle.fetch_record.{specs.Lines.open_seen, proofs.ReadLemmas.Reads}
 use Rattle.fetch_record.proofs.row_map.RowMap.read_lines.Given as goal
 
 abbrev pub invariant-loop-line : goal.invariant-loop-line

@@ -1,6 +1,5 @@
 use Rattle.std.proofs.Common.{sym}
-use Rattle.fetch_record.specs.Rows.{row_from}
-use Rattle.fetch_record.proofs.RowLemmas.{state_found}
+use Rattle.fetch_record.{specs.Rows.row_from, proofs.RowLemmas.state_found}
 use Rattle.fetch_record.proofs.row_map.RowMap.state.Goals as goal
 
 pub returns-clause-value : goal.returns-clause-value

@@ -1,11 +1,11 @@
 use Rattle.std.proofs.Common.{◌∙◌, ap, sym, true≢false}
-use Rattle.fetch_record.specs.Record.{Row, marked}
-use Rattle.fetch_record.specs.Rows.{row_from}
-use Rattle.fetch_record.proofs.RowLemmas.{has_row-some, has_row_none, delivers-known, delivered_again, state_found}
-use Rattle.fetch_record.proofs.RowLemmas.{takes_new, takes_old, refuses_old}
+use Rattle.fetch_record.{
+  specs.{Record.{Row, marked}, Rows.row_from},
+  proofs.RowLemmas.{has_row-some, has_row_none, delivers-known, delivered_again, state_found, takes_new, takes_old, refuses_old},
+  proofs.row_map.RowMap.take_row.Goals.then-not-is_within-via-then-not-is_within,
+  proofs.row_map.RowMap.take_row.Goals.then-not-is_within-via-else-not-is_within+then-not-delivers,
+}
 use Rattle.fetch_record.proofs.row_map.RowMap.take_row.Goals as goal
-use Rattle.fetch_record.proofs.row_map.RowMap.take_row.Goals.{then-not-is_within-via-then-not-is_within}
-use Rattle.fetch_record.proofs.row_map.RowMap.take_row.Goals.{then-not-is_within-via-else-not-is_within+then-not-delivers}
 
 pub returns-in_default-known-clause-ok : goal.returns-in_default-known-clause-ok
 returns-in_default-known-clause-ok g c =

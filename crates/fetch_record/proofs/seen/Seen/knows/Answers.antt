@@ -1,8 +1,9 @@
-use Rattle.std.proofs.Common.{◌≡◌, ◌<◌, ◌∙◌, ℕ, List, length, refl, get_or, sym, arith, true, false, All, Decides}
-use Rattle.std.proofs.{lemmas.Bool.true≢false, lemmas.List.Elements.AllWithin-more}
-use Rattle.mail_terms.specs.Listing.{Item}
+use Rattle.std.proofs.{
+  Common.{◌≡◌, ◌<◌, ◌∙◌, ℕ, List, length, refl, get_or, sym, arith, true, false, All, Decides},
+  lemmas.{Bool.true≢false, List.Elements.AllWithin-more},
+}
+use Rattle.mail_terms.{specs.Listing.Item, proofs.IdLemmas.nobody}
 use Rattle.fetch_record.specs.Record.{Row, is_delivered}
-use Rattle.mail_terms.proofs.IdLemmas.{nobody}
 use Rattle.fetch_record.proofs.seen.Seen.knows.Goals as goal
 
 one_unknown : (rows : List Row) (listing : List Item) (i : ℕ) → i < length listing → is_delivered rows (get_or listing i nobody).uid ≡ false

@@ -1,5 +1,4 @@
-use Rattle.std.proofs.Common.{◌≡◌, true}
-use Rattle.std.specs.List.{AllWithin}
+use Rattle.std.{proofs.Common.{◌≡◌, true}, specs.List.AllWithin}
 use Rattle.fetch_record.specs.Record.{is_delivered}
 use Rattle.fetch_record.proofs.seen.Seen.knows.Given as goal
 

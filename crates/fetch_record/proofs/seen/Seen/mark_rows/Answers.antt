@@ -1,6 +1,5 @@
 use Rattle.std.proofs.Common.{arith, ◌∙◌, ◌∷◌, [], inr, sym, ap, refl}
-use Rattle.fetch_record.specs.{RecordFile.written, Intents.intent_in}
-use Rattle.fetch_record.proofs.RowLemmas.{mark_is_written, IsGroup-mark, now_delivered}
+use Rattle.fetch_record.{specs.{RecordFile.written, Intents.intent_in}, proofs.RowLemmas.{mark_is_written, IsGroup-mark, now_delivered}}
 use Rattle.fetch_record.proofs.seen.Seen.mark_rows.Goals as goal
 
 pub returns-clause-group : goal.returns-clause-group

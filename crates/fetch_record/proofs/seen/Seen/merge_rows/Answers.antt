@@ -1,5 +1,4 @@
-use Rattle.std.proofs.Common.{◌≡◌, take}
-use Rattle.std.proofs.Math.Seq.{take-append_seam}
+use Rattle.std.proofs.{Common.{◌≡◌, take}, Math.Seq.take-append_seam}
 use Rattle.fetch_record.proofs.MergeLemmas.{merge_updates}
 use Rattle.fetch_record.proofs.seen.Seen.merge_rows.Goals as goal
 

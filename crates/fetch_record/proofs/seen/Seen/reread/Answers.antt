@@ -1,5 +1,4 @@
-use Rattle.fetch_record.specs.Lines.{version_of, open_seen}
-use Rattle.fetch_record.proofs.MeaningLemmas.{open_has_row}
+use Rattle.fetch_record.{specs.Lines.{version_of, open_seen}, proofs.MeaningLemmas.open_has_row}
 use Rattle.fetch_record.proofs.seen.Seen.reread.Goals as goal
 
 pub returns-clause-rows : goal.returns-clause-rows

@@ -1,5 +1,4 @@
-use Rattle.std.proofs.Common.{Contains, sym}
-use Rattle.std.proofs.{lemmas.List.Elements.Contains-get_or, lemmas.Option.IfSome_then}
+use Rattle.std.proofs.{Common.{Contains, sym}, lemmas.{List.Elements.Contains-get_or, Option.IfSome_then}}
 use Rattle.folder_drop.proofs.listed_file.CountedSizes.size_of.Goals as goal
 
 pub returns-then-is_same : goal.returns-then-is_same

@@ -1,10 +1,11 @@
-use Rattle.std.proofs.Common.{◌≡◌, ◌≤◌, ◌<◌, ◌∙◌, ℕ, List, ap, arith, get_or, length, map, subst, sym, vec_len}
-use Rattle.std.proofs.lemmas.List.{take_all}
+use Rattle.std.proofs.{Common.{◌≡◌, ◌≤◌, ◌<◌, ◌∙◌, ℕ, List, ap, arith, get_or, length, map, subst, sym, vec_len}, lemmas.List.take_all}
 use Rattle.mail_terms.specs.Distinct.{AreDistinct}
 use Rattle.pop3_server.specs.Maildrop.{max_count}
-use Rattle.folder_drop.specs.{declared.listed_file.ListedFile.ListedFile, Listing.FileListing, MaildirNames.id_of}
-use Rattle.folder_drop.specs.RealMaildir.{HaveIds, id_of_name, listed_name, listed_names, uid_of}
-use Rattle.folder_drop.proofs.MaildirLemmas.{entry_more}
+use Rattle.folder_drop.{
+  specs.{declared.listed_file.ListedFile.ListedFile, Listing.FileListing, MaildirNames.id_of},
+  specs.RealMaildir.{HaveIds, id_of_name, listed_name, listed_names, uid_of},
+  proofs.MaildirLemmas.entry_more,
+}
 use Rattle.folder_drop.proofs.listing.DropListing.entries.Goals as goal
 
 pub loop-file-init : goal.loop-file-init

@@ -1,9 +1,10 @@
 use Rattle.std.proofs.Common.{◌<◌, arith, length, map}
 use Rattle.pop3_server.specs.Maildrop.{max_count}
-use Rattle.folder_drop.specs.RealMaildir.{id_of_name, listed_name, listed_names}
-use Rattle.folder_drop.proofs.MaildirLemmas.{listed_more, seen_more, seen_same}
+use Rattle.folder_drop.{
+  specs.RealMaildir.{id_of_name, listed_name, listed_names},
+  proofs.{MaildirLemmas.{listed_more, seen_more, seen_same}, listing.ListedFiles.add.Goals.{in-Some+in_ok-insert, in_default}},
+}
 use Rattle.folder_drop.proofs.listing.ListedFiles.add.Goals as goal
-use Rattle.folder_drop.proofs.listing.ListedFiles.add.Goals.{in-Some+in_ok-insert, in_default}
 
 pub returns : goal.returns
 returns c = λ next few small listed.

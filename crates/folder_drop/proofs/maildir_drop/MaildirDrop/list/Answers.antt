@@ -1,8 +1,12 @@
 use Rattle.std.proofs.Common.{◌≡◌, ◌≤◌, ◌∙◌, ℕ, List, ap, arith, refl, subst, sym}
 use Rattle.mail_terms.specs.MaildirName.{base}
 use Rattle.pop3_server.specs.Maildrop.{max_size}
-use Rattle.folder_drop.specs.{declared.listed_file.ListedFile.ListedFile, Listing.FollowsLast, RealMaildir.listed_name}
-use Rattle.folder_drop.specs.MaildirNames.{IsIdKey, id_of}
+use Rattle.folder_drop.specs.{
+  declared.listed_file.ListedFile.ListedFile,
+  Listing.FollowsLast,
+  RealMaildir.listed_name,
+  MaildirNames.{IsIdKey, id_of},
+}
 use Rattle.folder_drop.proofs.maildir_drop.MaildirDrop.list.Goals as goal
 
 pub loop-file-preserved : goal.loop-file-preserved

@@ -1,6 +1,5 @@
 use Rattle.std.proofs.Common.{◌∙◌, sym, option_map}
-use Rattle.folder_store.specs.MailFolders.{draft_begun}
-use Rattle.folder_store.proofs.MailCalls.{begun_anew, begin_missing, begin_refused, none_begun}
+use Rattle.folder_store.{specs.MailFolders.draft_begun, proofs.MailCalls.{begun_anew, begin_missing, begin_refused, none_begun}}
 use Rattle.folder_store.proofs.maildir.FolderMaildirMaildirDisk.begin.Goals as goal
 
 pub returns-in-Ok-make-clause-begins : goal.returns-in-Ok-make-clause-begins

@@ -1,6 +1,5 @@
 use Rattle.std.proofs.Common.{option_map}
-use Rattle.folder_store.specs.MailFolders.{draft_begun}
-use Rattle.folder_store.proofs.MailCalls.{checked}
+use Rattle.folder_store.{specs.MailFolders.draft_begun, proofs.MailCalls.checked}
 use Rattle.folder_store.proofs.maildir.FolderMaildirMaildirDisk.check.Goals as goal
 
 pub returns-clause-checks : goal.returns-clause-checks

@@ -1,6 +1,5 @@
 use Rattle.std.proofs.Common.{option_map}
-use Rattle.folder_store.specs.MailFolders.{draft_begun}
-use Rattle.folder_store.proofs.MailCalls.{files_flush, files_refused}
+use Rattle.folder_store.{specs.MailFolders.draft_begun, proofs.MailCalls.{files_flush, files_refused}}
 use Rattle.folder_store.proofs.maildir.FolderMaildirMaildirDisk.flush.Goals as goal
 
 pub returns-in-Ok-clause-flushes : goal.returns-in-Ok-clause-flushes

@@ -1,6 +1,5 @@
 use Rattle.std.proofs.Common.{option_map}
-use Rattle.folder_store.specs.MailFolders.{draft_begun}
-use Rattle.folder_store.proofs.MailCalls.{told_those}
+use Rattle.folder_store.{specs.MailFolders.draft_begun, proofs.MailCalls.told_those}
 use Rattle.folder_store.proofs.maildir.FolderMaildirMaildirDisk.names.Goals as goal
 
 pub returns-clause-lists : goal.returns-clause-lists

@@ -1,6 +1,5 @@
 use Rattle.std.proofs.Common.{option_map}
-use Rattle.folder_store.specs.{MailFolders.draft_begun, declared.mail_folders.Sought.TheVariants.Stems}
-use Rattle.folder_store.proofs.MailCalls.{told_names}
+use Rattle.folder_store.{specs.{MailFolders.draft_begun, declared.mail_folders.Sought.TheVariants.Stems}, proofs.MailCalls.told_names}
 use Rattle.folder_store.proofs.maildir.FolderMaildirMaildirDisk.names_among.Goals as goal
 
 pub returns-clause-lists : goal.returns-clause-lists

@@ -1,6 +1,5 @@
 use Rattle.std.proofs.Common.{◌∙◌, None, inl, sym}
-use Rattle.folder_store.proofs.MailCalls.{maildir_same, not_settled}
-use Rattle.folder_store.proofs.MailMoves.{moved_rests}
+use Rattle.folder_store.proofs.{MailCalls.{maildir_same, not_settled}, MailMoves.moved_rests}
 use Rattle.folder_store.proofs.maildir.FolderMaildirMaildirDisk.settle.Goals as goal
 
 pub returns-then-not-is_file_name-clause-settles : goal.returns-then-not-is_file_name-clause-settles

@@ -1,6 +1,5 @@
 use Rattle.std.proofs.Common.{◌∙◌}
-use Rattle.getmail_program.proofs.EarlyLemmas.{one_line}
-use Rattle.getmail_program.specs.Teller.{wrote_both}
+use Rattle.getmail_program.{proofs.EarlyLemmas.one_line, specs.Teller.wrote_both}
 use Rattle.getmail_program.proofs.teller.TellerListener.hear.Goals as goal
 
 pub loop-i-preserved : goal.loop-i-preserved

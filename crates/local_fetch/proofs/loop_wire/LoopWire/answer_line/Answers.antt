@@ -1,8 +1,6 @@
-use Rattle.std.proofs.Common.{◌≡◌, ◌+◌, ◌-◌, [], ◌++◌, append-nil, refl, sym, ◌∙◌, true≢false, arith}
-use Rattle.std.proofs.lemmas.List.{take-append-le}
+use Rattle.std.proofs.{Common.{◌≡◌, ◌+◌, ◌-◌, [], ◌++◌, append-nil, refl, sym, ◌∙◌, true≢false, arith}, lemmas.List.take-append-le}
 use Rattle.pop3_server.specs.ServerMachine.{greeting_line}
-use Rattle.local_fetch.specs.LoopLaws.{serves_none}
-use Rattle.local_fetch.proofs.LoopLemmas.{serves_one}
+use Rattle.local_fetch.{specs.LoopLaws.serves_none, proofs.LoopLemmas.serves_one}
 use Rattle.local_fetch.proofs.loop_wire.LoopWire.answer_line.Goals as goal
 
 pub returns-in_default-clause-serves : goal.returns-in_default-clause-serves

@@ -1,6 +1,5 @@
-use Rattle.std.proofs.Common.{ℕ, List, ◌++◌, ◌∙◌, ap, sym, ◌≤◌, [], arith}
+use Rattle.std.proofs.{Common.{ℕ, List, ◌++◌, ◌∙◌, ap, sym, ◌≤◌, [], arith}, lemmas.List.{drop-append-le, take_rest}}
 use Rattle.pop3_server.specs.ServerMachine.{greeting_line}
-use Rattle.std.proofs.lemmas.List.{drop-append-le, take_rest}
 use Rattle.local_fetch.proofs.LoopLemmas.{left_second}
 use Rattle.local_fetch.proofs.loop_wire.LoopWire.piece.Goals as goal
 

@@ -1,9 +1,12 @@
-use Rattle.std.proofs.Common.{◌≡◌, ◌≤◌, ◌+◌, ◌++◌, [], length, length-drop, drop, eqb-true, inl, inr, ap, refl, arith, take-append-drop}
-use Rattle.std.proofs.{lemmas.Bool.or_cases, lemmas.List.nil_from_length}
+use Rattle.std.proofs.{
+  Common.{◌≡◌, ◌≤◌, ◌+◌, ◌++◌, [], length, length-drop, drop, eqb-true, inl, inr, ap, refl, arith, take-append-drop},
+  lemmas.{Bool.or_cases, List.nil_from_length},
+}
 use Rattle.pop3_server.specs.ServerMachine.{greeting_line}
-use Rattle.local_fetch.specs.LoopLaws.{same_refl, serves_none}
-use Rattle.local_fetch.proofs.LoopLemmas.{nothing_sent, Gives, gives, refused}
-use Rattle.local_fetch.proofs.loop_wire.LoopWireWire.recv.Goals.{After-copy_from_slice}
+use Rattle.local_fetch.{
+  specs.LoopLaws.{same_refl, serves_none},
+  proofs.{LoopLemmas.{nothing_sent, Gives, gives, refused}, loop_wire.LoopWireWire.recv.Goals.After-copy_from_slice},
+}
 use Rattle.local_fetch.proofs.loop_wire.LoopWireWire.recv.Goals as goal
 
 pub returns-then-self-clause-got : goal.returns-then-self-clause-got

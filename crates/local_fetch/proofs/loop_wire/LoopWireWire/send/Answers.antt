@@ -1,5 +1,4 @@
-use Rattle.std.proofs.Common.{[], refl, sym, append-nil}
-use Rattle.std.proofs.lemmas.List.{drop-append-le}
+use Rattle.std.proofs.{Common.{[], refl, sym, append-nil}, lemmas.List.drop-append-le}
 use Rattle.local_fetch.proofs.LoopLemmas.{kept, serves_sent, nothing_sent, refused}
 use Rattle.local_fetch.proofs.loop_wire.LoopWireWire.send.Goals as goal
 

@@ -1,4 +1,4 @@
-use Rattle.std.proofs.{Common.arith, lemmas.Str.IsUtf8-from_ascii, lemmas.Str.Ascii.IsAscii-from_all}
+use Rattle.std.proofs.{Common.arith, lemmas.Str.{IsUtf8-from_ascii, Ascii.IsAscii-from_all}}
 use Rattle.mail_store.proofs.account.AccountId.as_str.Goals as goal
 
 pub unwrap-requires : goal.unwrap-requires

@@ -1,7 +1,12 @@
-use Rattle.std.proofs.Common.{◌≡◌, List, ℕ, [], length, rules, sym, refl, ◌∙◌, eqb-true, Result, Ok, Err, Some, IfErr}
-use Rattle.std.proofs.lemmas.List.{nil_from_length}
-use Rattle.mail_store.specs.{declared.fault.StoreFault.StoreFault, declared.fault.StoreFault.TheVariants.Refused, FileName.sized}
-use Rattle.mail_store.specs.Maildir.{Maildir, Settles, Delivers, draft, mail}
+use Rattle.std.proofs.{
+  Common.{◌≡◌, List, ℕ, [], length, rules, sym, refl, ◌∙◌, eqb-true, Result, Ok, Err, Some, IfErr},
+  lemmas.List.nil_from_length,
+}
+use Rattle.mail_store.specs.{
+  declared.fault.StoreFault.{StoreFault, TheVariants.Refused},
+  FileName.sized,
+  Maildir.{Maildir, Settles, Delivers, draft, mail},
+}
 use Rattle.mail_store.proofs.maildir.delivery.deliver.Goals as goal
 
 -- a file of these bytes was begun under any name, and settled under this one

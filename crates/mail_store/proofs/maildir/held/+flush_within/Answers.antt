@@ -1,8 +1,8 @@
-use Rattle.std.proofs.Common.{◌∙◌, [], ap, sym, subst, eqb-true, Global}
-use Rattle.std.proofs.{lemmas.Bool.false≢true, lemmas.List.nil_from_length}
-use Rattle.mail_store.specs.Maildir.{Maildir, WereTaken}
-use Rattle.mail_store.specs.{Held.flags_asked, Loss.with_flushed}
-use Rattle.mail_store.proofs.MaildirLemmas.{asked_flushed, durable_left, found_durable, named_flushed, taken_flushed, taken_on}
+use Rattle.std.proofs.{Common.{◌∙◌, [], ap, sym, subst, eqb-true, Global}, lemmas.{Bool.false≢true, List.nil_from_length}}
+use Rattle.mail_store.{
+  specs.{Maildir.{Maildir, WereTaken}, Held.flags_asked, Loss.with_flushed},
+  proofs.MaildirLemmas.{asked_flushed, durable_left, found_durable, named_flushed, taken_flushed, taken_on},
+}
 use Rattle.mail_store.proofs.maildir.held.+flush_within.Goals as goal
 
 pub returns-then-is_empty-clause-finds : goal.returns-then-is_empty-clause-finds

@@ -1,5 +1,4 @@
-use Rattle.std.proofs.Common.{◌∙◌, sym, arith}
-use Rattle.std.proofs.{lemmas.Cmp.nat_list_eq_equiv, lemmas.Map.Text.is_eq-slice_cmp}
+use Rattle.std.proofs.{Common.{◌∙◌, sym, arith}, lemmas.{Cmp.nat_list_eq_equiv, Map.Text.is_eq-slice_cmp}}
 use Rattle.mail_store.proofs.MaildirLemmas.{same_digits}
 use Rattle.mail_store.proofs.maildir.held.add_name.Goals as goal
 

@@ -1,5 +1,4 @@
-use Rattle.std.proofs.Common.{[], arith}
-use Rattle.std.proofs.lemmas.List.{map_more}
+use Rattle.std.proofs.{Common.{[], arith}, lemmas.List.map_more}
 use Rattle.hex.specs.Hex.{encode_lower}
 use Rattle.mail_terms.specs.Listing.{Item}
 use Rattle.mail_store.specs.Held.{has_text}

@@ -1,7 +1,6 @@
 use Rattle.std.proofs.Common.{◌≤◌, [], ap, arith, length, sym, take_all, ◌∙◌}
 use Rattle.mail_terms.specs.Listing.{Item}
-use Rattle.mail_store.specs.Held.{has_text}
-use Rattle.mail_store.proofs.MaildirLemmas.{length-sought, sought_more}
+use Rattle.mail_store.{specs.Held.has_text, proofs.MaildirLemmas.{length-sought, sought_more}}
 use Rattle.mail_store.proofs.maildir.held.flags_sought.Goals as goal
 
 pub loop-i-preserved : goal.loop-i-preserved

@@ -1,7 +1,5 @@
-use Rattle.std.proofs.Common.{Bool, List, refl, sym, subst, true, ◌∙◌}
-use Rattle.std.proofs.lemmas.Simd.{splat_is_map}
-use Rattle.mail_store.specs.Held.{FindsFlags}
-use Rattle.mail_store.proofs.MaildirLemmas.{none_taken, sought_all}
+use Rattle.std.proofs.{Common.{Bool, List, refl, sym, subst, true, ◌∙◌}, lemmas.Simd.splat_is_map}
+use Rattle.mail_store.{specs.Held.FindsFlags, proofs.MaildirLemmas.{none_taken, sought_all}}
 use Rattle.mail_terms.proofs.ErrLemmas.{err_is}
 use Rattle.mail_store.proofs.maildir.held.held.Goals as goal
 

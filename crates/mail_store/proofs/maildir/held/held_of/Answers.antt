@@ -1,6 +1,5 @@
 use Rattle.std.proofs.Common.{◌≡◌, List, ℕ, refl, false}
-use Rattle.mail_store.specs.Held.{has_text}
-use Rattle.mail_store.proofs.MaildirLemmas.{flags_among, none_taken}
+use Rattle.mail_store.{specs.Held.has_text, proofs.MaildirLemmas.{flags_among, none_taken}}
 use Rattle.mail_terms.proofs.ErrLemmas.{err_is}
 use Rattle.mail_store.proofs.maildir.held.held_of.Goals as goal
 

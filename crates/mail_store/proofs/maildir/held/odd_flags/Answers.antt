@@ -1,8 +1,6 @@
-use Rattle.std.proofs.Common.{◌≡◌, ◌∙◌, List, ℕ, refl, false}
-use Rattle.std.proofs.lemmas.Result.{IfOk-weaker}
+use Rattle.std.proofs.{Common.{◌≡◌, ◌∙◌, List, ℕ, refl, false}, lemmas.Result.IfOk-weaker}
 use Rattle.hex.specs.Hex.{encode_lower}
-use Rattle.mail_store.specs.Held.{has_text}
-use Rattle.mail_store.proofs.MaildirLemmas.{odd_found}
+use Rattle.mail_store.{specs.Held.has_text, proofs.MaildirLemmas.odd_found}
 use Rattle.mail_store.proofs.maildir.held.odd_flags.Goals as goal
 
 pub returns-clause-flags : goal.returns-clause-flags

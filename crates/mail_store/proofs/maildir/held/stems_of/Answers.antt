@@ -1,5 +1,4 @@
-use Rattle.std.proofs.Common.{arith, below_more}
-use Rattle.std.proofs.lemmas.Bool.{both_ways}
+use Rattle.std.proofs.{Common.{arith, below_more}, lemmas.Bool.both_ways}
 use Rattle.mail_store.proofs.MaildirLemmas.{stems_more}
 use Rattle.mail_store.proofs.maildir.held.stems_of.Goals as goal
 

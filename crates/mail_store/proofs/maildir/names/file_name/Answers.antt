@@ -1,5 +1,4 @@
-use Rattle.std.proofs.Common.{◌++◌, string_bytes, codes, decimal, length-append, arith}
-use Rattle.std.proofs.lemmas.Fmt.{length-decimal-le}
+use Rattle.std.proofs.{Common.{◌++◌, string_bytes, codes, decimal, length-append, arith}, lemmas.Fmt.length-decimal-le}
 use Rattle.mail_store.proofs.maildir.names.file_name.Goals as goal
 
 pub returns-clause-short : goal.returns-clause-short

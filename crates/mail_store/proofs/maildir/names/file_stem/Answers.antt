@@ -1,6 +1,5 @@
 use Rattle.std.proofs.Common.{◌≡◌, ◌∙◌, string_bytes, ap, length, lit<, arith, rules, append_assoc, length-append, ◌∷◌}
-use Rattle.hex.specs.Hex.{encode_lower, lower_digits}
-use Rattle.hex.proofs.HexLemmas.{length-encode_with}
+use Rattle.hex.{specs.Hex.{encode_lower, lower_digits}, proofs.HexLemmas.length-encode_with}
 use Rattle.mail_store.specs.FileName.{stem_of}
 use Rattle.mail_store.proofs.maildir.names.file_stem.Goals as goal
 

@@ -1,5 +1,4 @@
-use Rattle.std.proofs.Common.{[], ◌∷◌, Global, map, string_bytes, sym, take}
-use Rattle.std.proofs.{lemmas.List.map_more, lemmas.List.Elements.filter-append}
+use Rattle.std.proofs.{Common.{[], ◌∷◌, Global, map, string_bytes, sym, take}, lemmas.List.{map_more, Elements.filter-append}}
 use Rattle.mail_store.specs.Held.{is_sought}
 use Rattle.mail_store.proofs.maildir.names.sought_names.Goals as goal
 

@@ -1,19 +1,17 @@
-use Rattle.std.proofs.Common.{◌≡◌, ◌++◌, ℕ, Some, List, [], inl, inr, length, sym, refl, ap, ◌∙◌, arith, length-append}
-use Rattle.std.proofs.Common.{append-nil, take_at, Ok, Err, Result, Option, subst}
-use Rattle.std.specs.Prelude.{IfErr, OnOk}
-use Rattle.std.proofs.lemmas.Option.{same_Some}
-use Rattle.mail_store.specs.{declared.file.flat_file.Edges.Edges, declared.fault.EntryFault.EntryFault}
-use Rattle.mail_store.specs.declared.fault.EntryFault.TheVariants.{Nothing, Front}
-use Rattle.mail_store.specs.{declared.fault.StoreFault.StoreFault, FlatFile.Stored, Mboxrd.entry_of, MboxCalls.IsStillDurable}
-use Rattle.mail_store.specs.DiskCalls.{CutsDisk, FlushesDisk}
-use Rattle.mail_store.specs.Durable.{Disk, IsDurable, Trusted, MayLeave, seen_on}
-use Rattle.mail_store.specs.Power.{KeepsWhole, LeavesPart}
-use Rattle.mail_store.specs.Settling.{MayBeLeft}
-use Rattle.mail_store.proofs.DiskLemmas.{all_no_more, all_trust, durable_append, cut_back, durable_cut, durable_trust}
-use Rattle.mail_store.proofs.DiskLemmas.{flush_durable, durable_flush}
-use Rattle.mail_store.proofs.{DurableLemmas.durable_is_left, mboxrd.entry.append_entry.Given.Over}
-use Rattle.mail_store.proofs.SettlingLemmas.{cut_keeps, longer_keeps}
-use Rattle.mail_store.proofs.mboxrd.entry.append_entry.Goals.{After-cut_to}
+use Rattle.std.{
+  proofs.Common.{◌≡◌, ◌++◌, ℕ, Some, List, [], inl, inr, length, sym, refl, ap, ◌∙◌, arith, length-append, append-nil, take_at, Ok, Err},
+  proofs.Common.{Result, Option, subst},
+  proofs.lemmas.Option.same_Some,
+  specs.Prelude.{IfErr, OnOk},
+}
+use Rattle.mail_store.{
+  specs.declared.{file.flat_file.Edges.Edges, fault.{EntryFault.{EntryFault, TheVariants.{Nothing, Front}}, StoreFault.StoreFault}},
+  specs.{FlatFile.Stored, Mboxrd.entry_of, MboxCalls.IsStillDurable, DiskCalls.{CutsDisk, FlushesDisk}, Power.{KeepsWhole, LeavesPart}},
+  specs.{Durable.{Disk, IsDurable, Trusted, MayLeave, seen_on}, Settling.MayBeLeft},
+  proofs.DiskLemmas.{all_no_more, all_trust, durable_append, cut_back, durable_cut, durable_trust, flush_durable, durable_flush},
+  proofs.{DurableLemmas.durable_is_left, mboxrd.entry.append_entry.{Given.Over, Goals.After-cut_to}},
+  proofs.SettlingLemmas.{cut_keeps, longer_keeps},
+}
 use Rattle.mail_store.proofs.mboxrd.entry.append_entry.Goals as goal
 
 pub cut_to-requires : goal.cut_to-requires

@@ -1,8 +1,11 @@
-use Rattle.std.proofs.Common.{◌≡◌, ◌≤◌, ◌-◌, ◌+◌, List, [], ◌∷◌, ℕ, ◌++◌, ap, arith, drop, length, take, sym, ◌∙◌}
-use Rattle.std.proofs.Common.{append_assoc, length-append, replicate}
-use Rattle.std.proofs.lemmas.List.{drop_at, length-replicate, replicate_more, take_all, take_at}
-use Rattle.mail_store.specs.Mboxrd.{entry_of, quoted_text, separator}
-use Rattle.mail_store.proofs.{MboxLemmas.quoted_longer, mboxrd.entry.make_entry.Goals.In_ok-resize}
+use Rattle.std.proofs.{
+  Common.{◌≡◌, ◌≤◌, ◌-◌, ◌+◌, List, [], ◌∷◌, ℕ, ◌++◌, ap, arith, drop, length, take, sym, ◌∙◌, append_assoc, length-append, replicate},
+  lemmas.List.{drop_at, length-replicate, replicate_more, take_all, take_at},
+}
+use Rattle.mail_store.{
+  specs.Mboxrd.{entry_of, quoted_text, separator},
+  proofs.{MboxLemmas.quoted_longer, mboxrd.entry.make_entry.Goals.In_ok-resize},
+}
 use Rattle.mail_store.proofs.mboxrd.entry.make_entry.Goals as goal
 
 -- there is room for the entry: the text, and after it line ends

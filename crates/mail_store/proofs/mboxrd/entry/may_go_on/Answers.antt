@@ -1,10 +1,8 @@
-use Rattle.std.proofs.Common.{◌≡◌, inl, inr, ℕ, Bool, true, List, [], ◌∷◌, ◌++◌, length, take, drop, sym, ap, ◌∙◌}
-use Rattle.std.proofs.Common.{arith, length-append, bytes_eq}
-use Rattle.std.proofs.lemmas.List.{drop_at, take-append-drop}
-use Rattle.std.proofs.lemmas.Slice.Eq.{bytes_eq-Decides}
-use Rattle.mail_store.specs.FlatFile.{edges_of}
-use Rattle.mail_store.specs.Mboxrd.{from_words, begins_entry, MayGoOn}
-use Rattle.mail_store.proofs.MboxLemmas.{tail_is}
+use Rattle.std.proofs.{
+  Common.{◌≡◌, inl, inr, ℕ, Bool, true, List, [], ◌∷◌, ◌++◌, length, take, drop, sym, ap, ◌∙◌, arith, length-append, bytes_eq},
+  lemmas.{List.{drop_at, take-append-drop}, Slice.Eq.bytes_eq-Decides},
+}
+use Rattle.mail_store.{specs.{FlatFile.edges_of, Mboxrd.{from_words, begins_entry, MayGoOn}}, proofs.MboxLemmas.tail_is}
 use Rattle.mail_store.proofs.mboxrd.entry.may_go_on.Goals as goal
 
 heads_tell : (was : List ℕ) → (edges_of was).head ≡ from_words → begins_entry was ≡ true

@@ -1,5 +1,4 @@
-use Rattle.std.proofs.Common.{◌≡◌, ◌-◌, take, sym, ◌∙◌, arith}
-use Rattle.std.proofs.{lemmas.Bool.true≢false, lemmas.List.length-take-le, lemmas.Option.same_Some}
+use Rattle.std.proofs.{Common.{◌≡◌, ◌-◌, take, sym, ◌∙◌, arith}, lemmas.{Bool.true≢false, List.length-take-le, Option.same_Some}}
 use Rattle.mail_store.proofs.MboxLemmas.{few_are_other, read_whole}
 use Rattle.mail_store.proofs.mboxrd.entry.peek_front.Goals as goal
 

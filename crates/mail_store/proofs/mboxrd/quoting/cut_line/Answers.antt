@@ -1,5 +1,4 @@
-use Rattle.std.proofs.Common.{inr, refl, sym, arith, slice_index}
-use Rattle.std.proofs.{lemmas.Bool.Decides.Decides-eqb, lemmas.List.append-nil}
+use Rattle.std.proofs.{Common.{inr, refl, sym, arith, slice_index}, lemmas.{Bool.Decides.Decides-eqb, List.append-nil}}
 use Rattle.mail_store.proofs.MboxLemmas.{cut_at, piece_alone, plain_all}
 use Rattle.mail_store.proofs.mboxrd.quoting.cut_line.Goals as goal
 

@@ -1,5 +1,4 @@
-use Rattle.std.proofs.Common.{[], ◌∷◌, arith}
-use Rattle.std.proofs.{lemmas.Bool.Decides.Decides-eqb, lemmas.Slice.Eq.ends_is}
+use Rattle.std.proofs.{Common.{[], ◌∷◌, arith}, lemmas.{Bool.Decides.Decides-eqb, Slice.Eq.ends_is}}
 use Rattle.mail_store.proofs.mboxrd.quoting.is_whole.Goals as goal
 
 pub returns-else-is_empty : goal.returns-else-is_empty

@@ -1,5 +1,7 @@
-use Rattle.std.proofs.Common.{◌≡◌, inl, inr, [], ◌∷◌, ◌+◌, ◌-◌, length, take, ap, arith, length-append, slice_index, take_at}
-use Rattle.std.proofs.lemmas.Bool.Decides.{Decides-eqb}
+use Rattle.std.proofs.{
+  Common.{◌≡◌, inl, inr, [], ◌∷◌, ◌+◌, ◌-◌, length, take, ap, arith, length-append, slice_index, take_at},
+  lemmas.Bool.Decides.Decides-eqb,
+}
 use Rattle.mail_store.proofs.MboxLemmas.{line_back}
 use Rattle.mail_store.proofs.mboxrd.quoting.last_line.Goals as goal
 

@@ -1,6 +1,5 @@
 use Rattle.std.proofs.Common.{◌++◌, ◌∷◌, [], List, ℕ, ◌∙◌, sym, ap}
-use Rattle.mail_store.specs.Mboxrd.{quoted}
-use Rattle.mail_store.proofs.MboxLemmas.{copies_changed}
+use Rattle.mail_store.{specs.Mboxrd.quoted, proofs.MboxLemmas.copies_changed}
 use Rattle.mail_store.proofs.mboxrd.quoting.quote.Goals as goal
 
 pub loop-rest-preserved-in_ok-push : goal.loop-rest-preserved-in_ok-push

@@ -1,6 +1,5 @@
 use Rattle.std.proofs.Common.{length}
-use Rattle.mail_store.specs.Mboxrd.{quoted}
-use Rattle.mail_store.proofs.MboxLemmas.{Copies}
+use Rattle.mail_store.{specs.Mboxrd.quoted, proofs.MboxLemmas.Copies}
 use Rattle.mail_store.proofs.mboxrd.quoting.quote.Given as goal
 
 abbrev pub invariant-loop-rest : goal.invariant-loop-rest

@@ -1,11 +1,13 @@
-use Rattle.std.proofs.Common.{◌≡◌, ◌≤◌, List, ℕ, ◌++◌, ◌+◌, ◌-◌, length, take, drop, arith, ap, ◌∙◌, sym, append_assoc}
-use Rattle.std.proofs.Common.{length-append, slice_range}
-use Rattle.std.proofs.lemmas.List.{drop-append-le, drop-take, length-take-le, take-append-drop, take-take}
+use Rattle.std.proofs.{
+  Common.{◌≡◌, ◌≤◌, List, ℕ, ◌++◌, ◌+◌, ◌-◌, length, take, drop, arith, ap, ◌∙◌, sym, append_assoc, length-append, slice_range},
+  lemmas.List.{drop-append-le, drop-take, length-take-le, take-append-drop, take-take},
+}
 use Rattle.mail_terms.specs.Text.{IsWhole}
-use Rattle.mail_store.specs.Mboxrd.{quoted, quoted_text}
-use Rattle.mail_store.proofs.MboxLemmas.{quoted_first, quoted_last, quoted_longer}
+use Rattle.mail_store.{
+  specs.Mboxrd.{quoted, quoted_text},
+  proofs.{MboxLemmas.{quoted_first, quoted_last, quoted_longer}, mboxrd.quoting.quote_within.Goals.After-last_line-start},
+}
 use Rattle.mail_store.proofs.mboxrd.quoting.quote_within.Goals as goal
-use Rattle.mail_store.proofs.mboxrd.quoting.quote_within.Goals.{After-last_line-start}
 
 -- the last line before `from`, for which there is room before what is quoted
 record Last (text bytes : List ℕ) (start from to : ℕ) : Type 0 where

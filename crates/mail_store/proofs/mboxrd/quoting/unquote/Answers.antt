@@ -1,7 +1,5 @@
-use Rattle.std.proofs.Common.{ap, [], drop, ◌∙◌, sym}
-use Rattle.std.proofs.lemmas.List.{take_rest, append-nil, drop-append-le}
-use Rattle.mail_store.specs.Mboxrd.{unquoted}
-use Rattle.mail_store.proofs.MboxLemmas.{copies_changed}
+use Rattle.std.proofs.{Common.{ap, [], drop, ◌∙◌, sym}, lemmas.List.{take_rest, append-nil, drop-append-le}}
+use Rattle.mail_store.{specs.Mboxrd.unquoted, proofs.MboxLemmas.copies_changed}
 use Rattle.mail_store.proofs.mboxrd.quoting.unquote.Goals as goal
 
 pub loop-rest-preserved-in_ok-extend_from_slice : goal.loop-rest-preserved-in_ok-extend_from_slice

@@ -1,6 +1,5 @@
 use Rattle.std.proofs.Common.{[], ◌∷◌, ◌++◌, refl, sym, subst, ◌∙◌, arith, append_assoc}
-use Rattle.mail_store.specs.Mboxrd.{lines_of, IsApart, OpensEntry}
-use Rattle.mail_store.proofs.MboxLemmas.{front_taken}
+use Rattle.mail_store.{specs.Mboxrd.{lines_of, IsApart, OpensEntry}, proofs.MboxLemmas.front_taken}
 use Rattle.mail_terms.proofs.ListLemmas.{all_append}
 use Rattle.mail_store.proofs.mboxrd.reading.cut_group.Goals as goal
 

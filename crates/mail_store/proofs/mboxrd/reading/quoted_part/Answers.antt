@@ -1,8 +1,11 @@
-use Rattle.std.proofs.Common.{◌≡◌, [], ◌∷◌, ◌++◌, ℕ, List, None, Some, sym, ap, ◌∙◌, arith, inl, inr, length, true≢false}
-use Rattle.std.proofs.{lemmas.Bool.Decides.Decides-eqb, lemmas.Slice.Eq.strip_suffix_is}
-use Rattle.std.proofs.lemmas.List.{append_cancel_left, append_cancel_right, length-append}
-use Rattle.mail_store.specs.Mboxrd.{lines_of, IsHead, HoldsText}
-use Rattle.mail_store.proofs.{MboxLemmas.line_first, mboxrd.reading.quoted_part.Goals.After-cut_line}
+use Rattle.std.proofs.{
+  Common.{◌≡◌, [], ◌∷◌, ◌++◌, ℕ, List, None, Some, sym, ap, ◌∙◌, arith, inl, inr, length, true≢false},
+  lemmas.{Bool.Decides.Decides-eqb, Slice.Eq.strip_suffix_is, List.{append_cancel_left, append_cancel_right, length-append}},
+}
+use Rattle.mail_store.{
+  specs.Mboxrd.{lines_of, IsHead, HoldsText},
+  proofs.{MboxLemmas.line_first, mboxrd.reading.quoted_part.Goals.After-cut_line},
+}
 use Rattle.mail_store.proofs.mboxrd.reading.quoted_part.Goals as goal
 
 -- the parts of a group that holds a text

@@ -1,7 +1,8 @@
-use Rattle.std.proofs.Common.{ℕ, ◌++◌, map, refl, sym, ◌∙◌, arith, append_assoc, Vec, Global}
-use Rattle.std.proofs.lemmas.List.{map_push}
-use Rattle.mail_store.specs.Mboxrd.{group_text}
-use Rattle.mail_store.proofs.MboxLemmas.{adds_group, agrees, group_of, group_of_bytes, holds_group, inner_lines, joined, joined_whole}
+use Rattle.std.proofs.{Common.{ℕ, ◌++◌, map, refl, sym, ◌∙◌, arith, append_assoc, Vec, Global}, lemmas.List.map_push}
+use Rattle.mail_store.{
+  specs.Mboxrd.group_text,
+  proofs.MboxLemmas.{adds_group, agrees, group_of, group_of_bytes, holds_group, inner_lines, joined, joined_whole},
+}
 use Rattle.mail_store.proofs.mboxrd.reading.read_mbox.Goals as goal
 
 pub returns-in_default : goal.returns-in_default

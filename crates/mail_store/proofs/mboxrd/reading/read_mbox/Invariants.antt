@@ -1,6 +1,5 @@
 use Rattle.std.proofs.Common.{length}
-use Rattle.mail_store.specs.MboxCalls.{text_bytes}
-use Rattle.mail_store.proofs.MboxLemmas.{ReadsOn}
+use Rattle.mail_store.{specs.MboxCalls.text_bytes, proofs.MboxLemmas.ReadsOn}
 use Rattle.mail_store.proofs.mboxrd.reading.read_mbox.Given as goal
 
 abbrev pub invariant-loop-rest : goal.invariant-loop-rest

@@ -1,5 +1,4 @@
-use Rattle.std.proofs.Common.{[], arith}
-use Rattle.std.proofs.lemmas.List.{drop_more}
+use Rattle.std.proofs.{Common.{[], arith}, lemmas.List.drop_more}
 use Rattle.mail_terms.specs.Listing.{Item}
 use Rattle.mail_store.proofs.mboxrd.settling.listed_size.Goals as goal
 

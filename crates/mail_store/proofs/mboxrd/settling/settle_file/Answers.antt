@@ -1,8 +1,8 @@
 use Rattle.std.proofs.Common.{inl, inr, ⊎_elim, ap, sym, ◌∙◌}
-use Rattle.mail_store.specs.Durable.{Trusted, MayLeave}
-use Rattle.mail_store.specs.FlatFile.{Stored}
-use Rattle.mail_store.specs.Power.{LeavesCut, LeavesFront}
-use Rattle.mail_store.proofs.{DiskLemmas.durable_cut, mboxrd.settling.settle_file.Goals.After-cut_to}
+use Rattle.mail_store.{
+  specs.{Durable.{Trusted, MayLeave}, FlatFile.Stored, Power.{LeavesCut, LeavesFront}},
+  proofs.{DiskLemmas.durable_cut, mboxrd.settling.settle_file.Goals.After-cut_to},
+}
 use Rattle.mail_store.proofs.mboxrd.settling.settle_file.Goals as goal
 
 cut_back : (g : _) (c : After-cut_to g) → g.F.FlatFile.sound c.cut_to.new.self

@@ -1,8 +1,8 @@
-use Rattle.std.proofs.Common.{List, Err, length, map, ap, sym, subst, arith}
-use Rattle.std.proofs.lemmas.List.{length-map}
-use Rattle.mail_terms.specs.{declared.listing.UidPlace.UidPlace, declared.listing.ScanRow.ScanRow, IdPlaces.item_at}
-use Rattle.mail_terms.specs.Listing.{Joins, UidRow}
-use Rattle.mail_terms.proofs.ListingLemmas.{numbered_by_places, within_places, joins_from_places, items_have_ids, ids_are_legal}
+use Rattle.std.proofs.{Common.{List, Err, length, map, ap, sym, subst, arith}, lemmas.List.length-map}
+use Rattle.mail_terms.{
+  specs.{declared.listing.{UidPlace.UidPlace, ScanRow.ScanRow}, IdPlaces.item_at, Listing.{Joins, UidRow}},
+  proofs.ListingLemmas.{numbered_by_places, within_places, joins_from_places, items_have_ids, ids_are_legal},
+}
 use Rattle.mail_terms.proofs.listing.Listing.join.Goals as goal
 
 pub returns-in_err-uid_places-clause-disagree : goal.returns-in_err-uid_places-clause-disagree

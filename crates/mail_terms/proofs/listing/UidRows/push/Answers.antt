@@ -1,7 +1,8 @@
-use Rattle.std.proofs.Common.{◌≡◌, ◌∙◌, List, ℕ, [], ◌∷◌, ◌++◌, length, map, ap, arith, length-append}
-use Rattle.std.proofs.lemmas.List.{length-map}
-use Rattle.mail_terms.specs.{declared.listing.UidPlace.UidPlace, Listing.UidRow, IdPlaces.row_at}
-use Rattle.mail_terms.proofs.ListingLemmas.{row_added, holds_added}
+use Rattle.std.proofs.{Common.{◌≡◌, ◌∙◌, List, ℕ, [], ◌∷◌, ◌++◌, length, map, ap, arith, length-append}, lemmas.List.length-map}
+use Rattle.mail_terms.{
+  specs.{declared.listing.UidPlace.UidPlace, Listing.UidRow, IdPlaces.row_at},
+  proofs.ListingLemmas.{row_added, holds_added},
+}
 use Rattle.mail_terms.proofs.listing.UidRows.push.Goals as goal
 
 pub invariant_of-self-2 : goal.invariant_of-self-2

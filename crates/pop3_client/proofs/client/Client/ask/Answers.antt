@@ -1,7 +1,5 @@
-use Rattle.std.proofs.Common.{take, sym, ◌∙◌}
-use Rattle.std.proofs.lemmas.Bool.{false≢true}
-use Rattle.pop3_client.specs.Client.{place_of}
-use Rattle.pop3_client.proofs.TalkLemmas.{opened}
+use Rattle.std.proofs.{Common.{take, sym, ◌∙◌}, lemmas.Bool.false≢true}
+use Rattle.pop3_client.{specs.Client.place_of, proofs.TalkLemmas.opened}
 use Rattle.pop3_wire.proofs.LinkLemmas.{and_then}
 use Rattle.pop3_client.proofs.client.Client.ask.Goals as goal
 

@@ -1,8 +1,9 @@
 use Rattle.std.proofs.Common.{ℕ, List, subst, Err, rules, take, refl, None}
-use Rattle.pop3_wire.specs.Place.{at}
-use Rattle.pop3_client.specs.{Client.place_of, Turns.stat, Conversation.GivesFew}
-use Rattle.pop3_client.proofs.TalkLemmas.{stat_bytes, sent_for, opened, broke_saying, broke_there, few_heard, talked_line}
-use Rattle.pop3_wire.proofs.LinkLemmas.{and_then, and_then_two}
+use Rattle.pop3_wire.{specs.Place.at, proofs.LinkLemmas.{and_then, and_then_two}}
+use Rattle.pop3_client.{
+  specs.{Client.place_of, Turns.stat, Conversation.GivesFew},
+  proofs.TalkLemmas.{stat_bytes, sent_for, opened, broke_saying, broke_there, few_heard, talked_line},
+}
 use Rattle.mail_terms.proofs.ErrLemmas.{err_is}
 use Rattle.pop3_client.proofs.client.Client.count.Goals as goal
 

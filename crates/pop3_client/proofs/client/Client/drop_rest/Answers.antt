@@ -1,5 +1,4 @@
-use Rattle.std.proofs.Common.{refl, sym, ◌∙◌}
-use Rattle.std.proofs.lemmas.Bool.{false≢true}
+use Rattle.std.proofs.{Common.{refl, sym, ◌∙◌}, lemmas.Bool.false≢true}
 use Rattle.pop3_client.proofs.TalkLemmas.{fetched}
 use Rattle.pop3_wire.proofs.LinkLemmas.{and_then}
 use Rattle.mail_terms.proofs.ErrLemmas.{err_is}

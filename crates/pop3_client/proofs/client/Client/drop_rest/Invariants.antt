@@ -1,7 +1,6 @@
 use Rattle.std.proofs.Common.{◌≡◌, ◌≢◌, ℕ, List}
 use Rattle.pop3_wire.specs.{declared.unstuffer.Spot.TheVariants.Done, Place.Place}
-use Rattle.pop3_client.specs.Client.{HasSameLink, WhereLinkSound}
-use Rattle.pop3_client.specs.{Turns.retr, Texts.Fetching}
+use Rattle.pop3_client.specs.{Client.{HasSameLink, WhereLinkSound}, Turns.retr, Texts.Fetching}
 use Rattle.pop3_client.proofs.client.Client.drop_rest.Given as goal
 
 abbrev pub invariant-pieces : goal.invariant-pieces

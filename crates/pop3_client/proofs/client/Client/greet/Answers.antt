@@ -1,7 +1,5 @@
-use Rattle.std.proofs.Common.{take, refl}
-use Rattle.std.proofs.lemmas.Bool.{false≢true}
-use Rattle.pop3_client.specs.{Client.place_of, Turns.greeting}
-use Rattle.pop3_client.proofs.TalkLemmas.{opened, nothing_said}
+use Rattle.std.proofs.{Common.{take, refl}, lemmas.Bool.false≢true}
+use Rattle.pop3_client.{specs.{Client.place_of, Turns.greeting}, proofs.TalkLemmas.{opened, nothing_said}}
 use Rattle.pop3_wire.proofs.LinkLemmas.{in_words}
 use Rattle.pop3_client.proofs.client.Client.greet.Goals as goal
 

@@ -1,5 +1,4 @@
-use Rattle.pop3_client.specs.Client.{place_of}
-use Rattle.pop3_client.proofs.TalkLemmas.{listed, lists_joined}
+use Rattle.pop3_client.{specs.Client.place_of, proofs.TalkLemmas.{listed, lists_joined}}
 use Rattle.pop3_wire.proofs.LinkLemmas.{and_then}
 use Rattle.pop3_client.proofs.client.Client.list.Goals as goal
 

@@ -1,6 +1,5 @@
-use Rattle.pop3_client.specs.{Client.place_of, Listing.rows_taken, Turns.gives_count}
+use Rattle.pop3_client.{specs.{Client.place_of, Listing.rows_taken, Turns.gives_count}, proofs.TalkLemmas.{lists_of, by_listing}}
 use Rattle.std.proofs.Common.{◌≡◌, false, refl}
-use Rattle.pop3_client.proofs.TalkLemmas.{lists_of, by_listing}
 use Rattle.pop3_wire.proofs.LinkLemmas.{and_then}
 use Rattle.pop3_client.proofs.client.Client.listing.Goals as goal
 

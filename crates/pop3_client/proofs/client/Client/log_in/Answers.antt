@@ -1,6 +1,8 @@
 use Rattle.std.proofs.Common.{◌∙◌, ◌∷◌, [], ap, refl, List, ℕ}
-use Rattle.pop3_client.specs.Turns.{turn_bytes, greeting, user, pass}
-use Rattle.pop3_client.proofs.TalkLemmas.{asks_completes, completes_talks, completes_then, talked_line, stopped_first, stopped_behind}
+use Rattle.pop3_client.{
+  specs.Turns.{turn_bytes, greeting, user, pass},
+  proofs.TalkLemmas.{asks_completes, completes_talks, completes_then, talked_line, stopped_first, stopped_behind},
+}
 use Rattle.pop3_wire.proofs.LinkLemmas.{and_then}
 use Rattle.mail_terms.proofs.ErrLemmas.{err_is}
 use Rattle.pop3_client.proofs.client.Client.log_in.Goals as goal

@@ -1,8 +1,9 @@
 use Rattle.std.proofs.Common.{inr, refl, arith, ◌++◌}
-use Rattle.pop3_client.specs.declared.fault.ClientFault.TheVariants.{ConnectionEnded, ReadFailed, TextTooLong}
-use Rattle.pop3_client.specs.{Client.place_of, Texts.Fetching}
-use Rattle.pop3_client.specs.Turns.{retr, text_limit}
-use Rattle.pop3_client.proofs.TalkLemmas.{fetched, broke_text}
+use Rattle.pop3_client.{
+  specs.{declared.fault.ClientFault.TheVariants.{ConnectionEnded, ReadFailed, TextTooLong}, Client.place_of, Texts.Fetching},
+  specs.Turns.{retr, text_limit},
+  proofs.TalkLemmas.{fetched, broke_text},
+}
 use Rattle.pop3_wire.proofs.LinkLemmas.{in_words, and_then}
 use Rattle.pop3_client.proofs.client.Client.next_piece.Goals as goal
 

@@ -1,7 +1,5 @@
 use Rattle.std.proofs.Common.{◌∷◌, []}
-use Rattle.pop3_client.specs.Client.{place_of}
-use Rattle.pop3_client.specs.Turns.{rset, quit}
-use Rattle.pop3_client.proofs.TalkLemmas.{completes_talks, completes_then}
+use Rattle.pop3_client.{specs.{Client.place_of, Turns.{rset, quit}}, proofs.TalkLemmas.{completes_talks, completes_then}}
 use Rattle.pop3_wire.proofs.LinkLemmas.{and_then}
 use Rattle.pop3_client.proofs.client.Client.reset_and_quit.Goals as goal
 

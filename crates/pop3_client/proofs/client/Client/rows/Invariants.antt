@@ -1,7 +1,6 @@
 use Rattle.std.proofs.Common.{◌≡◌, ◌-◌, length}
-use Rattle.pop3_client.specs.Client.{HasSameLink, WhereLinkSound}
+use Rattle.pop3_client.{specs.Client.{HasSameLink, WhereLinkSound}, proofs.TalkLemmas.TookRows}
 use Rattle.mail_terms.specs.Listing.{message_limit}
-use Rattle.pop3_client.proofs.TalkLemmas.{TookRows}
 use Rattle.pop3_client.proofs.client.Client.rows.Given as goal
 
 abbrev pub invariant-rows : goal.invariant-rows

@@ -1,9 +1,10 @@
 use Rattle.std.proofs.Common.{◌≡◌, ◌≤◌, ◌<◌, ◌+◌, ◌*◌, length, arith, refl, ap, ◌∙◌, Ok, length-append, length-drop}
-use Rattle.pop3_wire.specs.Link.{Link}
-use Rattle.pop3_server.specs.Got.{Waiting}
-use Rattle.pop3_server.proofs.ServeLemmas.{dropped_line, reads_long, reads_more, reads_end, reads_cut}
-use Rattle.pop3_server.proofs.intake.Intake.next.Goals.{then-not-is_long, else-not-is_long}
-use Rattle.pop3_wire.proofs.LinkLemmas.{in_words, and_then}
+use Rattle.pop3_wire.{specs.Link.Link, proofs.LinkLemmas.{in_words, and_then}}
+use Rattle.pop3_server.{
+  specs.Got.Waiting,
+  proofs.ServeLemmas.{dropped_line, reads_long, reads_more, reads_end, reads_cut},
+  proofs.intake.Intake.next.Goals.{then-not-is_long, else-not-is_long},
+}
 use Rattle.mail_terms.proofs.ErrLemmas.{err_is}
 use Rattle.pop3_server.proofs.intake.Intake.next.Goals as goal
 

@@ -1,5 +1,4 @@
-use Rattle.std.proofs.Common.{arith, length-append}
-use Rattle.std.proofs.lemmas.List.{map-append}
+use Rattle.std.proofs.{Common.{arith, length-append}, lemmas.List.map-append}
 use Rattle.pop3_wire.specs.World.{Message}
 use Rattle.pop3_server.proofs.SlotLemmas.{there-append, distinct_push}
 use Rattle.pop3_server.proofs.memory_drop.MemoryDrop.push.Goals as goal

@@ -1,8 +1,9 @@
-use Rattle.std.proofs.Common.{◌≡◌, length, map, Some, Option, List, is_some, ◌∙◌, ap, arith, rules}
-use Rattle.std.proofs.{lemmas.List.Elements.filter_from_retain, lemmas.Simd.map-map}
+use Rattle.std.proofs.{
+  Common.{◌≡◌, length, map, Some, Option, List, is_some, ◌∙◌, ap, arith, rules},
+  lemmas.{List.Elements.filter_from_retain, Simd.map-map},
+}
 use Rattle.pop3_wire.specs.World.{Message}
-use Rattle.pop3_server.specs.Maildrop.{DropMail, there, listed_message}
-use Rattle.pop3_server.proofs.SlotLemmas.{there_map, filter_there}
+use Rattle.pop3_server.{specs.Maildrop.{DropMail, there, listed_message}, proofs.SlotLemmas.{there_map, filter_there}}
 use Rattle.pop3_server.proofs.memory_drop.MemoryDropMaildrop.entries.Goals as goal
 
 kept_is : (c : goal.After-retain) → c.retain.new.self.items ≡ map (λ m. Some m) (there c.self.inside.slots.items)

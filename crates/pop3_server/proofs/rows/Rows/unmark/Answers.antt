@@ -1,5 +1,4 @@
-use Rattle.std.proofs.Common.{◌<◌, ◌∙◌, ap, sym, arith, length, slice_set}
-use Rattle.std.proofs.lemmas.List.Edits.{map_over_more}
+use Rattle.std.proofs.{Common.{◌<◌, ◌∙◌, ap, sym, arith, length, slice_set}, lemmas.List.Edits.map_over_more}
 use Rattle.pop3_server.specs.ServerMachine.{unmarked}
 use Rattle.pop3_server.proofs.rows.Rows.unmark.Goals as goal
 

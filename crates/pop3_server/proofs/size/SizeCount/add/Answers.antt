@@ -1,6 +1,5 @@
 use Rattle.std.proofs.Common.{arith}
-use Rattle.pop3_server.proofs.SizeLemmas.{line_weights, CountsText-more}
-use Rattle.pop3_server.proofs.TextPieceLemmas.{open_append}
+use Rattle.pop3_server.proofs.{SizeLemmas.{line_weights, CountsText-more}, TextPieceLemmas.open_append}
 use Rattle.pop3_server.proofs.size.SizeCount.add.Goals as goal
 
 pub loop-line-preserved : goal.loop-line-preserved

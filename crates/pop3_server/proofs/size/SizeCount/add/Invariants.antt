@@ -1,6 +1,5 @@
 use Rattle.std.proofs.Common.{◌≡◌, ◌+◌, length, sum_by}
-use Rattle.pop3_server.specs.Size.{weight, capped}
-use Rattle.pop3_server.specs.TextPiece.{is_open_after}
+use Rattle.pop3_server.specs.{Size.{weight, capped}, TextPiece.is_open_after}
 use Rattle.pop3_server.proofs.size.SizeCount.add.Given as goal
 
 abbrev pub invariant-loop-line : goal.invariant-loop-line

@@ -1,8 +1,8 @@
-use Rattle.std.proofs.Common.{◌≡◌, ◌+◌, ap, ◌∙◌, arith, []}
-use Rattle.std.proofs.lemmas.List.{drop_all}
-use Rattle.pop3_server.specs.{declared.text_part.TextBody.TextBody, TextBody.still}
-use Rattle.pop3_server.proofs.TextAnswerLemmas.{begins_on, begins_end, reads_none, reads_part}
-use Rattle.pop3_server.proofs.TextBodyLemmas.{none_belongs, still_none}
+use Rattle.std.proofs.{Common.{◌≡◌, ◌+◌, ap, ◌∙◌, arith, []}, lemmas.List.drop_all}
+use Rattle.pop3_server.{
+  specs.{declared.text_part.TextBody.TextBody, TextBody.still},
+  proofs.{TextAnswerLemmas.{begins_on, begins_end, reads_none, reads_part}, TextBodyLemmas.{none_belongs, still_none}},
+}
 use Rattle.pop3_server.proofs.text_part.TextBody.put_part.Goals as goal
 
 pub returns-then-is_whole-clause-goes_on : goal.returns-then-is_whole-clause-goes_on

@@ -1,6 +1,5 @@
 use Rattle.std.proofs.Common.{◌≡◌, ◌++◌, ◌∷◌, ◌-◌, ℕ, List, [], take, length, sym, ap, ◌∙◌, append_assoc, arith, length-append, take_at}
-use Rattle.pop3_server.specs.TextPiece.{taken_of_top}
-use Rattle.pop3_server.proofs.TextTopLemmas.{done_takes_none, not_done, takes_rest}
+use Rattle.pop3_server.{specs.TextPiece.taken_of_top, proofs.TextTopLemmas.{done_takes_none, not_done, takes_rest}}
 use Rattle.pop3_server.proofs.text_top.Top.take.Goals as goal
 
 pub loop-rest-preserved : goal.loop-rest-preserved

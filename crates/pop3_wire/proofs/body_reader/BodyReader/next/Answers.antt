@@ -1,7 +1,5 @@
 use Rattle.std.proofs.Common.{ap, sym, subst, arith}
-use Rattle.pop3_wire.specs.Place.{at}
-use Rattle.pop3_wire.specs.Bodies.{Rest, UnderWay}
-use Rattle.pop3_wire.proofs.BodiesLemmas.{under_way_on, under_way_ends, under_way_too_long}
+use Rattle.pop3_wire.{specs.{Place.at, Bodies.{Rest, UnderWay}}, proofs.BodiesLemmas.{under_way_on, under_way_ends, under_way_too_long}}
 use Rattle.mail_terms.proofs.ErrLemmas.{err_is}
 use Rattle.pop3_wire.proofs.body_reader.BodyReader.next.Goals as goal
 

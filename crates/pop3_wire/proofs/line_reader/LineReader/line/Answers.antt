@@ -1,7 +1,12 @@
-use Rattle.std.proofs.Common.{◌≡◌, ◌<◌, ◌++◌, ℕ, List, [], ◌∷◌, length, Err, ap, ◌∙◌, append-nil, arith, ◌≤◌, ◌+◌, append_assoc}
-use Rattle.std.proofs.Math.Bool.{or-true}
-use Rattle.pop3_wire.specs.{Link.Link, declared.line_reader.LineFault.TheVariants.Ended}
-use Rattle.pop3_wire.specs.Place.{at, Gains, GoesOn, GotPiece, HasNoLine, ReadsLine}
+use Rattle.std.proofs.{
+  Common.{◌≡◌, ◌<◌, ◌++◌, ℕ, List, [], ◌∷◌, length, Err, ap, ◌∙◌, append-nil, arith, ◌≤◌, ◌+◌, append_assoc},
+  Math.Bool.or-true,
+}
+use Rattle.pop3_wire.specs.{
+  Link.Link,
+  declared.line_reader.LineFault.TheVariants.Ended,
+  Place.{at, Gains, GoesOn, GotPiece, HasNoLine, ReadsLine},
+}
 use Rattle.pop3_wire.proofs.line_reader.LineReader.line.Goals as goal
 
 -- the link has ended

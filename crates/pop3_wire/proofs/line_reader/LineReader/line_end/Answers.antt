@@ -1,6 +1,5 @@
 use Rattle.std.proofs.Common.{◌≡◌, ◌-◌, ℕ, length, take, drop, min, sym, subst, arith, length-take}
-use Rattle.pop3_wire.specs.Place.{HasNoLine}
-use Rattle.pop3_wire.proofs.LineReaderLemmas.{line_end_found, line_end_none, no_line_max, no_line_limit}
+use Rattle.pop3_wire.{specs.Place.HasNoLine, proofs.LineReaderLemmas.{line_end_found, line_end_none, no_line_max, no_line_limit}}
 use Rattle.pop3_wire.proofs.line_reader.LineReader.line_end.Goals as goal
 
 pub returns-in-Some-clause-found : goal.returns-in-Some-clause-found

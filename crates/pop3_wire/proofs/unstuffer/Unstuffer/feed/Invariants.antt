@@ -1,6 +1,5 @@
 use Rattle.std.proofs.Common.{◌≡◌, ◌≤◌, ◌+◌, ◌-◌, ◌++◌, ℕ, List, length, take}
-use Rattle.pop3_wire.specs.declared.unstuffer.Spot.TheVariants.{Done}
-use Rattle.pop3_wire.specs.Unstuffing.{Reaches, held_back}
+use Rattle.pop3_wire.specs.{declared.unstuffer.Spot.TheVariants.Done, Unstuffing.{Reaches, held_back}}
 use Rattle.pop3_wire.proofs.unstuffer.Unstuffer.feed.Given as goal
 
 abbrev pub invariant-octets : goal.invariant-octets

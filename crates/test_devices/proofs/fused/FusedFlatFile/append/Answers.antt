@@ -1,8 +1,9 @@
-use Rattle.std.proofs.Common.{ℕ, ◌+◌, ◌/◌, List, ◌++◌, length, take, drop, Result, Ok, Err, sym, ap, ◌∙◌, refl, arith}
-use Rattle.std.proofs.Common.{append_assoc, take-append-drop}
-use Rattle.mail_store.specs.{declared.fault.StoreFault.StoreFault, declared.fault.StoreFault.TheVariants.Refused}
-use Rattle.mail_store.specs.FlatFile.{Stored, Appends}
-use Rattle.mail_store.proofs.DiskLemmas.{front_of_all}
+use Rattle.std.proofs.Common.{ℕ, ◌+◌, ◌/◌, List, ◌++◌, length, take, drop, Result, Ok, Err, sym, ap, ◌∙◌, refl, arith, append_assoc}
+use Rattle.std.proofs.Common.{take-append-drop}
+use Rattle.mail_store.{
+  specs.{declared.fault.StoreFault.{StoreFault, TheVariants.Refused}, FlatFile.{Stored, Appends}},
+  proofs.DiskLemmas.front_of_all,
+}
 use Rattle.test_devices.proofs.fused.FusedFlatFile.append.Goals as goal
 
 -- the first half of the bytes was appended, or a front of it: a front of the bytes is there

@@ -1,5 +1,4 @@
-use Rattle.std.proofs.Common.{refl, arith}
-use Rattle.std.proofs.lemmas.Result.{err_from_is_err_and}
+use Rattle.std.proofs.{Common.{refl, arith}, lemmas.Result.err_from_is_err_and}
 use Rattle.test_devices.proofs.fused.FusedMaildirDisk.add.Goals as goal
 
 -- nothing was added: the file begun has the bytes that it had

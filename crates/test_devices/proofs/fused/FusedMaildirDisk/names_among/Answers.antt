@@ -1,6 +1,5 @@
 use Rattle.std.proofs.Common.{ap, rules}
-use Rattle.test_devices.specs.declared.fused.Fused.{Fused}
-use Rattle.test_devices.proofs.PartLemmas.{fused_lists_among}
+use Rattle.test_devices.{specs.declared.fused.Fused.Fused, proofs.PartLemmas.fused_lists_among}
 use Rattle.mail_store.proofs.MaildirLemmas.{none_taken}
 use Rattle.test_devices.proofs.fused.FusedMaildirDisk.names_among.Goals as goal
 

@@ -1,6 +1,5 @@
 use Rattle.std.proofs.{Common.arith, lemmas.Result.IfOk-weaker}
-use Rattle.test_devices.specs.MemoryFolder.{blob_of}
-use Rattle.test_devices.proofs.MemoryFiles.{front_left, zeroed_left}
+use Rattle.test_devices.{specs.MemoryFolder.blob_of, proofs.MemoryFiles.{front_left, zeroed_left}}
 use Rattle.test_devices.proofs.memory_folder.MemoryBlob.left.Goals as goal
 
 pub returns-in-Front : goal.returns-in-Front

@@ -1,6 +1,5 @@
 use Rattle.std.proofs.Common.{map}
-use Rattle.test_devices.specs.MemoryFolder.{folder_entries, older_of}
-use Rattle.test_devices.proofs.MemoryFiles.{survives_names, memory_loses}
+use Rattle.test_devices.{specs.MemoryFolder.{folder_entries, older_of}, proofs.MemoryFiles.{survives_names, memory_loses}}
 use Rattle.test_devices.proofs.memory_folder.MemoryFolder.lose_power.Goals as goal
 
 pub invariant_of-self : goal.invariant_of-self

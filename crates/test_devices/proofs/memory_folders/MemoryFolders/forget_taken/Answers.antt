@@ -1,8 +1,9 @@
-use Rattle.std.proofs.Common.{◌∙◌, ◌++◌, List, ap, map, refl, rules}
-use Rattle.std.proofs.{lemmas.List.map-append, lemmas.List.Elements.filter_from_retain}
+use Rattle.std.proofs.{Common.{◌∙◌, ◌++◌, List, ap, map, refl, rules}, lemmas.List.{map-append, Elements.filter_from_retain}}
 use Rattle.folder_store.specs.MailFolders.{MailFile, files_at, mail_at}
-use Rattle.test_devices.specs.{declared.memory_folders.StoredMail.StoredMail, MemoryFolders.stored_file}
-use Rattle.test_devices.proofs.MemoryMail.{not_gone, left_files}
+use Rattle.test_devices.{
+  specs.{declared.memory_folders.StoredMail.StoredMail, MemoryFolders.stored_file},
+  proofs.MemoryMail.{not_gone, left_files},
+}
 use Rattle.test_devices.proofs.memory_folders.MemoryFolders.forget_taken.Goals as goal
 
 pub returns-clause-ok : goal.returns-clause-ok

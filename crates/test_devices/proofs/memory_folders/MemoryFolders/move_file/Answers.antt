@@ -1,7 +1,6 @@
 use Rattle.std.proofs.Common.{arith, map, not, ◌∙◌, ap}
 use Rattle.folder_store.specs.MailFolders.{files_at}
-use Rattle.test_devices.specs.MemoryFolders.{stored_file}
-use Rattle.test_devices.proofs.MemoryMail.{file_moves}
+use Rattle.test_devices.{specs.MemoryFolders.stored_file, proofs.MemoryMail.file_moves}
 use Rattle.test_devices.proofs.memory_folders.MemoryFolders.move_file.Goals as goal
 
 pub returns-then-place-len : goal.returns-then-place-len

@@ -1,8 +1,12 @@
-use Rattle.std.proofs.Common.{◌≡◌, ◌+◌, ◌++◌, List, ℕ, drop, length, ap, sym, ◌∙◌, subst, take-append-drop, arith}
-use Rattle.std.proofs.lemmas.Grind.{common_steps}
-use Rattle.std.proofs.Math.Seq.{take-add, take-append_seam}
-use Rattle.test_devices.specs.Script.{Script, is_script_sound, TellsReplies}
-use Rattle.test_devices.proofs.script_wire.ScriptWireWire.recv.Goals.{then-self, else-self}
+use Rattle.std.proofs.{
+  Common.{◌≡◌, ◌+◌, ◌++◌, List, ℕ, drop, length, ap, sym, ◌∙◌, subst, take-append-drop, arith},
+  lemmas.Grind.common_steps,
+  Math.Seq.{take-add, take-append_seam},
+}
+use Rattle.test_devices.{
+  specs.Script.{Script, is_script_sound, TellsReplies},
+  proofs.script_wire.ScriptWireWire.recv.Goals.{then-self, else-self},
+}
 use Rattle.test_devices.proofs.script_wire.ScriptWireWire.recv.Goals as goal
 
 pub returns-then-is_full-clause-front : goal.returns-then-is_full-clause-front

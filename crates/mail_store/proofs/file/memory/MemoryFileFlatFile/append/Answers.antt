@@ -1,6 +1,5 @@
 use Rattle.std.proofs.Common.{◌≡◌, ◌++◌, ℕ, List, Some, inl, option_map, refl, Vec, Global, sym, ap, ◌∙◌}
-use Rattle.mail_store.specs.Durable.{all_durable, secured}
-use Rattle.mail_store.specs.FlatFile.{Stored}
+use Rattle.mail_store.specs.{Durable.{all_durable, secured}, FlatFile.Stored}
 use Rattle.mail_store.proofs.file.memory.MemoryFileFlatFile.append.Goals as goal
 
 pub returns-in-Ok-clause-durable : goal.returns-in-Ok-clause-durable

@@ -1,6 +1,5 @@
 use Rattle.std.proofs.Common.{◌≡◌, ◌∙◌, ℕ, List, Some, Vec, Global, refl, take, option_map, sym, ap}
-use Rattle.mail_store.specs.Durable.{all_durable, secured}
-use Rattle.mail_store.specs.FlatFile.{Stored}
+use Rattle.mail_store.specs.{Durable.{all_durable, secured}, FlatFile.Stored}
 use Rattle.mail_store.proofs.file.memory.MemoryFileFlatFile.cut_to.Goals as goal
 
 pub returns-clause-durable : goal.returns-clause-durable

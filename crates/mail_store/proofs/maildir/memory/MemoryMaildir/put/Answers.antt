@@ -1,5 +1,4 @@
-use Rattle.std.proofs.Common.{◌≡◌, ◌∙◌, ℕ, ◌∷◌, ◌++◌, [], ap, map, rules, String, string_bytes, Vec, Global}
-use Rattle.std.proofs.lemmas.List.{map-append}
+use Rattle.std.proofs.{Common.{◌≡◌, ◌∙◌, ℕ, ◌∷◌, ◌++◌, [], ap, map, rules, String, string_bytes, Vec, Global}, lemmas.List.map-append}
 use Rattle.mail_store.specs.{Maildir.memory_file, MemoryMaildir.shown}
 use Rattle.mail_store.proofs.maildir.memory.MemoryMaildir.put.Goals as goal
 

@@ -1,6 +1,5 @@
 use Rattle.std.proofs.Common.{rules, arith, ◌∙◌, refl, ap}
-use Rattle.mail_store.specs.Maildir.{names_of}
-use Rattle.mail_store.proofs.MaildirLemmas.{none_taken, theirs_of}
+use Rattle.mail_store.{specs.Maildir.names_of, proofs.MaildirLemmas.{none_taken, theirs_of}}
 use Rattle.mail_store.proofs.maildir.memory.MemoryMaildirMaildirDisk.names.Goals as goal
 
 pub returns-in-Ok-clause-lists : goal.returns-in-Ok-clause-lists
