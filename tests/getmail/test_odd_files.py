@@ -1,4 +1,4 @@
-"""What bears the name of a message, and is no file that can be read, stops nothing but its own message: that one is neither
+"""What has the name of a message, and is no file that can be read, stops nothing but its own message: that one is neither
 fetched nor deleted, no run waits for it, and each one names its path, what is wrong with it and the account, without being
 asked."""
 
