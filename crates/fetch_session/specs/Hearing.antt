@@ -23,8 +23,8 @@ use Rattle.fetch_session.specs.{
 abbrev pub passed_over : Report → Skips
 passed_over report = record { all = report.skipped; left_out = report.left_out }
 
--- it is what is planned for each message of a listing, by rows of the record, of which this holds; so many are listed,
--- and these are passed over
+-- some ids, in an mboxrd file none, are odd: by them it is what is planned for each message of a listing, by rows of
+-- the record, of which this holds; so many are listed, and these are passed over
 pub record IsPlanned (kind : Kind) (settings : Settings) (now total : ℕ) (skipped : Skips)
     (Known : List Item → List Row → List Step → Type 0) (plan : List Step) : Type 0 where
   pub items : List Item

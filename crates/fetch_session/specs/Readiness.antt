@@ -54,7 +54,7 @@ flags_found read_all (AsFiles account) rows store items =
     flags_asked read_all account store.maildir items (are_undelivered rows items)
 flags_found read_all AsEntries rows store items = none_held items
 
--- each message has both flags, and the one that says whether it is odd goes by its id
+-- each message has both flags, and the one that says whether it is odd goes by its id; in an mboxrd file none is odd
 abbrev pub HasFlags : Kind → List Item → Found → Type 0
 HasFlags kind items found = (length found.held.items ≡ length items)
     × ((by : AreById items found.odd.items) × MayBeOdd kind by.0)
@@ -134,7 +134,8 @@ ChecksIdle Entries old items (Err fault) new = AsksMbox None old.mbox items (Err
 abbrev pub AreAsHeld : List Step → List Item → List Bool → List Bool → Type 0
 AreAsHeld steps items flags held = tasks_planned steps items flags ≡ tasks_planned steps items held
 
--- each listed message has a step of the plan and a flag, and each listed id a row; no intent is open
+-- some ids, in an mboxrd file none, are odd: by them each listed message has a step of the plan; it has a flag, and
+-- each listed id a row; no intent is open
 pub record HasPlan (kind : Kind) (settings : Settings) (items : List Item) (now : ℕ) (ready : Ready) (seen : Loaded)
     : Type 0 where
   pub is_odd : List ℕ → Bool
