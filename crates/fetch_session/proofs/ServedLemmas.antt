@@ -9,9 +9,9 @@ use Rattle.std.{
   specs.List.{AllByRecursion, AllZip, enumerate_from, flat_map},
 }
 use Rattle.mail_terms.{specs.Listing.{Item, message_limit}, proofs.ListLemmas.{all_front, all_back}}
-use Rattle.mail_store.specs.{FileName.is_held, FlatFile.Stored, Mboxrd.entry_of}
+use Rattle.mail_store.specs.{FileName.is_held, Mboxrd.entry_of}
 use Rattle.rc_file.specs.declared.settings.Settings.{Settings}
-use Rattle.fetch_record.specs.{Record.{RecordState, Row}, RecordGrowth.OneMeaning, RecordMeaning.{Meaning, Rows, Fault as Faulty}}
+use Rattle.fetch_record.specs.{Record.{RecordState, Row}, RecordGrowth.OneMeaning}
 use Rattle.fetch_rules.specs.{Plan.{fetches, planned, retrieved, step_of}, Wanted.wanted, declared.plans.Step.Step}
 use Rattle.pop3_wire.{
   proofs.BodyLemmas.{first_lines, IsLine-front, no_body, one_line, one_reading, two_statuses},
@@ -22,7 +22,7 @@ use Rattle.pop3_wire.{
 }
 use Rattle.pop3_client.{
   specs.{Causes.{BeginsPositive, Cause, HasRows, IsOverlong, IsPartOfBody, IsPartOfListing, NextLine}, Texts.body_text},
-  specs.{Conversation.{Broke, ConversationsArePaced, Talked, Talks}, declared.fault.ClientFault.ClientFault},
+  specs.{Conversation.{Broke, ConversationsArePaced, Talked}, declared.fault.ClientFault.ClientFault},
   specs.Turns.{asking, IsBody, IsGood, IsListingRow, IsShort, LinesFit, Turn, line_limit, retr, text_limit, turn_bytes},
   proofs.TalkLemmas.by_listing,
 }
@@ -31,14 +31,13 @@ use Rattle.fetch_session.specs.{
   declared.fault.Why.TheVariants.{Missing, NotMbox, Refused},
   declared.{report.{Outcome.{Outcome, TheVariants.{Ended, Cut as WasCut}}, Report.Report}, tail.Tail.TheVariants.Nothing},
   Fault.fault_of,
-  Cuts.{ArePlanned, CausesFault, CutsHaveCauses, Extends, IsMissing, IsUnusable, StoreRose, TurnBroke},
+  Cuts.{ArePlanned, CausesFault, CutsHaveCauses, Extends, IsMissing, IsUnusable, TurnBroke},
   CarryingOut.tasks_ahead,
   Readiness.SettlesStore,
-  Record.Misread,
   Store.Brings,
-  Served.{refused_in, HasText, Succeeds, IsStored, IsUsable, GoodSessionsStoreAll, StoresAll},
+  Served.{HasText, Succeeds, IsStored, IsUsable, GoodSessionsStoreAll, StoresAll},
   Scene.{Scene, Stops},
-  Session.{Dealt, Keeping, LeavesLink, Noted, Proceeds, SessionIn, outcome_of},
+  Session.{Keeping, LeavesLink, Proceeds, SessionIn, outcome_of},
   Tail.{tail, turns_of_tail as tail_turns},
   Target.{Target, AsFiles, AsEntries, Stores, closed_file, held_flags, odd_in},
   Task.{Done, IsAnswered, Task, deleting, fetching, file_from, files_in, files_of, replies_of, stores, tasks_in, tasks_of, tasks_planned},
@@ -241,14 +240,6 @@ last_apart f _ _ _ = simp (flat_map-append, append_assoc, append-nil)
 
 -- ---- after a cut by a turn the link goes on; with nothing to say it stays as it is
 
-abbrev fault_in : Outcome → Fault
-fault_in Ended = NoMemory
-fault_in (WasCut fault) = fault
-
-abbrev was_cut : Outcome → Bool
-was_cut Ended = false
-was_cut (WasCut _) = true
-
 abbrev is_store : Fault → Bool
 is_store (StoreRefused _) = true
 is_store other = false
@@ -264,79 +255,21 @@ rest_stopped AsEntries _ _ _ _ (inr (inl (inr (inr left)))) = inl left.none
 rest_stopped (AsFiles _) _ _ _ _ (inr (inr not)) = inl not.none
 rest_stopped AsEntries _ _ _ _ (inr (inr not)) = inl not.none
 
-rest_of : (settings : Settings) (target : Target) (now : ℕ) (old : Place) (before : Keeping) (cut : Cut) (new : Place)
-    (after : Keeping) (notes : Noted) → Proceeds settings target now old before (Err cut) new after notes
-    → (cut.rest ≡ None) ⊎ (is_store cut.fault ≡ true)
-rest_of _ _ _ _ _ _ _ _ _ (inl not) = inl (cc)
-rest_of _ _ _ _ _ _ _ _ _ (inr (inl room)) = inl (cc)
-rest_of _ target _ _ _ cut _ _ _ (inr (inr dealt)) = elim dealt.carries.1 [
-  | inl un ↦ inl un.1.none
-  | inr carried ↦ rest_stopped _ _ _ _ _ carried.does.stops
-]
-
-talks_extend : ConversationsArePaced → (turns : List Turn) (old new : Place) (result : Result (Unit {0}) ClientFault)
-    → Talks turns old result new → Extends old.link new.link
-talks_extend paced turns old new result talks =
-    let p = paced turns old new result talks in
-    record { said = asking p.done ++ p.part; gained = p.gained; sent = p.sent; got = p.got }
-
-abbrev LeftOn : Fault → Link → Link → Type 0
-LeftOn fault old new = Extends old new × (tail fault ≡ Nothing → new ≡ old)
-
-left_on : ConversationsArePaced → (settings : Settings) (target : Target) (now : ℕ) (link : Link) (before : Keeping) (report : Report)
-    (link' : Link) (after : Keeping) (done : SessionIn settings target now link before report link' after)
-    (fault : Fault) → report.outcome ≡ WasCut fault → is_store fault ≡ false → LeftOn fault done.mid.link link'
-left_on paced settings target now link before report link' after done fault is other =
-    by done.result done.proceeds done.leaves done.reports.outcome_is
-  where
-    by : (result : Result (Unit {0}) Cut) → Proceeds settings target now (at link []) before result done.mid after done.notes
-        → LeavesLink result done.mid link' → report.outcome ≡ outcome_of result → LeftOn fault done.mid.link link'
-    by (Ok unit) proceeds leaves outcome = absurd (false≢true (ap was_cut (sym outcome ∙ is)))
-    by (Err cut) proceeds (new, left, link_is) outcome =
-        let same : cut.fault ≡ fault = ap fault_in (sym outcome ∙ is) in
-        elim (rest_of settings target now (at link []) before cut done.mid after done.notes proceeds) [
-          | inl none ↦
-              let said = rw none at left in (
-                rw link_is (talks_extend paced (tail_turns (tail cut.fault)) done.mid new said.0 said.1),
-                λ quiet. link_is ∙ ap (λ (p : Place). p.link) (said.2 (ap tail same ∙ quiet)),
-              )
-          | inr store ↦ absurd (false≢true (sym other ∙ ap is_store (sym same) ∙ store))
-        ]
-
 by_client : (why : ClientFault) → (is_store (fault_of why) ≡ false) × (is_silent why ≡ true → tail (fault_of why) ≡ Nothing)
-by_client talk.ConnectionEnded = (refl, λ _. refl)
-by_client talk.ReadFailed = (refl, λ _. refl)
-by_client talk.WriteFailed = (refl, λ _. refl)
-by_client talk.ReplyTooLong = (refl, λ _. refl)
-by_client talk.BadReply = (refl, λ _. refl)
 by_client (talk.Refused _) = (refl, λ silent. absurd (false≢true silent))
-by_client talk.BadListing = (refl, λ _. refl)
-by_client talk.ListingsDisagree = (refl, λ _. refl)
-by_client talk.TooMany = (refl, λ _. refl)
-by_client talk.TextTooLong = (refl, λ _. refl)
-by_client talk.NoMemory = (refl, λ _. refl)
+by_client _ = (refl, λ _. refl)
 
 -- ---- nothing fails, so the session ends
 
-abbrev is_faulty : Meaning → Bool
-is_faulty (Rows _ rows _ _) = false
-is_faulty (Faulty _) = true
-
 usable_is_there : (target : Target) (store : Stores) → IsUsable target store → IsMissing target store → ⊥
-usable_is_there (AsFiles account) store (tmp, new, cur) (inl none) = false≢true (sym none ∙ tmp)
-usable_is_there (AsFiles account) store (tmp, new, cur) (inr (inl none)) = false≢true (sym none ∙ new)
-usable_is_there (AsFiles account) store (tmp, new, cur) (inr (inr none)) = false≢true (sym none ∙ cur)
+usable_is_there (AsFiles _) store usable missing = grind arith
 usable_is_there AsEntries store (bytes, is, may) none = cc
 
 usable_goes_on : (target : Target) (store : Stores) → IsUsable target store → IsUnusable target store → ⊥
-usable_goes_on (AsFiles account) store usable never = never
+usable_goes_on (AsFiles _) store usable never = never
 usable_goes_on AsEntries store (bytes, is, may) (was, was_is, not) =
     let same : was ≡ bytes = cc in
     not (rw same may)
-
-none_rose : (target : Target) (old new : Stores) → refused_in target new ≡ refused_in target old → StoreRose target old new → ⊥
-none_rose (AsFiles _) _ _ same rose = absurd (omega (arith, same, rose))
-none_rose AsEntries _ _ same rose = absurd (omega (arith, same, rose))
 
 extends_on : (old mid new : Link) → Extends old mid → Extends mid new → Extends old new
 extends_on old _ _ first later = record {
@@ -346,88 +279,114 @@ extends_on old _ _ first later = record {
   got = rw (later.got, first.got) (append_assoc old.got first.gained later.gained);
 }
 
-planned_on : (settings : Settings) (target : Target) (now : ℕ) (link : Link) (before : Keeping) (mid new : Link)
-    (turns : List Turn) → Extends mid new → ArePlanned settings target now link before mid turns
-    → ArePlanned settings target now link before new turns
-planned_on _ _ _ _ _ _ _ _ more (inl is) = inl is
-planned_on _ _ _ _ _ mid new _ more (inr (items, place, enters, first, by)) = inr (items, place, enters, extends_on _ _ _ first more, by)
+module _ (paced : ConversationsArePaced) (settings : Settings) (target : Target) (now : ℕ) (link : Link) (before : Keeping)
+    (report : Report) (link' : Link) (after : Keeping) (done : SessionIn settings target now link before report link' after) where
+  open done use {mid}
 
-module _ (one : OneMeaning) (settings : Settings) (target : Target) (now : ℕ) (link : Link) (before : Keeping)
-    (report : Report) (mid : Place) (link' : Link) (after : Keeping)
-    (served : Succeeds settings target now link before report link' after) where
-  no_misread : (at_line : ℕ) (file' : Stored) → Misread before.file at_line file' → ⊥
-  no_misread _ _ (_, means, _, _) = false≢true (cc (one _ _ _ served.read.1.means means))
-
-  -- a turn that broke, if the link gives a good reply to it, broke for want of memory
-  only_memory : (turns : List Turn) (replies : List WholeReply) (next : Turn) (later : List Turn) (old : Place)
-      → ArePlanned settings target now link before old.link (turns ++ next ∷ later) → Talked turns replies (at link []) old
-      → (why : ClientFault) → Extends mid.link link' → (is_silent why ≡ true → link' ≡ mid.link)
-      → Broke next old mid why → why ≡ talk.NoMemory
-  only_memory turns replies next later old planned talked why on stays broke = by broke
+  -- nothing is said after a fault of the link, unless a reply was negative
+  left_on : (fault : Fault) → report.outcome ≡ WasCut fault → is_store fault ≡ false
+      → Extends mid.link link' × (tail fault ≡ Nothing → link' ≡ mid.link)
+  left_on fault is other = by done.result done.proceeds done.leaves done.reports.outcome_is
     where
-      none : is_silent why ≡ true → mid.link.failures ≡ old.link.failures
-      none silent = ap (λ (l : Link). l.failures) (sym (stays silent)) ∙ served.link_refused ∙ sym talked.goes_on.failures
+      rest_of : (cut : Cut) → Proceeds settings target now (at link []) before (Err cut) mid after done.notes
+          → (cut.rest ≡ None) ⊎ (is_store cut.fault ≡ true)
+      rest_of cut (inl not) = inl (cc)
+      rest_of cut (inr (inl room)) = inl (cc)
+      rest_of cut (inr (inr dealt)) = elim dealt.carries.1 [
+        | inl un ↦ inl un.1.none
+        | inr carried ↦ rest_stopped _ _ _ _ _ carried.does.stops
+      ]
 
-      all_came : (rest : List ℕ) → (link'.ended ≡ true → rest ≡ []) → is_silent why ≡ true → mid.link.ended ≡ true → on.gained ++ rest ≡ []
-      all_came rest none_left silent ended_is =
-          let nothing : on.gained ≡ [] = append_cancel_left mid.link.got on.gained [] (sym on.got
-          ∙ ap (λ (l : Link). l.got) (stays silent) ∙ sym (append-nil mid.link.got)) in
-          rw (nothing, none_left (ap (λ (l : Link). l.ended) (stays silent) ∙ ended_is)) refl
+      by : (result : Result (Unit {0}) Cut) → Proceeds settings target now (at link []) before result mid after done.notes
+          → LeavesLink result mid link' → report.outcome ≡ outcome_of result
+          → Extends mid.link link' × (tail fault ≡ Nothing → link' ≡ mid.link)
+      by (Ok unit) proceeds leaves outcome = cc
+      by (Err cut) proceeds (new, left, link_is) outcome =
+          let same : cut.fault ≡ fault = cc in
+          elim (rest_of cut proceeds) [
+            | inl none ↦
+                let said = rw none at left in
+                let p = paced (tail_turns (tail cut.fault)) mid new said.0 said.1 in (
+                  rw link_is (record { said = asking p.done ++ p.part; gained = p.gained; sent = p.sent; got = p.got }),
+                  λ quiet. link_is ∙ ap (λ (p : Place). p.link) (said.2 (ap tail same ∙ quiet)),
+                )
+            | inr store ↦ absurd (false≢true (sym other ∙ ap is_store (sym same) ∙ store))
+          ]
 
-      by : Broke next old mid why → why ≡ talk.NoMemory
-      by (inl (is, part)) = absurd (omega (arith, part.risen, none (ap is_silent is)))
-      by (inr (inl not)) =
-          let sent_is : link'.sent ≡ link.sent ++ (asking (turns ++ next ∷ []) ++ on.said) = on.sent
-          ∙ ap (λ (l : List ℕ). l ++ on.said) (not.sent ∙ ap (λ (l : List ℕ). l ++ turn_bytes next) talked.sent)
-          ∙ simp (flat_map-append, append_assoc, append-nil) in
-          let here : Extends old.link mid.link = record { said = turn_bytes next; gained = not.gained; sent = not.sent; got = not.got } in
-          let was = served.answered (turns ++ next ∷ []) later on.said
-          (rw (append_assoc turns (next ∷ []) later) (planned_on settings target now link before old.link link'
-          (turns ++ next ∷ later) (extends_on old.link mid.link link' here on) planned)) sent_is in
-          let (front, reply, replies_are, goods, good) = last_of turns next was.replies was.good in
-          let after = not.gained ++ (on.gained ++ was.later) in
-          let got_is : link'.got ++ was.later ≡ link.got ++ (talked.gained ++ after) =
-          ap (λ (l : List ℕ). l ++ was.later) (on.got
-          ∙ ap (λ (l : List ℕ). l ++ on.gained) (not.got ∙ ap (λ (l : List ℕ). l ++ not.gained) talked.got)) ∙ simp append_assoc in
-          let all : talked.gained ++ after ≡ flat_map reply_bytes was.replies ++ was.rest =
-          append_cancel_left link.got _ _ (sym got_is ∙ was.whole) in
-          let last : flat_map reply_bytes (front ++ reply ∷ []) ++ was.rest ≡ flat_map reply_bytes front
-          ++ (reply_bytes reply ++ was.rest) = last_apart reply_bytes front reply was.rest in
-          let read = one_reading turns replies front (old.waiting ++ after) (reply_bytes reply ++ was.rest)
-          (reads_all turns replies talked.good) (reads_all turns front goods)
-          (sym (append_assoc (flat_map reply_bytes replies) old.waiting after) ∙ ap (λ (l : List ℕ). l ++ after) (sym talked.heard) ∙ all
-          ∙ ap (λ (rs : List WholeReply). flat_map reply_bytes rs ++ was.rest) replies_are ∙ last) in
-          no_cause next reply good (old.waiting ++ not.gained) (on.gained ++ was.later) was.rest
-          (append_assoc old.waiting not.gained (on.gained ++ was.later) ∙ read.1) why old.link mid.link none
-          (all_came was.later was.none_left) not.cause
-      by (inr (inr (is, may, same))) = is
+  planned_on : (old new : Link) (turns : List Turn) → Extends old new → ArePlanned settings target now link before old turns
+      → ArePlanned settings target now link before new turns
+  planned_on _ _ _ more (inl is) = inl is
+  planned_on old new _ more (inr (items, place, enters, first, by)) = inr (items, place, enters, extends_on _ _ _ first more, by)
 
-  no_fault : (fault : Fault) → fault ≢ NoMemory → (is_store fault ≡ false → LeftOn fault mid.link link')
-      → (TurnBroke settings target now link before mid fault → ⊥) → CausesFault settings target now link before fault mid after → ⊥
-  no_fault (StoreRefused Missing) other left unbroken cause = usable_is_there target after.store served.usable cause
-  no_fault (StoreRefused Refused) other left unbroken cause = none_rose target before.store after.store served.store_refused cause
-  no_fault (StoreRefused NotMbox) other left unbroken cause = usable_goes_on target after.store served.usable cause
-  no_fault SeenRefused other left unbroken cause = absurd (omega (arith, cause, served.file_refused))
-  no_fault (BadSeen at_line) other left unbroken cause = no_misread at_line after.file cause
-  no_fault ListingsDisagree other left unbroken cause =
-      cause.disagree (served.agree cause.count cause.uids cause.sizes mid (left refl).0 cause.opened)
-  no_fault NoMemory other left unbroken cause = other refl
-  no_fault fault other left unbroken cause = unbroken cause
+  module _ (one : OneMeaning) (served : Succeeds settings target now link before report link' after) where
+    -- a turn that broke, if the link gives a good reply to it, broke for want of memory
+    only_memory : (turns : List Turn) (replies : List WholeReply) (next : Turn) (later : List Turn) (old : Place)
+        → ArePlanned settings target now link before old.link (turns ++ next ∷ later) → Talked turns replies (at link []) old
+        → (why : ClientFault) → Extends mid.link link' → (is_silent why ≡ true → link' ≡ mid.link)
+        → Broke next old mid why → why ≡ talk.NoMemory
+    only_memory turns replies next later old planned talked why on stays broke = by broke
+      where
+        none : is_silent why ≡ true → mid.link.failures ≡ old.link.failures
+        none silent = ap (λ (l : Link). l.failures) (sym (stays silent)) ∙ served.link_refused ∙ sym talked.goes_on.failures
 
-  not_cut : (fault : Fault) → report.outcome ≡ WasCut fault → (is_store fault ≡ false → LeftOn fault mid.link link')
-      → CausesFault settings target now link before fault mid after → ⊥
-  not_cut fault is left cause = no_fault fault other left (λ broke. other (memory broke)) cause
-    where
-      other : fault ≢ NoMemory
-      other same_fault = served.memory (is ∙ ap (λ (f : Fault). WasCut f) same_fault)
+        all_came : (rest : List ℕ) → (link'.ended ≡ true → rest ≡ []) → is_silent why ≡ true → mid.link.ended ≡ true
+            → on.gained ++ rest ≡ []
+        all_came rest none_left silent ended_is =
+            let nothing : on.gained ≡ [] = append_cancel_left mid.link.got on.gained [] (sym on.got
+            ∙ ap (λ (l : Link). l.got) (stays silent) ∙ sym (append-nil mid.link.got)) in
+            rw (nothing, none_left (ap (λ (l : Link). l.ended) (stays silent) ∙ ended_is)) refl
 
-      memory : TurnBroke settings target now link before mid fault → fault ≡ NoMemory
-      memory broke =
-          let (why, fault_is, broken) = broke.broke in
-          let (no_store, quiet) = by_client why in
-          let on = left (ap is_store fault_is ∙ no_store) in
-          fault_is ∙ ap fault_of (only_memory broke.turns broke.replies broke.next broke.later broke.mid broke.planned
-          broke.talked why on.0 (λ silent. on.1 (ap tail fault_is ∙ quiet silent)) broken)
+        by : Broke next old mid why → why ≡ talk.NoMemory
+        by (inl (is, part)) = absurd (omega (arith, part.risen, none (ap is_silent is)))
+        by (inr (inl not)) =
+            let sent_is : link'.sent ≡ link.sent ++ (asking (turns ++ next ∷ []) ++ on.said) = on.sent
+            ∙ ap (λ (l : List ℕ). l ++ on.said) (not.sent ∙ ap (λ (l : List ℕ). l ++ turn_bytes next) talked.sent)
+            ∙ simp (flat_map-append, append_assoc, append-nil) in
+            let here : Extends old.link mid.link = record { said = turn_bytes next; gained = not.gained; sent = not.sent; got = not.got } in
+            let was = served.answered (turns ++ next ∷ []) later on.said (rw (append_assoc turns (next ∷ []) later)
+            (planned_on old.link link' (turns ++ next ∷ later) (extends_on old.link mid.link link' here on) planned)) sent_is in
+            let (front, reply, replies_are, goods, good) = last_of turns next was.replies was.good in
+            let after = not.gained ++ (on.gained ++ was.later) in
+            let got_is : link'.got ++ was.later ≡ link.got ++ (talked.gained ++ after) =
+            ap (λ (l : List ℕ). l ++ was.later) (on.got
+            ∙ ap (λ (l : List ℕ). l ++ on.gained) (not.got ∙ ap (λ (l : List ℕ). l ++ not.gained) talked.got)) ∙ simp append_assoc in
+            let all : talked.gained ++ after ≡ flat_map reply_bytes was.replies ++ was.rest =
+            append_cancel_left link.got _ _ (sym got_is ∙ was.whole) in
+            let last : flat_map reply_bytes (front ++ reply ∷ []) ++ was.rest ≡ flat_map reply_bytes front
+            ++ (reply_bytes reply ++ was.rest) = last_apart reply_bytes front reply was.rest in
+            let read = one_reading turns replies front (old.waiting ++ after) (reply_bytes reply ++ was.rest)
+            (reads_all turns replies talked.good) (reads_all turns front goods)
+            (sym (append_assoc (flat_map reply_bytes replies) old.waiting after) ∙ ap (λ (l : List ℕ). l ++ after) (sym talked.heard) ∙ all
+            ∙ ap (λ (rs : List WholeReply). flat_map reply_bytes rs ++ was.rest) replies_are ∙ last) in
+            no_cause next reply good (old.waiting ++ not.gained) (on.gained ++ was.later) was.rest
+            (append_assoc old.waiting not.gained (on.gained ++ was.later) ∙ read.1) why old.link mid.link none
+            (all_came was.later was.none_left) not.cause
+        by (inr (inr (is, may, same))) = is
+
+    not_cut : (fault : Fault) → report.outcome ≡ WasCut fault → CausesFault settings target now link before fault mid after → ⊥
+    not_cut fault is = by fault (λ same. served.memory (is ∙ ap (λ (f : Fault). WasCut f) same)) (left_on fault is)
+      where
+        memory : (fault : Fault) → (is_store fault ≡ false → Extends mid.link link' × (tail fault ≡ Nothing → link' ≡ mid.link))
+            → TurnBroke settings target now link before mid fault → fault ≡ NoMemory
+        memory fault left broke =
+            let (why, fault_is, broken) = broke.broke in
+            let (no_store, quiet) = by_client why in
+            let on = left (ap is_store fault_is ∙ no_store) in
+            fault_is ∙ ap fault_of (only_memory broke.turns broke.replies broke.next broke.later broke.mid broke.planned
+            broke.talked why on.0 (λ silent. on.1 (ap tail fault_is ∙ quiet silent)) broken)
+
+        by : (fault : Fault) → fault ≢ NoMemory
+            → (is_store fault ≡ false → Extends mid.link link' × (tail fault ≡ Nothing → link' ≡ mid.link))
+            → CausesFault settings target now link before fault mid after → ⊥
+        by (StoreRefused Missing) other left cause = usable_is_there target after.store served.usable cause
+        by (StoreRefused Refused) other left cause = omega (arith, cause, served.store_refused)
+        by (StoreRefused NotMbox) other left cause = usable_goes_on target after.store served.usable cause
+        by SeenRefused other left cause = omega (arith, cause, served.file_refused)
+        by (BadSeen _) other left (_, means, _, _) = cc (one _ _ _ served.read.1.means means)
+        by ListingsDisagree other left cause =
+            cause.disagree (served.agree cause.count cause.uids cause.sizes mid (left refl).0 cause.opened)
+        by NoMemory other left cause = other refl
+        by fault other left cause = other (memory fault left cause)
 
 -- ---- a session that ended has stored what it wants
 
@@ -494,6 +453,12 @@ module _ (is_there : Item → Bool) (D : Task → Type 0) (P : ℕ × Item → T
         | inr miss ↦ rw miss later
       ]
 
+-- whether a message is held goes by itself
+flags_by : (target : Target) (store : Stores) (items : List Item) → (is_there : Item → Bool)
+    × ((item : Item) → held_flags target store (item ∷ []) ≡ is_there item ∷ []) × (held_flags target store items ≡ map is_there items)
+flags_by (AsFiles account) store _ = ((λ item. is_held account store.maildir item.uid), (λ item. refl), refl)
+flags_by AsEntries _ _ = ((λ item. false), (λ item. refl), refl)
+
 module _ (settings : Settings) (target : Target) (items : List Item) (now : ℕ) (store : Stores) (rows : List Row)
     (said : List (Turn × WholeReply)) (new : Stores) where
   -- by what its task did
@@ -505,24 +470,12 @@ module _ (settings : Settings) (target : Target) (items : List Item) (now : ℕ)
     | inr not ↦ inr (rw not at did).0
   ]
 
-  each_by : (is_there : Item → Bool) → ((item : Item) → held_flags target store (item ∷ []) ≡ is_there item ∷ [])
-      → held_flags target store items ≡ map is_there items
-      → AllByRecursion (Did (Contains said) (HasText target new)) (tasks_ahead settings target items now store rows)
+  each_stored : AllByRecursion (Did (Contains said) (HasText target new)) (tasks_ahead settings target items now store rows)
       → AllByRecursion (IsStored target store said new) (retrieved (planned settings (odd_in target store) rows items now) items)
-  each_by is_there one all did =
-      each_fetched _ _ (IsStored target store said new) (step_of settings (odd_in target store) rows items now) (λ _. refl)
-      (stored_by _ one) 1 items
-      (all_front _ _ _ (rw all at did))
-
-each_stored : (settings : Settings) (target : Target) (items : List Item) (now : ℕ) (store : Stores) (rows : List Row)
-    (said : List (Turn × WholeReply)) (new : Stores)
-    → AllByRecursion (Did (Contains said) (HasText target new)) (tasks_ahead settings target items now store rows)
-    → AllByRecursion (IsStored target store said new) (retrieved (planned settings (odd_in target store) rows items now) items)
-each_stored settings (AsFiles account) items now store rows said new did =
-    each_by settings (AsFiles account) items now store rows said new (λ item. is_held account store.maildir item.uid)
-    (λ item. refl) refl did
-each_stored settings AsEntries items now store rows said new did = each_by settings AsEntries items now store rows said
-    new (λ item. false) (λ item. refl) refl did
+  each_stored did =
+      let (is_there, one, all) = flags_by target store items in
+      each_fetched is_there _ (IsStored target store said new) (step_of settings (odd_in target store) rows items now)
+      (λ _. refl) (stored_by is_there one) 1 items (all_front _ _ _ (rw all at did))
 
 -- what the tasks brought is there
 all_brought : (target : Target) (was : RecordState) (items : List Item) (old mid new : Stores) (dones : List Done)
@@ -539,37 +492,6 @@ all_brought AsEntries was items old mid new dones (bytes, there_is, same, may) b
     × Contains texts text) dones each (λ p there. there)
     (λ text there. (closed_file was.intent items bytes, done_texts dones, brings.content ∙ rw same refl, there))
 
-module _ (fetch_wanted : (settings : Settings) (is_odd : List ℕ → Bool) (rows : List Row) (listing : List Item) (now : ℕ)
-    → retrieved (planned settings is_odd rows listing now) listing ≡ wanted settings is_odd rows listing) where
-  ended_stores : (settings : Settings) (target : Target) (now : ℕ) (link : Link) (before : Keeping) (mid : Place)
-      (link' : Link) (after : Keeping) (notes : Noted) (ended : Unit {0})
-      → Dealt settings target now (at link []) before (Ok ended) mid after notes
-      → link' ≡ mid.link → StoresAll settings target now link before link' after
-  ended_stores settings target now link before mid link' after notes ended dealt last =
-      let carried = dealt.carries.1 in
-      let all = carried.does in
-      let said = zip (turns_of all.dones) (replies_of all.dones) in
-      record {
-        items = dealt.items;
-        mid = dealt.mid;
-        listed = dealt.enters;
-        was = carried.prepared.was;
-        stood = carried.prepared.stood;
-        turns = turns_of all.dones;
-        replies = replies_of all.dones;
-        new = mid;
-        last = last;
-        talked = rw carried.prepared.place_is at all.went.talked;
-        each = subst (λ (rs : List Row). AllByRecursion (IsStored target before.store said after.store)
-            (wanted settings (odd_in target before.store) rs dealt.items)) carried.prepared.rows
-            (subst (AllByRecursion (IsStored target before.store said after.store))
-            (fetch_wanted settings (odd_in target before.store) carried.mid.rows dealt.items now)
-            (each_stored settings target dealt.items now before.store carried.mid.rows said after.store
-            (subst (AllByRecursion (Did (Contains said) (HasText target after.store))) (sym all.all)
-            (all_brought target carried.prepared.was dealt.items before.store carried.mid.store after.store all.dones
-            carried.prepared.settles all.went.stored all.went.each))));
-      }
-
 pub store_all : CutsHaveCauses → ConversationsArePaced → OneMeaning
     → ((settings : Settings) (is_odd : List ℕ → Bool) (rows : List Row) (listing : List Item) (now : ℕ)
     → retrieved (planned settings is_odd rows listing now) listing ≡ wanted settings is_odd rows listing) → GoodSessionsStoreAll
@@ -582,13 +504,34 @@ store_all causes paced one fetch_wanted settings target now link before report l
         → report.outcome ≡ outcome → report.outcome ≡ Ended
     by_outcome served Ended is = is
     by_outcome served (WasCut fault) is =
-        absurd (not_cut one settings target now link before report done.mid link' after served fault is
-        (left_on paced settings target now link before report link' after done fault is)
+        absurd (not_cut paced settings target now link before report link' after done one served fault is
         (causes settings target now link before report link' after done fault is))
 
     by_result : report.outcome ≡ Ended → (result : Result (Unit {0}) Cut)
         → Proceeds settings target now (at link []) before result done.mid after done.notes
         → LeavesLink result done.mid link' → report.outcome ≡ outcome_of result → StoresAll settings target now link before link' after
-    by_result ended (Ok unit) proceeds leaves is = ended_stores fetch_wanted settings target now link before done.mid
-        link' after done.notes unit proceeds leaves
-    by_result ended (Err cut) proceeds leaves is = absurd (false≢true (ap was_cut (sym ended) ∙ ap was_cut is))
+    by_result ended (Ok unit) dealt last is =
+        let carried = dealt.carries.1 in
+        let all = carried.does in
+        let said = zip (turns_of all.dones) (replies_of all.dones) in
+        record {
+          items = dealt.items;
+          mid = dealt.mid;
+          listed = dealt.enters;
+          was = carried.prepared.was;
+          stood = carried.prepared.stood;
+          turns = turns_of all.dones;
+          replies = replies_of all.dones;
+          new = done.mid;
+          last = last;
+          talked = rw carried.prepared.place_is at all.went.talked;
+          each = subst (λ (rs : List Row). AllByRecursion (IsStored target before.store said after.store)
+              (wanted settings (odd_in target before.store) rs dealt.items)) carried.prepared.rows
+              (subst (AllByRecursion (IsStored target before.store said after.store))
+              (fetch_wanted settings (odd_in target before.store) carried.mid.rows dealt.items now)
+              (each_stored settings target dealt.items now before.store carried.mid.rows said after.store
+              (subst (AllByRecursion (Did (Contains said) (HasText target after.store))) (sym all.all)
+              (all_brought target carried.prepared.was dealt.items before.store carried.mid.store after.store all.dones
+              carried.prepared.settles all.went.stored all.went.each))));
+        }
+    by_result ended (Err cut) proceeds leaves is = cc

@@ -1,106 +1,124 @@
 -- Which files of a Maildir a session leaves.
-use Rattle.std.proofs.{
-  Common.{◌≡◌, ℕ, List, [], ◌∷◌, ◌++◌, Result, Ok, Err, refl, sym, ap, arith, inl, inr, append_assoc},
-  lemmas.List.append-nil,
+use Rattle.std.{
+  proofs.Common.{◌≡◌, ◌≤◌, ℕ, List, [], ◌∷◌, ◌++◌, length, Option, Result, Ok, Err, refl, sym, ap, arith, inl, inr, append_assoc},
+  proofs.lemmas.List.append-nil,
+  specs.List.AllByRecursion,
 }
-use Rattle.pop3_wire.specs.{Place.{Place, at}, Bodies.Rest}
-use Rattle.mail_terms.specs.Listing.{Item}
+use Rattle.pop3_wire.specs.{Place.Place, Bodies.Rest, Reading.WholeReply}
+use Rattle.mail_terms.{specs.Listing.Item, proofs.ListLemmas.all_append}
 use Rattle.rc_file.specs.declared.settings.Settings.{Settings}
-use Rattle.mail_store.specs.{FileName.{sized_file, stem_of}, FlatFile.Stored, Maildir.{File, Maildir}}
+use Rattle.mail_store.specs.{FileName.{sized_file, stem_of}, FlatFile.Stored, Maildir.{AllFlushed, Draft, File, IsDurableFile, Maildir}}
 use Rattle.fetch_session.specs.{
-  declared.fault.{Cut.Cut, Fault.{Fault, TheVariants.{StoreRefused, SeenRefused, BadSeen, NoMemory}}, Why.TheVariants.{Missing, Refused}},
-  declared.report.{ReportLine.ReportLine, Skips.Skips},
+  declared.fault.{Cut.Cut, Fault.{Fault, TheVariants.StoreRefused}, Why.TheVariants.Refused},
   Laws.SessionsKeepFiles,
   Readiness.UnreadyCause,
-  Task.Task,
-  CarryingOut.{Carried, Carries},
+  CarryingOut.Carried,
   Scene.{Does, Scene, Stops},
-  Session.{Dealt, Keeping, Noted, Proceeds, keeps_files},
+  Session.{Keeping, Noted, Proceeds},
   Store.{Gained, RefusesText},
   Target.{AsFiles, Stores},
+  Task.{Done, Task, files_in, files_of, stores},
 }
 
--- some files came after the others, none was taken, and the same names are odd
-abbrev Grew : Maildir → Maildir → Type 0
-Grew old new = (came : List File) × (new.files ≡ old.files ++ came) × (new.taken ≡ old.taken) × (new.odd ≡ old.odd)
+-- durable files came, and perhaps one whose name may not be durable; none was taken, and the same names are odd
+pub record Came (old new : Maildir) : Type 0 where
+  pub came : List File
+  pub last : List File
+  pub files : new.files ≡ old.files ++ (came ++ last)
+  pub durable : AllByRecursion IsDurableFile came
+  pub flushed : AllFlushed last
+  pub at_most_one : length last ≤ 1
+  pub taken : new.taken ≡ old.taken
+  pub odd : new.odd ≡ old.odd
 
-grew_none : (old new : Maildir) → new ≡ old → Grew old new
-grew_none old _ same = rw same ([], sym (append-nil old.files), refl, refl)
+came_none : {old new : Maildir} {draft : Option Draft} {n : ℕ} → new ≡ record old { begun = draft; failures = n } → Came old new
+came_none {old} is = rw is (record {
+  came = [];
+  last = [];
+  files = sym (append-nil old.files);
+  durable = tt;
+  flushed = tt;
+  at_most_one = omega arith;
+  taken = refl;
+  odd = refl;
+})
 
-grew : (old new : Maildir) (files : List File) → Gained old new files → Grew old new
-grew _ _ files is = (files, is.came, is.taken, is.odd)
+came_then : (a b c : Maildir) (files : List File) → Gained a b files → AllByRecursion IsDurableFile files → Came b c → Came a c
+came_then a b c files first durable then = record {
+  came = files ++ then.came;
+  last = then.last;
+  files = simp (then.files, first.came, append_assoc);
+  durable = all_append _ _ _ durable then.durable;
+  flushed = then.flushed;
+  at_most_one = then.at_most_one;
+  taken = cc;
+  odd = cc;
+}
 
-grew_on : (a b c : Maildir) → Grew a b → Grew b c → Grew a c
-grew_on a b c (xs, came, taken, odd) (ys, come, took, still) = (xs ++ ys, cc (append_assoc a.files xs ys), cc, cc)
+all_durable : (account : List ℕ) (dones : List Done) → AllByRecursion IsDurableFile (files_of account dones)
+all_durable account [] = tt
+all_durable account (d ∷ dones) = all_append IsDurableFile (files_in account d.task d.replies) (files_of account dones)
+    (by d.task d.replies) (all_durable account dones)
+  where
+    by : (task : Task) (replies : List WholeReply) → AllByRecursion IsDurableFile (files_in account task replies)
+    by (stores number uid) [] = tt
+    by (stores number uid) (reply ∷ replies) = ((refl, refl), by (stores number uid) replies)
+    by other replies = tt
 
-refused_grew : (old : Maildir) (stem text : List ℕ) (rest : Rest) (fault : Fault) (new : Maildir)
-    → RefusesText old stem rest text fault new → Grew old new
-refused_grew old _ _ _ _ new (inl (_, _, same)) = grew_none _ _ same
-refused_grew old _ _ _ _ _ (inr (_, inl none)) = rw none ([], sym (append-nil old.files), refl, refl)
-refused_grew _ stem text _ _ _ (inr (_, inr (_, (is_named, one)))) =
-    rw one (record (sized_file stem text) { is_named = is_named } ∷ [], refl, refl, refl)
+refused_came : (old : Maildir) (stem text : List ℕ) (rest : Rest) (fault : Fault) (new : Maildir)
+    → RefusesText old stem rest text fault new → Came old new
+refused_came _ _ _ _ _ _ (inl (_, _, same)) = came_none same
+refused_came _ _ _ _ _ _ (inr (_, inl dropped)) = came_none dropped
+refused_came _ stem text _ _ _ (inr (_, inr (_, (is_named, one)))) = rw one (record {
+  came = [];
+  last = record (sized_file stem text) { is_named = is_named } ∷ [];
+  files = refl;
+  durable = tt;
+  flushed = (refl, tt);
+  at_most_one = omega arith;
+  taken = refl;
+  odd = refl;
+})
 
 pub unready_same : (fault : Fault) (old : Maildir) (file : Stored) (new : Maildir) (file' : Stored)
     → UnreadyCause fault old file new file' → new.files ≡ old.files
 unready_same (StoreRefused Refused) old file new file' is = rw is refl
 unready_same fault old file new file' is = grind arith
 
-unready_grew : (fault : Fault) (old : Maildir) (file : Stored) (new : Maildir) (file' : Stored)
-    → UnreadyCause fault old file new file' → Grew old new
-unready_grew SeenRefused old _ new _ is = grew_none _ _ is.1
-unready_grew (BadSeen _) old _ new _ is = grew_none _ _ is.1
-unready_grew (StoreRefused Missing) old _ new _ is = grew_none _ _ is.1
-unready_grew (StoreRefused Refused) old _ _ _ is = rw is ([], sym (append-nil old.files), refl, refl)
-unready_grew NoMemory old _ new _ is = grew_none _ _ is
-unready_grew _ _ _ _ _ never = absurd never
+unready_came : (fault : Fault) (old : Maildir) (file : Stored) (new : Maildir) (file' : Stored)
+    → UnreadyCause fault old file new file' → Came old new
+unready_came (StoreRefused Refused) old file new file' is = came_none is
+unready_came fault old file new file' is = let same : new ≡ old = grind arith in came_none same
 
 module _ (account : List ℕ) where
-  stops_grew : (next : Task) (old new : Scene) (cut : Cut) → Stops (AsFiles account) next old cut new
-      → Grew old.store.maildir new.store.maildir
-  stops_grew next old new cut (inl broken) = grew_none _ _ (ap (λ (s : Stores). s.maildir) broken.store)
-  stops_grew next old new cut (inr (inl none)) = refused_grew _ (stem_of account none.uid) none.text none.rest cut.fault _ none.refuses
-  stops_grew next old new cut (inr (inr unsaved)) = grew _ _ _ unsaved.stored
+  pub stops_came : {next : Task} {old new : Scene} {cut : Cut} → Stops (AsFiles account) next old cut new
+      → Came old.store.maildir new.store.maildir
+  stops_came (inl broken) = came_none (ap (λ (s : Stores). s.maildir) broken.store)
+  stops_came (inr (inl none)) = refused_came _ (stem_of account none.uid) none.text none.rest _ _ none.refuses
+  stops_came (inr (inr unsaved)) = came_then _ _ _ _ unsaved.stored ((refl, refl), tt) (came_none refl)
 
-  does_grew : (tasks : List Task) (old new : Scene) (r : Result (Unit {0}) Cut) → Does (AsFiles account) tasks old r new
-      → Grew old.store.maildir new.store.maildir
-  does_grew tasks old new (Ok done) all = grew _ _ _ all.went.stored
-  does_grew tasks old new (Err cut) fell = grew_on old.store.maildir fell.mid.store.maildir new.store.maildir
-      (grew _ _ _ fell.went.stored) (stops_grew fell.next fell.mid new cut fell.stops)
+  does_came : (tasks : List Task) (old new : Scene) (r : Result (Unit {0}) Cut) → Does (AsFiles account) tasks old r new
+      → Came old.store.maildir new.store.maildir
+  does_came _ _ _ (Ok done) all = came_then _ _ _ _ all.went.stored (all_durable account all.dones) (came_none refl)
+  does_came _ _ _ (Err cut) fell = came_then _ _ _ _ fell.went.stored (all_durable account fell.dones) (stops_came fell.stops)
 
-  module _ (settings : Settings) (items : List Item) (now : ℕ) where
-    carried_grew : (place : Place) (store : Stores) (file : Stored) (lines : List ReportLine)
-        (r : Result (Unit {0}) Cut) (new : Scene) (skipped : Skips)
-        → Carried settings (AsFiles account) items now place store file lines r new skipped → Grew store.maildir new.store.maildir
-    carried_grew place store file lines r new skipped is =
-        grew_on store.maildir is.mid.store.maildir new.store.maildir
-        (grew_none _ _ (ap (λ (s : Stores). s.maildir) is.prepared.settles)) (does_grew _ is.mid new r is.does)
+  module _ (settings : Settings) (now : ℕ) (old new : Place) (before after : Keeping) (notes : Noted) where
+    carried_came : {items : List Item} {place : Place} {end : Scene} (r : Result (Unit {0}) Cut)
+        → Carried settings (AsFiles account) items now place before.store before.file [] r end notes.skipped
+        → Came before.store.maildir end.store.maildir
+    carried_came r is = rw (← ap (λ (s : Stores). s.maildir) is.prepared.settles) (does_came _ is.mid _ r is.does)
 
-    carries_grew : (place : Place) (store : Stores) (file : Stored) (lines : List ReportLine)
-        (r : Result (Unit {0}) Cut) (place' : Place) (store' : Stores) (file' : Stored) (lines' : List ReportLine) (skipped : Skips)
-        → Carries settings (AsFiles account) items now place store file lines r place' store' file' lines' skipped
-        → Grew store.maildir store'.maildir
-    carries_grew place store file lines (Ok done) place' store' file' lines' skipped (rows, is) =
-        carried_grew place store file lines (Ok done) _ skipped is
-    carries_grew place store file lines (Err cut) place' store' file' lines' skipped (rows, inl (none, un)) =
-        unready_grew cut.fault store.maildir file store'.maildir file' un.unready.cause
-    carries_grew place store file lines (Err cut) place' store' file' lines' skipped (rows, inr is) =
-        carried_grew place store file lines (Err cut) _ skipped is
-
-  module _ (settings : Settings) (now : ℕ) (old : Place) (before : Keeping) (new : Place) (after : Keeping) (notes : Noted) where
-    dealt_grew : (r : Result (Unit {0}) Cut) → Dealt settings (AsFiles account) now old before r new after notes
-        → Grew before.store.maildir after.store.maildir
-    dealt_grew r is =
-        carries_grew settings is.items now is.mid before.store before.file [] r new after.store after.file notes.lines
-        notes.skipped is.carries
-
-    proceeds_grew : (r : Result (Unit {0}) Cut) → Proceeds settings (AsFiles account) now old before r new after notes
-        → Grew before.store.maildir after.store.maildir
-    proceeds_grew (Ok done) is = dealt_grew (Ok done) is
-    proceeds_grew (Err cut) (inl is) = grew_none _ _ (ap (λ (k : Keeping). k.store.maildir) is.same)
-    proceeds_grew (Err cut) (inr (inl is)) = grew_none _ _ (ap (λ (k : Keeping). k.store.maildir) is.same)
-    proceeds_grew (Err cut) (inr (inr is)) = dealt_grew (Err cut) is
+    pub proceeds_came : (r : Result (Unit {0}) Cut) → Proceeds settings (AsFiles account) now old before r new after notes
+        → Came before.store.maildir after.store.maildir
+    proceeds_came (Ok done) dealt = carried_came (Ok done) dealt.carries.1
+    proceeds_came (Err cut) (inl is) = came_none (ap (λ (k : Keeping). k.store.maildir) is.same)
+    proceeds_came (Err cut) (inr (inl is)) = came_none (ap (λ (k : Keeping). k.store.maildir) is.same)
+    proceeds_came (Err cut) (inr (inr dealt)) = elim dealt.carries.1 [
+      | inl un ↦ unready_came _ _ _ _ _ un.1.unready.cause
+      | inr carried ↦ carried_came (Err cut) carried
+    ]
 
 pub sessions_keep_files : SessionsKeepFiles
-sessions_keep_files settings account now link before _ _ after session =
-    proceeds_grew _ settings now (at link []) (keeps_files before) session.mid (keeps_files after) session.notes
-    session.result session.proceeds
+sessions_keep_files _ account _ _ _ _ _ _ session =
+    let is = proceeds_came account _ _ _ _ _ _ session.notes session.result session.proceeds in
+    (is.came ++ is.last, is.files, is.taken, is.odd)

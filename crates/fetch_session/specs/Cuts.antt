@@ -69,15 +69,16 @@ abbrev pub IsUnusable : Target → Stores → Type 0
 IsUnusable (AsFiles account) store = ⊥
 IsUnusable AsEntries store = IsNoMbox store.mbox
 
--- a call of the store was refused
-abbrev pub StoreRose : Target → Stores → Stores → Type 0
-StoreRose (AsFiles account) old new = old.maildir.failures < new.maildir.failures
-StoreRose AsEntries old new = old.mbox.failures < new.mbox.failures
+-- how many calls of the store were refused
+abbrev pub refused_in : Target → Stores → ℕ
+refused_in (AsFiles account) store = store.maildir.failures
+refused_in AsEntries store = store.mbox.failures
 
 -- what led to a fault. Out of memory alone has no cause that a contract can tell
 abbrev pub CausesFault : Settings → Target → ℕ → Link → Keeping → Fault → Place → Keeping → Type 0
 CausesFault settings target now link before (StoreRefused Missing) mid after = IsMissing target after.store
-CausesFault settings target now link before (StoreRefused Refused) mid after = StoreRose target before.store after.store
+CausesFault settings target now link before (StoreRefused Refused) mid after =
+    refused_in target before.store < refused_in target after.store
 CausesFault settings target now link before (StoreRefused NotMbox) mid after = IsUnusable target after.store
 CausesFault settings target now link before SeenRefused mid after = before.file.failures < after.file.failures
 CausesFault settings target now link before (BadSeen line) mid after = Misread before.file line after.file

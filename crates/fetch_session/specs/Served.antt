@@ -13,7 +13,7 @@ use Rattle.pop3_wire.specs.{Link.Link, Place.{Place, at}, Reading.{WholeReply, r
 use Rattle.pop3_client.specs.{Conversation.Talked, Texts.body_text, Turns.{IsGood, Turn, asking, retr}}
 use Rattle.fetch_session.specs.{
   declared.{fault.Fault.TheVariants.NoMemory, report.{Report.Report, Outcome.TheVariants.{Ended, Cut as WasCut}}},
-  Cuts.{ArePlanned, Extends},
+  Cuts.{ArePlanned, Extends, refused_in},
   Opening.SessionOpened,
   Readiness.merged_in,
   Task.file_from,
@@ -39,11 +39,6 @@ abbrev pub IsUsable : Target → Stores → Type 0
 IsUsable (AsFiles account) store = (store.maildir.there.tmp ≡ true) × (store.maildir.there.new ≡ true)
     × (store.maildir.there.cur ≡ true)
 IsUsable AsEntries store = (bytes : List ℕ) × (store.mbox.content ≡ Some bytes) × MayGoOn bytes
-
--- how many calls of the store were refused
-abbrev pub refused_in : Target → Stores → ℕ
-refused_in (AsFiles account) store = store.maildir.failures
-refused_in AsEntries store = store.mbox.failures
 
 -- the turns that were sent of the opening and the plan are answered, and the listings agree; the store can be used, the
 -- record can be read, no call of them or of the link is refused, and memory doesn't run out

@@ -33,8 +33,8 @@ use Rattle.pop3_server.specs.{
 }
 use Rattle.fetch_session.{
   proofs.ServedLemmas.reads_all,
-  specs.{Cuts.{ArePlanned, Extends}, Opening.{SessionOpened, opening}, CarryingOut.tasks_ahead, Readiness.merged_in},
-  specs.{Served.{AreAnswered, GoodSessionsStoreAll, refused_in}, Session.{Keeping, SessionIn, keeping}},
+  specs.{Cuts.{ArePlanned, Extends, refused_in}, Opening.{SessionOpened, opening}, CarryingOut.tasks_ahead, Readiness.merged_in},
+  specs.{Served.{AreAnswered, GoodSessionsStoreAll}, Session.{Keeping, SessionIn, keeping}},
   specs.Target.{AsEntries, AsFiles, Stores, Target, held_flags, odd_in, stores_of, with_maildir},
   specs.Task.{Task, deleting, fetching, says, tasks_in, tasks_planned, turns_ahead},
 }

@@ -19,7 +19,8 @@ use Rattle.fetch_session.specs.{
   declared.{fault.Fault.TheVariants.NoMemory, report.{Report.Report, Outcome.TheVariants.{Ended, Cut as WasCut}}},
   Account.{Holding, digits_of},
   Record.FileReadAs,
-  Served.{IsUsable, StoresAll, refused_in},
+  Cuts.refused_in,
+  Served.{IsUsable, StoresAll},
   Session.{Keeping, keeping},
   Target.{AfterTakingIn, Target, is_sound, stores_of, target_of},
 }
