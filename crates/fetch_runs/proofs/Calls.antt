@@ -74,6 +74,9 @@ calls_leave laws link disk file mail account devices call shows account_is is =
     (account_files left (file.stored devices.file)) account.rows call.report (link.history call.wire')
     (account_files (disk.maildir call.after.store) (file.stored call.after.file)) is.made.0 (shows.intent, shows.record_is) met.4.2.0).0 in
     let after : AccountMail = holds s.rows' (disk.maildir call.after.store) in
+    let same = laws.kept call.settings (digits_of call.settings) call.now (link.history call.wire)
+    (account_files left (file.stored devices.file)) call.report (link.history call.wire')
+    (account_files (disk.maildir call.after.store) (file.stored call.after.file)) met.4.2.0 in
     let mid : AccountMail = holds account.rows left in
     let here : mid ≡ record account { maildir = left } = refl in
     record {
@@ -88,21 +91,15 @@ calls_leave laws link disk file mail account devices call shows account_is is =
         maildrop = is.maildrop;
         served = is.served s.sent s.got s.sent_is s.got_is;
         effect = s.effect;
-        odd = (laws.kept call.settings (digits_of call.settings) call.now (link.history call.wire)
-            (account_files left (file.stored devices.file)) call.report
-            (link.history call.wire') (account_files (disk.maildir call.after.store) (file.stored call.after.file)) met.4.2.0).3;
+        odd = same.3;
         session = subst (λ (k : AccountMail). SessionOverLink call.settings mail.account k s.sent s.got call.report s.effect after) here
             (subst (λ (a : List ℕ). SessionOverLink call.settings a mid s.sent s.got call.report s.effect after) account_is s.session);
       };
-      taken_is = (laws.kept call.settings (digits_of call.settings) call.now (link.history call.wire)
-          (account_files left (file.stored devices.file)) call.report
-          (link.history call.wire') (account_files (disk.maildir call.after.store) (file.stored call.after.file)) met.4.2.0).2;
+      taken_is = same.2;
       leaves = subst (λ (a : List ℕ). LeavesDurably file a devices.file call.after.file mid after) account_is
-          (leaves_durably laws file devices.store call.after.store call.settings (digits_of call.settings)
+          (leaves_durably laws file devices.store call.after.store
           (laws.digits (string_bytes call.settings.server) call.settings.port (string_bytes call.settings.username))
-          call.now (link.history call.wire)
-          left devices.file call.after.file call.report (link.history call.wire') (disk.maildir call.after.store)
-          met.4.2.0 account.rows s.rows' (shows.intent, shows.record_is) s.keeps met.4.2.1);
+          devices.file call.after.file met.4.2.0 account.rows s.rows' (shows.intent, shows.record_is) s.keeps met.4.2.1);
     }
 
 -- readers that take files away are others that do so between two sessions

@@ -14,17 +14,17 @@ use Rattle.fetch_record.specs.{
   RecordFile.{Version, Two, Line, RowLine, IsRecordLine, GroupLine, file_of},
   RecordMeaning.{Ends, Fails, Judged, InBase, InGroup, Means, Progress, Rows, Stands, after_intent, after_line, counted, judged, may_take},
   RecordMeaning.{with_taken, BetweenGroups, Fault, FileStandsFor},
-  RecordGrowth.{AppendedCounts, OneMeaning, OneRecord},
-  RecordTorn.{IsPartOf, TornIsIgnoredOrSeen, ends_at_zero},
+  RecordTorn.{IsPartOf, ends_at_zero},
   declared.seen.SeenFault.TheVariants.BadRow,
 }
 use Rattle.fetch_session.{
-  specs.{Record.{Keeps, KeepsRows, record_state}, Laws.LeavesDurable, Store.RefusesText, CarryingOut.{Carried, Carries, tasks_ahead}},
-  specs.Durable.{AreLeft, DurableCarried, DurableCarries, IsRecordUntouched, Durably, LeavesFile, IsGrownAtMost, LeavesMerged, UnlessQuiet},
-  specs.Durable.{DurableProceeds, DurableSession, DurableUnready, IsSafeFile},
-  specs.declared.{fault.Cut.Cut, report.{Report.Report, Skips.Skips}, account.Store.TheVariants.Maildir as InMaildir},
-  specs.{Readiness.{AreDurable, IsMerged, IsMergedAtMost, IsAnew, IsFileKept}, Target.{AsFiles, in_maildir}},
-  specs.{Scene.{Does, FileNotSaved, NoFile, Scene, Stops, Went, scene}, Session.{Keeping, Proceeds, Session, account_files, keeps_files}},
+  specs.{Record.{Keeps, KeepsRows, Steady, record_state}, Laws.LeavesDurable, Store.RefusesText, Report.Reports},
+  specs.Durable.{AreLeft, AreTrusted, DurableCarried, DurableCarries, IsRecordUntouched, Durably, LeavesFile, IsGrownAtMost, LeavesStore},
+  specs.Durable.{LeavesMerged, DurableProceeds, DurableSession, UnlessQuiet, DurableUnready, IsSafeFile},
+  specs.declared.{account.Store.{Store, TheVariants.Maildir as InMaildir}, fault.Cut.Cut, report.{Report.Report, Skips.Skips}},
+  specs.{CarryingOut.{Carried, Carries, tasks_ahead}, Readiness.{IsMerged, IsMergedAtMost, IsAnew, IsFileKept, Unready}},
+  specs.{Scene.{Does, FileNotSaved, NoFile, Scene, Stops, Went, scene}, Target.{Target, AsFiles, in_maildir}},
+  specs.Session.{Dealt, Keeping, LeavesLink, Proceeds, Session, SessionIn, account_files, keeps_files, outcome_of},
   specs.Task.{Done, Task, file_from, files_in, files_of, ids_ahead, ids_in, marked_ids, stores, tasks_of},
   proofs.{TakenLemmas.unready_same, SessionLemmas.quiet_ids},
 }
@@ -43,6 +43,7 @@ use Rattle.pop3_wire.specs.{Link.Link, Place.{Place, at}}
 use Rattle.rc_file.specs.declared.settings.Settings.{Settings}
 use Rattle.fetch_runs.{
   specs.{Accounts.{has_named, AccountMail}, Losses.TrustsRecord, Steps.holds, Below.Below},
+  proofs.{State.{CourseLeads, by_course}, Turns.{SessionCourse, Idle, Deals, course_of}},
   proofs.Lists.{bytes_same, all_append, both_none, same_held, same_rows},
 }
 use mathlib.Core.Logic.{⊎_map}
@@ -141,26 +142,26 @@ part_of place (word ∷ words) (byte ∷ left) (is, more) =
 -- ---- the rows that are left
 
 -- what is left of an append is read as the record before it, or as the one after it
-pub grown_reads : OneRecord → OneMeaning → AppendedCounts → TornIsIgnoredOrSeen → (was now then : RecordState)
-    (left : Option (List ℕ)) → IsGrownAtMost was now left → Keeps left then → (then ≡ was) ⊎ (then ≡ now)
-grown_reads one meaning counts torn was now then left is stands = elim is.file.begun [
+pub grown_reads : Below → {was now : RecordState} {left : Option (List ℕ)} (then : RecordState)
+    → IsGrownAtMost was now left → Keeps left then → (then ≡ was) ⊎ (then ≡ now)
+grown_reads laws {was} {now} then is stands = elim is.file.begun [
   | inl none ↦ inl (unread none)
   | inr some ↦ elim is.grows [
     | inl none ↦ inl (unread none)
     | inr grows ↦ elim (cases_Bool (bytes_eq is.file.behind is.added)) [
-      | inl same ↦ inr (same_held one (Some (is.file.bytes ++ is.added)) then now
+      | inl same ↦ inr (same_held laws.one (Some (is.file.bytes ++ is.added)) then now
           (rw ((bytes_eq-Decides is.file.behind is.added).0 same) at there) (
             Two,
             false,
-            counts is.file.bytes is.added was.rows now.rows was.intent now.intent some is.file.stands grows,
+            laws.counts is.file.bytes is.added was.rows now.rows was.intent now.intent some is.file.stands grows,
           ))
       | inr apart ↦
-          let ignored = torn is.file.bytes is.added is.file.behind was.rows now.rows was.intent now.intent some is.file.stands grows
+          let ignored = laws.torn is.file.bytes is.added is.file.behind was.rows now.rows was.intent now.intent some is.file.stands grows
           (part_of (length is.file.bytes) is.added is.file.behind is.file.part)
           (λ same. both_ways _ apart ((bytes_eq-Decides is.file.behind is.added).1 same)) in
           elim (cases_Bool (ends_at_zero is.file.behind)) [
-            | inl zeros ↦ inl (same_held one (Some (is.file.bytes ++ is.file.behind)) then was there (Two, _, ignored.0 zeros))
-            | inr line ↦ absurd (cc (meaning (is.file.bytes ++ is.file.behind) (Fault (BadRow (ignored.1 line).0))
+            | inl zeros ↦ inl (same_held laws.one (Some (is.file.bytes ++ is.file.behind)) then was there (Two, _, ignored.0 zeros))
+            | inr line ↦ absurd (cc (laws.meaning (is.file.bytes ++ is.file.behind) (Fault (BadRow (ignored.1 line).0))
                 (Rows there.0 then.rows then.intent there.1) (ignored.1 line).1 there.2))
           ]
     ]
@@ -171,17 +172,28 @@ grown_reads one meaning counts torn was now then left is stands = elim is.file.b
     there = rw is.file.is at stands
 
     unread : is.file.behind ≡ [] → then ≡ was
-    unread none = same_held one (Some is.file.bytes) then was (rw (none, append-nil) at there) (Two, false, is.file.stands)
+    unread none = same_held laws.one (Some is.file.bytes) then was (rw (none, append-nil) at there) (Two, false, is.file.stands)
+
+-- nothing was appended
+pub same_reads : Below → {was : RecordState} {left : Option (List ℕ)} (then : RecordState) → IsGrownAtMost was was left → Keeps left then
+    → then ≡ was
+same_reads laws then is stands = ⊎_elim (λ e. e) (λ e. e) (grown_reads laws then is stands)
+
+-- what is left of a merge is read as the record before it, or as the merged one
+pub merge_reads : Below → {was now : RecordState} {left : Option (List ℕ)} (then : RecordState)
+    → IsGrownAtMost was now left ⊎ IsGrownAtMost now now left → Keeps left then → (then ≡ was) ⊎ (then ≡ now)
+merge_reads laws then (inl grown) stands = grown_reads laws then grown stands
+merge_reads laws then (inr grown) stands = inr (same_reads laws then grown stands)
 
 abbrev rows_in : {a b : RecordState} → a ≡ b → a.rows ≡ b.rows
 rows_in same = ap (λ (r : RecordState). r.rows) same
 
-pub left_stands : OneRecord → OneMeaning → AppendedCounts → TornIsIgnoredOrSeen
-    → (rows others now : List Row) (left : Option (List ℕ)) → AreLeft rows others left → KeepsRows left now → (now ≡ rows) ⊎ (now ≡ others)
-left_stands one meaning counts torn rows _ now left is (intent, stands) =
+left_stands : Below → {rows others : List Row} {left : Option (List ℕ)} (now : List Row) → AreLeft rows others left
+    → KeepsRows left now → (now ≡ rows) ⊎ (now ≡ others)
+left_stands laws now is (intent, stands) =
     ⊎_elim (λ same. inl (rows_in same)) (λ same. ⊎_map (λ e. rows_in same ∙ e) (λ e. rows_in same ∙ e) is.next_is)
-    (grown_reads one meaning counts torn (record_state rows is.before) (record_state is.next is.after)
-    (record_state now intent) left (record { added = is.added; file = is.file; grows = inr is.grows }) stands)
+    (grown_reads laws {now = record_state is.next is.after} (record_state now intent)
+    (record { added = is.added; file = is.file; grows = inr is.grows }) stands)
 
 -- ---- names of files
 
@@ -220,49 +232,126 @@ no_files account (d ∷ dones) none =
     by (stores _ uid) never = absurd cc
     by other none = refl
 
-module _ (account : List ℕ) (settings : Settings) (items : List Item) (now : ℕ) (place : Place) (left : Maildir) (file : Stored) where
-  -- no file came
-  quiet_came : (result : Result (Unit {0}) Cut) (new : Scene) (skipped : Skips)
-      → (c : Carried settings (AsFiles account) items now place (in_maildir left) file [] result new skipped)
-      → All IsQuiet (planned settings (is_odd account left) c.mid.rows items now) → new.store.maildir.files ≡ left.files
-  quiet_came result new _ c quiet = by _ c.does
-    where
-      none : ids_ahead (tasks_ahead settings (AsFiles account) items now (in_maildir left) c.mid.rows) ≡ []
-      none = simp (flat_map-append, append-nil) (quiet_ids _ _ _ (recursion_from_All _ _ quiet))
+-- no file came
+quiet_came : {account : List ℕ} {settings : Settings} {items : List Item} {now : ℕ} {place : Place} {left : Maildir} {file : Stored}
+    {result : Result (Unit {0}) Cut} {new : Scene} {skipped : Skips}
+    (c : Carried settings (AsFiles account) items now place (in_maildir left) file [] result new skipped)
+    → All IsQuiet (planned settings (is_odd account left) c.mid.rows items now) → new.store.maildir.files ≡ left.files
+quiet_came {account} {settings} {items} {now} {left = left} {result = result} {new} c quiet = by result c.does
+  where
+    none : ids_ahead (tasks_ahead settings (AsFiles account) items now (in_maildir left) c.mid.rows) ≡ []
+    none = simp (flat_map-append, append-nil) (quiet_ids _ _ _ (recursion_from_All _ _ quiet))
 
-      none_came : {later : Scene} (dones : List Done) → Went (AsFiles account) dones c.mid later
-          → ids_ahead (tasks_of dones) ≡ [] → later.store.maildir.files ≡ left.files
-      none_came dones went none = went.stored.came ∙ ap (λ s. s.maildir.files ++ files_of account dones) c.prepared.settles
-          ∙ rw no_files (append-nil left.files)
+    none_came : {later : Scene} (dones : List Done) → Went (AsFiles account) dones c.mid later
+        → ids_ahead (tasks_of dones) ≡ [] → later.store.maildir.files ≡ left.files
+    none_came dones went none = went.stored.came ∙ ap (λ s. s.maildir.files ++ files_of account dones) c.prepared.settles
+        ∙ rw no_files (append-nil left.files)
+
+    by : (result : Result (Unit {0}) Cut)
+        → Does (AsFiles account) (tasks_ahead settings (AsFiles account) items now (in_maildir left) c.mid.rows) c.mid
+        result new → new.store.maildir.files ≡ left.files
+    by (Ok _) all = none_came all.dones all.went (rw all.all at none)
+    by (Err cut) fell = stopped fell.stops ∙ none_came fell.dones fell.went parts.0
+      where
+        parts : (ids_ahead (tasks_of fell.dones) ≡ []) × (ids_in fell.next ≡ [])
+        parts =
+            let both = both_none _ _ (rw (fell.split, flat_map-append) at none) in
+            (both.0, (both_none _ _ both.1).0)
+
+        stopped : Stops (AsFiles account) fell.next fell.mid cut new → new.store.maildir.files ≡ fell.mid.store.maildir.files
+        stopped (inl broken) = ap (λ s. s.maildir.files) broken.store
+        stopped (inr (inl n)) = absurd (cc (rw n.is at parts.1))
+        stopped (inr (inr u)) = absurd (cc (rw u.is at parts.1))
+
+-- ---- how a session goes, by what is durable of it
+
+abbrev pub end_of : {settings : Settings} {target : Target} {now : ℕ} {link link' : Link} {before after : Keeping} {report : Report}
+    → SessionIn settings target now link before report link' after → List Row → Scene
+end_of {after = after} session rows = scene session.mid after.store after.file rows session.notes.lines
+
+-- what was planned was begun
+pub record IsBegun {D F : Type 0} (files : FileGhosts F) {settings : Settings} {target : Target} {now : ℕ} {link link' : Link}
+    {before after : Keeping} {report : Report} (session : SessionIn settings target now link before report link' after)
+    (store : Store D F) (f : F) (result : Result (Unit {0}) Cut) : Type 0 where
+  pub leaves : LeavesLink result session.mid link'
+  pub reports : Reports (outcome_of result) session.notes.total session.notes.skipped session.notes.lines report
+  pub dealt : Dealt settings target now (at link []) before result session.mid after session.notes
+  pub rows : List Row
+  pub c : Carried settings target dealt.items now dealt.mid before.store before.file [] result (end_of session rows) session.notes.skipped
+  pub durably : Durably files target (tasks_ahead settings target dealt.items now before.store c.mid.rows) c.mid result
+      (end_of session rows) c.does store f
+
+module _ {D F : Type 0} (files : FileGhosts F) (was : Store D F) (from : F) {settings : Settings} {target : Target} {now : ℕ}
+    {link link' : Link} {before after : Keeping} {report : Report}
+    (session : SessionIn settings target now link before report link' after) (store : Store D F) (f : F) where
+  -- nothing was written; the record wasn't ready; it was written anew, and nothing was to be done; or what was planned was begun
+  pub data Way : Type 0 where
+    Untouched : IsRecordUntouched files from f → LeavesStore files was store → Way
+    NotReady : (items : List Item) (cut : Cut)
+        (is : Unready target items now before.store before.file cut.fault after.store after.file)
+        → DurableUnready files was from is.content store f → Way
+    Anew : (rows : List Row) (kept : Stored) → IsAnew rows before.file kept → Steady kept.content (none_open rows)
+        → files.stored f ≡ kept → IsSafeFile files f → LeavesStore files was store → Way
+    Begun : (result : Result (Unit {0}) Cut) → IsBegun files session store f result → Way
+
+  unless : {Quiet Durable Safe : Type 0} (rows : List Row) {kept : Stored} (either : (Quiet × IsFileKept rows before.file kept) ⊎ Durable)
+      → UnlessQuiet files was from rows before.file kept either Safe store f → Steady kept.content (none_open rows) → (Safe → Way) → Way
+  unless _ (inl (_, inl _)) (un, still) _ _ = Untouched un still
+  unless rows (inl (_, inr is)) ((same, safe), still) saved _ = Anew rows _ is saved same safe still
+  unless _ (inr _) safe _ go = go safe
+
+  pub way : DurableSession files was from session store f → AreTrusted files was from → Way
+  way durable trusted = by session.result session.proceeds session.leaves session.reports durable
+    where
+      begun : (result : Result (Unit {0}) Cut) → LeavesLink result session.mid link'
+          → Reports (outcome_of result) session.notes.total session.notes.skipped session.notes.lines report
+          → (dealt : Dealt settings target now (at link []) before result session.mid after session.notes) {rows : List Row}
+          (c : Carried settings target dealt.items now dealt.mid before.store before.file [] result (end_of session rows)
+          session.notes.skipped) → DurableCarried files was from c store f → Way
+      begun result leaves reports dealt c all = unless c.mid.rows c.prepared.durable (all trusted) c.prepared.saved
+          (λ durably. Begun result (record {
+            leaves = leaves;
+            reports = reports;
+            dealt = dealt;
+            rows = _;
+            c = c;
+            durably = durably;
+          }))
 
       by : (result : Result (Unit {0}) Cut)
-          → Does (AsFiles account) (tasks_ahead settings (AsFiles account) items now (in_maildir left) c.mid.rows) c.mid
-          result new → new.store.maildir.files ≡ left.files
-      by (Ok _) all = none_came all.dones all.went (rw all.all at none)
-      by (Err cut) fell = stopped fell.stops ∙ none_came fell.dones fell.went parts.0
+          (proceeds : Proceeds settings target now (at link []) before result session.mid after session.notes)
+          → LeavesLink result session.mid link'
+          → Reports (outcome_of result) session.notes.total session.notes.skipped session.notes.lines report
+          → DurableProceeds files was from _ _ _ _ _ _ _ _ _ proceeds store f → Way
+      by (Ok _) dealt leaves reports all = begun _ leaves reports dealt dealt.carries.1 all
+      by (Err _) (inl _) _ _ (un, still) = Untouched un still
+      by (Err _) (inr (inl _)) _ _ (un, still) = Untouched un still
+      by (Err cut) (inr (inr dealt)) leaves reports all = of dealt.carries all
         where
-          parts : (ids_ahead (tasks_of fell.dones) ≡ []) × (ids_in fell.next ≡ [])
-          parts =
-              let both = both_none _ _ (rw (fell.split, flat_map-append) at none) in
-              (both.0, (both_none _ _ both.1).0)
-
-          stopped : Stops (AsFiles account) fell.next fell.mid cut new → new.store.maildir.files ≡ fell.mid.store.maildir.files
-          stopped (inl broken) = ap (λ s. s.maildir.files) broken.store
-          stopped (inr (inl n)) = absurd (cc (rw n.is at parts.1))
-          stopped (inr (inr u)) = absurd (cc (rw u.is at parts.1))
+          of : (carries : Carries settings target dealt.items now dealt.mid before.store before.file [] (Err cut) session.mid
+              after.store after.file session.notes.lines session.notes.skipped)
+              → DurableCarries files was from settings target dealt.items now dealt.mid before.store before.file [] (Err cut)
+              session.mid after.store after.file session.notes.lines session.notes.skipped carries store f → Way
+          of (_, inl (_, is)) all = NotReady _ cut is.unready (all trusted)
+          of (_, inr c) all = begun _ leaves reports dealt c all
 
 -- ---- a session
 
-module _ (laws : Below) {D F : Type 0} (files : FileGhosts F) (device device' : D) (settings : Settings)
-    (account : List ℕ) (text : IsAccountText account) (now : ℕ) (link : Link) (left : Maildir) (from f : F)
-    (report : Report) (link' : Link) (maildir : Maildir)
-    (session : Session settings account now link (account_files left (files.stored from)) report link'
+module _ (laws : Below) {D F : Type 0} (files : FileGhosts F) (device device' : D) {settings : Settings}
+    {account : List ℕ} (text : IsAccountText account) {now : ℕ} {link link' : Link} {left maildir : Maildir} (from f : F)
+    {report : Report} (session : Session settings account now link (account_files left (files.stored from)) report link'
     (account_files maildir (files.stored f)))
     (was rows : List Row) (stood : KeepsRows (files.stored from).content was)
     (keeps : KeepsRows (files.stored f).content rows) where
-  pub durable : LeavesDurable account (account_files left (files.stored from)) (account_files maildir (files.stored f))
-  durable = laws.durable settings account now link (account_files left (files.stored from)) report link'
-      (account_files maildir (files.stored f)) text session
+  abbrev old : Stored
+  old = files.stored from
+
+  abbrev new : Stored
+  new = files.stored f
+
+  pub durable : LeavesDurable account (account_files left old) (account_files maildir new)
+  durable = laws.durable settings account now link (account_files left old) report link'
+      (account_files maildir new) text session
 
   has_is : (id : List ℕ) → HasDurable account maildir id → has_named account maildir id ≡ true
   has_is id (g, there, names, is) = has_file _ maildir id g there names is.0
@@ -280,9 +369,9 @@ module _ (laws : Below) {D F : Type 0} (files : FileGhosts F) (device device' : 
   by_rows : (could : Option (List ℕ)) (id : List ℕ) → is_delivered rows id ≡ true → Said could id
   by_rows _ id d = ⊎_map (λ x. x) inl (shown id d)
 
-  by_was : (could : Option (List ℕ)) (id : List ℕ) (old : List Row) → KeepsRows (files.stored from).content old
-      → is_delivered old id ≡ true → Said could id
-  by_was _ _ old keeps_old d = inl (rw (same_rows laws.one (files.stored from).content old was keeps_old stood) at d)
+  by_was : (could : Option (List ℕ)) (id : List ℕ) (had : List Row) → KeepsRows old.content had
+      → is_delivered had id ≡ true → Said could id
+  by_was _ _ had keeps_had d = inl (rw (same_rows laws.one old.content had was keeps_had stood) at d)
 
   untouched : IsRecordUntouched files from f → Answered
   untouched un could then may k _ d = inr (inr (un.no_more could may))
@@ -293,38 +382,28 @@ module _ (laws : Below) {D F : Type 0} (files : FileGhosts F) (device device' : 
         → ((could : Option (List ℕ)) (id : List ℕ) → is_delivered others id ≡ true → Said could id) → Answered
     shown_by had others leaves within more could then may k id d = by _ refl
       where
-        by : (content : Option (List ℕ)) → (files.stored f).content ≡ content → Said could id
+        by : (content : Option (List ℕ)) → new.content ≡ content → Said could id
         by None none = absurd (cc (rw (rw (trust.1 none could may) at k).1.0 at d))
-        by (Some bytes) some = elim (left_stands laws.one laws.meaning laws.counts laws.torn had others then could
-            (leaves bytes some could may) k) [
-              | inl same ↦ by_rows _ id (within id (rw same at d))
-              | inr same ↦ more could id (rw same at d)
-            ]
+        by (Some bytes) some = elim (left_stands laws then (leaves bytes some could may) k) [
+          | inl same ↦ by_rows _ id (within id (rw same at d))
+          | inr same ↦ more could id (rw same at d)
+        ]
 
     -- the record was written anew, and this alone may be left
-    anew : (now_rows : List Row) (kept : Stored) → files.stored f ≡ kept → IsAnew now_rows (files.stored from) kept
+    anew : (now_rows : List Row) (kept : Stored) → new ≡ kept → IsAnew now_rows old kept
         → IsSafeFile files f → Answered
     anew now_rows _ same is_anew safe could then may k id d =
         let whole = ap (λ s. s.content) (same ∙ is_anew.2) in
         let is = (safe.1 (file_of now_rows None) whole).1 could may ∙ sym whole in
-        by_rows _ id (rw (same_rows laws.one (files.stored f).content then rows (rw is at k) keeps) at d)
+        by_rows _ id (rw (same_rows laws.one new.content then rows (rw is at k) keeps) at d)
 
     -- ---- it was cut while it prepared the record
 
     module _ (items : List Item) (same : maildir.files ≡ left.files) where
       -- the record was merged, or was about to be
-      module _ (m : IsMerged (AsFiles account) items now (in_maildir left) (files.stored from) (in_maildir maildir)
-          (files.stored f)) where
+      module _ (m : IsMerged (AsFiles account) items now (in_maildir left) old (in_maildir maildir) new) where
         abbrev here : List Row
         here = merged m.was.rows items (flags_of account left items) now
-
-        stands : (could : Option (List ℕ)) (then : List Row) → KeepsRows could then
-            → IsGrownAtMost m.was (none_open here) could ⊎ IsGrownAtMost (none_open here) (none_open here) could
-            → (then ≡ m.was.rows) ⊎ (then ≡ here)
-        stands could then (intent, k) (inl are) = ⊎_map rows_in rows_in
-            (grown_reads laws.one laws.meaning laws.counts laws.torn m.was (none_open here) (record_state then intent) could are k)
-        stands could then (intent, k) (inr are) = inr (⊎_elim rows_in rows_in (grown_reads laws.one laws.meaning laws.counts
-            laws.torn (none_open here) (none_open here) (record_state then intent) could are k))
 
         of_was : (could : Option (List ℕ)) (id : List ℕ) → is_delivered m.was.rows id ≡ true → Said could id
         of_was _ id = by_was _ id _ (m.was.intent, m.stood)
@@ -342,195 +421,148 @@ module _ (laws : Below) {D F : Type 0} (files : FileGhosts F) (device device' : 
             → LeavesMerged Before m.was here (MayLeave (files.disk f)) → Answered
         merged_left Before of_before leaves could then may k id d = elim (leaves could may) [
           | inl before ↦ of_before could then before k id d
-          | inr are ↦ ⊎_elim (λ is. of_was _ id (rw is at d)) (λ is. of_merged _ id (rw is at d)) (stands could then k are)
+          | inr are ↦
+              let read : (then ≡ m.was.rows) ⊎ (then ≡ here) = ⊎_map rows_in rows_in (merge_reads laws (record_state then k.0) are k.1) in
+              ⊎_elim (λ is. of_was _ id (rw is at d)) (λ is. of_merged _ id (rw is at d)) read
         ]
 
-      unready : (content : IsMergedAtMost (AsFiles account) items now (in_maildir left) (files.stored from)
-          (in_maildir maildir) (files.stored f)) → DurableUnready files (InMaildir device) from content (InMaildir device') f → Answered
+      unready : (content : IsMergedAtMost (AsFiles account) items now (in_maildir left) old
+          (in_maildir maildir) new) → DurableUnready files (InMaildir device) from content (InMaildir device') f → Answered
       unready (inl _) (leaves, _) = λ could then may k _ d. inr (inr (leaves could may))
       unready (inr m) (inl (_, leaves, _)) = merged_left m (MayLeave (files.disk from)) (λ _ then before k _ d. inr (inr before)) leaves
-      unready (inr m) (inr (leaves, _)) = merged_left m (λ left. left ≡ (files.stored from).content)
+      unready (inr m) (inr (leaves, _)) = merged_left m (λ left. left ≡ old.content)
           (λ could then is k id d. by_was could id then (subst (λ (c : Option (List ℕ)). KeepsRows c then) is k) d) leaves
 
     -- ---- its tasks were begun
 
-    module _ (items : List Item) (place : Place) (rows' : List Row) where
-      abbrev end_with : Scene
-      end_with = scene session.mid (in_maildir maildir) (files.stored f) rows' session.notes.lines
+    abbrev BegunWith : Result (Unit {0}) Cut → Type 0
+    BegunWith result = IsBegun files session (InMaildir device') f result
 
-      abbrev CarriedTo : Result (Unit {0}) Cut → Type 0
-      CarriedTo result = Carried settings (AsFiles account) items now place (in_maildir left) (files.stored from) []
-          result end_with session.notes.skipped
+    -- it did all its tasks
+    answer_ok : BegunWith (Ok tt) → Answered
+    answer_ok w = shown_by _ _ w.durably.0.left within (λ could id d. by_rows _ id (within id d))
+      where
+        open w use {c}
 
-      -- it did all its tasks
-      answer_ok : (c : CarriedTo (Ok tt)) → DurableCarried files (InMaildir device) from c (InMaildir device') f → Answered
-      answer_ok c durably = by _ (durably (tt, trust.0))
-        where
-          within : (id : List ℕ) → is_delivered (marked_all c.mid.rows (marked_ids c.does.dones)) id ≡ true → is_delivered rows id ≡ true
-          within _ d =
-              rw (
-                same_rows laws.one (files.stored f).content rows rows' keeps
-                    (None, laws.steady (files.stored f).content (none_open rows') (c.does.went.saved c.prepared.saved)),
-                c.does.went.rows,
-              ) d
-
-          by : (durable : (All IsQuiet (planned settings (is_odd account left) c.mid.rows items now)
-              × IsFileKept c.mid.rows (files.stored from) c.mid.file)
-              ⊎ AreDurable (AsFiles account) c.prepared.was.rows items (in_maildir left))
-              → UnlessQuiet files (InMaildir device) from c.mid.rows (files.stored from) c.mid.file durable
-              (Durably files (AsFiles account) (tasks_ahead settings (AsFiles account) items now (in_maildir left)
-              c.mid.rows) c.mid (Ok tt) end_with c.does (InMaildir device') f) (InMaildir device') f → Answered
-          by (inl (_, inl _)) (un, _) = untouched un
-          by (inl (_, inr is_anew)) (safe, _) = anew _ _ safe.0 is_anew safe.1
-          by (inr durable) durably = shown_by _ _ durably.0.left within (λ could id d. by_rows _ id (within id d))
-
-      -- it was cut
-      module _ {cut : Cut} (c : CarriedTo (Err cut))
-          (durably : Durably files (AsFiles account) (tasks_ahead settings (AsFiles account) items now (in_maildir left)
-          c.mid.rows) c.mid (Err cut) end_with c.does (InMaildir device') f) where
-        abbrev rows_then : List Row
-        rows_then = marked_all c.mid.rows (marked_ids c.does.dones)
-
-        abbrev Has : List Row → Type 0
-        Has old = (id : List ℕ) → is_delivered old id ≡ true → is_delivered rows id ≡ true
-
-        -- the record's file is as it was after the tasks that were done
-        same_has : files.stored f ≡ c.does.mid.file → Has rows_then
-        same_has same _ d =
+        within : (id : List ℕ) → is_delivered (marked_all c.mid.rows (marked_ids c.does.dones)) id ≡ true → is_delivered rows id ≡ true
+        within _ d =
             rw (
-              same_rows laws.one c.does.mid.file.content rows c.does.mid.rows (rw same at keeps) (
-                None,
-                laws.steady c.does.mid.file.content (none_open c.does.mid.rows) (c.does.went.saved c.prepared.saved),
-              ),
+              same_rows laws.one new.content rows w.rows keeps
+                  (None, laws.steady new.content (none_open w.rows) (c.does.went.saved c.prepared.saved)),
               c.does.went.rows,
             ) d
 
-        unmarked : LeavesFile files f (AreLeft c.does.mid.rows c.does.mid.rows) → files.stored f ≡ c.does.mid.file → Answered
-        unmarked leaves same = shown_by _ _ (rw c.does.went.rows at leaves) (same_has same)
-            (λ could id d. by_rows _ id (same_has same id d))
+    -- it was cut
+    module _ {cut : Cut} (w : BegunWith (Err cut)) where
+      open w use {c, durably}
 
-        marked_one : (number : ℕ) (uid : List ℕ) → c.does.next ≡ stores number uid → (g : File)
-            → maildir.files ≡ c.does.mid.store.maildir.files ++ g ∷ [] → names_id account uid g.name ≡ true
-            → IsNamed g → Has rows_then → Answered
-        marked_one number uid is g came names named within =
-            shown_by rows_then (marked rows_then uid)
-            (subst (λ (t : Task). LeavesFile files f (AreLeft rows_then (marked_all rows_then (ids_in t)))) is durably.0.left) within
-            (λ could id d. ⊎_elim (λ had. by_rows could id (within id had))
-            (λ both. inr (inl (has_file account maildir id g (rw came (Contains-push c.does.mid.store.maildir.files g))
-            (rw (bytes_same uid id (and_parts (has_row rows_then id) (bytes_eq uid id) both).1) at names) named)))
-            (or_cases _ _ (sym (laws.marks rows_then uid id) ∙ d)))
+      abbrev end : Scene
+      end = end_of session w.rows
 
-        -- the file that came is this one
-        same_one : (g h : File) → maildir.files ≡ c.does.mid.store.maildir.files ++ h ∷ []
-            → maildir.files ≡ c.does.mid.store.maildir.files ++ g ∷ [] → h ≡ g
-        same_one g h came came' = cc (append_cancel_left c.does.mid.store.maildir.files (h ∷ []) (g ∷ []) (sym came ∙ came'))
+      abbrev rows_then : List Row
+      rows_then = marked_all c.mid.rows (marked_ids c.does.dones)
 
-        named_one : (uid written : List ℕ) → names_id account uid (sized_file (stem_of account uid) written).name ≡ true
-        named_one uid written = (bytes_eq-Decides _ _).1 (sym (ap stem (laws.bases account uid (length written) text)
-            ∙ laws.stems account uid (length written) text))
+      abbrev Has : List Row → Type 0
+      Has old = (id : List ℕ) → is_delivered old id ≡ true → is_delivered rows id ≡ true
 
-        -- nothing came
-        nothing : maildir.files ≡ c.does.mid.store.maildir.files → files.stored f ≡ c.does.mid.file → Answered
-        nothing same same_record = ⊎_elim (λ un. unmarked un same_record)
-            (λ (g, came, is). absurd (no_more _ maildir.files g same came)) durably.1
+      -- the record's file is as it was after the tasks that were done
+      same_has : new ≡ c.does.mid.file → Has rows_then
+      same_has same _ d =
+          rw (
+            same_rows laws.one c.does.mid.file.content rows c.does.mid.rows (rw same at keeps) (
+              None,
+              laws.steady c.does.mid.file.content (none_open c.does.mid.rows) (c.does.went.saved c.prepared.saved),
+            ),
+            c.does.went.rows,
+          ) d
 
-        refused : (n : NoFile account c.does.next c.does.mid end_with cut)
-            → RefusesText c.does.mid.store.maildir (stem_of account n.uid) n.rest n.text cut.fault maildir → Answered
-        refused n (inl missing) = nothing (ap (λ (m : Maildir). m.files) missing.2) n.file
-        refused n (inr (is, inl same)) = nothing (ap (λ (m : Maildir). m.files) same) n.file
-        refused n (inr (is, inr (_, (is_named, there)))) = elim durably.1 [
-          | inl un ↦ unmarked un n.file
-          | inr (g, came', durable) ↦
-              marked_one _ _ n.is g came' (rw (← same_one g (record (sized_file (stem_of account n.uid) n.text) { is_named = is_named })
-              (ap (λ (m : Maildir). m.files) there) came') (named_one _ _)) durable.0 (same_has n.file)
-        ]
+      unmarked : LeavesFile files f (AreLeft c.does.mid.rows c.does.mid.rows) → new ≡ c.does.mid.file → Answered
+      unmarked leaves same = shown_by _ _ (rw c.does.went.rows at leaves) (same_has same)
+          (λ could id d. by_rows _ id (same_has same id d))
 
-        unsaved : FileNotSaved account c.does.next c.does.mid end_with cut → Answered
-        unsaved u = marked_one u.number u.uid u.is (file_from account u.uid u.reply) u.stored.came (named_one u.uid _) refl within
-          where
-            within : Has rows_then
-            within id d = elim (laws.unsaved c.does.mid.file (none_open c.does.mid.rows)
-                (none_open (marked c.does.mid.rows u.uid)) cut.fault (files.stored f) u.saves (c.does.went.saved c.prepared.saved)) [
-                  | inl old ↦ rw (same_rows laws.one (files.stored f).content rows c.does.mid.rows keeps (None, old), c.does.went.rows) d
-                  | inr new ↦ rw (
-                    same_rows laws.one (files.stored f).content rows (marked c.does.mid.rows u.uid) keeps (None, new),
-                    c.does.went.rows,
-                    laws.marks rows_then u.uid id,
-                    d,
-                  ) refl
-                ]
+      marked_one : (number : ℕ) (uid : List ℕ) → c.does.next ≡ stores number uid → (g : File)
+          → maildir.files ≡ c.does.mid.store.maildir.files ++ g ∷ [] → names_id account uid g.name ≡ true
+          → IsNamed g → Has rows_then → Answered
+      marked_one number uid is g came names named within =
+          shown_by rows_then (marked rows_then uid)
+          (subst (λ (t : Task). LeavesFile files f (AreLeft rows_then (marked_all rows_then (ids_in t)))) is durably.0.left) within
+          (λ could id d. ⊎_elim (λ had. by_rows could id (within id had))
+          (λ both. inr (inl (has_file account maildir id g (rw came (Contains-push c.does.mid.store.maildir.files g))
+          (rw (bytes_same uid id (and_parts (has_row rows_then id) (bytes_eq uid id) both).1) at names) named)))
+          (or_cases _ _ (sym (laws.marks rows_then uid id) ∙ d)))
 
-        answer_cut : Answered
-        answer_cut = elim c.does.stops [
-          | inl broken ↦ nothing (ap (λ s. s.maildir.files) broken.store) broken.file
-          | inr (inl n) ↦ refused n n.refuses
-          | inr (inr u) ↦ unsaved u
-        ]
+      -- the file that came is this one
+      same_one : (g h : File) → maildir.files ≡ c.does.mid.store.maildir.files ++ h ∷ []
+          → maildir.files ≡ c.does.mid.store.maildir.files ++ g ∷ [] → h ≡ g
+      same_one g h came came' = cc (append_cancel_left c.does.mid.store.maildir.files (h ∷ []) (g ∷ []) (sym came ∙ came'))
 
-    pub records_left : DurableSession files (InMaildir device) from session (InMaildir device') f → Answered
-    records_left durably = by session.result session.proceeds durably
+      named_one : (uid written : List ℕ) → names_id account uid (sized_file (stem_of account uid) written).name ≡ true
+      named_one uid written = (bytes_eq-Decides _ _).1 (sym (ap stem (laws.bases account uid (length written) text)
+          ∙ laws.stems account uid (length written) text))
+
+      -- nothing came
+      nothing : maildir.files ≡ c.does.mid.store.maildir.files → new ≡ c.does.mid.file → Answered
+      nothing same same_record = ⊎_elim (λ un. unmarked un same_record)
+          (λ (g, came, is). absurd (no_more _ maildir.files g same came)) durably.1
+
+      refused : (n : NoFile account c.does.next c.does.mid end cut)
+          → RefusesText c.does.mid.store.maildir (stem_of account n.uid) n.rest n.text cut.fault maildir → Answered
+      refused n (inl missing) = nothing (ap (λ (m : Maildir). m.files) missing.2) n.file
+      refused n (inr (is, inl same)) = nothing (ap (λ (m : Maildir). m.files) same) n.file
+      refused n (inr (is, inr (_, (is_named, there)))) = elim durably.1 [
+        | inl un ↦ unmarked un n.file
+        | inr (g, came', durable) ↦
+            marked_one _ _ n.is g came' (rw (← same_one g (record (sized_file (stem_of account n.uid) n.text) { is_named = is_named })
+            (ap (λ (m : Maildir). m.files) there) came') (named_one _ _)) durable.0 (same_has n.file)
+      ]
+
+      unsaved : FileNotSaved account c.does.next c.does.mid end cut → Answered
+      unsaved u = marked_one u.number u.uid u.is (file_from account u.uid u.reply) u.stored.came (named_one u.uid _) refl within
+        where
+          within : Has rows_then
+          within id d = elim (laws.unsaved c.does.mid.file (none_open c.does.mid.rows)
+              (none_open (marked c.does.mid.rows u.uid)) cut.fault new u.saves (c.does.went.saved c.prepared.saved)) [
+                | inl same ↦ rw (same_rows laws.one new.content rows c.does.mid.rows keeps (None, same), c.does.went.rows) d
+                | inr more ↦ rw (
+                  same_rows laws.one new.content rows (marked c.does.mid.rows u.uid) keeps (None, more),
+                  c.does.went.rows,
+                  laws.marks rows_then u.uid id,
+                  d,
+                ) refl
+              ]
+
+      answer_cut : Answered
+      answer_cut = elim c.does.stops [
+        | inl broken ↦ nothing (ap (λ s. s.maildir.files) broken.store) broken.file
+        | inr (inl n) ↦ refused n n.refuses
+        | inr (inr u) ↦ unsaved u
+      ]
+
+    records_left : DurableSession files (InMaildir device) from session (InMaildir device') f → Answered
+    records_left durably = elim (way files (InMaildir device) from session (InMaildir device') f durably (tt, trust.0)) [
+      | Untouched un _ ↦ untouched un
+      | NotReady items cut is leaves ↦ unready items (unready_same cut.fault left old maildir new is.cause) is.content leaves
+      | Anew now_rows kept is _ same safe _ ↦ anew now_rows kept same is safe
+      | Begun result w ↦ by result w
+    ]
       where
-        by : (result : Result (Unit {0}) Cut) → (proceeds : Proceeds settings (AsFiles account) now (at link [])
-            (keeps_files (account_files left (files.stored from))) result session.mid
-            (keeps_files (account_files maildir (files.stored f))) session.notes)
-            → DurableProceeds files (InMaildir device) from _ _ _ _ _ _ _ _ _ proceeds (InMaildir device') f → Answered
-        by (Ok done) dealt durably = answer_ok dealt.items dealt.mid dealt.carries.0 dealt.carries.1 durably
-        by (Err cut) (inl stopped) (un, mbox) = untouched un
-        by (Err cut) (inr (inl wanting)) (un, mbox) = untouched un
-        by (Err cut) (inr (inr dealt)) durably = of dealt.carries durably
-          where
-            of : (carries : Carries settings (AsFiles account) dealt.items now dealt.mid (in_maildir left)
-                (files.stored from) [] (Err cut) session.mid (in_maildir maildir) (files.stored f)
-                session.notes.lines session.notes.skipped)
-                → DurableCarries files (InMaildir device) from settings (AsFiles account) dealt.items now dealt.mid
-                (in_maildir left) (files.stored from) [] (Err cut) session.mid (in_maildir maildir) (files.stored f)
-                session.notes.lines session.notes.skipped carries (InMaildir device') f → Answered
-            of (rows', inl (none_said, unprepared)) all =
-                unready dealt.items (unready_same cut.fault left (files.stored from) maildir (files.stored f)
-                unprepared.unready.cause) unprepared.unready.content (all (tt, trust.0))
-            of (rows', inr c) all = by_plan c.prepared.durable (all (tt, trust.0))
-              where
-                by_plan : (durable : (All IsQuiet (planned settings (is_odd account left) c.mid.rows dealt.items now)
-                    × IsFileKept c.mid.rows (files.stored from) c.mid.file)
-                    ⊎ AreDurable (AsFiles account) c.prepared.was.rows dealt.items (in_maildir left))
-                    → UnlessQuiet files (InMaildir device) from c.mid.rows (files.stored from) c.mid.file durable
-                    (Durably files (AsFiles account) (tasks_ahead settings (AsFiles account) dealt.items now
-                    (in_maildir left) c.mid.rows) c.mid (Err cut) (end_with dealt.items dealt.mid rows') c.does
-                    (InMaildir device') f) (InMaildir device') f → Answered
-                by_plan (inl (quiet, inl kept)) (un, mbox) = untouched un
-                by_plan (inl (quiet, inr is_anew)) (safe, mbox) = anew c.mid.rows c.mid.file safe.0 is_anew safe.1
-                by_plan (inr is) durably = answer_cut dealt.items dealt.mid rows' c durably
+        by : (result : Result (Unit {0}) Cut) → BegunWith result → Answered
+        by (Ok _) w = answer_ok w
+        by (Err _) w = answer_cut w
 
   -- no file came, or each name was durable
   none_or_named : (durable.came ++ durable.last ≡ []) ⊎ AllNamed left.files
-  none_or_named = by session.result session.proceeds
+  none_or_named = ⊎_map (λ alike. append_cancel_left left.files (durable.came ++ durable.last) [] (sym durable.files ∙ alike
+      ∙ sym (append-nil left.files))) (λ named. named) (by (course_of session) (by_course session
+      (λ _ _ store _. (store.maildir.files ≡ left.files) ⊎ AllNamed left.files)
+      (λ _ _ cut end is. inl (unready_same cut.fault left old end.store.maildir end.file is.unready.cause))
+      (λ _ _ _ _ _ c. ⊎_map (λ quiet. quiet_came c quiet.0) (λ found. found.0) c.prepared.durable)))
     where
-      same : maildir.files ≡ left.files → (durable.came ++ durable.last ≡ []) ⊎ AllNamed left.files
-      same alike = inl (append_cancel_left left.files (durable.came ++ durable.last) [] (sym durable.files ∙ alike
-          ∙ sym (append-nil left.files)))
-
-      of : {items : List Item} {place : Place} {rows' : List Row} {result : Result (Unit {0}) Cut}
-          → Carried settings (AsFiles account) items now place (in_maildir left) (files.stored from) [] result
-          (scene session.mid (in_maildir maildir) (files.stored f) rows' session.notes.lines) session.notes.skipped
-          → (durable.came ++ durable.last ≡ []) ⊎ AllNamed left.files
-      of {items} {place} {rows'} {result} c = elim c.prepared.durable [
-        | inl quiet ↦ same (quiet_came account settings items now place left (files.stored from) result
-            (scene session.mid (in_maildir maildir) (files.stored f) rows' session.notes.lines) session.notes.skipped c quiet.0)
-        | inr found ↦ inr found.0
-      ]
-
-      by : (result : Result (Unit {0}) Cut)
-          → Proceeds settings (AsFiles account) now (at link []) (keeps_files (account_files left (files.stored from)))
-          result session.mid (keeps_files (account_files maildir (files.stored f))) session.notes
-          → (durable.came ++ durable.last ≡ []) ⊎ AllNamed left.files
-      by (Ok done) dealt = of dealt.carries.1
-      by (Err cut) (inl stopped) = same (ap (λ (k : Keeping). k.store.maildir.files) stopped.same)
-      by (Err cut) (inr (inl wanting)) = same (ap (λ (k : Keeping). k.store.maildir.files) wanting.same)
-      by (Err cut) (inr (inr dealt)) = elim dealt.carries.1 [
-        | inl (none_said, unprepared) ↦ same (unready_same cut.fault left (files.stored from) maildir (files.stored f)
-            unprepared.unready.cause)
-        | inr c ↦ of c
-      ]
+      by : (session_course : SessionCourse) → CourseLeads (λ _. (maildir.files ≡ left.files) ⊎ AllNamed left.files) session.result
+          (keeps_files (account_files left old)) (keeps_files (account_files maildir new)) session.notes.lines session_course
+          → (maildir.files ≡ left.files) ⊎ AllNamed left.files
+      by Idle is = inl (ap (λ (k : Keeping). k.store.maildir.files) is.1)
+      by (Deals _) is = is
 
   -- what it leaves, over what its devices show
   pub leaves_durably : DurableSession files (InMaildir device) from session (InMaildir device') f

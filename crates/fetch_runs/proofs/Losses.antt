@@ -18,8 +18,8 @@ use Rattle.mail_terms.specs.UniqueId.{has_id, is_legal_id}
 use Rattle.pop3_wire.specs.World.{Message}
 use Rattle.fetch_record.specs.{Record.{Intent, is_delivered}, RecordMeaning.FileStandsFor}
 use Rattle.fetch_runs.{
-  specs.{Accounts.{AccountMail, copies, has_named, without_flags, message_ids}, Sessions.{IsHonest, Leaves, StoresTexts, wanted_at}},
-  specs.{Promises.{IsBetween, Mail, State, is_safe, state_with, IsFront, Invariant, Promises, ShowsNext, Call}, Below.Below},
+  specs.{Calls.with_left, Accounts.{AccountMail, copies, has_named, without_flags, message_ids}, Below.Below},
+  specs.Promises.{IsBetween, Mail, State, is_safe, state_with, IsFront, Invariant, Promises, ShowsNext, Call},
   specs.Losses.{DurableAccountsAreSafe, DurableFrontsBegin, IsCrashSafe, IsDurableFront, IsDurableFor, IsFlushedFor, TrustsRecord},
   specs.Losses.{KeepsDurable, is_durable},
   proofs.{Promised.IsSession, Safety.served_session, State.came_too, LeftRecords.{LeavesDurably, all_named, kept_legal}},
@@ -173,7 +173,7 @@ others_keep_safe laws file from f mail state after intent kept stands between ke
 
 module _ (mail : Mail) (state : State) (left : Maildir) (kept : Invariant mail state) (taken : WereTaken state.account.maildir left) where
   pub durable_after : (id : List ℕ) → is_legal_id id ≡ true → is_durable mail state id ≡ true
-      → is_durable mail (state_with mail state [] (record state.account { maildir = left })) id ≡ true
+      → is_durable mail (with_left mail state left) id ≡ true
   durable_after id legal = durable_on mail state (record state.account { maildir = left }) id
       (named_stays (stem_of mail.account id) taken.gone state.account.maildir.files left.files taken.files
       (none_or_one (kept.holds id legal)))
@@ -188,7 +188,7 @@ module _ (mail : Mail) (state : State) (left : Maildir) (kept : Invariant mail s
 -- readers took some files away while a call was under way; the record's device is as it was
 pub left_keeps_safe : (disk : Disk) (mail : Mail) (state : State) (left : Maildir) → Invariant mail state
     → WereTaken state.account.maildir left
-    → IsCrashSafe disk mail state → IsCrashSafe disk mail (state_with mail state [] (record state.account { maildir = left }))
+    → IsCrashSafe disk mail state → IsCrashSafe disk mail (with_left mail state left)
 left_keeps_safe _ mail state left kept taken safe = record {
   flushed = flushed_stays mail.account taken.gone state.account.maildir.files left.files taken.files safe.flushed;
   recorded = λ id d. on id (kept.recorded id d).0 (safe.recorded id d);
@@ -196,11 +196,8 @@ left_keeps_safe _ mail state left kept taken safe = record {
   gone = all_both state.gone kept.gone safe.gone (λ id is. on id is.0);
 }
   where
-    next : State
-    next = state_with mail state [] (record state.account { maildir = left })
-
-    on : (id : List ℕ) → is_legal_id id ≡ true → is_durable mail state id ≡ true → is_durable mail next id ≡ true
-    on id legal = durable_after mail state left kept taken id legal
+    on : (id : List ℕ) → is_legal_id id ≡ true → is_durable mail state id ≡ true → is_durable mail (with_left mail state left) id ≡ true
+    on = durable_after mail state left kept taken
 
 -- ---- a call
 
@@ -239,17 +236,12 @@ calls_keep_safe laws file from f mail state call sent now kept is leaves trust s
     ],
   );
   gone = all_append (λ id. is_durable mail after id ≡ true) call.vanished state.gone
-      (all_map call.vanished went.1 (λ id begun. shown id (marked id begun))) (all_map state.gone safe.gone on);
+      (all_map call.vanished (served_session laws is.session is.served).1 (λ id begun. shown id (marked id begun)))
+      (all_map state.gone safe.gone on);
 }
   where
     after : State
     after = state_with mail state call.vanished now
-
-    went : (Leaves state.account is.effect now
-        ⊎ (StoresTexts call.settings mail.account state.account is.effect now call.report is.session.sends.commands
-        is.session.sends.asked.part × IsHonest (wanted_at call.settings mail.account state.account is.effect) call.maildrop is.effect))
-        × AllByRecursion (λ id. has_id is.effect.begun id ≡ true) call.vanished
-    went = served_session laws call.settings mail.account state.account is.effect is.session is.served
 
     flushed_after : AllByRecursion (IsFlushedFor mail.account) now.maildir.files
     flushed_after = rw leaves.files (all_append (IsFlushedFor mail.account) state.account.maildir.files
@@ -258,7 +250,7 @@ calls_keep_safe laws file from f mail state call sent now kept is leaves trust s
         (all_map leaves.last leaves.flushed (λ g flushed id legal names. flushed))))
 
     marked : (id : List ℕ) → has_id is.effect.begun id ≡ true → is_delivered now.rows id ≡ true
-    marked id begun = elim went.0 [
+    marked id begun = elim (served_session laws is.session is.served).0 [
       | inl left ↦ absurd (let never = rw left.begun at begun in cc)
       | inr stored ↦ all_ids_at (λ (x : List ℕ). is_delivered now.rows x ≡ true) is.effect.begun stored.0.begun begun
     ]
@@ -362,7 +354,7 @@ front_stays mail state after _ front back = record {
 -- readers put nothing else there
 abbrev pub left_front : (mail : Mail) (state : State) (left : Maildir) → Invariant mail state
     → WereTaken state.account.maildir left → (all : List Message) → IsFront mail state all
-    → IsFront mail (state_with mail state [] (record state.account { maildir = left })) all
+    → IsFront mail (with_left mail state left) all
 left_front mail state left kept taken all front =
     front_stays mail state (record state.account { maildir = left }) all front
     (λ id l held. or_left _ _ (held_back mail state left kept taken id held))
@@ -390,7 +382,7 @@ module _ (mail : Mail) (state : State) (after : AccountMail) (all : List Message
 
 abbrev pub left_keeps_front : (mail : Mail) (state : State) (left : Maildir) (kept : Invariant mail state)
     (taken : WereTaken state.account.maildir left) (all : List Message) → AreLegal all
-    → IsDurableFront mail state all → IsDurableFront mail (state_with mail state [] (record state.account { maildir = left })) all
+    → IsDurableFront mail state all → IsDurableFront mail (with_left mail state left) all
 left_keeps_front mail state left kept taken all legal front =
     others_keep_front mail state (record state.account { maildir = left }) all legal front
     (λ id l held. or_left _ _ (held_back mail state left kept taken id held)) (durable_after mail state left kept taken)

@@ -1,43 +1,39 @@
 -- What a loss of power may leave of an account with an mboxrd file holds entries, also after a session that was cut.
 use Rattle.std.proofs.{
-  Common.{◌≡◌, ◌⊎◌, inl, inr, ℕ, true, false, List, [], ◌∷◌, ◌++◌, length, take, refl, sym, ap, subst, ◌∙◌, All, Option, None, Some, Ok},
-  Common.{Result, Err, append_assoc, append-nil, ⊎_elim},
+  Common.{◌≡◌, inl, inr, ℕ, true, false, List, [], ◌∷◌, ◌++◌, length, take, refl, sym, ap, subst, ◌∙◌, Option, None, Some, Result, Ok, Err},
+  Common.{append_assoc, append-nil, ⊎_elim},
   Math.Seq.take-append_seam,
   lemmas.Option.same_Some,
 }
 use Rattle.mail_terms.specs.Listing.{Item}
-use Rattle.pop3_wire.specs.{Link.Link, World.Message, Place.{Place, at}}
+use Rattle.pop3_wire.specs.{Link.Link, World.Message, Place.at}
 use Rattle.pop3_client.specs.Texts.{body_text}
 use Rattle.rc_file.specs.Settings.{IsValid}
 use Rattle.fetch_record.specs.Record.{Intent, RecordState, Row, has_row, is_delivered, marked, none_open}
-use Rattle.fetch_rules.specs.{Plan.{IsQuiet, planned}, Wanted.none_odd}
 use Rattle.mail_store.{
   specs.{Durable.{MayLeave, seen_on}, FlatFile.Stored, Mboxrd.entry_of, Settling.MayBeLeft},
   specs.declared.file.flat_file.FlatFile.Ghosts as FileGhosts,
   proofs.{DiskLemmas.{may_arrive, may_now}, SettlingLemmas.all_left},
 }
 use Rattle.fetch_session.specs.{
-  Durable.{AreTrusted, DurableCarries, IsCutLeft, IsEntryLeft, IsGrownAtMost, IsSafeFile, DurableKept, Durably, LeavesSettled, LeavesStore},
-  Durable.{DurableProceeds, DurableSession, UnlessQuiet, DurableUnready},
+  Durable.{IsCutLeft, IsEntryLeft, IsGrownAtMost, IsSafeFile, LeavesSettled, LeavesStore, DurableSession, DurableUnready},
   Mbox.intent_of,
-  Report.Reports,
-  declared.{fault.Cut.Cut, report.{ReportLine.ReportLine, Skips.Skips}, account.Store.TheVariants.Mboxrd as InMbox},
-  CarryingOut.{Carried, Carries, tasks_ahead},
-  Readiness.{AreDurable, IsFileKept, IsMerged, IsMergedAtMost, merged_in},
-  Record.{Keeps, record_state, with_open},
-  Scene.{EntryNotSaved, NoEntry, Scene, Stops, scene},
-  Session.{Enters_with, LeavesLink, MboxAccountFiles, MboxSession, Noted, Proceeds, SessionIn, keeps_entries, mbox_account_files},
-  Session.outcome_of,
+  declared.{fault.Cut.Cut, account.Store.TheVariants.Mboxrd as InMbox},
+  CarryingOut.tasks_ahead,
+  Readiness.{IsAnew, IsMerged, IsMergedAtMost, merged_in},
+  Record.{Keeps, Steady, record_state, with_open},
+  Scene.{EntryNotSaved, NoEntry, Scene, Stops},
+  Session.{MboxAccountFiles, MboxSession, keeps_entries, mbox_account_files},
   Target.{AsEntries, Stores, closed_file, in_mbox, mail_in},
 }
 use Rattle.fetch_runs.{
   specs.{Below.Below, Steps.mbox_holds, Losses.{TrustsMbox, IsMboxSafe}, Sessions.{MboxMail, Served, entry_intent, settled}},
   specs.Promises.{Base, Call, Devices, HoldsEntries, IsMaildrop, IsMboxFront, IsOpenFor, ShowsNext, Stands},
-  proofs.{LeftRecords.grown_reads, Lists.{delivered_unheld, same_held}, Steps.{mbox_honest, retrieved_is}, Talk.{Planned, session_spoke}},
+  proofs.{LeftRecords.{grown_reads, same_reads, merge_reads, IsBegun, end_of, Untouched, NotReady, Anew, Begun, way}, Tasks.rows_after},
+  proofs.{Lists.{delivered_unheld, same_held}, Steps.{mbox_honest, retrieved_is}, Talk.{Planned, session_spoke}, Turns.{Course, effect_of}},
   proofs.MboxPromised.{bytes_of, ends_whole, entered, front_after, holds_after, next_is, open_row, opened_after, settled_is},
-  proofs.MboxState.{LeavesWhole, bytes_after, bytes_settled, carried_starts, mbox_figures, mbox_inputs, mid_content, same_looked, whole_in},
+  proofs.MboxState.{Begins, LeavesWhole, bytes_after, carried_starts, mbox_figures, mbox_inputs, mid_content, same_looked, whole_in},
   proofs.MboxState.{whole_refused, whole_unsaved},
-  proofs.{Tasks.{Starts, rows_after}, Turns.{Course, effect_of}},
 }
 
 -- ---- accounts like one that holds entries
@@ -188,13 +184,18 @@ module _ (base : Base) (Among : List Message → Type 0) where
     uid_is : w.o.next.uid ≡ uid
     uid_is = sym (ap (λ i. i.uid) same_intent)
 
+    -- its intent is open
+    abbrev opened : RecordState
+    opened = with_open rows (intent_of bytes uid text)
+
+    abbrev opened_at : List ℕ → MboxMail
+    opened_at file = record { rows = rows; intent = opened.intent; file = file }
+
     -- this part of the entry is there
-    with_part : (part : List ℕ) → MayBeLeft (length bytes) (entry_of text) part
-        → HoldsSome (record { rows = rows; intent = Some (intent_of bytes uid text); file = bytes ++ part })
+    with_part : (part : List ℕ) → MayBeLeft (length bytes) (entry_of text) part → HoldsSome (opened_at (bytes ++ part))
     with_part part left = (
       w.done,
-      subst (λ b. Holds w.done (record { rows = rows; intent = Some (intent_of bytes uid text); file = b ++ part }))
-          bytes_are (part_as w.held w.o w.is part (rw (bytes_are, w.text_is) left)),
+      subst (λ b. Holds w.done (opened_at (b ++ part))) bytes_are (part_as w.held w.o w.is part (rw (bytes_are, w.text_is) left)),
     )
 
     -- nothing of it is, and no intent is open
@@ -215,27 +216,15 @@ module _ (base : Base) (Among : List Message → Type 0) where
     pub entry_left : (left mbox : Option (List ℕ)) (then : RecordState) → IsEntryLeft rows bytes uid text left mbox → Keeps left then
         → HoldsSome (record { rows = then.rows; intent = then.intent; file = mail_in mbox })
     entry_left left mbox then (inl (grown, is)) keeps = ⊎_elim (λ (same : then ≡ none_open rows). rw (same, is) without)
-        (λ (same : then ≡ with_open rows (intent_of bytes uid text)). rw (same, is) (subst (λ (f : List ℕ). HoldsSome (record {
-          rows = rows;
-          intent = Some (intent_of bytes uid text);
-          file = f;
-        })) (append-nil bytes) (with_part [] tt)))
-        (grown_reads laws.one laws.meaning laws.counts laws.torn (none_open rows) (with_open rows (intent_of bytes uid text))
-        then left grown keeps)
-    entry_left left mbox then (inr (inl (grown, (part, is, may)))) keeps =
-        let same : then ≡ with_open rows (intent_of bytes uid text) =
-        ⊎_elim (λ e. e) (λ e. e) (grown_reads laws.one laws.meaning laws.counts laws.torn
-        (with_open rows (intent_of bytes uid text)) (with_open rows (intent_of bytes uid text)) then left grown keeps) in
-        rw (same, is) (with_part part may)
+        (λ (same : then ≡ opened). rw (same, is) (subst (λ f. HoldsSome (opened_at f)) (append-nil bytes) (with_part [] tt)))
+        (grown_reads laws then grown keeps)
+    entry_left left mbox then (inr (inl (grown, (part, is, may)))) keeps = rw (same_reads laws then grown keeps, is) (with_part part may)
     entry_left left mbox then (inr (inr (grown, is))) keeps =
-        let opened : RecordState = with_open rows (intent_of bytes uid text) in
         let rowed : has_row rows uid ≡ true = open_row laws (Some grown.file.bytes) rows opened.intent
         (laws.steady (Some grown.file.bytes) opened grown.file.stands) (intent_of bytes uid text) refl in
-        ⊎_elim (λ (same : then ≡ with_open rows (intent_of bytes uid text)). rw (same, is)
-        (with_part (entry_of text) (all_left (length bytes) (entry_of text))))
+        ⊎_elim (λ (same : then ≡ opened). rw (same, is) (with_part (entry_of text) (all_left (length bytes) (entry_of text))))
         (λ (same : then ≡ none_open (marked rows uid)). rw (same, is) (ended rowed))
-        (grown_reads laws.one laws.meaning laws.counts laws.torn (with_open rows (intent_of bytes uid text))
-        (none_open (marked rows uid)) then left grown keeps)
+        (grown_reads laws then grown keeps)
 
 -- ---- what may be left of a file
 
@@ -259,16 +248,25 @@ module _ (laws : Below) (D : Type 0) {F : Type 0} (files : FileGhosts F)
     (next : (all : List Message) (among : Among all)
     → ShowsNext v.settings v.maildrop ((before.1 all among).first ++ done) (before.1 all among).rest)
     (trust : TrustsMbox files from to) (safe : IsMboxSafe (Holds base Among) files from) where
-  abbrev old_files : MboxAccountFiles
-  old_files = mbox_account_files (files.stored from.store) (files.stored from.file)
+  abbrev old : MboxAccountFiles
+  old = mbox_account_files (files.stored from.store) (files.stored from.file)
 
-  abbrev new_files : MboxAccountFiles
-  new_files = mbox_account_files (files.stored to.store) (files.stored to.file)
+  abbrev new : MboxAccountFiles
+  new = mbox_account_files (files.stored to.store) (files.stored to.file)
+
+  abbrev old_account : MboxMail
+  old_account = mbox_holds held old.mbox
+
+  -- a session with these files
+  abbrev IsSession : Type 0
+  IsSession = MboxSession v.settings v.now link old v.report link' new
+
+  abbrev HoldsIn : RecordState → List ℕ → Type 0
+  HoldsIn state bytes = HoldsSome base Among (record { rows = state.rows; intent = state.intent; file = bytes })
 
   -- the account with what is left of both files
   abbrev Left : Option (List ℕ) → Option (List ℕ) → Type 0
-  Left left mbox = (then : RecordState) → Keeps left then
-      → HoldsSome base Among (record { rows = then.rows; intent = then.intent; file = mail_in mbox })
+  Left left mbox = (then : RecordState) → Keeps left then → HoldsIn then (mail_in mbox)
 
   -- so it is whatever is left of both
   abbrev Leaves : Type 0
@@ -283,39 +281,36 @@ module _ (laws : Below) (D : Type 0) {F : Type 0} (files : FileGhosts F)
   left_before left mbox may also then keeps = safe then.rows then.intent left mbox may keeps also
 
   -- the record that was read, with an mboxrd file that could be left
-  read_before : (mbox : Option (List ℕ)) → MayLeave (files.disk from.store) mbox
-      → HoldsSome base Among (record { rows = held.rows; intent = held.intent; file = mail_in mbox })
-  read_before mbox also = left_before (files.stored from.file).content mbox (may_seen files from.file (shown from.file)) also held stood
+  read_before : (mbox : Option (List ℕ)) → MayLeave (files.disk from.store) mbox → HoldsIn held (mail_in mbox)
+  read_before mbox also = left_before old.file.content mbox (may_seen files from.file (shown from.file)) also held stood
 
   -- it is what calls see
-  left_after : (left mbox : Option (List ℕ)) → left ≡ (files.stored to.file).content
-      → mbox ≡ (files.stored to.store).content → Left left mbox
-  left_after _ _ is also then keeps =
-      let same = same_held laws.one _ then held' (subst (λ c. Keeps c then) is keeps) stands in
-      rw (same, also) (done', after)
+  left_after : (left mbox : Option (List ℕ)) → left ≡ new.file.content → mbox ≡ new.mbox.content → Left left mbox
+  left_after _ _ is also then keeps = rw (same_held laws.one _ then held' (subst (λ c. Keeps c then) is keeps) stands, also) (done', after)
+
+  -- what is left of the record's file is what was read
+  read_is : {left : Option (List ℕ)} → left ≡ old.file.content → (then : RecordState) → Keeps left then → then ≡ held
+  read_is is then keeps = same_held laws.one _ then held (subst (λ c. Keeps c then) is keeps) stood
 
   -- just what calls see is left of the record's file, if it is safe
-  record_left : IsSafeFile files to.file → (left : Option (List ℕ)) → MayLeave (files.disk to.file) left
-      → left ≡ (files.stored to.file).content
+  record_left : IsSafeFile files to.file → (left : Option (List ℕ)) → MayLeave (files.disk to.file) left → left ≡ new.file.content
   record_left firm left may = by _ refl
     where
-      by : (content : Option (List ℕ)) → (files.stored to.file).content ≡ content → left ≡ (files.stored to.file).content
+      by : (content : Option (List ℕ)) → new.file.content ≡ content → left ≡ new.file.content
       by None none = trust.0.1 none left may ∙ sym none
       by (Some bytes) some = (firm.1 bytes some).1 left may ∙ sym some
 
-  mbox_left : IsSafeFile files to.store → (bytes : List ℕ) → (files.stored to.store).content ≡ Some bytes
-      → (mbox : Option (List ℕ)) → MayLeave (files.disk to.store) mbox → mbox ≡ (files.stored to.store).content
+  mbox_left : IsSafeFile files to.store → (bytes : List ℕ) → new.mbox.content ≡ Some bytes
+      → (mbox : Option (List ℕ)) → MayLeave (files.disk to.store) mbox → mbox ≡ new.mbox.content
   mbox_left firm bytes some mbox may = (firm.1 bytes some).1 mbox may ∙ sym some
 
   -- ---- it was cut while it prepared the record
 
   -- the file was cut to the place of the intent that was read
-  cut_before : (i : Intent) → held.intent ≡ Some i → (was : List ℕ) → (files.stored from.store).content ≡ Some was
-      → HoldsSome base Among (record { rows = held.rows; intent = held.intent; file = take i.start was })
+  cut_before : (i : Intent) → held.intent ≡ Some i → (was : List ℕ) → old.mbox.content ≡ Some was → HoldsIn held (take i.start was)
   cut_before i opened was has = by _ refl
     where
-      by : (s : Stands base (bytes_of base done) (mbox_holds held (files.stored from.store))) → before.0.stands ≡ s
-          → HoldsSome base Among (record { rows = held.rows; intent = held.intent; file = take i.start was })
+      by : (s : Stands base (bytes_of base done) old_account) → before.0.stands ≡ s → HoldsIn held (take i.start was)
       by (inl closed) is = absurd (let never = sym closed.0 ∙ opened in cc)
       by (inr o) is =
           let start = ap (λ j. j.start) (same_Some _ _ (sym opened ∙ o.intent)) in
@@ -326,54 +321,32 @@ module _ (laws : Below) (D : Type 0) {F : Type 0} (files : FileGhosts F)
                 (part_as _ Among before o is [] tt),
           )
 
-  module _ {items : List Item} {now : ℕ} (m : IsMerged AsEntries items now (in_mbox (files.stored from.store))
-      (files.stored from.file) (in_mbox (files.stored to.store)) (files.stored to.file)) where
+  module _ {items : List Item} {now : ℕ} (m : IsMerged AsEntries items now (in_mbox old.mbox) old.file (in_mbox new.mbox) new.file) where
     abbrev merged_rows : List Row
-    merged_rows = merged_in AsEntries (in_mbox (files.stored from.store)) m.was items now
+    merged_rows = merged_in AsEntries (in_mbox old.mbox) m.was items now
 
     -- they show the same as delivered as the settled ones
-    merged_shows : (id : List ℕ)
-        → is_delivered merged_rows id ≡ is_delivered (settled items (mbox_holds held (files.stored from.store))).rows id
-    merged_shows id =
-        let was = same_held laws.one _ m.was held m.stood stood in
-        rw was (delivered_unheld laws _ items now id)
+    merged_shows : (id : List ℕ) → is_delivered merged_rows id ≡ is_delivered (settled items old_account).rows id
+    merged_shows id = rw (read_is refl m.was m.stood) (delivered_unheld laws _ items now id)
 
-    merged_reads : (left : Option (List ℕ)) (then : RecordState) → IsGrownAtMost m.was (none_open merged_rows) left
-        ⊎ IsGrownAtMost (none_open merged_rows) (none_open merged_rows) left → Keeps left then
-        → (then ≡ m.was) ⊎ (then ≡ none_open merged_rows)
-    merged_reads left then (inl grown) keeps =
-        grown_reads laws.one laws.meaning laws.counts laws.torn m.was (none_open merged_rows) then left grown keeps
-    merged_reads left then (inr grown) keeps = inr (⊎_elim (λ e. e) (λ e. e) (grown_reads laws.one laws.meaning laws.counts
-        laws.torn (none_open merged_rows) (none_open merged_rows) then left grown keeps))
+  abbrev Settles : Option Intent → Type 0
+  Settles intent = LeavesSettled intent old.mbox.content (MayLeave (files.disk from.store)) (MayLeave (files.disk to.store))
 
-  unready_left : {items : List Item} {now : ℕ} (content : IsMergedAtMost AsEntries items now (in_mbox (files.stored from.store))
-      (files.stored from.file) (in_mbox (files.stored to.store)) (files.stored to.file))
+  unready_left : {items : List Item} {now : ℕ} (content : IsMergedAtMost AsEntries items now (in_mbox old.mbox)
+      old.file (in_mbox new.mbox) new.file)
       → DurableUnready {D = D} files (InMbox from.store) from.file content (InMbox to.store) to.file → Leaves
   unready_left (inl _) (no_more, inl still) left mbox may also = left_before left mbox (no_more left may) (still mbox also)
   unready_left (inl same) (no_more, inr (firm, (state, keeps, settles))) left mbox may also =
-      let was : state ≡ held = same_held laws.one (files.stored from.file).content state held
-      (subst (λ (c : Option (List ℕ)). Keeps c state) same keeps) stood in
-      by held.intent refl (subst (λ (s : RecordState). LeavesSettled s.intent (files.stored from.store).content
-      (MayLeave (files.disk from.store)) (MayLeave (files.disk to.store))) was settles)
+      by held.intent refl (rw (read_is same state keeps) at settles)
     where
-      by : (intent : Option Intent) → held.intent ≡ intent → LeavesSettled held.intent (files.stored from.store).content
-          (MayLeave (files.disk from.store)) (MayLeave (files.disk to.store)) → Left left mbox
-      by None closed settles =
-          let still = subst (λ (o : Option Intent). LeavesSettled o (files.stored from.store).content
-          (MayLeave (files.disk from.store)) (MayLeave (files.disk to.store))) closed settles in
-          left_before left mbox (no_more left may) (still mbox also)
-      by (Some i) opened settles =
-          let cuts = subst (λ (o : Option Intent). LeavesSettled o (files.stored from.store).content
-          (MayLeave (files.disk from.store)) (MayLeave (files.disk to.store))) opened settles in
-          elim (cuts mbox also) [
-            | inl before ↦ left_before left mbox (no_more left may) before
-            | inr (was, has, cut) ↦ λ then keeps.
-                let read = same_held laws.one (files.stored from.file).content then held
-                (subst (λ (c : Option (List ℕ)). Keeps c then) (record_left firm left may ∙ same) keeps) stood in
-                rw (read, cut) (cut_before i opened was has)
-          ]
+      by : (intent : Option Intent) → held.intent ≡ intent → Settles held.intent → Left left mbox
+      by None closed settles = left_before left mbox (no_more left may) (subst Settles closed settles mbox also)
+      by (Some i) opened settles = elim (subst Settles opened settles mbox also) [
+        | inl before ↦ left_before left mbox (no_more left may) before
+        | inr (was, has, cut) ↦ λ then keeps. rw (read_is (record_left firm left may ∙ same) then keeps, cut) (cut_before i opened was has)
+      ]
   unready_left (inr m) (inl (closed, leaves, still)) left mbox may also = λ then keeps.
-      let was : m.was ≡ held = same_held laws.one (files.stored from.file).content m.was held m.stood stood in
+      let was = read_is refl m.was m.stood in
       let none : held.intent ≡ None = sym (ap (λ (r : RecordState). r.intent) was) ∙ closed in
       let (first, here) = read_before mbox (still mbox also) in
       elim (leaves left may) [
@@ -385,121 +358,81 @@ module _ (laws : Below) (D : Type 0) {F : Type 0} (files : FileGhosts F)
             intent = None;
             file = mail_in mbox;
           }) refl (λ id. merged_shows m id ∙ rw none refl) (ends_whole base first _ here.0 none),
-        )) (merged_reads m left then are keeps)
+        )) (merge_reads laws then are keeps)
       ]
   unready_left {items} (inr m) (inr (leaves, firm)) left mbox may also = λ then keeps.
-      let was : m.was ≡ held = same_held laws.one (files.stored from.file).content m.was held m.stood stood in
+      let was = read_is refl m.was m.stood in
       let (bytes, has, now_is, goes_on) = m.settles in
-      let some : (files.stored to.store).content ≡ Some (closed_file m.was.intent items bytes) = ap (λ (s : Stored). s.content) now_is in
-      let file : mail_in mbox ≡ (settled items (mbox_holds held (files.stored from.store))).file =
+      let some : new.mbox.content ≡ Some (closed_file m.was.intent items bytes) = ap (λ (s : Stored). s.content) now_is in
+      let file : mail_in mbox ≡ (settled items old_account).file =
       ap mail_in (mbox_left firm _ some mbox also ∙ some) ∙ rw (was, has) refl in
       elim (leaves left may) [
         | inl is ↦
-            let read = same_held laws.one (files.stored from.file).content then held
-            (subst (λ (c : Option (List ℕ)). Keeps c then) is keeps) stood in
-            rw (read, file) (file_settled base Among laws before rowed items)
+            rw (read_is is then keeps, file) (file_settled base Among laws before rowed items)
         | inr are ↦ ⊎_elim (λ (read : then ≡ m.was). rw (read ∙ was, file) (file_settled base Among laws before rowed items))
             (λ (read : then ≡ none_open (merged_rows m)). rw (read, file) (all_settled base Among laws before rowed items
-            (merged_rows m) (merged_shows m))) (merged_reads m left then are keeps)
+            (merged_rows m) (merged_shows m))) (merge_reads laws then are keeps)
       ]
 
-  -- ---- it had its record ready
+  -- ---- nothing was to be done, and the record was written anew
 
-  module _ {items : List Item} {place : Place} {result : Result (Unit {0}) Cut} {new : Scene} {skipped : Skips}
-      (c : Carried v.settings AsEntries items v.now place (in_mbox (files.stored from.store)) (files.stored from.file) []
-      result new skipped) where
-    -- nothing was to be done
-    quiet_left : (kept : IsFileKept c.mid.rows (files.stored from.file) c.mid.file)
-        → DurableKept files from.file c.mid.rows (files.stored from.file) c.mid.file kept to.file
-        → LeavesStore {D = D} files (InMbox from.store) (InMbox to.store) → Leaves
-    quiet_left (inl _) un still left mbox may also = left_before _ _ (un.no_more left may) (still mbox also)
-    quiet_left (inr (kept, _, _)) (same, firm) still left mbox may also = λ then keeps.
-        let now_is : Keeps (files.stored to.file).content (none_open c.mid.rows) =
-        rw same (laws.steady c.mid.file.content (none_open c.mid.rows) c.prepared.saved) in
-        let read = same_held laws.one _ then (none_open c.mid.rows) (subst (λ o. Keeps o then) (record_left firm _ may) keeps) now_is in
-        let was = same_held laws.one _ (none_open c.mid.rows) held kept stood in
-        rw (read ∙ was) (read_before _ (still mbox also))
+  anew_left : (rows : List Row) {kept : Stored} → IsAnew rows old.file kept → Steady kept.content (none_open rows) → new.file ≡ kept
+      → IsSafeFile files to.file → LeavesStore {D = D} files (InMbox from.store) (InMbox to.store) → Leaves
+  anew_left rows {kept} (stale, _, _) saved same firm still left mbox may also then keeps =
+      let now_is : Keeps new.file.content (none_open rows) = rw same (laws.steady kept.content (none_open rows) saved) in
+      let read = same_held laws.one _ then (none_open rows) (subst (λ o. Keeps o then) (record_left firm _ may) keeps) now_is in
+      rw (read ∙ read_is refl (none_open rows) stale) (read_before _ (still mbox also))
 
-    -- or else this is left
-    planned_left : (Safe : Type 0) → (Safe → Leaves) → (durable : (All IsQuiet (planned v.settings none_odd c.mid.rows items v.now)
-        × IsFileKept c.mid.rows (files.stored from.file) c.mid.file)
-        ⊎ AreDurable AsEntries c.prepared.was.rows items (in_mbox (files.stored from.store)))
-        → UnlessQuiet {D = D} files (InMbox from.store) from.file c.mid.rows (files.stored from.file) c.mid.file durable Safe
-        (InMbox to.store) to.file → Leaves
-    planned_left Safe _ (inl (quiet, kept)) (keeps, still) = quiet_left kept keeps still
-    planned_left Safe leaves (inr _) safe = leaves safe
+  -- ---- its tasks were begun
 
-    mid_some : c.mid.store.mbox.content ≡ Some (settled items (mbox_holds held (files.stored from.store))).file
-    mid_some = (carried_starts laws _ _ (keeps_entries old_files) held stood items place c).1
+  module _ (session : IsSession) where
+    abbrev BegunWith : Result (Unit {0}) Cut → Type 0
+    BegunWith result = IsBegun {D = D} files session (InMbox to.store) to.file result
 
-  -- it did all its tasks
-  ended_left : {items : List Item} {mid place : Place} {rows : List Row} {lines : List ReportLine} {skipped : Skips}
-      (c : Carried v.settings AsEntries items v.now mid (in_mbox (files.stored from.store)) (files.stored from.file) [] (Ok tt)
-      (scene place (in_mbox (files.stored to.store)) (files.stored to.file) rows lines) skipped)
-      → Durably {D = D} files AsEntries (tasks_ahead v.settings AsEntries items v.now (in_mbox (files.stored from.store)) c.mid.rows)
-      c.mid (Ok tt) (scene place (in_mbox (files.stored to.store)) (files.stored to.file) rows lines) c.does (InMbox to.store) to.file
-      → Leaves
-  ended_left c durably left mbox may also =
-      let some = rw (mid_some c) at c.does.went.stored.content in
-      left_after _ _ (record_left durably.1 _ may) (mbox_left durably.2 _ some _ also)
+    -- it did all its tasks
+    ended_left : BegunWith (Ok tt) → Leaves
+    ended_left w left mbox may also =
+        let some = rw (carried_starts laws (keeps_entries old) held stood w.c).content at w.c.does.went.stored.content in
+        left_after _ _ (record_left w.durably.1 _ may) (mbox_left w.durably.2 _ some _ also)
 
   -- ---- it was cut at a task
 
-  module _ (items : List Item) (mid place : Place) (notes : Noted) (rows : List Row) (cut : Cut)
-      (enters : Enters_with v.settings (at link []) (Ok items) mid) (total : notes.total ≡ length items)
-      (c : Carried v.settings AsEntries items v.now mid (in_mbox (files.stored from.store)) (files.stored from.file) [] (Err cut)
-      (scene place (in_mbox (files.stored to.store)) (files.stored to.file) rows notes.lines) notes.skipped)
-      (leaves : LeavesLink (Err cut) place link')
-      (reports : Reports (outcome_of (Err cut)) notes.total notes.skipped notes.lines v.report) where
+  module _ (session : IsSession) {cut : Cut} (w : BegunWith session (Err cut)) where
+    open w use {c, reports}
+
+    abbrev items : List Item
+    items = w.dealt.items
+
     abbrev end : Scene
-    end = scene place (in_mbox (files.stored to.store)) (files.stored to.file) rows notes.lines
+    end = end_of session w.rows
 
     -- the session, if it stopped so
-    abbrev session_at : Stops AsEntries c.does.next c.does.mid cut end
-        → SessionIn v.settings AsEntries v.now link (keeps_entries old_files) v.report link' (keeps_entries new_files)
+    abbrev session_at : Stops AsEntries c.does.next c.does.mid cut end → IsSession
     session_at stops = record {
       result = Err cut;
-      mid = place;
-      notes = notes;
-      proceeds = inr (inr (record {
-        items = items;
-        mid = mid;
-        enters = enters;
-        total = total;
-        carries = (
-          rows,
-          inr (record {
-            mid = c.mid;
-            prepared = c.prepared;
-            does = record c.does { stops = stops };
-            skips = c.skips;
-          }),
-        );
-      }));
-      leaves = leaves;
+      mid = session.mid;
+      notes = session.notes;
+      proceeds = inr (inr (record w.dealt { carries = (w.rows, inr (record c { does = record c.does { stops = stops } })) }));
+      leaves = w.leaves;
       reports = reports;
     }
 
-    starts : Starts (mbox_inputs v.settings v.now held (files.stored from.store) items)
-        (tasks_ahead v.settings AsEntries items v.now (in_mbox (files.stored from.store)) c.mid.rows) c.mid
-        × (c.mid.store.mbox.content ≡ Some (bytes_settled items held (files.stored from.store)))
-    starts = carried_starts laws v.settings v.now (keeps_entries old_files) held stood items mid c
+    begins : Begins v.settings v.now held old.mbox items (tasks_ahead v.settings AsEntries items v.now (in_mbox old.mbox) c.mid.rows) c.mid
+    begins = carried_starts laws (keeps_entries old) held stood c
 
     -- the mboxrd file after the tasks that were done
     abbrev bytes : List ℕ
-    bytes = bytes_after laws v.settings v.now held (files.stored from.store) items c.does.dones
+    bytes = bytes_after items held old.mbox c.does.dones
 
     whole_holds : Stops AsEntries c.does.next c.does.mid cut end → {course : Course} {uid text : List ℕ}
-        → Planned v.settings AsEntries v.now (keeps_entries old_files) link link' (Err cut) notes.lines course
-        → LeavesWhole laws v.settings v.now held (files.stored from.store) items starts.0 starts.1 c.does course uid text
+        → Planned v.settings AsEntries v.now (keeps_entries old) link link' (Err cut) session.notes.lines course
+        → LeavesWhole begins c.does course uid text
         → HoldsWhole base Among (with_entry base Among c.does.mid.rows bytes uid text) text
     whole_holds stops {course} {uid} {text} said (l, b, ending, text_is, rows_are, intent_is) =
-        let figures = mbox_figures laws v.settings v.now held (files.stored from.store) l v.report
-        (retrieved_is (session_at stops) said) reports.outcome_is in
+        let figures = mbox_figures l v.report (retrieved_is (session_at stops) said) reports.outcome_is in
         let honest = mbox_honest laws held (session_at stops) l said (served said.sent said.got said.sent_is said.got_is) in
-        let now : MboxMail = mbox_holds (record_state (rows_after (mbox_inputs v.settings v.now held (files.stored from.store)
-        course.items) l.noted) l.intent') (whole_in laws v.settings v.now held (files.stored from.store) items starts.0 starts.1
-        c.does text) in
+        let now : MboxMail = mbox_holds (record_state (rows_after (mbox_inputs v.settings v.now held old.mbox
+        course.items) l.noted) l.intent') (whole_in begins c.does text) in
         let (o, is, text_was) = opened_after base laws before.0 rowed v now (effect_of v.now false course) maildrop only_new
         figures honest b ending in
         let same : now ≡ with_entry base Among c.does.mid.rows bytes uid text = rw (rows_are, intent_is) refl in
@@ -519,20 +452,16 @@ module _ (laws : Below) (D : Type 0) {F : Type 0} (files : FileGhosts F)
         → HoldsWhole base Among (with_entry base Among c.does.mid.rows bytes n.uid (body_text n.reply.body)) (body_text n.reply.body)
     refused_whole n =
         let stops : Stops AsEntries c.does.next c.does.mid cut end = inr (inl (inr (inl n))) in
-        whole_holds stops (session_spoke laws v.settings valid AsEntries v.now link (keeps_entries old_files) v.report link'
-        (keeps_entries new_files) (session_at (inr (inl (inr (inl n))))))
-        (whole_refused laws v.settings v.now held (files.stored from.store) items starts.0 starts.1 c.does n)
+        whole_holds stops (session_spoke laws valid (session_at (inr (inl (inr (inl n)))))) (whole_refused begins c.does n)
 
     unsaved_whole : (u : EntryNotSaved c.does.next c.does.mid end cut)
         → HoldsWhole base Among (with_entry base Among c.does.mid.rows bytes u.uid (body_text u.reply.body)) (body_text u.reply.body)
     unsaved_whole u =
         let stops : Stops AsEntries c.does.next c.does.mid cut end = inr (inr u) in
-        whole_holds stops (session_spoke laws v.settings valid AsEntries v.now link (keeps_entries old_files) v.report link'
-        (keeps_entries new_files) (session_at (inr (inr u))))
-        (whole_unsaved laws v.settings v.now held (files.stored from.store) items starts.0 starts.1 c.does u)
+        whole_holds stops (session_spoke laws valid (session_at (inr (inr u)))) (whole_unsaved begins c.does u)
 
     mid_is : c.does.mid.store.mbox.content ≡ Some bytes
-    mid_is = mid_content laws v.settings v.now held (files.stored from.store) items starts.0 starts.1 c.does
+    mid_is = mid_content begins c.does
 
     -- nothing was begun
     unbegun : Stops AsEntries c.does.next c.does.mid cut end → (left mbox : Option (List ℕ))
@@ -540,20 +469,19 @@ module _ (laws : Below) (D : Type 0) {F : Type 0} (files : FileGhosts F)
     unbegun stops left mbox grown is then keeps = by stops
       where
         read : then ≡ none_open c.does.mid.rows
-        read = ⊎_elim (λ e. e) (λ e. e) (grown_reads laws.one laws.meaning laws.counts laws.torn (none_open c.does.mid.rows)
-            (none_open c.does.mid.rows) then left grown keeps)
+        read = same_reads laws then grown keeps
 
         -- calls see both files as they were
-        quiet : files.stored to.file ≡ c.does.mid.file → (files.stored to.store).content ≡ c.does.mid.store.mbox.content
-            → HoldsSome base Among (record { rows = then.rows; intent = then.intent; file = mail_in mbox })
+        quiet : new.file ≡ c.does.mid.file → new.mbox.content ≡ c.does.mid.store.mbox.content
+            → HoldsIn then (mail_in mbox)
         quiet same same_mbox =
-            let kept : Keeps (files.stored to.file).content (none_open c.does.mid.rows) =
+            let kept : Keeps new.file.content (none_open c.does.mid.rows) =
             rw same (laws.steady c.does.mid.file.content (none_open c.does.mid.rows) (c.does.went.saved c.prepared.saved)) in
-            let seen = same_held laws.one (files.stored to.file).content (none_open c.does.mid.rows) held' kept stands in
+            let seen = same_held laws.one new.file.content (none_open c.does.mid.rows) held' kept stands in
             rw (read ∙ seen, is ∙ sym (same_mbox ∙ mid_is)) (done', after)
 
         by : Stops AsEntries c.does.next c.does.mid cut end
-            → HoldsSome base Among (record { rows = then.rows; intent = then.intent; file = mail_in mbox })
+            → HoldsIn then (mail_in mbox)
         by (inl broken) = quiet broken.file (ap (λ (s : Stores). s.mbox.content) broken.store)
         by (inr (inl (inl wanting))) = quiet wanting.file (ap (λ (s : Stores). s.mbox.content) wanting.store)
         by (inr (inl (inr (inl n)))) = rw (read, is)
@@ -561,9 +489,8 @@ module _ (laws : Below) (D : Type 0) {F : Type 0} (files : FileGhosts F)
         by (inr (inl (inr (inr stays)))) = quiet stays.file (same_looked c.does.mid.store end.store cut.fault stays.refuses)
         by (inr (inr u)) = rw (read, is) (without base Among laws c.does.mid.rows bytes u.uid (body_text u.reply.body) (unsaved_whole u))
 
-    cut_left : Durably {D = D} files AsEntries (tasks_ahead v.settings AsEntries items v.now (in_mbox (files.stored from.store)) c.mid.rows)
-        c.mid (Err cut) end c.does (InMbox to.store) to.file → Leaves
-    cut_left durably left mbox may also = by (files.stored to.file).content refl
+    cut_left : Leaves
+    cut_left left mbox may also = by new.file.content refl
       where
         by_cut : IsCutLeft c.does.next c.does.mid cut end bytes left mbox → Left left mbox
         by_cut (inl (grown, is)) = unbegun c.does.stops left mbox grown is
@@ -572,38 +499,23 @@ module _ (laws : Below) (D : Type 0) {F : Type 0} (files : FileGhosts F)
         by_cut (inr (inr (u, e))) = λ then keeps. entry_left base Among laws c.does.mid.rows bytes u.uid (body_text u.reply.body)
             (unsaved_whole u) left mbox then e keeps
 
-        by : (content : Option (List ℕ)) → (files.stored to.file).content ≡ content → Left left mbox
+        by : (content : Option (List ℕ)) → new.file.content ≡ content → Left left mbox
         by None none = left_after left mbox (trust.0.1 none left may ∙ sym none) (trust.3 none mbox also)
-        by (Some now) some = by_cut (durably.1 trust.2 bytes mid_is mbox also now some left may)
+        by (Some now) some = by_cut (w.durably.1 trust.2 bytes mid_is mbox also now some left may)
 
   -- ---- whatever cut it
 
-  pub session_left : (session : MboxSession v.settings v.now link old_files v.report link' new_files)
-      → DurableSession {D = D} files (InMbox from.store) from.file session (InMbox to.store) to.file
+  pub session_left : (session : IsSession) → DurableSession {D = D} files (InMbox from.store) from.file session (InMbox to.store) to.file
       → IsMboxSafe (Holds base Among) files to
   session_left session durably rows intent left mbox may keeps also =
-      by session.result session.proceeds session.leaves session.reports durably left mbox may also (record_state rows intent) keeps
+      let goes = way {D = D} files (InMbox from.store) from.file session (InMbox to.store) to.file durably (trust.1, trust.0.0) in
+      let all : Left left mbox = elim goes [
+        | Untouched un still ↦ left_before left mbox (un.no_more left may) (still mbox also)
+        | NotReady _ _ is leaves ↦ unready_left is.content leaves left mbox may also
+        | Anew now_rows kept is saved same firm still ↦ anew_left now_rows is saved same firm still left mbox may also
+        | Begun result w ↦ by result w left mbox may also
+      ] in all (record_state rows intent) keeps
     where
-      are_trusted : AreTrusted {D = D} files (InMbox from.store) from.file
-      are_trusted = (trust.1, trust.0.0)
-
-      by : (result : Result (Unit {0}) Cut)
-          (proceeds : Proceeds v.settings AsEntries v.now (at link []) (keeps_entries old_files) result session.mid
-          (keeps_entries new_files) session.notes) → LeavesLink result session.mid link'
-          → Reports (outcome_of result) session.notes.total session.notes.skipped session.notes.lines v.report
-          → DurableProceeds {D = D} files (InMbox from.store) from.file _ _ _ _ _ _ _ _ _ proceeds (InMbox to.store) to.file → Leaves
-      by (Ok done) dealt _ _ durably = let c = dealt.carries.1 in planned_left c _ (ended_left c) c.prepared.durable (durably are_trusted)
-      by (Err _) (inl _) _ _ (un, still) = λ left mbox may also. left_before left mbox (un.no_more left may) (still mbox also)
-      by (Err _) (inr (inl _)) _ _ (un, still) = λ left mbox may also. left_before left mbox (un.no_more left may) (still mbox also)
-      by (Err cut) (inr (inr dealt)) leaves reports durably = of dealt.carries durably
-        where
-          of : (carries : Carries v.settings AsEntries dealt.items v.now dealt.mid (in_mbox (files.stored from.store))
-              (files.stored from.file) [] (Err cut) session.mid (in_mbox (files.stored to.store)) (files.stored to.file)
-              session.notes.lines session.notes.skipped)
-              → DurableCarries {D = D} files (InMbox from.store) from.file v.settings AsEntries dealt.items v.now dealt.mid
-              (in_mbox (files.stored from.store)) (files.stored from.file) [] (Err cut) session.mid
-              (in_mbox (files.stored to.store)) (files.stored to.file) session.notes.lines session.notes.skipped carries
-              (InMbox to.store) to.file → Leaves
-          of (_, inl (_, unprepared)) durably = unready_left unprepared.unready.content (durably are_trusted)
-          of (rows, inr c) durably = planned_left c _ (cut_left dealt.items dealt.mid session.mid session.notes rows cut dealt.enters
-              dealt.total c leaves reports) c.prepared.durable (durably are_trusted)
+      by : (result : Result (Unit {0}) Cut) → BegunWith session result → Leaves
+      by (Ok _) w = ended_left session w
+      by (Err _) w = cut_left session w

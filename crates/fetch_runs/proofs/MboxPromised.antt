@@ -282,6 +282,15 @@ module _ (base : Base) where
       abbrev pub new : ℕ → List Message
       new n = take n (wants v.settings none_odd rows v.maildrop)
 
+      abbrev done_now : List Message
+      done_now = was ++ new s.stored
+
+      abbrev Breaks : Type 0
+      Breaks = IsBroken v.settings before did s.stored now
+
+      abbrev Opens : Type 0
+      Opens = IsOpenFor base (bytes_of done_now) now
+
       all_new : (P : Message → Type 0) (n : ℕ) → AllByRecursion P v.maildrop → AllByRecursion P (new n)
       all_new P n h = all_take P n _ (all_wanted fetch P h)
 
@@ -298,26 +307,26 @@ module _ (base : Base) where
       rows_are : now.rows ≡ marked_all rows (message_ids (new s.stored))
       rows_are = s.rows ∙ ap (marked_all rows) (wanted_ids fetch s.stored)
 
-      pub recorded_after : (id : List ℕ) → is_delivered now.rows id ≡ is_entered base (was ++ new s.stored) id
+      pub recorded_after : (id : List ℕ) → is_delivered now.rows id ≡ is_entered base done_now id
       recorded_after id = ap (λ r. is_delivered r id) rows_are ∙ delivered_all laws _ _ id (all_mapped _ _ _ (has_rows _))
           ∙ ap (λ b. b || has_id (message_ids (new s.stored)) id) (known id) ∙ sym (in_more _ _ id)
 
-      pub bytes_are : account.file ++ entries (take s.stored did.texts) ≡ bytes_of (was ++ new s.stored)
+      pub bytes_are : account.file ++ entries (take s.stored did.texts) ≡ bytes_of done_now
       bytes_are = rw (
         origin.2,
         (texts_are fetch (mbox_fetched s)).1,
         flat_map-map entry_of (λ (m : Message). m.text) (new s.stored),
       ) (sym (bytes_more was (new s.stored)))
 
-      placed : (b : IsBroken v.settings before did s.stored now) → (q : ℕ × Message) × (b.message ≡ num_item q)
+      placed : (b : Breaks) → (q : ℕ × Message) × (b.message ≡ num_item q)
           × (b.text ≡ q.1.text) × (take (suc s.stored) (qs fetch) ≡ take s.stored (qs fetch) ++ q ∷ [])
       placed b = at_place _ _ did.texts s.stored (wants_placed v.settings none_odd rows v.maildrop)
           (rw (wanted_is fetch) at honest.texts) (rw (wanted_is fetch) at b.wanted) b.got
 
-      broken_taken : (b : IsBroken v.settings before did s.stored now) → new (suc s.stored) ≡ new s.stored ++ (placed b).0.1 ∷ []
+      broken_taken : (b : Breaks) → new (suc s.stored) ≡ new s.stored ++ (placed b).0.1 ∷ []
       broken_taken b = rw (← taken_is fetch (suc s.stored), (placed b).3, map-append, taken_is fetch s.stored)
 
-      pub broken : IsBroken v.settings before did s.stored now → IsOpenFor base (bytes_of (was ++ new s.stored)) now
+      pub broken : Breaks → Opens
       broken b =
           let place = placed b in
           let next = place.0.1 in
@@ -331,31 +340,31 @@ module _ (base : Base) where
             ) refl;
             intent = b.opened.intent ∙ simp (bytes_are, place.1, place.2);
             part = b.opened.front;
-            left = subst (λ l. MayBeLeft (length (bytes_of (was ++ new s.stored))) l b.opened.front)
+            left = subst (λ l. MayBeLeft (length (bytes_of done_now)) l b.opened.front)
                 (sym (ap entry_of (sym place.2) ∙ b.opened.entry))
-                (part_left (length (bytes_of (was ++ new s.stored))) b.opened.front b.opened.behind b.opened.front
-                (all_left (length (bytes_of (was ++ new s.stored))) b.opened.front));
+                (part_left (length (bytes_of done_now)) b.opened.front b.opened.behind b.opened.front
+                (all_left (length (bytes_of done_now)) b.opened.front));
             file = b.opened.file ∙ rw bytes_are;
           }
 
-      pub broken_more : (b : IsBroken v.settings before did s.stored now) → new (suc s.stored) ≡ new s.stored ++ (broken b).next ∷ []
+      pub broken_more : (b : Breaks) → new (suc s.stored) ≡ new s.stored ++ (broken b).next ∷ []
       unfolding broken
       broken_more b = broken_taken b
 
-      broken_part : (b : IsBroken v.settings before did s.stored now) → IsPart now (broken b).next (broken b).part
+      broken_part : (b : Breaks) → IsPart now (broken b).next (broken b).part
       unfolding broken
       broken_part b = inr (b.opened.behind, ap entry_of (sym (placed b).2) ∙ b.opened.entry)
 
       -- how the file stands once the session ended so
       abbrev Ending : Type 0
       Ending = ((now.intent ≡ None) × (now.file ≡ account.file ++ entries (take s.stored did.texts)))
-          ⊎ IsBroken v.settings before did s.stored now
+          ⊎ Breaks
 
-      abbrev stands_at : Ending → Stands base (bytes_of (was ++ new s.stored)) now
+      abbrev stands_at : Ending → Stands base (bytes_of done_now) now
       stands_at (inl (closed, file)) = inl (closed, file ∙ bytes_are)
       stands_at (inr b) = inr (broken b)
 
-      pub holds_after : HoldsEntries base (was ++ new s.stored) now
+      pub holds_after : HoldsEntries base done_now now
       holds_after = let more = grown was (new s.stored) (origin.1.are, origin.1.new)
           (all_new (IsOf base.text) s.stored is.each) (distinct_wanted fetch s.stored) (fresh s.stored) in record {
             are = more.0;
@@ -365,18 +374,17 @@ module _ (base : Base) where
           }
 
       -- an open intent is that of the text that came
-      pub opened_after : (b : IsBroken v.settings before did s.stored now) → s.ending ≡ inr b
-          → (o : IsOpenFor base (bytes_of (was ++ new s.stored)) now) × (holds_after.stands ≡ inr o) × (o.next.text ≡ b.text)
+      pub opened_after : (b : Breaks) → s.ending ≡ inr b
+          → (o : Opens) × (holds_after.stands ≡ inr o) × (o.next.text ≡ b.text)
       unfolding broken holds_after
       opened_after b is = (broken b, ap stands_at is, sym (placed b).2)
 
-      part_of : (ending : Ending) (o : IsOpenFor base (bytes_of (was ++ new s.stored)) now) → stands_at ending ≡ inr o
+      part_of : (ending : Ending) (o : Opens) → stands_at ending ≡ inr o
           → IsPart now o.next o.part
       part_of (inl c) o is = absurd cc
-      part_of (inr b) o is = of_right (λ (p : IsOpenFor base (bytes_of (was ++ new s.stored)) now). IsPart now p.next
-          p.part) refl (broken_part b) is
+      part_of (inr b) o is = of_right (λ (p : Opens). IsPart now p.next p.part) refl (broken_part b) is
 
-      part_after : (o : IsOpenFor base (bytes_of (was ++ new s.stored)) now) → holds_after.stands ≡ inr o → IsPart now o.next o.part
+      part_after : (o : Opens) → holds_after.stands ≡ inr o → IsPart now o.next o.part
       unfolding holds_after
       part_after = part_of _
 
@@ -391,10 +399,10 @@ module _ (base : Base) where
       promises_after : (did.ended ≡ true) ↔ (v.report.outcome ≡ Ended)
           → {sent : List ℕ} (sends : SendsOnly (IsBegun did.listing did.begun) sent)
           → (did.ended ≡ true → v.report.retrieved ≡ count_by is_retr sends.commands)
-          → AllByRecursion (λ id. has_id did.begun id ≡ true) v.vanished → MboxPromises base done (was ++ new s.stored) v sent now
+          → AllByRecursion (λ id. has_id did.begun id ≡ true) v.vanished → MboxPromises base done done_now v sent now
       promises_after ended sends retrieves vanished = record {
         closed = λ uncut. (s.ended (ended.1 uncut)).1;
-        whole = λ uncut. ends_whole (was ++ new s.stored) now holds_after (s.ended (ended.1 uncut)).1;
+        whole = λ uncut. ends_whole done_now now holds_after (s.ended (ended.1 uncut)).1;
         found = origin.0;
         fetched = λ uncut. let all = (s.ended (ended.1 uncut)).0 in (
           new s.stored,
@@ -404,24 +412,24 @@ module _ (base : Base) where
         );
         wanted = λ uncut. fetches_wanted fetch (is_entered base was) (all_map _ (members v.maildrop) (λ m there. known m.uid))
             s.stored (let all = (s.ended (ended.1 uncut)).0 in omega (arith, all)) (all_retrieved (ended.1 uncut) uncut)
-            (λ m. is_entered base (was ++ new s.stored) m.uid ≡ true) (λ m got. in_more was (new s.stored) m.uid ∙ or_right _ _ got)
+            (λ m. is_entered base done_now m.uid ≡ true) (λ m got. in_more was (new s.stored) m.uid ∙ or_right _ _ got)
             (λ m old. in_more was (new s.stored) m.uid ∙ or_left _ _ (sym (known m.uid) ∙ old));
-        deletes = sends_such (λ id. is_entered base (was ++ new s.stored) id ≡ true) v.maildrop did
+        deletes = sends_such (λ id. is_entered base done_now id ≡ true) v.maildrop did
             (inl honest.listing) begun_entered sends;
         retrieved = λ uncut. retrieves (ended.1 uncut);
         vanished = all_map _ vanished (λ id b. all_ids_at _ _ begun_entered b);
       }
         where
-          begun_entered : AllByRecursion (λ id. is_entered base (was ++ new s.stored) id ≡ true) did.begun
+          begun_entered : AllByRecursion (λ id. is_entered base done_now id ≡ true) did.begun
           begun_entered = all_map _ s.begun (λ id e. sym (recorded_after id) ∙ e)
 
       -- ---- in order
 
       module _ (all : List Message) (front : IsMboxFront base kept all)
           (next : ShowsNext v.settings v.maildrop (front.first ++ done) front.rest) where
-        abbrev Next : Stands base (bytes_of (was ++ new s.stored)) now → Type 0
-        Next stands = (rest : List Message) × (all ≡ (front.first ++ (was ++ new s.stored)) ++ rest)
-            × IsNext (bytes_of (was ++ new s.stored)) now rest stands
+        abbrev Next : Stands base (bytes_of done_now) now → Type 0
+        Next stands = (rest : List Message) × (all ≡ (front.first ++ done_now) ++ rest)
+            × IsNext (bytes_of done_now) now rest stands
 
         later : (rest : List Message) × (front.rest ≡ origin.0 ++ rest)
             × BeginsWith (next_in v.settings.max_size (front.first ++ was) v.maildrop) rest
@@ -449,7 +457,7 @@ module _ (base : Base) where
             (rw (all_added fetch (λ id. refl) (front.first ++ was) later.0 done_known later.2 known_was only_new n)
             (append_assoc front.first was (new n)))
 
-        next_open : (b : IsBroken v.settings before did s.stored now) → Next (inr (broken b))
+        next_open : (b : Breaks) → Next (inr (broken b))
         next_open b =
             let o = broken b in
             let taken : new (suc s.stored) ≡ new s.stored ++ o.next ∷ [] = broken_more b in (
@@ -497,7 +505,7 @@ module _ (base : Base) where
           → Served v.maildrop sent got v.vanished
           → MboxSessionOverLink v.settings before sent got v.report effect after → AppendsMail base kept v sent after
       appends effect maildrop only_new served session =
-          let step = mbox_served_session laws v.settings before effect session served in
+          let step = mbox_served_session laws session served in
           elim step.0 [
             | inl left ↦ by [] (subst Leaves (sym (append-nil done)) (
               left_kept after effect left,

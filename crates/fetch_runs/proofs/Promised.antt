@@ -358,7 +358,7 @@ pub sessions_keep_promises : Below
     → IsAccountText mail.account → Invariant mail state → IsSession mail state.account call sent after → Promises mail state call sent after
     × Invariant mail (state_with mail state call.vanished after)
 sessions_keep_promises laws mail state call _ after account_is kept is =
-    let step = served_session laws call.settings mail.account state.account is.effect is.session is.served in
+    let step = served_session laws is.session is.served in
     ⊎_elim (λ left. left_kept call after is.effect kept left is.session.ended is.session.sends step.1)
     (λ (stores, honest). stored_kept laws account_is call after kept is.effect is.maildrop stores honest is.odd
     is.session.ended is.session.sends is.session.retrieves step.1) step.0

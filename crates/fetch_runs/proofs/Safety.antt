@@ -347,21 +347,21 @@ module _ (laws : Below) {sent got : List ℕ} (effect : Effect) {drop : List Mes
 
 -- what a session did over an honest link is what it read of the maildrop, and a DELE was begun for each message that
 -- its QUIT removed
-pub served_session : Below → (settings : Settings) (account : List ℕ) (before : AccountMail) {sent got : List ℕ} {report : Report}
-    (effect : Effect) {after : AccountMail} {drop : List Message} {vanished : List (List ℕ)}
+pub served_session : Below → {settings : Settings} {account : List ℕ} {before : AccountMail} {sent got : List ℕ} {report : Report}
+    {effect : Effect} {after : AccountMail} {drop : List Message} {vanished : List (List ℕ)}
     → (session : SessionOverLink settings account before sent got report effect after) → Served drop sent got vanished
     → (Leaves before effect after ⊎ (StoresTexts settings account before effect after report session.sends.commands session.sends.asked.part
     × IsHonest (wanted_at settings account before effect) drop effect)) × AllByRecursion (λ id. has_id effect.begun id ≡ true) vanished
-served_session laws settings account before effect session served =
+served_session laws {settings} {account} {before} {effect = effect} session served =
     one_visit laws effect session.sends served (wanted_at settings account before effect) session.step
     (λ left. left.0) (λ left. left.0.begun)
 
-pub mbox_served_session : Below → (settings : Settings) (before : MboxMail) {sent got : List ℕ} {report : Report} (effect : Effect)
+pub mbox_served_session : Below → {settings : Settings} {before : MboxMail} {sent got : List ℕ} {report : Report} {effect : Effect}
     {after : MboxMail} {drop : List Message} {vanished : List (List ℕ)}
     → MboxSessionOverLink settings before sent got report effect after → Served drop sent got vanished
     → (MboxLeaves before effect after ⊎ (MboxStores settings before effect after report
     × IsHonest (mbox_wanted settings before effect) drop effect)) × AllByRecursion (λ id. has_id effect.begun id ≡ true) vanished
-mbox_served_session laws settings before effect session served =
+mbox_served_session laws {settings} {before} {effect = effect} session served =
     one_visit laws effect session.sends served (mbox_wanted settings before effect) session.step (λ left. left.0) (λ left. left.0.begun)
 
 -- ---- whatever the server says, and if it is honest
@@ -371,10 +371,10 @@ Holds settings account before sent got effect after = (safe : IsSafeSession sett
     × ((drop : List Message) (marks : List Bool) → Honest drop sent got marks → Leaves before effect after
     ⊎ BringsMessages account drop effect safe.gained)
 
-pub session_holds : Below → (settings : Settings) (account : List ℕ) (before : AccountMail) {sent got : List ℕ}
-    {report : Report} (effect : Effect) {after : AccountMail}
+pub session_holds : Below → {settings : Settings} {account : List ℕ} {before : AccountMail} {sent got : List ℕ}
+    {report : Report} {effect : Effect} {after : AccountMail}
     → SessionOverLink settings account before sent got report effect after → Holds settings account before sent got effect after
-session_holds laws settings account before {sent} {got} {report} effect {after} session = by session.step
+session_holds laws {settings} {account} {before} {sent} {got} {report} {effect} {after} session = by session.step
   where
     by : (Leaves before effect after × (report.retrieved ≡ 0))
         ⊎ (StoresTexts settings account before effect after report session.sends.commands session.sends.asked.part
@@ -435,10 +435,10 @@ MboxHolds settings before sent got report effect after = MboxIsSafe settings bef
     × ((drop : List Message) (marks : List Bool) → Honest drop sent got marks → MboxLeaves before effect after
     ⊎ AppendsMessages drop before effect after)
 
-pub mbox_session_holds : Below → (settings : Settings) (before : MboxMail) {sent got : List ℕ} {report : Report}
-    (effect : Effect) {after : MboxMail}
+pub mbox_session_holds : Below → {settings : Settings} {before : MboxMail} {sent got : List ℕ} {report : Report}
+    {effect : Effect} {after : MboxMail}
     → MboxSessionOverLink settings before sent got report effect after → MboxHolds settings before sent got report effect after
-mbox_session_holds laws settings before {sent} {got} {report} effect {after} session = by session.step
+mbox_session_holds laws {settings} {before} {sent} {got} {report} {effect} {after} session = by session.step
   where
     by : (MboxLeaves before effect after × AsksForNone session.sends.commands session.sends.asked.part × (report.retrieved ≡ 0))
         ⊎ (MboxStores settings before effect after report

@@ -6,21 +6,19 @@ use Rattle.std.{
 }
 use Rattle.mail_terms.{specs.{Listing.Item, UniqueId.has_id}, proofs.ListLemmas.both_none}
 use Rattle.rc_file.specs.declared.settings.Settings.{Settings}
-use Rattle.fetch_record.specs.Record.{Row, RecordState}
+use Rattle.fetch_record.specs.Record.{RecordState}
 use Rattle.fetch_runs.{
-  specs.Sessions.{IsBegun, SendsOnly, BeginsOne, Leaves, SessionOverLink, is_retr, tail_behind, AsksForNoMessage, IsHonest, Served},
-  specs.Sessions.{MboxSessionOverLink, mbox_wanted},
+  specs.Sessions.{IsBegun, SendsOnly, BeginsOne, Leaves, is_retr, tail_behind, AsksForNoMessage, IsHonest, Served, mbox_wanted},
   specs.{Steps.{holds, IsStep, SessionsLoseNothing, IsMboxStep, MboxSessionsLoseNothing, mbox_holds}, Below.Below},
-  proofs.{Lists.{all_map, bytes_self, all_back}, Talk.{name_of, word_of, Spoke, session_spoke, Planned, idle_said, is_tail_for}},
+  proofs.{Lists.{all_map, bytes_self, all_back}, Talk.{asks, name_of, word_of, Spoke, session_spoke, Planned, idle_said, is_tail_for}},
   proofs.Turns.{Course, course, SessionCourse, Idle, Deals, begun_of, IsOfTask, begins_of, deleted_in, deleted_by, effect_of, tail_for},
-  proofs.Turns.{course_proceeded, found_by, found_in},
-  proofs.Tasks.{IsRight, found_all, count, is_ended, tally_numbers, tally_right},
-  proofs.MboxState.{MboxLeads, Rests, course_leaves, mbox_figures, mbox_inputs},
-  proofs.{State.{CourseLeads, Leads, course_leads, figures, inputs}, Safety.{session_holds, mbox_session_holds, session_honest}},
+  proofs.Turns.{course_of, found_by, found_in},
+  proofs.{Tasks.{IsRight, found_all, count, is_ended, tally_numbers, tally_right}, State.{CourseLeads, Leads, course_leads, figures}},
+  proofs.{MboxState.{MboxLeads, Rests, course_leaves, mbox_figures}, Safety.{session_holds, mbox_session_holds, session_honest}},
 }
 use Rattle.pop3_wire.specs.{
   World.Message,
-  declared.command.Command.{Command, TheVariants.{Dele, User, Pass, Stat, UidlAll, ListAll, Retr}},
+  declared.command.Command.{Command, TheVariants.{Dele, Retr}},
   Honest.HasSent,
   Place.at,
   Link.Link,
@@ -30,7 +28,7 @@ use Rattle.fetch_session.specs.{
   declared.report.{Outcome.TheVariants.Ended, Report.Report},
   Report.retrieved_in,
   Task.{Task, deletes, Done, report_lines},
-  Record.{Keeps, KeepsRows},
+  Record.Keeps,
   Session.{MboxAccountFiles, keeps_files, outcome_of, Keeping, keeps_entries, SessionIn},
   Target.{AsFiles, AsEntries, mail_in, no_maildir, Target},
 }
@@ -81,7 +79,7 @@ module _ {settings : Settings} {target : Target} {now : ℕ} {link : Link} {befo
 
   -- if it ended, each RETR is in the report
   retrieves_all : is_ended is.result ≡ true → report.retrieved ≡ count_by is_retr
-      (User (name_of settings) ∷ Pass (word_of settings) ∷ Stat ∷ UidlAll ∷ ListAll ∷ said.speaks.more)
+      (asks (name_of settings) (word_of settings) said.speaks.more)
   retrieves_all ended =
       let outcome = (ended_if _ refl).0 ended in
       let none = (said.by.ahead.whole outcome).0 in
@@ -92,28 +90,9 @@ module _ {settings : Settings} {target : Target} {now : ℕ} {link : Link} {befo
 
 pub sessions_lose_nothing : Below → SessionsLoseNothing
 sessions_lose_nothing laws settings account now link before rows report link' after valid keeps is =
-    let step = joined (course_proceeded settings (AsFiles account) now (at link []) (keeps_files before) is.result
-    is.mid (keeps_files after) is.notes is.proceeds)
-    (course_leads laws settings account now before.maildir rows before.file keeps (at link []) is.result is.mid after is.notes is.proceeds)
-    (session_spoke laws settings valid (AsFiles account) now link (keeps_files before) report link' (keeps_files after) is) in
-    let holds' = session_holds laws settings account (holds rows before.maildir) step.effect step.session in (step, holds'.0, holds'.1)
+    let step = joined (course_of is) (course_leads settings account now before.maildir rows laws keeps is) (session_spoke laws valid is) in
+    let holds' = session_holds laws step.session in (step, holds'.0, holds'.1)
   where
-    made : (c : Course) {rows' : List Row} {sent got : List ℕ} → link'.sent ≡ link.sent ++ sent
-        → link'.got ≡ link.got ++ got → KeepsRows after.file.content rows'
-        → SessionOverLink settings account (holds rows before.maildir) sent got report
-        (effect_of now (is_ended is.result) c) (holds rows' after.maildir) → IsStep settings account now link before rows report link' after
-    made c sent_is got_is stays session = record {
-      sent = _;
-      got = _;
-      effect = _;
-      rows' = _;
-      sent_is = sent_is;
-      got_is = got_is;
-      now_is = refl;
-      keeps = stays;
-      session = session;
-    }
-
     joined : (session_course : SessionCourse)
         → CourseLeads (λ (c : Course). Leads settings account now before.maildir rows is.result c after.maildir
         after.file.content) is.result (keeps_files before) (keeps_files after) is.notes.lines session_course
@@ -125,32 +104,50 @@ sessions_lose_nothing laws settings account now link before rows report link' af
         let unchanged : Leaves (holds rows before.maildir) (effect_of now (is_ended is.result) (course [] [] [] []))
         (holds rows after.maildir) =
         record { rows = refl; same = ap (λ (k : Keeping). k.store.maildir.files) left.1; begun = refl; ended = left.0 } in
-        made (course [] [] [] []) said.sent_is said.got_is (rw (ap (λ (k : Keeping). k.file) left.1) keeps) (record {
-          sends = sends_of account before.maildir [] [] tt idle.1 idle.2 idle.3;
-          ended = ended_if is.result is.reports.outcome_is;
-          retrieves = λ ended. absurd (both_ways _ left.0 ended);
-          step = inl (unchanged, is.reports.retrieved_is ∙ ap retrieved_in left.2);
-        })
+        record {
+          sent = _;
+          got = _;
+          effect = effect_of now (is_ended is.result) (course [] [] [] []);
+          rows' = rows;
+          sent_is = said.sent_is;
+          got_is = said.got_is;
+          now_is = refl;
+          keeps = rw (ap (λ (k : Keeping). k.file) left.1) keeps;
+          session = record {
+            sends = sends_of account before.maildir [] [] tt idle.1 idle.2 idle.3;
+            ended = ended_if is.result is.reports.outcome_is;
+            retrieves = λ ended. absurd (both_ways _ left.0 ended);
+            step = inl (unchanged, is.reports.retrieved_is ∙ ap retrieved_in left.2);
+          };
+        }
     joined (Deals c) left said =
-        made c said.sent_is said.got_is left.keeps (record {
-          sends = sends_of account before.maildir c.items (begun_of c)
-              (tally_right laws (inputs settings account now before.maildir rows c.items) left.tally) said.speaks.asked
-              said.speaks.deletes said.speaks.next;
-          ended = ended_if is.result is.reports.outcome_is;
-          retrieves = retrieves_all is said;
-          step = inr (
-            figures laws settings account now before.maildir rows left report _ said.speaks.asked.part
-                (retrieved_is is said) is.reports.outcome_is (λ none. record {
-                  name = name_of settings;
-                  word = word_of settings;
-                  more = said.speaks.more;
-                  commands_are = refl;
-                  only = rw is.reports.outcome_is (said.speaks.stops none);
-                }),
-            said.speaks.reads now (is_ended is.result) _
-                (tally_numbers laws (inputs settings account now before.maildir rows c.items) left.tally),
-          );
-        })
+        record {
+          sent = _;
+          got = _;
+          effect = effect_of now (is_ended is.result) c;
+          rows' = left.rows';
+          sent_is = said.sent_is;
+          got_is = said.got_is;
+          now_is = refl;
+          keeps = left.keeps;
+          session = record {
+            sends = sends_of account before.maildir c.items (begun_of c)
+                (tally_right left.tally) said.speaks.asked said.speaks.deletes said.speaks.next;
+            ended = ended_if is.result is.reports.outcome_is;
+            retrieves = retrieves_all is said;
+            step = inr (
+              figures left report _ said.speaks.asked.part
+                  (retrieved_is is said) is.reports.outcome_is (λ none. record {
+                    name = name_of settings;
+                    word = word_of settings;
+                    more = said.speaks.more;
+                    commands_are = refl;
+                    only = rw is.reports.outcome_is (said.speaks.stops none);
+                  }),
+              said.speaks.reads now (is_ended is.result) _ (tally_numbers left.tally),
+            );
+          };
+        }
 
 -- ---- without a task no message is asked for
 
@@ -163,45 +160,35 @@ no_message _ _ = tt
 
 pub mbox_sessions_lose_nothing : Below → MboxSessionsLoseNothing
 mbox_sessions_lose_nothing laws settings now link before held report link' after valid keeps is =
-    let step = joined (course_proceeded settings AsEntries now (at link []) (keeps_entries before) is.result is.mid
-    (keeps_entries after) is.notes is.proceeds)
-    (course_leaves laws settings now (keeps_entries before) held keeps (at link []) is.result is.mid
-    (keeps_entries after) is.notes is.proceeds)
-    (session_spoke laws settings valid AsEntries now link (keeps_entries before) report link' (keeps_entries after) is) in
-    let holds' = mbox_session_holds laws settings (mbox_holds held before.mbox) step.effect step.session
+    let step = joined (course_of is) (course_leaves laws (keeps_entries before) held keeps is) (session_spoke laws valid is) in
+    let holds' = mbox_session_holds laws step.session
     in (step, holds'.0, holds'.1, holds'.2)
   where
-    made : (c : Course) {state : RecordState} {sent got : List ℕ} → link'.sent ≡ link.sent ++ sent
-        → link'.got ≡ link.got ++ got → Keeps after.file.content state
-        → MboxSessionOverLink settings (mbox_holds held before.mbox) sent got report
-        (effect_of now (is_ended is.result) c) (mbox_holds state after.mbox) → IsMboxStep settings now link before held report link' after
-    made c sent_is got_is stays session = record {
+    -- no task was begun
+    quiet : (c : Course) → Rests now is.result c held before.mbox after.mbox after.file.content → report.retrieved ≡ 0
+        → {sent : List ℕ} (got : List ℕ) → link'.sent ≡ link.sent ++ sent → link'.got ≡ link.got ++ got
+        → (commands : List Command) (asked : HasSent commands sent) → AllByRecursion (IsOfTask (begun_of c)) commands
+        → BeginsOne (IsOfTask (begun_of c)) asked.part → IsMboxStep settings now link before held report link' after
+    quiet c rests retrieved _ sent_is got_is commands asked all next = record {
       sent = _;
       got = _;
-      effect = _;
-      held' = _;
+      effect = effect_of now (is_ended is.result) c;
+      held' = held;
       sent_is = sent_is;
       got_is = got_is;
       now_is = refl;
-      keeps = stays;
-      session = session;
+      keeps = rests.keeps;
+      session = record {
+        sends = sends_of [] no_maildir c.items (begun_of c) (rw rests.none tt) asked all next;
+        ended = ended_if is.result is.reports.outcome_is;
+        retrieves = λ ended. absurd (both_ways _ rests.leaves.ended ended);
+        step = inl (
+          rests.leaves,
+          (all_map commands (rw rests.none at all) no_message, begins_of no_message asked.part (rw rests.none at next)),
+          retrieved,
+        );
+      };
     }
-
-    -- no task was begun
-    quiet : (c : Course) → Rests now is.result c held before.mbox after.mbox after.file.content → report.retrieved ≡ 0
-        → (sent got : List ℕ) → link'.sent ≡ link.sent ++ sent → link'.got ≡ link.got ++ got
-        → (commands : List Command) (asked : HasSent commands sent) → AllByRecursion (IsOfTask (begun_of c)) commands
-        → BeginsOne (IsOfTask (begun_of c)) asked.part → IsMboxStep settings now link before held report link' after
-    quiet c rests retrieved sent got sent_is got_is commands asked all next = made c sent_is got_is rests.keeps (record {
-      sends = sends_of [] no_maildir c.items (begun_of c) (rw rests.none tt) asked all next;
-      ended = ended_if is.result is.reports.outcome_is;
-      retrieves = λ ended. absurd (both_ways _ rests.leaves.ended ended);
-      step = inl (
-        rests.leaves,
-        (all_map commands (rw rests.none at all) no_message, begins_of no_message asked.part (rw rests.none at next)),
-        retrieved,
-      );
-    })
 
     joined : (session_course : SessionCourse)
         → CourseLeads (λ (c : Course). Rests now is.result c held before.mbox after.mbox after.file.content
@@ -223,24 +210,32 @@ mbox_sessions_lose_nothing laws settings now link before held report link' after
             begun = refl;
             ended = left.0;
           };
-        }) (is.reports.retrieved_is ∙ ap retrieved_in left.2) said.sent said.got said.sent_is said.got_is idle.0 idle.1 idle.2 idle.3
+        }) (is.reports.retrieved_is ∙ ap retrieved_in left.2) said.got said.sent_is said.got_is idle.0 idle.1 idle.2 idle.3
     joined (Deals c) (inl rests) said =
         quiet c rests (is.reports.retrieved_is ∙ ap retrieved_in said.by.told
-        ∙ ap (λ (ds : List Done). retrieved_in (report_lines ds)) rests.untaken) said.sent said.got said.sent_is said.got_is _
+        ∙ ap (λ (ds : List Done). retrieved_in (report_lines ds)) rests.untaken) said.got said.sent_is said.got_is _
         said.speaks.asked said.speaks.deletes said.speaks.next
     joined (Deals c) (inr left) said =
-        made c said.sent_is said.got_is left.keeps (record {
-          sends = sends_of [] no_maildir c.items (begun_of c)
-              (tally_right laws (mbox_inputs settings now held before.mbox c.items) left.tally) said.speaks.asked
-              said.speaks.deletes said.speaks.next;
-          ended = ended_if is.result is.reports.outcome_is;
-          retrieves = retrieves_all is said;
-          step = inr (
-            mbox_figures laws settings now held before.mbox left report (retrieved_is is said) is.reports.outcome_is,
-            said.speaks.reads now (is_ended is.result) _
-                (tally_numbers laws (mbox_inputs settings now held before.mbox c.items) left.tally),
-          );
-        })
+        record {
+          sent = _;
+          got = _;
+          effect = effect_of now (is_ended is.result) c;
+          held' = _;
+          sent_is = said.sent_is;
+          got_is = said.got_is;
+          now_is = refl;
+          keeps = left.keeps;
+          session = record {
+            sends = sends_of [] no_maildir c.items (begun_of c)
+                (tally_right left.tally) said.speaks.asked said.speaks.deletes said.speaks.next;
+            ended = ended_if is.result is.reports.outcome_is;
+            retrieves = retrieves_all is said;
+            step = inr (
+              mbox_figures left report (retrieved_is is said) is.reports.outcome_is,
+              said.speaks.reads now (is_ended is.result) _ (tally_numbers left.tally),
+            );
+          };
+        }
 
 -- the texts that it took are those of the wanted messages, if its server was honest
 pub mbox_honest : Below → {settings : Settings} {now : ℕ} {link : Link} {before : MboxAccountFiles} {report : Report}
@@ -253,6 +248,6 @@ pub mbox_honest : Below → {settings : Settings} {now : ℕ} {link : Link} {bef
     (effect_of now (is_ended is.result) c)
 mbox_honest laws {settings} {now} {before = before} held is {c} left said served = session_honest laws
     (effect_of now (is_ended is.result) c) (sends_of [] no_maildir c.items (begun_of c)
-    (tally_right laws (mbox_inputs settings now held before.mbox c.items) left.tally) said.speaks.asked
-    said.speaks.deletes said.speaks.next) served (mbox_wanted settings (mbox_holds held before.mbox) (effect_of now (is_ended is.result) c))
-    (said.speaks.reads now (is_ended is.result) _ (tally_numbers laws (mbox_inputs settings now held before.mbox c.items) left.tally))
+    (tally_right left.tally) said.speaks.asked said.speaks.deletes said.speaks.next) served
+    (mbox_wanted settings (mbox_holds held before.mbox) (effect_of now (is_ended is.result) c))
+    (said.speaks.reads now (is_ended is.result) _ (tally_numbers left.tally))

@@ -44,10 +44,10 @@ use Rattle.fetch_runs.{
   specs.Conversations.{Conversation, plan_turns, Converses, plan_commands, IsTail as IsTailOf, IsFrontOfPlan, is_retrieval, retrieved_by},
   specs.Conversations.{FollowsPlan, MboxSessionsFollowPlans, EndsInOpening, SpeaksByPlan, SessionsAreConversations, step_commands},
   proofs.Lists.{all_append, all_back, all_front},
-  proofs.Turns.{Course, SessionCourse, Idle, Deals, course_does, course_carried, course_carries, course_dealt, course_proceeded, found_of},
-  proofs.Turns.{begun_of, IsOfTask, number_found, number_of, effect_of, said_in, commands_in, CanBeSaid, begins_any, begins_one, Commanded},
-  proofs.Turns.{commanded, IsCommand, replies_read, each_found, IsPlain, plain_ahead, said_tasks, commands_tasks, of_tasks, fronted, Goes},
-  proofs.Turns.{goes_tail, goes_broke, conversation, Took, tail_for, Ahead, ahead_cut, tailed, all_done, ahead_stopped},
+  proofs.Turns.{Course, SessionCourse, Idle, Deals, course_does, course_carried, course_carries, course_dealt, course_of, course_proceeded},
+  proofs.Turns.{found_of, begun_of, IsOfTask, number_found, number_of, effect_of, said_in, commands_in, CanBeSaid, begins_any, begins_one},
+  proofs.Turns.{Commanded, commanded, IsCommand, replies_read, each_found, IsPlain, plain_ahead, said_tasks, commands_tasks, of_tasks},
+  proofs.Turns.{fronted, Goes, goes_tail, goes_broke, conversation, Took, tail_for, Ahead, ahead_cut, tailed, all_done, ahead_stopped},
 }
 use Rattle.fetch_record.specs.Record.{Row}
 use Rattle.fetch_rules.specs.{Plan.{planned, step_of}, Wanted.none_odd, declared.plans.Step.Step}
@@ -69,11 +69,6 @@ replied (a ∷ b ∷ c ∷ []) good = record { hello = a; to_user = b; to_pass =
 replied (a ∷ b ∷ c ∷ d ∷ e ∷ f ∷ g ∷ more) good = absurd good.1.1.1.1.1.1
 replied _ good = search rules depth 9
 
--- those that a session got
-abbrev pub replies_to : {name word : List ℕ} {old new : Place} {count : ℕ} {uids : List UidRow} {sizes : List ScanRow}
-    → SessionOpened name word old new count uids sizes → List WholeReply
-replies_to opened = opened.welcome ++ opened.counted ∷ opened.named ∷ opened.sized ∷ []
-
 -- the greeting has no body
 pub no_body : (body : Option (List (List ℕ))) → IsBody greeting body → body ≡ None
 no_body None is = refl
@@ -84,35 +79,43 @@ pub said_opening : (name word : List ℕ) → is_credential name ≡ true → is
     → AllByRecursion CanBeSaid (opening name word)
 said_opening _ _ n w = (tt, ((n, tt), ((w, tt), ((refl, tt), ((refl, tt), ((refl, tt), tt))))))
 
--- ---- how many messages are listed
+-- ---- a listing
 
-pub few_items : {name word : List ℕ} {old new : Place} {count : ℕ} {uids : List UidRow} {sizes : List ScanRow}
-    {items : List Item} → SessionOpened name word old new count uids sizes → Joins count uids sizes items → length items ≤ 100000
-few_items opened joins =
-    let good = (replied _ opened.talked.good).good.1.1.1.0 in
-    let fits = good.fits refl in
-    let rest = good.positive.2 ∙ ap without_space (append_cancel_left (indicator Positive) good.positive.0 opened.gives.2.0
-    (sym good.positive.1 ∙ opened.gives.2.1)) ∙ sym opened.gives.2.2 in
-    grind (arith, sym fits.2 ∙ ap number_and_size rest ∙ opened.gives.3, joins.count, fits.3)
+module _ {name word : List ℕ} {old new : Place} {count : ℕ} {uids : List UidRow} {sizes : List ScanRow}
+    (opened : SessionOpened name word old new count uids sizes) where
+  -- the replies that a session got
+  abbrev pub replies_to : List WholeReply
+  replies_to = opened.welcome ++ opened.counted ∷ opened.named ∷ opened.sized ∷ []
 
--- the listing that the replies give
-pub listed : {name word : List ℕ} {old new : Place} {count : ℕ} {uids : List UidRow} {sizes : List ScanRow}
-    {items : List Item} (opened : SessionOpened name word old new count uids sizes) → Joins count uids sizes items
-    → IsListed opened.counted opened.named opened.sized items
-listed opened joins = search (opened, joins)
+  -- how many messages are listed
+  pub few_items : {items : List Item} → Joins count uids sizes items → length items ≤ 100000
+  few_items joins =
+      let good = (replied _ opened.talked.good).good.1.1.1.0 in
+      let fits = good.fits refl in
+      let rest = good.positive.2 ∙ ap without_space (append_cancel_left (indicator Positive) good.positive.0 opened.gives.2.0
+      (sym good.positive.1 ∙ opened.gives.2.1)) ∙ sym opened.gives.2.2 in
+      grind (arith, sym fits.2 ∙ ap number_and_size rest ∙ opened.gives.3, joins.count, fits.3)
+
+  -- the listing that the replies give
+  listed : {items : List Item} → Joins count uids sizes items → IsListed opened.counted opened.named opened.sized items
+  listed joins = search (opened, joins)
 
 -- ---- What a session with a joined listing sent and read, as the law over accounts takes it.
 
+-- the commands of an opening, and more
+abbrev pub asks : List ℕ → List ℕ → List Command → List Command
+asks name word more = User name ∷ Pass word ∷ Stat ∷ UidlAll ∷ ListAll ∷ more
+
 pub record Speaks (c : Course) (name word : List ℕ) (turns : List Turn) (sent got : List ℕ) : Type 0 where
   pub more : List Command
-  pub asked : HasSent (User name ∷ Pass word ∷ Stat ∷ UidlAll ∷ ListAll ∷ more) sent
+  pub asked : HasSent (asks name word more) sent
   pub reads : (now : ℕ) (ends : Bool) (messages : List (ℕ × Item))
       → map number_found (found_of c) ≡ map number_of (take (length (found_of c)) messages)
-      → ReadsReplies messages (User name ∷ Pass word ∷ Stat ∷ UidlAll ∷ ListAll ∷ more) sent got (effect_of now ends c)
-  pub deletes : AllByRecursion (IsOfTask (begun_of c)) (User name ∷ Pass word ∷ Stat ∷ UidlAll ∷ ListAll ∷ more)
+      → ReadsReplies messages (asks name word more) sent got (effect_of now ends c)
+  pub deletes : AllByRecursion (IsOfTask (begun_of c)) (asks name word more)
   pub next : BeginsOne (IsOfTask (begun_of c)) asked.part
   -- all that was asked for came, if each task was completed and no tail follows
-  pub all : c.under ≡ [] → turns ≡ [] → length (found_of c) ≡ count_by is_retr (User name ∷ Pass word ∷ Stat ∷ UidlAll ∷ ListAll ∷ more)
+  pub all : c.under ≡ [] → turns ≡ [] → length (found_of c) ≡ count_by is_retr (asks name word more)
   -- if no task was begun, no more was sent than the tail
   pub stops : begun_of c ≡ [] → SaysOnly turns more asked.part
 
@@ -177,7 +180,7 @@ spoken laws {name} {word} {start = start} {mid} {turns} {link} named' worded c k
       more = commands_in took.done ++ (whole.ahead ++ whole.ends);
       asked = whole.asked;
       reads = λ now ends messages numbers.
-          let talked : IsTalked (User name ∷ Pass word ∷ Stat ∷ UidlAll ∷ ListAll ∷ (commands_in took.done ++ (whole.ahead ++ whole.ends)))
+          let talked : IsTalked (asks name word (commands_in took.done ++ (whole.ahead ++ whole.ends)))
           (r.to_user ∷ r.to_pass ∷ opened.counted ∷ opened.named ∷ opened.sized ∷ took.replies) is.0 is.1 = record {
             asked = whole.asked;
             hello = r.hello.first;
@@ -337,25 +340,24 @@ module _ (laws : Below) where
     same_items = refl;
     split = went.all ∙ simp append-nil;
     told = went.went.lines;
-    spare = λ _ _ _ e. absurd cc;
+    spare = tt;
     whole = λ _. (refl, refl);
   }
   ahead_does target items tasks old new (Err cut) _ fell plain leaves =
       let front = all_front IsPlain (tasks_of fell.dones) (fell.next ∷ fell.later) (rw fell.split at plain) in
       let back = all_back IsPlain (tasks_of fell.dones) (fell.next ∷ fell.later) (rw fell.split at plain) in
-      rw leaves.2 (ahead_stopped laws items fell.dones fell.next old.place fell.mid fell.went.talked front
-      fell.went.each new cut leaves.0 leaves.1 tasks fell.later fell.split old.lines fell.went.lines target back.0 fell.stops)
+      rw leaves.2 (ahead_stopped laws items fell front leaves.0 leaves.1 target back.0 fell.stops)
 
   module _ (settings : Settings) (target : Target) (items : List Item) (now : ℕ) (place : Place) (store : Stores)
       (file : Stored) (lines : List ReportLine) (few : length items ≤ 100000) where
     dealing_carried : (result : Result (Unit {0}) Cut) (new : Scene) (skipped : Skips) (link : Link)
         → (is : Carried settings target items now place store file lines result new skipped) → LeavesLink result new.place link
         → Dealing settings target items now store file lines new.lines
-        (course_carried settings target items now place store file lines result new skipped is) place result link
+        (course_carried is) place result link
     dealing_carried result new _ link is leaves = record {
       rows = is.mid.rows;
       ahead = subst₂ (λ first p. Ahead target items (tasks_ahead settings target items now store is.mid.rows) first
-          _ _ (course_carried _ _ _ _ _ _ _ _ _ _ _ is) p link) is.prepared.lines_are is.prepared.place_is
+          _ _ (course_carried is) p link) is.prepared.lines_are is.prepared.place_is
           (ahead_does target items (tasks_ahead settings target items now store is.mid.rows) is.mid new result link
           is.does (plain_ahead settings target items now store is.mid.rows few) leaves);
       found = inl (is.mid, is.prepared, refl);
@@ -372,7 +374,7 @@ module _ (laws : Below) where
       rows = [];
       ahead = rw leaves.2 (ahead_cut (tasks_ahead settings target items now store []) (all_done laws items [] (laws.joins.none place) tt tt
           (goes_tail (tailed laws items cut place leaves.0 is.none (rw is.place_is at leaves.1))))
-          refl (is.lines_are ∙ sym (append-nil lines)) (λ account reply files e. absurd cc));
+          refl (is.lines_are ∙ sym (append-nil lines)) tt);
       found = inr refl;
     }
     dealing (Err cut) place' store' file' lines' skipped link (rows, inr is) leaves =
@@ -445,19 +447,18 @@ abbrev pub Spoke : Settings → Target → ℕ → Keeping → Link → Link →
 Spoke settings _ _ _ link link' result _ Idle = OpensAlone (name_of settings) (word_of settings) (tail_for result) link link'
 Spoke settings target now before link link' result lines (Deals c) = Planned settings target now before link link' result lines c
 
-pub session_spoke : Below → (settings : Settings) → IsValid settings
-    → (target : Target) (now : ℕ) (link : Link) (before : Keeping) (report : Report) (link' : Link) (after : Keeping)
-    → (session : SessionIn settings target now link before report link' after)
-    → Spoke settings target now before link link' session.result session.notes.lines
-    (course_proceeded settings target now (at link []) before session.result session.mid after session.notes session.proceeds)
-session_spoke laws settings valid target now link before report link' after session = spoke session.result session.proceeds session.leaves
+pub session_spoke : Below → {settings : Settings} {target : Target} {now : ℕ} {link link' : Link} {before after : Keeping} {report : Report}
+    → IsValid settings → (session : SessionIn settings target now link before report link' after)
+    → Spoke settings target now before link link' session.result session.notes.lines (course_of session)
+session_spoke laws {settings} {target} {now} {link} {link'} {before} {after} valid session =
+    spoke session.result session.proceeds session.leaves
   where
     planned_talk : (result : Result (Unit {0}) Cut)
         → (is : Dealt settings target now (at link []) before result session.mid after session.notes) → LeavesLink result session.mid link'
         → Planned settings target now before link link' result session.notes.lines
-        (course_dealt settings target now (at link []) before result session.mid after session.notes is)
+        (course_dealt is)
     planned_talk result is leaves =
-        let c = course_dealt settings target now (at link []) before result session.mid after session.notes is in
+        let c = course_dealt is in
         let few = few_items is.enters.3 is.enters.4 in
         let by = dealing laws settings target is.items now is.mid before.store before.file [] few result session.mid
         after.store after.file session.notes.lines session.notes.skipped link' is.carries leaves in
@@ -517,9 +518,7 @@ follows_none laws settings valid kind it =
 
 pub mbox_sessions_follow_plans : Below → MboxSessionsFollowPlans
 mbox_sessions_follow_plans laws settings now link before report link' after valid session =
-    by (course_proceeded settings AsEntries now (at link []) (keeps_entries before) session.result session.mid
-    (keeps_entries after) session.notes session.proceeds)
-    (session_spoke laws settings valid AsEntries now link (keeps_entries before) report link' (keeps_entries after) session)
+    by (course_of session) (session_spoke laws valid session)
   where
     by : (session_course : SessionCourse)
         → Spoke settings AsEntries now (keeps_entries before) link link' session.result session.notes.lines
@@ -529,7 +528,7 @@ mbox_sessions_follow_plans laws settings now link before report link' after vali
 
 pub sessions_are_conversations : Below → SessionsAreConversations
 sessions_are_conversations laws settings account now link before report link' after valid session =
-    by _ (session_spoke laws _ valid _ _ _ (keeps_files before) report link' (keeps_files after) session)
+    by _ (session_spoke laws valid session)
   where
     -- if the listing was joined
     by_plan : (c : Course) → (p : Planned settings (AsFiles account) now (keeps_files before) link link' session.result
@@ -558,7 +557,7 @@ sessions_are_conversations laws settings account now link before report link' af
         listed p.enters.3 p.enters.4,
       );
       counts = ⊎_map (λ same. ap retrieved_by same ∙ number) (λ (n, same, none, (reply, more)). (
-        session.reports.outcome_is ∙ p.by.ahead.spare account reply refl more,
+        session.reports.outcome_is ∙ rw more at p.by.ahead.spare,
         (opening_of settings ++ turns_of c.taken, n, rw same, number, none),
       )) p.by.took.asks;
       ended = λ is.

@@ -13,7 +13,7 @@ use Rattle.rc_file.specs.declared.settings.Settings.{Settings}
 use Rattle.fetch_record.specs.Record.{Row, is_delivered, is_of, has_row, with_delivered, marked, marked_all, new_ids, merged, none_open}
 use Rattle.fetch_rules.specs.{Wanted.wanted, declared.plans.Step.Step, Plan.{fetches, is_for_odd, step_of}}
 use Rattle.mail_store.specs.{Maildir.Maildir, Held.flags_of, FileName.{is_held, is_odd}}
-use Rattle.pop3_client.specs.{Turns.{quit, IsGood}, Texts.body_text}
+use Rattle.pop3_client.specs.{Conversation.Talked, Turns.{quit, retr, IsGood}, Texts.body_text}
 use Rattle.fetch_session.specs.{
   Task.{Task, says, stores, rereads, deletes, fetching, deleting, tasks_in, tasks_planned, Done, IsAnswered, turns_in, tasks_of, files_in},
   Task.{files_of, lines_in, report_lines, ids_ahead, task_in, ids_in, marked_ids},
@@ -22,9 +22,9 @@ use Rattle.fetch_session.specs.{
   declared.{fault.Cut.Cut, report.Outcome.TheVariants.Cut as WasCut},
   Session.outcome_of,
   Record.{Keeps, Steady},
-  Scene.{Scene, Went, Fell},
+  Scene.{Scene, AllWent, Went, Fell},
 }
-use Rattle.pop3_wire.specs.Reading.{WholeReply}
+use Rattle.pop3_wire.specs.{Place.Place, Reading.WholeReply}
 use Rattle.fetch_runs.{
   specs.{Sessions.{file_for, is_unheld, ids_wanted, IsUnsaved, settled}, Below.Below},
   proofs.Turns.{found_in, found_by, deleted_in, deleted_by, number_found, text_found, Course, course, stored_done, found_of, nothing_found},
@@ -235,10 +235,11 @@ rows_after p dones = marked_all (rows_on p) (ids_ahead (tasks_of dones))
 abbrev pub IsRecorded : Inputs → List Done → List ℕ → Type 0
 IsRecorded p dones uid = is_delivered (rows_after p dones) uid ≡ true
 
--- a list of done tasks, and those after it
-pub record Part (tasks : List Task) (dones : List Done) : Type 0 where
+-- a list of done tasks, and those of the plan after it
+pub record Part (p : Inputs) (dones : List Done) : Type 0 where
+  pub laws : Below
   pub rest : List Task
-  pub split : tasks ≡ tasks_of dones ++ rest
+  pub split : tasks_on p ≡ tasks_of dones ++ rest
   pub answered : AllByRecursion IsAnswered dones
 
 -- ---- marks that change nothing
@@ -315,57 +316,55 @@ safe_front D items (stores number _ ∷ tasks) next later safe all = safe_front 
 safe_front D items (deletes number ∷ tasks) next later safe all = all_append D _ _ safe.0 (safe_front D _ tasks _ _ safe.1 all)
 safe_front D items (_ ∷ tasks) next later safe all = safe_front D _ tasks _ _ safe all
 
-module _ (laws : Below) (p : Inputs) where
-  pub right_front : (front rest : List Task) → tasks_on p ≡ front ++ rest → AllByRecursion (IsRightOn p) front
-  right_front front rest split = all_front _ _ _ (rw split at (fit_ahead (λ _. Unit {0}) p (λ _ _. tt) (λ _ _ _. tt)).0)
+right_front : (p : Inputs) (front rest : List Task) → tasks_on p ≡ front ++ rest → AllByRecursion (IsRightOn p) front
+right_front p front rest split = all_front _ _ _ (rw split at (fit_ahead (λ _. Unit {0}) p (λ _ _. tt) (λ _ _ _. tt)).0)
 
-  pub right_part : (dones : List Done) → Part (tasks_on p) dones → AllByRecursion (IsRightOn p) (tasks_of dones)
-  right_part _ part = right_front _ _ part.split
+pub wanted_are : Below → (p : Inputs) → fetched (tasks_on p) ≡ map key (messages_on p)
+wanted_are laws p =
+    simp (
+      tasks_are,
+      flat_map-append,
+      append-nil,
+      fetched_plan,
+      laws.plans p.settings (odd_on p) (rows_on p) p.items p.now,
+    )
+
+module _ {p : Inputs} {dones : List Done} (part : Part p dones) where
+  pub right_part : AllByRecursion (IsRightOn p) (tasks_of dones)
+  right_part = right_front p _ _ part.split
 
   -- what was begun to be deleted is recorded
-  pub safe_part : (dones : List Done) (part : Part (tasks_on p) dones) (next : Option Task) (later : List Task)
-      → part.rest ≡ option_to_list next ++ later
+  safe_part : (next : Option Task) (later : List Task) → part.rest ≡ option_to_list next ++ later
       → AllByRecursion (IsRecorded p dones) (deleted_by p.items (tasks_of dones ++ option_to_list next))
-  safe_part dones part next later rest =
-      let stay = marks_stay laws _ (ids_ahead (tasks_of dones)) in
+  safe_part next later rest =
+      let stay = marks_stay part.laws _ (ids_ahead (tasks_of dones)) in
       let known : (uid : List ℕ) → has_item p.items uid ≡ true → is_held p.account p.maildir uid ≡ true
       → is_delivered (rows_on p) uid ≡ true =
       λ uid listed held. grind (
         arith,
-        laws.merges p.rows p.items (flags_of p.account p.maildir p.items) p.now uid,
-        laws.flags p.account p.maildir p.items uid,
+        part.laws.merges p.rows p.items (flags_of p.account p.maildir p.items) p.now uid,
+        part.laws.flags p.account p.maildir p.items uid,
         listed,
         held,
       ) in
       safe_front _ _ (tasks_of dones) next later (rw (part.split, rest) at (fit_ahead (IsRecorded p dones) p stay
-      (λ uid listed held. stay uid (known uid listed held))).1) (marked_delivered laws (rows_on p) (ids_ahead (tasks_of dones))
-      (stored_has_row laws p (tasks_of dones) (right_part dones part)))
-
-  pub wanted_are : fetched (tasks_on p) ≡ map key (messages_on p)
-  wanted_are =
-      simp (
-        tasks_are,
-        flat_map-append,
-        append-nil,
-        fetched_plan,
-        laws.plans p.settings (odd_on p) (rows_on p) p.items p.now,
-      )
+      (λ uid listed held. stay uid (known uid listed held))).1) (marked_delivered part.laws (rows_on p) (ids_ahead (tasks_of dones))
+      (stored_has_row part.laws p (tasks_of dones) right_part))
 
   -- the tasks so far fetched the first of the wanted messages
-  pub fetched_part : (dones : List Done) → Part (tasks_on p) dones → fetched (tasks_of dones) ≡ map key (take (count dones) (messages_on p))
-  fetched_part dones part =
+  fetched_part : fetched (tasks_of dones) ≡ map key (take (count dones) (messages_on p))
+  fetched_part =
       let all : fetched (tasks_of dones) ++ fetched part.rest ≡ map key (messages_on p) =
-      simp (← flat_map-append, ← part.split, wanted_are) in
+      simp (← flat_map-append, ← part.split, wanted_are part.laws) in
       rw (← take-map, ← all) (sym (take_at (fetched (tasks_of dones)) (fetched part.rest) (count dones) (same_length _ part.answered)))
 
   -- the record is the merged one, with the first of the wanted messages marked
-  pub records_part : (dones : List Done) → Part (tasks_on p) dones
-      → rows_after p dones ≡ marked_all (rows_on p) (ids_wanted (take (count dones) (messages_on p)))
-  records_part dones part = marks_by p _ _ (held_settled laws p) (right_part _ part) ∙ simp (fetched_part, map-map)
+  pub records_part : rows_after p dones ≡ marked_all (rows_on p) (ids_wanted (take (count dones) (messages_on p)))
+  records_part = marks_by p _ _ (held_settled part.laws p) right_part ∙ simp (fetched_part, map-map)
 
-  pub files_part : (dones : List Done) → Part (tasks_on p) dones → files_of p.account dones ≡ map (file_for p.account)
+  pub files_part : files_of p.account dones ≡ map (file_for p.account)
       (filter (is_unheld p.account p.maildir) (zip (take (count dones) (messages_on p)) (texts_by dones)))
-  files_part _ part = files_by p.account p.maildir p.items _ _ part.answered (right_part _ part) (fetched_part _ part)
+  files_part = files_by p.account p.maildir p.items _ _ part.answered right_part fetched_part
 
 -- ---- what a session leaves
 
@@ -375,6 +374,7 @@ is_ended (Err _) = false
 
 -- the tasks of the plan begin with its rows
 pub record Starts (p : Inputs) (tasks : List Task) (old : Scene) : Type 0 where
+  pub laws : Below
   pub tasks_are : tasks ≡ tasks_on p
   pub rows : old.rows ≡ rows_on p
   pub steady : Steady old.file.content (none_open old.rows)
@@ -390,8 +390,8 @@ or_less = ⊎_map (λ same. same) (λ less. less.0)
 -- begun
 pub record Tally (p : Inputs) (result : Result (Unit {0}) Cut) (c : Course) (full noted : List Done) (refused : Type 0) : Type 0 where
   pub found : found_of c ≡ found_by full
-  pub whole : Part (tasks_on p) full
-  pub part : Part (tasks_on p) noted
+  pub whole : Part p full
+  pub part : Part p noted
   pub number : IsOrLess (count c.taken) (count full) refused
   pub mark : IsOrLess (count noted) (count c.taken) (IsUnsaved (outcome_of result))
   pub next : Option Task
@@ -403,26 +403,26 @@ pub record Tally (p : Inputs) (result : Result (Unit {0}) Cut) (c : Course) (ful
 pub not_ended : {P : Type 0} → false ≡ true → P
 not_ended never = absurd cc
 
-module _ (laws : Below) (p : Inputs) where
+module _ {p : Inputs} where
   module _ {result : Result (Unit {0}) Cut} {c : Course} {full noted : List Done} {refused : Type 0}
       (t : Tally p result c full noted refused) where
     pub tally_right : AllByRecursion (IsRightOn p) (tasks_of c.taken ++ c.under)
-    tally_right = rw t.begun (right_front laws p (tasks_of noted ++ option_to_list t.next) t.later
+    tally_right = rw t.begun (right_front p (tasks_of noted ++ option_to_list t.next) t.later
         (rw (append_assoc (tasks_of noted) (option_to_list t.next) t.later, ← t.rest) t.part.split))
 
     pub tally_begun : AllByRecursion (IsRecorded p noted) (deleted_by p.items (tasks_of c.taken ++ c.under))
-    tally_begun = rw t.begun (safe_part laws p noted t.part t.next t.later t.rest)
+    tally_begun = rw t.begun (safe_part t.part t.next t.later t.rest)
 
     pub tally_numbers : map number_found (found_of c) ≡ map number_of (take (length (found_of c)) (messages_on p))
-    tally_numbers = rw t.found ((found_all _ t.whole.answered).0 ∙ simp (fetched_part laws p full t.whole, map-map))
+    tally_numbers = rw t.found ((found_all _ t.whole.answered).0 ∙ simp (fetched_part t.whole, map-map))
 
     pub tally_number : length (map text_found (found_of c)) ≡ count full
     tally_number = rw t.found (length-map (found_by full) text_found)
 
   -- what was begun was done and recorded
-  pub tally_recorded : {result : Result (Unit {0}) Cut} {refused : Type 0} (dones : List Done) → Part (tasks_on p) dones
+  pub tally_recorded : {result : Result (Unit {0}) Cut} {refused : Type 0} {dones : List Done} → Part p dones
       → (is_ended result ≡ true → count dones ≡ length (messages_on p)) → Tally p result (course p.items dones [] []) dones dones refused
-  tally_recorded dones part ends = record {
+  tally_recorded {dones = dones} part ends = record {
     found = append-nil (found_by dones);
     whole = part;
     part = part;
@@ -436,42 +436,48 @@ module _ (laws : Below) (p : Inputs) where
   }
 
   -- nothing was done
-  pub tally_none : {cut : Cut} {refused : Type 0} → Tally p (Err cut) (course p.items [] [] []) [] [] refused
-  tally_none = tally_recorded [] (record { rest = tasks_on p; split = refl; answered = tt }) not_ended
+  pub tally_none : {cut : Cut} {refused : Type 0} → Below → Tally p (Err cut) (course p.items [] [] []) [] [] refused
+  tally_none laws = tally_recorded (record { laws = laws; rest = tasks_on p; split = refl; answered = tt }) not_ended
 
   module _ {target : Target} {tasks : List Task} {old : Scene} (starts : Starts p tasks old) where
-    pub mid_rows : (dones : List Done) (mid : Scene) → Went target dones old mid → mid.rows ≡ rows_after p dones
-    mid_rows dones _ went = rw (flat_map-map ids_in task_in dones) (went.rows ∙ ap (λ r. marked_all r (marked_ids dones)) starts.rows)
+    pub mid_rows : {dones : List Done} {mid : Scene} → Went target dones old mid → mid.rows ≡ rows_after p dones
+    mid_rows {dones} went = rw (flat_map-map ids_in task_in dones) (went.rows ∙ ap (λ r. marked_all r (marked_ids dones)) starts.rows)
 
-    pub mid_keeps : (dones : List Done) (mid : Scene) → Went target dones old mid → Keeps mid.file.content (none_open (rows_after p dones))
-    mid_keeps dones mid went = rw (← mid_rows dones mid went) (laws.steady mid.file.content (none_open mid.rows) (went.saved starts.steady))
+    pub mid_keeps : {dones : List Done} {mid : Scene} → Went target dones old mid → Keeps mid.file.content (none_open (rows_after p dones))
+    mid_keeps {mid = mid} went =
+        rw (← mid_rows went) (starts.laws.steady mid.file.content (none_open mid.rows) (went.saved starts.steady))
 
     -- all went well
-    abbrev pub part_all : (dones : List Done) (new : Scene) → tasks ≡ tasks_of dones → Went target dones old new → Part (tasks_on p) dones
-    part_all dones _ all went = record {
-      rest = [];
-      split = sym starts.tasks_are ∙ all ∙ sym (append-nil (tasks_of dones));
-      answered = went.each;
-    }
+    module _ {new : Scene} (all : AllWent target tasks old new) where
+      abbrev pub part_all : Part p all.dones
+      part_all = record {
+        laws = starts.laws;
+        rest = [];
+        split = sym starts.tasks_are ∙ all.all ∙ sym (append-nil (tasks_of all.dones));
+        answered = all.went.each;
+      }
 
-    pub tally_all : {done : Unit {0}} {refused : Type 0} (dones : List Done) (new : Scene) → tasks ≡ tasks_of dones
-        → Went target dones old new → Tally p (Ok done) (course p.items dones [] []) dones dones refused
-    tally_all dones new all went =
-        tally_recorded _ (part_all _ _ all went) (λ _. sym (same_length _ went.each)
-        ∙ rw (← all, starts.tasks_are, wanted_are) (length-map (messages_on p) key))
+      pub tally_all : {done : Unit {0}} {refused : Type 0} → Tally p (Ok done) (course p.items all.dones [] []) all.dones all.dones refused
+      tally_all = tally_recorded part_all (λ _. sym (same_length _ all.went.each)
+          ∙ rw (← all.all, starts.tasks_are, wanted_are starts.laws) (length-map (messages_on p) key))
 
     -- ---- where the tasks stopped
 
     module _ {cut : Cut} {new : Scene} (fell : Fell target tasks old cut new) where
-      abbrev pub part_done : Part (tasks_on p) fell.dones
-      part_done = record { rest = fell.next ∷ fell.later; split = sym starts.tasks_are ∙ fell.split; answered = fell.went.each }
+      abbrev pub part_done : Part p fell.dones
+      part_done = record {
+        laws = starts.laws;
+        rest = fell.next ∷ fell.later;
+        split = sym starts.tasks_are ∙ fell.split;
+        answered = fell.went.each;
+      }
 
       -- the next task was begun, and not recorded
-      tally_fell : {refused : Type 0} (c : Course) (full : List Done) → found_of c ≡ found_by full
-          → Part (tasks_on p) full → IsOrLess (count c.taken) (count full) refused
+      tally_fell : {refused : Type 0} (c : Course) {full : List Done} → found_of c ≡ found_by full
+          → Part p full → IsOrLess (count c.taken) (count full) refused
           → IsOrLess (count fell.dones) (count c.taken) (IsUnsaved (WasCut cut.fault))
           → tasks_of c.taken ++ c.under ≡ tasks_of fell.dones ++ fell.next ∷ [] → Tally p (Err cut) c full fell.dones refused
-      tally_fell c full found whole number mark begun = record {
+      tally_fell c found whole number mark begun = record {
         found = found;
         whole = whole;
         part = part_done;
@@ -487,48 +493,48 @@ module _ (laws : Below) (p : Inputs) where
       -- it retrieved no text
       pub tally_no_line : {refused : Type 0}
           → Tally p (Err cut) (course p.items fell.dones [] (fell.next ∷ [])) fell.dones fell.dones refused
-      tally_no_line = tally_fell _ _ (rw nothing_found (append-nil (found_by fell.dones))) part_done (inl refl) (inl refl) refl
+      tally_no_line = tally_fell _ (rw nothing_found (append-nil (found_by fell.dones))) part_done (inl refl) (inl refl) refl
 
       -- the next task retrieved a text
-      module _ (number : ℕ) (uid : List ℕ) (reply : WholeReply) (is : fell.next ≡ stores number uid)
-          (answered : IsAnswered (stored_done number uid reply)) where
-        abbrev pub full : List Done
+      module _ {number : ℕ} {uid : List ℕ} {reply : WholeReply} (is : fell.next ≡ stores number uid) {from to : Place}
+          (talked : Talked (retr number ∷ []) (reply ∷ []) from to) where
+        abbrev full : List Done
         full = fell.dones ++ stored_done number uid reply ∷ []
 
-        pub full_tasks : tasks_of full ≡ tasks_of fell.dones ++ fell.next ∷ []
+        full_tasks : tasks_of full ≡ tasks_of fell.dones ++ fell.next ∷ []
         full_tasks = rw is (map-append task_in fell.dones (stored_done number uid reply ∷ []))
 
-        abbrev pub part_full : Part (tasks_on p) full
+        part_full : Part p full
         part_full = record {
+          laws = starts.laws;
           rest = fell.later;
           split = rw full_tasks (part_done.split ∙ sym (append_assoc (tasks_of fell.dones) (fell.next ∷ []) fell.later));
-          answered = all_append IsAnswered fell.dones (stored_done number uid reply ∷ []) fell.went.each (answered, tt);
+          answered = all_append IsAnswered fell.dones (stored_done number uid reply ∷ []) fell.went.each (talked.good, tt);
         }
 
         pub full_found : found_by full ≡ found_by fell.dones ++ (number, body_text reply.body) ∷ []
         full_found = flat_map-append (λ d. found_in d.task d.replies) fell.dones (stored_done number uid reply ∷ [])
 
-        pub one_found : count fell.dones + 1 ≡ count full
+        one_found : count fell.dones + 1 ≡ count full
         one_found = simp (full_found, length-append)
 
         -- its text isn't in the report
         pub tally_spare : {refused : Type 0} → refused
             → Tally p (Err cut) (course p.items fell.dones (reply ∷ []) (fell.next ∷ [])) full fell.dones refused
-        tally_spare refuses = tally_fell _ _ (rw is (sym full_found)) part_full (inr (one_found, refuses)) (inl refl) refl
+        tally_spare refuses = tally_fell _ (rw is (sym full_found)) part_full (inr (one_found, refuses)) (inl refl) refl
 
         -- its text is in the report, and the record is one of two
         pub tally_old : {refused : Type 0} → IsUnsaved (WasCut cut.fault)
             → Tally p (Err cut) (course p.items full [] []) full fell.dones refused
-        tally_old less = tally_fell _ _ (append-nil (found_by full)) part_full (inl refl) (inr (one_found, less))
+        tally_old less = tally_fell _ (append-nil (found_by full)) part_full (inl refl) (inr (one_found, less))
             (append-nil (tasks_of full) ∙ full_tasks)
 
         pub tally_new : {refused : Type 0} → Tally p (Err cut) (course p.items full [] []) full full refused
-        tally_new = tally_recorded _ part_full not_ended
+        tally_new = tally_recorded part_full not_ended
 
         last_mark : (r : List Row) (ids : List (List ℕ)) → marked (marked_all r ids) uid ≡ marked_all r (ids ++ uid ∷ [])
         last_mark r [] = refl
         last_mark r (id ∷ ids) = last_mark (marked r id) ids
 
         pub full_rows : marked fell.mid.rows uid ≡ rows_after p full
-        full_rows = rw (mid_rows fell.dones fell.mid fell.went, map-append, flat_map-append)
-            (last_mark (rows_on p) (ids_ahead (tasks_of fell.dones)))
+        full_rows = rw (mid_rows fell.went, map-append, flat_map-append) (last_mark (rows_on p) (ids_ahead (tasks_of fell.dones)))

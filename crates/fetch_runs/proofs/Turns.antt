@@ -29,14 +29,14 @@ use Rattle.rc_file.specs.declared.settings.Settings.{Settings}
 use Rattle.mail_store.specs.{FileName.stem_of, FlatFile.Stored}
 use Rattle.fetch_session.specs.{
   declared.fault.{Cut.Cut, Fault.TheVariants.StoreRefused},
-  declared.report.{ReportLine.ReportLine, Skips.Skips, Outcome.TheVariants.{Ended, Cut as WasCut}},
+  declared.report.{ReportLine.ReportLine, Skips.Skips, Outcome.{Outcome, TheVariants.{Ended, Cut as WasCut}}, Report.Report},
   Task.{Task, stores, rereads, deletes, Done, tasks_of, says, skips, turns_in, turns_of, replies_of, IsAnswered, tasks_planned, task_in},
   Task.{report_lines, delivered},
   Store.RefusesText,
   Fault.fault_of,
   CarryingOut.{tasks_ahead, Carried, Carries},
-  Scene.{Scene, scene, NoFile, Stops, Does},
-  Session.{Keeping, Noted, Dealt, Proceeds, outcome_of},
+  Scene.{Scene, Fell, NoFile, Stops, Does},
+  Session.{Keeping, Noted, Dealt, Proceeds, SessionIn, outcome_of},
   Target.{Target, AsFiles, AsEntries, Stores, odd_in},
   Tail.{tail, turns_of_tail as tail_turns, TalksTailBy, TalksTail, WentOn},
 }
@@ -93,38 +93,39 @@ abbrev pub course_does : (target : Target) (items : List Item) (tasks : List Tas
 course_does _ items _ _ _ (Ok done) went = course items went.dones [] []
 course_does target items _ _ new (Err cut) fell = course_stopped target items fell.dones fell.next fell.mid new cut fell.stops
 
-abbrev pub course_carried : (settings : Settings) (target : Target) (items : List Item) (now : ℕ) (place : Place)
-    (store : Stores) (file : Stored) (lines : List ReportLine) (result : Result (Unit {0}) Cut) (new : Scene) (skipped : Skips)
+abbrev pub course_carried : {settings : Settings} {target : Target} {items : List Item} {now : ℕ} {place : Place}
+    {store : Stores} {file : Stored} {lines : List ReportLine} {result : Result (Unit {0}) Cut} {new : Scene} {skipped : Skips}
     → Carried settings target items now place store file lines result new skipped → Course
-course_carried settings target items now _ store _ _ result new _ is =
+course_carried {settings} {target} {items} {now} {store = store} {result = result} {new} is =
     course_does target items (tasks_ahead settings target items now store is.mid.rows) is.mid new result is.does
 
 abbrev pub course_carries : (settings : Settings) (target : Target) (items : List Item) (now : ℕ) (place : Place)
     (store : Stores) (file : Stored) (lines : List ReportLine)
     (result : Result (Unit {0}) Cut) (place' : Place) (store' : Stores) (file' : Stored) (lines' : List ReportLine) (skipped : Skips)
     → Carries settings target items now place store file lines result place' store' file' lines' skipped → Course
-course_carries settings target items now place store file lines (Ok done) place' store' file' lines' skipped is =
-    course_carried settings target items now place store file lines (Ok done) (scene place' store' file' is.0 lines') skipped is.1
+course_carries _ _ _ _ _ _ _ _ (Ok _) _ _ _ _ _ is = course_carried is.1
 course_carries _ _ items _ _ _ _ _ (Err _) _ _ _ _ _ (_, inl _) = course items [] [] []
-course_carries settings target items now place store file lines (Err cut) place' store' file' lines' skipped (rows, inr is) =
-    course_carried settings target items now place store file lines (Err cut) (scene place' store' file' rows lines') skipped is
+course_carries _ _ _ _ _ _ _ _ (Err _) _ _ _ _ _ (_, inr is) = course_carried is
 
-abbrev pub course_dealt : (settings : Settings) (target : Target) (now : ℕ) (old : Place) (before : Keeping)
-    (result : Result (Unit {0}) Cut) (new : Place) (after : Keeping) (notes : Noted)
+abbrev pub course_dealt : {settings : Settings} {target : Target} {now : ℕ} {old : Place} {before : Keeping}
+    {result : Result (Unit {0}) Cut} {new : Place} {after : Keeping} {notes : Noted}
     → Dealt settings target now old before result new after notes → Course
-course_dealt settings target now _ before result new after notes dealt =
+course_dealt {settings} {target} {now} {before = before} {result} {new} {after} {notes} dealt =
     course_carries settings target dealt.items now dealt.mid before.store before.file [] result new after.store
     after.file notes.lines notes.skipped dealt.carries
 
 abbrev pub course_proceeded : (settings : Settings) (target : Target) (now : ℕ) (old : Place) (before : Keeping)
     (result : Result (Unit {0}) Cut) (new : Place) (after : Keeping) (notes : Noted)
     → Proceeds settings target now old before result new after notes → SessionCourse
-course_proceeded settings target now old before (Ok done) new after notes dealt =
-    Deals (course_dealt settings target now old before (Ok done) new after notes dealt)
+course_proceeded _ _ _ _ _ (Ok _) _ _ _ dealt = Deals (course_dealt dealt)
 course_proceeded _ _ _ _ _ (Err _) _ _ _ (inl _) = Idle
 course_proceeded _ _ _ _ _ (Err _) _ _ _ (inr (inl _)) = Idle
-course_proceeded settings target now old before (Err cut) new after notes (inr (inr dealt)) =
-    Deals (course_dealt settings target now old before (Err cut) new after notes dealt)
+course_proceeded _ _ _ _ _ (Err _) _ _ _ (inr (inr dealt)) = Deals (course_dealt dealt)
+
+abbrev pub course_of : {settings : Settings} {target : Target} {now : ℕ} {link link' : Link} {before after : Keeping} {report : Report}
+    → SessionIn settings target now link before report link' after → SessionCourse
+course_of {settings} {target} {now} {link} {before = before} {after} session =
+    course_proceeded settings target now (at link []) before session.result session.mid after session.notes session.proceeds
 
 -- ---- what was retrieved
 
@@ -514,6 +515,11 @@ pub record Took (c : Course) (start : Place) (tail : List Turn) (link : Link) : 
 abbrev pub tail_for : Result (Unit {0}) Cut → List Turn
 tail_for result = tail_behind (outcome_of result)
 
+-- with a Maildir a text is spare only if the store refused it
+abbrev pub IsSpare : List WholeReply → Target → Outcome → Type 0
+IsSpare (_ ∷ _) (AsFiles _) outcome = outcome ≡ WasCut (StoreRefused why.Refused)
+IsSpare _ _ _ = Unit {0}
+
 -- a course of these messages is a prefix of these tasks, the report's lines are those of the tasks that were taken, and the link
 -- gained this
 pub record Ahead (target : Target) (items : List Item) (tasks : List Task) (lines lines' : List ReportLine)
@@ -523,18 +529,14 @@ pub record Ahead (target : Target) (items : List Item) (tasks : List Task) (line
   pub same_items : c.items ≡ items
   pub split : tasks ≡ begun_of c ++ later
   pub told : lines' ≡ lines ++ report_lines c.taken
-  -- with a Maildir a text is spare only if the store refused it
-  pub spare : (account : List ℕ) (reply : WholeReply) → target ≡ AsFiles account → c.spare ≡ reply ∷ []
-      → outcome_of result ≡ WasCut (StoreRefused why.Refused)
+  pub spare : IsSpare c.spare target (outcome_of result)
   pub whole : outcome_of result ≡ Ended → (c.under ≡ []) × (later ≡ [])
 
 -- after a cut
 pub ahead_cut : {target : Target} {items : List Item} {tasks : List Task} {lines lines' : List ReportLine} {cut : Cut}
     {taken : List Done} {spare : List WholeReply} {under : List Task} {start : Place} {link : Link} (later : List Task)
     → Took (course items taken spare under) start (tail_turns (tail cut.fault)) link
-    → tasks ≡ (tasks_of taken ++ under) ++ later → lines' ≡ lines ++ report_lines taken
-    → ((account : List ℕ) (reply : WholeReply) → target ≡ AsFiles account → spare ≡ reply ∷ []
-    → WasCut cut.fault ≡ WasCut (StoreRefused why.Refused))
+    → tasks ≡ (tasks_of taken ++ under) ++ later → lines' ≡ lines ++ report_lines taken → IsSpare spare target (WasCut cut.fault)
     → Ahead target items tasks lines lines' (Err cut) (course items taken spare under) start link
 ahead_cut later took split told spare = record {
   took = took;
@@ -571,106 +573,99 @@ module _ (laws : Below) (items : List Item) where
       → AllByRecursion IsAnswered dones → Goes [] tail there.link link → Took (course items dones [] []) first tail link
   all_done _ = after_dones _ [] refl (inl refl) (λ _. refl) refl
 
-  module _ (dones : List Done) (next : Task) (first : Place) (mid : Scene)
-      (talked : Talked (turns_of dones) (replies_of dones) first mid.place)
-      (plain : AllByRecursion IsPlain (tasks_of dones)) (each : AllByRecursion IsAnswered dones) where
+  module _ {target : Target} {tasks : List Task} {old : Scene} {cut : Cut} {new : Scene} (fell : Fell target tasks old cut new)
+      (plain : AllByRecursion IsPlain (tasks_of fell.dones)) (last : Place) (left : TalksTail cut new.place last) where
+    open fell use {dones, next, later, mid, went}
+
+    abbrev ends : List Turn
+    ends = tail_turns (tail cut.fault)
+
+    abbrev TookThese : List WholeReply → Type 0
+    TookThese spare = Took (course items dones spare (next ∷ [])) old.place ends last.link
+
+    abbrev Comes : Target → Course → Type 0
+    Comes to c = Ahead to items tasks old.lines new.lines (Err cut) c old.place last.link
+
     -- the next turn was begun, and its text isn't stored
-    begun_next : {turn : Turn} {tail : List Turn} {link : Link} → turns_in next ≡ turn ∷ []
-        → Goes (turn ∷ []) tail mid.place.link link → Took (course items dones [] (next ∷ [])) first tail link
+    begun_next : {turn : Turn} → turns_in next ≡ turn ∷ [] → Goes (turn ∷ []) ends mid.place.link last.link → TookThese []
     begun_next {turn} takes = after_dones _ _ (append-nil (turns_in next) ∙ takes) (inr (turn, refl))
-        (λ none. absurd cc) (append-nil (found_in next []) ∙ nothing_found next) talked plain each
+        (λ none. absurd cc) (append-nil (found_in next []) ∙ nothing_found next) went.talked plain went.each
 
     -- the text was read to its end, and it isn't in the report
-    with_spare : (number : ℕ) (uid : List ℕ) (reply : WholeReply) {tail : List Turn} {there : Place} {link : Link}
-        → next ≡ stores number uid → Talked (retr number ∷ []) (reply ∷ []) mid.place there
-        → Goes [] tail there.link link → Took (course items dones (reply ∷ []) (next ∷ [])) first tail link
-    with_spare number _ reply {there = there} is fetched goes = record {
+    with_spare : {number : ℕ} {uid : List ℕ} {reply : WholeReply} {there : Place} → next ≡ stores number uid
+        → Talked (retr number ∷ []) (reply ∷ []) mid.place there → Goes [] ends there.link last.link → TookThese (reply ∷ [])
+    with_spare {number} {reply = reply} {there} is fetched goes = record {
       done = turns_of dones ++ retr number ∷ [];
       replies = replies_of dones ++ reply ∷ [];
       begun = [];
       there = there;
-      talked = laws.joins.on (turns_of dones) (retr number ∷ []) (replies_of dones) (reply ∷ []) first _ _ talked fetched;
+      talked = laws.joins.on (turns_of dones) (retr number ∷ []) (replies_of dones) (reply ∷ []) old.place _ _ went.talked fetched;
       goes = goes;
       all = rw is (simp (flat_map-append, flat_map-map, append-nil));
       one = inl refl;
-      read = λ more. rw is (simp (flat_map-append, append_assoc) (dones_read _ _ _ _ plain each
+      read = λ more. rw is (simp (flat_map-append, append_assoc) (dones_read _ _ _ _ plain went.each
           (body_text reply.body, [], text_body number _ fetched.good.0.body, refl, refl)));
-      each = each;
+      each = went.each;
       asks = inr (number, refl, refl, (reply, refl));
       whole = λ _. refl;
     }
 
-    module _ (new : Scene) (cut : Cut) (last : Place) (left : TalksTail cut new.place last) (tasks later : List Task)
-        (split : tasks ≡ tasks_of dones ++ next ∷ later) (lines : List ReportLine)
-        (went : mid.lines ≡ lines ++ report_lines dones) where
-      abbrev ends : List Turn
-      ends = tail_turns (tail cut.fault)
+    begun : tasks ≡ (tasks_of dones ++ next ∷ []) ++ later
+    begun = fell.split ∙ sym (append_assoc (tasks_of dones) (next ∷ []) later)
 
-      begun : tasks ≡ (tasks_of dones ++ next ∷ []) ++ later
-      begun = split ∙ sym (append_assoc (tasks_of dones) (next ∷ []) later)
+    -- the next task was begun, and isn't in the report
+    passed : {to : Target} {spare : List WholeReply} → TookThese spare → new.lines ≡ mid.lines → IsSpare spare to (WasCut cut.fault)
+        → Comes to (course items dones spare (next ∷ []))
+    passed took told spare = ahead_cut _ took begun (told ∙ went.lines) spare
 
-      -- the next task was begun, and isn't in the report
-      passed : {to : Target} {spare : List WholeReply}
-          → Took (course items dones spare (next ∷ [])) first ends last.link → new.lines ≡ mid.lines
-          → ((account : List ℕ) (reply : WholeReply) → to ≡ AsFiles account → spare ≡ reply ∷ []
-          → WasCut cut.fault ≡ WasCut (StoreRefused why.Refused))
-          → Ahead to items tasks lines new.lines (Err cut) (course items dones spare (next ∷ [])) first last.link
-      passed took told spare = ahead_cut _ took begun (told ∙ went) spare
+    -- the store refused the text, or the rest of it
+    module _ (account : List ℕ) (refused : NoFile account next mid new cut) where
+      rest_left : TalksTailBy cut.fault (Some refused.rest) new.place last
+      rest_left = rw refused.under_way at left
 
-      -- the store refused the text, or the rest of it
-      module _ (account : List ℕ) (refused : NoFile account next mid new cut) where
-        rest_left : TalksTailBy cut.fault (Some refused.rest) new.place last
-        rest_left = rw refused.under_way at left
+      took_under : TookThese []
+      took_under =
+          let said = rest_left.1 refused.number mid.place refused.text refused.fetching in
+          let p = laws.paced (retr refused.number ∷ ends) mid.place last said.0 said.1 in
+          begun_next (ap turns_in refused.is) (search (p, under_way))
 
-        took_under : Took (course items dones [] (next ∷ [])) first ends last.link
-        took_under =
-            let said = rest_left.1 refused.number mid.place refused.text refused.fetching in
-            let p = laws.paced (retr refused.number ∷ ends) mid.place last said.0 said.1 in
-            begun_next (ap turns_in refused.is) (search (p, under_way))
+      ahead_refused : (refuses : RefusesText mid.store.maildir (stem_of account refused.uid) refused.rest refused.text
+          cut.fault new.store.maildir) → Comes (AsFiles account) (course items dones (spare_in refused refuses) (next ∷ []))
+      ahead_refused (inl _) = passed took_under refused.lines tt
+      ahead_refused (inr (_, inl _)) = passed took_under refused.lines tt
+      ahead_refused (inr (is, inr (done, (_, there)))) =
+          let said = rest_left.0 done in
+          passed (with_spare refused.is (refused.whole done).1 (goes_tail (fronted laws _ _ _ _ said.1))) refused.lines (ap WasCut is)
 
-        ahead_refused : (refuses : RefusesText mid.store.maildir (stem_of account refused.uid) refused.rest refused.text
-            cut.fault new.store.maildir) → Ahead (AsFiles account) items tasks lines new.lines (Err cut)
-            (course items dones (spare_in refused refuses) (next ∷ [])) first last.link
-        ahead_refused (inl _) = passed took_under refused.lines (λ _ _ _ e. absurd cc)
-        ahead_refused (inr (_, inl _)) = passed took_under refused.lines (λ _ _ _ e. absurd cc)
-        ahead_refused (inr (is, inr (done, (_, there)))) =
-            let said = rest_left.0 done in
-            let whole = refused.whole done in
-            passed (with_spare _ _ _ refused.is whole.1 (goes_tail (fronted laws _ _ _ _ said.1))) refused.lines (λ _ _ _ e. ap WasCut is)
+    -- the text was stored, and its id wasn't saved
+    ahead_unsaved : {to : Target} {number : ℕ} {uid : List ℕ} {reply : WholeReply} → cut.rest ≡ None
+        → next ≡ stores number uid → Talked (retr number ∷ []) (reply ∷ []) mid.place new.place → IsPlain next
+        → new.lines ≡ mid.lines ++ delivered number reply ∷ [] → Comes to (course items (dones ++ stored_done number uid reply ∷ []) [] [])
+    ahead_unsaved {number = number} {uid} {reply} none is fetched small told =
+        let one = stored_done number uid reply in
+        ahead_cut later (all_done (dones ++ one ∷ []) {there = new.place}
+        (rw (flat_map-append (λ (d : Done). turns_in d.task) dones (one ∷ []), flat_map-append (λ (d : Done). d.replies) dones (one ∷ []))
+        (laws.joins.on (turns_of dones) (retr number ∷ []) (replies_of dones) (reply ∷ []) old.place _ _ went.talked fetched))
+        (rw (map-append task_in dones (one ∷ [])) (all_append IsPlain (tasks_of dones) (stores number uid ∷ [])
+        plain (rw is at small, tt)))
+        (all_append IsAnswered dones (one ∷ []) went.each (fetched.good, tt)) (goes_tail (tailed cut new.place last none left)))
+        (begun ∙ rw is (simp (map-append, append-nil))) (told ∙ rw went.lines (simp (flat_map-append, append_assoc))) tt
 
-      -- the text was stored, and its id wasn't saved
-      ahead_unsaved : {to : Target} (number : ℕ) (uid : List ℕ) (reply : WholeReply) → cut.rest ≡ None
-          → next ≡ stores number uid → Talked (retr number ∷ []) (reply ∷ []) mid.place new.place → IsPlain next
-          → new.lines ≡ mid.lines ++ delivered number reply ∷ [] → Ahead to items tasks lines new.lines (Err cut)
-          (course items (dones ++ stored_done number uid reply ∷ []) [] []) first last.link
-      ahead_unsaved number uid reply none is fetched small told =
-          let one = stored_done number uid reply in
-          ahead_cut later (all_done (dones ++ one ∷ []) {there = new.place}
-          (rw (flat_map-append (λ (d : Done). turns_in d.task) dones (one ∷ []), flat_map-append (λ (d : Done). d.replies) dones (one ∷ []))
-          (laws.joins.on (turns_of dones) (retr number ∷ []) (replies_of dones) (reply ∷ []) first mid.place new.place talked fetched))
-          (rw (map-append task_in dones (one ∷ [])) (all_append IsPlain (tasks_of dones) (stores number uid ∷ [])
-          plain (rw is at small, tt)))
-          (all_append IsAnswered dones (one ∷ []) each (fetched.good, tt)) (goes_tail (tailed cut new.place last none left)))
-          (begun ∙ rw is (simp (map-append, append-nil))) (told ∙ rw went (simp (flat_map-append, append_assoc)))
-          (λ account other files e. absurd cc)
-
-      pub ahead_stopped : (target : Target) → IsPlain next → (stops : Stops target next mid cut new)
-          → Ahead target items tasks lines new.lines (Err cut) (course_stopped target items dones next mid new cut stops) first last.link
-      ahead_stopped target small (inl broken) = passed (begun_next broken.takes
-          (rw broken.broke.1 (goes_broke broken.turn mid.place new.place last broken.broke.0 broken.broke.2
-          (rw broken.broke.1 at (tailed cut new.place last broken.none left))))) broken.lines (λ account reply files e. absurd cc)
-      ahead_stopped (AsFiles account) _ (inr (inl refused)) = ahead_refused account refused refused.refuses
-      ahead_stopped (AsFiles _) small (inr (inr u)) = ahead_unsaved u.number u.uid u.reply u.none u.is u.talked small u.lines
-      ahead_stopped AsEntries small (inr (inl (inl wanting))) =
-          let fetching = wanting.fetching in
-          passed (begun_next (ap turns_in wanting.is) (goes_whole (fetching.opened.gained ++ fetching.under.gained)
-          (fetching.under.drew.sent ∙ fetching.opened.sent) (rw (fetching.under.drew.got, fetching.opened.got) (simp append_assoc))
-          (tailed cut new.place last wanting.none left))) wanting.lines (λ account reply files e. absurd cc)
-      ahead_stopped AsEntries small (inr (inl (inr (inl refused)))) =
-          passed (with_spare refused.number refused.uid refused.reply refused.is refused.talked
-          (goes_tail (tailed cut new.place last refused.none left))) refused.lines (λ account reply files e. absurd cc)
-      ahead_stopped AsEntries small (inr (inl (inr (inr stays)))) =
-          ahead_cut (next ∷ later) (all_done dones talked plain each
-          (goes_tail (tailed cut mid.place last stays.none (rw stays.place at left)))) (split
-          ∙ simp append-nil) (stays.lines ∙ went) (λ account reply files e. absurd cc)
-      ahead_stopped AsEntries small (inr (inr u)) = ahead_unsaved u.number u.uid u.reply u.none u.is u.talked small u.lines
+    pub ahead_stopped : (to : Target) → IsPlain next → (stops : Stops to next mid cut new)
+        → Comes to (course_stopped to items dones next mid new cut stops)
+    ahead_stopped _ small (inl broken) = passed (begun_next broken.takes
+        (rw broken.broke.1 (goes_broke broken.turn mid.place new.place last broken.broke.0 broken.broke.2
+        (rw broken.broke.1 at (tailed cut new.place last broken.none left))))) broken.lines tt
+    ahead_stopped (AsFiles account) _ (inr (inl refused)) = ahead_refused account refused refused.refuses
+    ahead_stopped (AsFiles _) small (inr (inr u)) = ahead_unsaved u.none u.is u.talked small u.lines
+    ahead_stopped AsEntries small (inr (inl (inl wanting))) =
+        let fetching = wanting.fetching in
+        passed (begun_next (ap turns_in wanting.is) (goes_whole (fetching.opened.gained ++ fetching.under.gained)
+        (fetching.under.drew.sent ∙ fetching.opened.sent) (rw (fetching.under.drew.got, fetching.opened.got) (simp append_assoc))
+        (tailed cut new.place last wanting.none left))) wanting.lines tt
+    ahead_stopped AsEntries small (inr (inl (inr (inl refused)))) =
+        passed (with_spare refused.is refused.talked (goes_tail (tailed cut new.place last refused.none left))) refused.lines tt
+    ahead_stopped AsEntries small (inr (inl (inr (inr stays)))) = ahead_cut (next ∷ later) (all_done dones went.talked plain went.each
+        (goes_tail (tailed cut mid.place last stays.none (rw stays.place at left)))) (fell.split ∙ simp append-nil)
+        (stays.lines ∙ went.lines) tt
+    ahead_stopped AsEntries small (inr (inr u)) = ahead_unsaved u.none u.is u.talked small u.lines
