@@ -12,6 +12,7 @@ import contextlib
 import fcntl
 import hashlib
 import os
+import stat
 import sys
 import time
 
@@ -84,14 +85,23 @@ def locked(path):
         yield
 
 
-def held(maildir, digest):
-    """The files of an account in a Maildir, each as its folder and its name, with its unique-id."""
+def named(maildir, digest):
+    """What has the name of an account's message in a Maildir: its folder, its name, and the unique-id."""
     for part in ("new", "cur"):
         folder = os.path.join(maildir, part)
         for name in sorted(os.listdir(folder)):
             owner, dot, rest = name.partition(".")
             if owner == digest and dot:
                 yield folder, name, bytes.fromhex(rest.partition(":")[0].partition(",")[0])
+
+
+def is_held(path):
+    """Whether there is a file, or a link to one, that can be read; then it is on the disk. Nobody knows what else is."""
+    with contextlib.suppress(OSError):
+        if stat.S_ISREG(os.stat(path).st_mode):
+            flush(path)
+            return True
+    return False
 
 
 def carry_record(old, new, uids, now):
@@ -111,7 +121,7 @@ def carry_record(old, new, uids, now):
 
 def carry_files(maildir, old, new):
     """Gives each file of the old account the new one's name, and answers how many there were."""
-    names = list(held(maildir, old))
+    names = list(named(maildir, old))
     for folder, name, _ in names:
         os.rename(os.path.join(folder, name), os.path.join(folder, new + name.removeprefix(old)))
     for part in ("new", "cur"):
@@ -124,7 +134,7 @@ def carry(folder, old, new, maildir, now):
     record, other = (os.path.join(folder, f"seen-{digest}") for digest in (old, new))
     if not os.path.lexists(record) and not os.path.lexists(other):
         raise Refused(f"{record} isn't there: getmail hasn't run for the old account in this folder")
-    uids = [uid for _, _, uid in held(maildir, old)] if maildir else []
+    uids = [uid for part, name, uid in named(maildir, old) if is_held(os.path.join(part, name))] if maildir else []
     if os.path.lexists(record):
         carry_record(record, other, uids, now)
     count = carry_files(maildir, old, new) if maildir else 0

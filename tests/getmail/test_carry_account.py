@@ -145,6 +145,19 @@ class OfFiles(CarryAccount):
             self.assertEqual(rows[:3], [[b"getmail-seen", b"2"], [b"a", b"5", b"1"], [b"b/c", b"6", b"1"]])
             self.assertEqual((rows[3][0], rows[3][2], len(rows)), (b"d", b"1", 4))
 
+    def test_what_cannot_be_opened(self):
+        """Nobody knows what it holds: its message doesn't count as delivered, and stays on the server."""
+        with Account(self.server.port) as account:
+            (account.maildir / "new" / account.stem(b"a")).mkdir()
+            (account.maildir / "cur" / account.stem(b"d")).symlink_to("nowhere")
+            thread = self.server.begin_session()
+            self.assertEqual(account.run("-q").status, 0)
+            thread.join(programs.SECONDS)
+            self.assertEqual(self.carried(account).returncode, 0)
+            new = account.folder / f"seen-{module().digest_of(self.path, 110, 'u')}"
+            rows = [line.split() for line in new.read_bytes().splitlines()[1:]]
+            self.assertEqual([(row[0], row[2]) for row in rows], [(b"a", b"0"), (b"b/c", b"1"), (b"d", b"0")])
+
     def test_files_that_a_reader_moved(self):
         with Account(self.server.port) as account:
             self.session(self.server, account)
