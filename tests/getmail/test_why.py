@@ -78,6 +78,12 @@ class OfMaildirs(Sessions):
         os.mkdir(self.account.record)
         self.check_told("seen file refused", f"{self.account.record}: Is a directory")
 
+    def test_a_record_whose_disk_is_gone(self):
+        """It isn't taken for one that was never there: all mail would be fetched again, and the link replaced."""
+        self.account.record.symlink_to("nowhere")
+        self.check_told("seen file refused", f"{self.account.record}: a link that leads nowhere")
+        self.assertTrue(self.account.record.is_symlink())
+
     def test_a_preview_of_a_run_that_could_store_nothing(self):
         """It is written as the run writes it, but only if there is something to fetch."""
         shutil.rmtree(self.account.maildir / "tmp")

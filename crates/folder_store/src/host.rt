@@ -22,6 +22,8 @@ use system_calls::{Noted, Refusals, System};
 /// Why what a name leads to isn't used.
 const IRREGULAR: &str = "not a regular file";
 
+const LEADS_NOWHERE: &str = "a link that leads nowhere";
+
 /// A folder of the machine's file system. Nothing is known of what the system does. Each call asks the
 /// system for one or two things, so that a reader can compare it with what the trait says.
 ///
@@ -113,11 +115,14 @@ impl<'a, R: Files + AllocGlobal> HostFolder<'a, R> {
     // writes to would be waited for. The system itself refuses a folder, with its reason.
     fn regular_path(&self, name: &str) -> io::Result<String> {
         let path = self.paths.path_of(name)?;
-        let found = self.system.stat(path.as_str())?;
-        if !found.is_file() && !found.is_dir() {
-            return Err(self.paths.refuse(name, IRREGULAR));
+        match self.system.stat(path.as_str()) {
+            Ok(found) if found.is_file() || found.is_dir() => Ok(path),
+            Ok(_) => Err(self.paths.refuse(name, IRREGULAR)),
+            Err(fault) if fault.kind() == ErrorKind::NotFound && self.is_link(name) => {
+                Err(self.paths.refuse(name, LEADS_NOWHERE))
+            }
+            Err(fault) => Err(fault),
         }
-        Ok(path)
     }
 
     // The regular file of a name, opened to be read.
@@ -310,12 +315,15 @@ impl<'a, R: Files + AllocGlobal> HostFolder<'a, R> {
         matches!(self.look_up(name), Ok(found) if found.is_dir())
     }
 
+    // Whether a name stands for a link itself.
+    fn is_link(&self, name: &str) -> bool {
+        matches!(self.look_up(name), Ok(found) if found.is_symlink())
+    }
+
     // What leads to nothing has gone, or is a link, which is refused.
     fn check_gone(&self, name: &str) -> io::Result<()> {
         match self.look_up(name) {
-            Ok(found) if found.is_symlink() => {
-                Err(self.paths.refuse(name, "a link that leads nowhere"))
-            }
+            Ok(found) if found.is_symlink() => Err(self.paths.refuse(name, LEADS_NOWHERE)),
             Err(fault) if fault.kind() != ErrorKind::NotFound => Err(fault),
             _ => {
                 self.system.refusals.forget();
