@@ -2,13 +2,13 @@
 use Rattle.std.{
   proofs.Common.{◌≡◌, ◌+◌, inl, inr, ⊎_elim, ℕ, List, [], ◌∷◌, refl, subst, arith, ◌⊎◌, true, sym, ap, ◌∙◌, Bool, false, not, ◌++◌, map},
   proofs.Common.{get_or, Contains, Option, Result, Ok, Err, IsErrAnd, IsPermutation, IsTrue, IfErr, IfOk, String, Global, Vec, filter, ◌≢◌},
-  proofs.Common.{string_bytes, if◌then◌else◌, suc, Some, append_assoc, append-nil, None, is_some, IfSome},
+  proofs.Common.{string_bytes, if◌then◌else◌, suc, Some, append_assoc, append-nil, None, is_some, IfSome, true≢false},
   proofs.Math.Bool.{or-false, or-true},
   proofs.lemmas.{Bool.{cases_Bool, cond_both, or_left, or_right}, Simd.map-map, Option.same_Some},
   proofs.lemmas.List.{Elements.{recursion_from_All, All-weaker, filter-append, filter_passes}, map-append, get_or-map, length-map},
   proofs.lemmas.List.Sorted.{Contains-permutation, IsPermutation-append, IsPermutation-sym, IsPermutation-map, IsPermutation-trans},
   proofs.lemmas.List.Sorted.IsPermutation-filter_both,
-  specs.List.{AllByRecursion, AllZip, filter},
+  specs.{Borrow.Bor, List.{AllByRecursion, AllZip, filter}},
 }
 use Rattle.mail_store.{
   specs.Maildir.{AfterFlushing, AfterTaking, AreTheirs, Checks, Draft, File, Folders, IsWithout, Lists, Maildir, MayBeNamed, MayHave, mail},
@@ -20,13 +20,13 @@ use Rattle.mail_store.{
 use Rattle.mail_terms.{specs.{MaildirName.base, FailureCount.refuses}, proofs.ErrLemmas.is_err}
 use Rattle.folder_store.{
   specs.MailFolders.{KeepsFile, MailFile, Directories, files_at, is_left, is_taken, mail_at, MovesFile, Moved, touches, touches_new, is_in},
-  specs.MailFolders.{touches_cur, name_at, entries_in, draft_begun, maildir_in},
-  specs.{FileFolder.MadeFile, declared.mail_folders.Sought.{Sought, TheVariants.{All, Stems}}},
-  specs.MailCalls.{AreSought, BringsFiles, ChecksIn, FlushesFiles, FlushesNamesIn, IfMissing, IsUnknown, Lacks, LacksOne, Leads, Learns},
-  specs.MailCalls.{ListedBoth, ListsIn, MakesDraft, PutsDraft, PutsDurably, PutsIntoNew, SameFiles, StandsIn, TellsOfBoth, TellsOne, Then},
-  specs.MailCalls.{TellsRest, ToldBoth, entry_flushed_by, after_listing, named_by, names_flushed_in, names_sought, put_as, without_taken},
-  proofs.MailMoves.{SomeIs, both_named, each_by, files_moved, files_reached, flush_keeps, leads_same, mapped_leads, moved_leads, rests_new},
-  proofs.MailMoves.{moved_maildir, moved_rests, moved_same, rests_on_at, same_rests_at, some_kept, some_map, there_some},
+  specs.MailFolders.{touches_cur, name_at, entries_in, draft_begun, odd_names_in, maildir_in},
+  specs.{FileFolder.MadeFile, declared.mail_folders.{FoundNames.FoundNames, Sought.{Sought, TheVariants.{All, Stems}}}},
+  specs.MailCalls.{BringsFiles, ChecksIn, FlushesFiles, FlushesNamesIn, IfMissing, IsUnknown, Lacks, LacksOne, Leads, Learns, ListedBoth},
+  specs.MailCalls.{ListsIn, MakesDraft, PutsDraft, PutsDurably, PutsIntoNew, SameFiles, StandsIn, TellsOfBoth, TellsFiles, TellsOne, Then},
+  specs.MailCalls.{TellsRest, ToldBoth, entry_flushed_by, after_listing, named_by, names_flushed_in, put_as, without_taken},
+  proofs.MailMoves.{SomeIs, both_named, each_by, files_moved, files_reached, flush_keeps, leads_same, mapped_leads, moved_same, rests_new},
+  proofs.MailMoves.{moved_leads, moved_maildir, moved_rests, rests_on_at, same_rests_at, some_kept, some_map, there_some},
 }
 
 -- ---- what is known of the folders once files that readers took away are known no longer
@@ -36,11 +36,11 @@ left_twice [] = refl
 left_twice (s ∷ ss) = cond_both (is_left s) (s ∷ filter is_left ss) (filter is_left ss) (λ (ts : List MailFile). filter is_left ts ≡ ts)
     (λ here. rw here (ap (λ (ts : List MailFile). s ∷ ts) (left_twice ss))) (λ _. left_twice ss)
 
-pub listed_is : (folder : Folder) (a : Directories) (odd : List (List ℕ))
-    → ((record (after_listing folder a) { odd = odd }).entries ≡ filter is_left a.entries)
-    × ((record (after_listing folder a) { odd = odd }).there ≡ a.there)
-listed_is New a odd = (refl, refl)
-listed_is Cur a odd = (refl, refl)
+pub listed_is : (folder : Folder) (odd : List (List ℕ)) (a : Directories)
+    → ((after_listing folder odd a).entries ≡ filter is_left a.entries) × ((after_listing folder odd a).there ≡ a.there)
+    × ((after_listing folder odd a).taken ≡ (without_taken a).taken)
+listed_is New odd a = (refl, refl, refl)
+listed_is Cur odd a = (refl, refl, refl)
 
 -- what is left once those that readers took away were taken from the others
 left_without : (ss : List MailFile) → IsWithout (files_at ss) (files_at (filter is_taken ss)) (files_at (filter is_left ss))
@@ -48,25 +48,14 @@ left_without [] = tt
 left_without (s ∷ ss) = ⊎_elim (λ gone. rw gone ([], files_at ss, reached_same (files_at (s ∷ ss)), left_without ss))
     (λ here. rw here (without_more _ _ _ (mail_at s) (mail_at s) (reaches_same (mail_at s)) (left_without ss))) (cases_Bool s.is_gone)
 
-taken_learns : (a : Directories) (new_rests cur_rests : Bool) (odd : List (List ℕ)) → (a.there.new ≡ false → odd ≡ a.odd)
-    → Learns a (record (without_taken a) { new_rests = new_rests; cur_rests = cur_rests; odd = odd })
-taken_learns a new_rests cur_rests odd same = record {
-  there = refl;
-  odd = same;
-  gone = files_at (filter is_taken a.entries);
-  taken = refl;
-  left = left_without a.entries;
-}
-
-listed_learns : (folder : Folder) (a : Directories) (odd : List (List ℕ)) → (a.there.new ≡ false → odd ≡ a.odd)
-    → Learns a (record (after_listing folder a) { odd = odd })
-listed_learns New a = taken_learns a true a.cur_rests
-listed_learns Cur a = taken_learns a a.new_rests true
+listed_learns : (folder : Folder) (odd : List (List ℕ)) (a : Directories) → Learns a (after_listing folder odd a)
+listed_learns folder odd a =
+    let is = listed_is folder odd a in
+    record { there = is.1; gone = files_at (filter is_taken a.entries); taken = is.2; left = rw is.0 (left_without a.entries) }
 
 pub leads_learns : (a b : Directories) → Leads a b → Learns a b
 leads_learns a b l = record {
   there = l.there;
-  odd = λ none. l.odd;
   gone = [];
   taken = l.taken ∙ sym (append-nil a.taken);
   left = files_reached a.entries b.entries l.keeps;
@@ -75,7 +64,6 @@ leads_learns a b l = record {
 pub learns_on : (a b c : Directories) → Learns a b → Learns b c → Learns a c
 learns_on a b c first next = record {
   there = next.there ∙ first.there;
-  odd = λ none. next.odd (ap (λ (f : Folders). f.new) first.there ∙ none) ∙ first.odd none;
   gone = first.gone ++ next.gone;
   taken = next.taken ∙ ap (λ (fs : List File). fs ++ next.gone) first.taken ∙ append_assoc a.taken first.gone next.gone;
   left = without_on first.gone next.gone (files_at a.entries) (files_at b.entries) (files_at c.entries) first.left next.left;
@@ -105,9 +93,9 @@ flushes_leads folder a b (Err fault) (m, v, inr (refused, e)) = rw e (named_lead
 
 pub lists_learns : {A B : Type 0} (folder : Folder) (sought : Sought) (a b : Directories)
     (r : Result (Vec (String A) B) StoreFault) → Then (ListsIn folder sought r) a b → Learns a b
-lists_learns folder sought a b (Ok names) (m, v, (there, told, same, e)) =
-    subst (Learns a) (sym e) (learns_on a m (record (after_listing folder m) { odd = b.odd })
-    (leads_learns a m (moved_leads a m v)) (listed_learns folder m b.odd same))
+lists_learns folder sought a b (Ok names) (m, v, (there, told, e)) =
+    subst (Learns a) (sym e) (learns_on a m (after_listing folder (odd_names_in folder b) m)
+    (leads_learns a m (moved_leads a m v)) (listed_learns folder (odd_names_in folder b) m))
 lists_learns folder sought a b (Err fault) (m, v, lacks) = leads_learns a b (moved_same a m b v lacks.0)
 
 -- a call that told nothing of the files came after others
@@ -153,21 +141,10 @@ told_part : {A : Type 0} (ss : List MailFile) (names : List (String A))
     → IsPermutation (map name_at ss) (map string_bytes names) → IsPermutation (map title ss) (bases_told names)
 told_part ss names p = rw (map-map, map-map) at (IsPermutation-map base (map name_at ss) (map string_bytes names) p)
 
--- what is sought of the bases is what is sought of the names
-sought_on : (sought : Sought) (names more : List (List ℕ))
-    → names_sought sought (names ++ more) ≡ names_sought sought names ++ names_sought sought more
-sought_on All names more = refl
-sought_on (Stems stems) names more = filter-append (is_sought stems.now) names more
-
-sought_title : (sought : Sought) (names : List (List ℕ)) → map base (names_sought sought names) ≡ names_sought sought (map base names)
-sought_title All names = refl
-sought_title (Stems stems) names = sought_bases stems.now names
-
-told_both : {A : Type 0} (sought : Sought) (ss : List MailFile) (new cur : List (String A))
-    → AreSought sought (map name_at (entries_in New ss)) (map string_bytes new)
-    → AreSought sought (map name_at (entries_in Cur ss)) (map string_bytes cur)
-    → AreSought sought (names_of (files_at (filter is_left ss))) (bases_told (new ++ cur))
-told_both sought ss new cur (first, in_new, are_new) (second, in_cur, are_cur) =
+told_both : {A : Type 0} (stems : List (String A)) (ss : List MailFile) (new cur : List (List ℕ))
+    → AreAmong stems (map name_at (entries_in New ss)) new → AreAmong stems (map name_at (entries_in Cur ss)) cur
+    → AreAmong stems (names_of (files_at (filter is_left ss))) (map base (new ++ cur))
+told_both stems ss new cur (first, in_new, are_new) (second, in_cur, are_cur) =
     let left = filter is_left ss in
     let both = entries_in New ss ++ entries_in Cur ss in
     let all = IsPermutation-trans (map name_at left) (map name_at both) (first ++ second)
@@ -176,8 +153,7 @@ told_both sought ss new cur (first, in_new, are_new) (second, in_cur, are_cur) =
     let bases = IsPermutation-map base (map name_at left) (first ++ second) all in (
       map base (first ++ second),
       rw map-map (rw map-map at bases),
-      sym (map-map base string_bytes (new ++ cur)) ∙ ap (map base) (map-append string_bytes new cur
-          ∙ rw (are_new, are_cur) (sym (sought_on sought first second))) ∙ sought_title sought (first ++ second),
+      ap (map base) (rw (are_new, are_cur) (sym (filter-append (is_sought stems) first second))) ∙ sought_bases stems (first ++ second),
     )
 
 -- both lists, and `new` has rested since its own
@@ -185,17 +161,17 @@ pub looked : {A B : Type 0} (sought : Sought) (b0 b1 b2 b3 : Directories) (new c
     → Then (ListsIn New sought (Ok new)) b0 b1 → Then (ListsIn Cur sought (Ok cur)) b1 b2
     → Then (TellsRest New (Ok rests)) b2 b3 → IsTrue rests → ListedBoth sought (new, cur) b3
 looked sought b0 b1 b2 b3 new cur rests (m1, v1, s1) (m2, v2, s2) (m3, v3, s3) rested = (
-  record m2 { cur_rests = true; odd = b2.odd },
-  (rw still.there s1.0, rw same_new s1.1, λ none. refl, refl),
-  (s2.0, s2.1, λ none. refl, refl),
+  record m2 { cur_rests = true; odd_cur = b2.odd_cur },
+  (rw still.there s1.0, rw (same_new, v2.odd_new) s1.1, refl),
+  (s2.0, s2.1, refl),
   rw s3.0 last,
 )
   where
-    last : Moved (record (after_listing Cur m2) { odd = b2.odd }) m3
-    last = subst (λ (d : Directories). Moved d m3) s2.3 v3
+    last : Moved (after_listing Cur b2.odd_cur m2) m3
+    last = subst (λ (d : Directories). Moved d m3) s2.2 v3
 
-    still : Moved (record (after_listing New m1) { odd = b1.odd }) m2
-    still = subst (λ (d : Directories). Moved d m2) s1.3 v2
+    still : Moved (after_listing New b1.odd_new m1) m2
+    still = subst (λ (d : Directories). Moved d m2) s1.2 v2
 
     -- `new` rested from its own listing to that of `cur`
     same_new : map name_at (entries_in New m2.entries) ≡ map name_at (entries_in New m1.entries)
@@ -206,22 +182,47 @@ names_kept : (a b : List MailFile) → AllZip KeepsFile a b → names_of (files_
 names_kept a b = each_by KeepsFile (λ a b. names_of (files_at b) ≡ names_of (files_at a)) refl
     (λ s t ss ts k same. rw (k.title, same) refl) a b
 
--- and then the names of both folders were flushed
-pub told : {A B T : Type 0} (sought : Sought) (a b c : Directories) (names : Vec (String A) B × Vec (String A) B) (done done' : T)
-    → ListedBoth sought names a → Then (FlushesNamesIn New (Ok done)) a b → Then (FlushesNamesIn Cur (Ok done')) b c
-    → ToldBoth sought (names.0.items ++ names.1.items) c
-told sought a b c names done done' (l, new, cur, since) (m, v, e) (m', v', e') =
-    let first = flushes_leads New a b (Ok done) (m, v, e) in
-    let next = flushes_leads Cur b c (Ok done') (m', v', e') in
-    let there : c.there ≡ l.there = next.there ∙ first.there ∙ since.there in
-    let same : names_of (files_at c.entries) ≡ names_of (files_at (filter is_left l.entries)) =
-    names_kept b.entries c.entries next.keeps ∙ names_kept a.entries b.entries first.keeps
-    ∙ ap names_of (files_moved (filter is_left l.entries) a.entries since.moves) in record {
-      new_is_there = rw there new.0;
-      cur_is_there = rw there cur.0;
-      lists = rw same (told_both sought l.entries names.0.items names.1.items new.1 cur.1);
-      named = rw e' (both_named m.entries m'.entries (rw e at v'.moves));
-    }
+-- a flush of names tells nothing of what can't be opened
+flush_odd : {T : Type 0} (folder : Folder) (done : T) (a b : Directories) → Then (FlushesNamesIn folder (Ok done)) a b
+    → (b.odd_new ≡ a.odd_new) × (b.odd_cur ≡ a.odd_cur)
+flush_odd folder done a b (m, v, e) = rw e (v.odd_new, v.odd_cur)
+
+-- and then the names of both folders were flushed, and it was told which are those of files
+module _ {A B T : Type 0} (stems : Bor (List (String Global))) (o a b c d : Directories) (in_new in_cur : Vec (String A) B)
+    (done done' : T) (listed : ListedBoth (Stems stems) (in_new, in_cur) a) (new : Then (FlushesNamesIn New (Ok done)) a b)
+    (cur : Then (FlushesNamesIn Cur (Ok done')) b c) (before : Learns o c) where
+  told : (found : FoundNames) → Then (TellsFiles (map string_bytes in_new.items) (map string_bytes in_cur.items) (Ok found)) c d
+      → ToldBoth stems.now found.files.items d
+  told found (m, v, (e, (are, _, _))) =
+      let l = listed.0 in
+      let first = flushes_leads New a b (Ok done) new in
+      let next = flushes_leads Cur b c (Ok done') cur in
+      let there : d.there ≡ l.there = ap (λ (d : Directories). d.there) e ∙ v.there ∙ next.there ∙ first.there ∙ listed.3.there in
+      let files : files_at d.entries ≡ files_at c.entries = rw e (files_moved c.entries m.entries v.moves) in
+      let same : names_of (files_at d.entries) ≡ names_of (files_at (filter is_left l.entries)) =
+      ap names_of files ∙ names_kept b.entries c.entries next.keeps ∙ names_kept a.entries b.entries first.keeps
+      ∙ ap names_of (files_moved (filter is_left l.entries) a.entries listed.3.moves) in
+      let by_new = flush_odd New done a b new in
+      let by_cur = flush_odd Cur done' b c cur in
+      let odd_new : m.odd_new ≡ l.odd_new = v.odd_new ∙ by_cur.0 ∙ by_new.0 ∙ listed.3.odd_new in
+      let odd_cur : m.odd_cur ≡ l.odd_cur = v.odd_cur ∙ by_cur.1 ∙ by_new.1 ∙ listed.3.odd_cur in
+      let both = told_both stems.now l.entries _ _ listed.1.1 listed.2.1 in record {
+        new_is_there = rw there listed.1.0;
+        cur_is_there = rw there listed.2.0;
+        lists = (
+          both.0,
+          rw same both.1,
+          sym (map-map base string_bytes found.files.items) ∙ ap (map base) (rw (odd_new, odd_cur) at are) ∙ both.2,
+        );
+        named = rw (files, cur.2) (both_named new.0.entries cur.0.entries (rw new.2 at cur.1.moves));
+      }
+
+  pub told_files : (r : Result FoundNames StoreFault) → IfErr r (λ fault. fault ≡ Refused)
+      → Then (TellsFiles (map string_bytes in_new.items) (map string_bytes in_cur.items) r) c d
+      → TellsOfBoth o r d (λ found. ToldBoth stems.now found.files.items)
+  told_files (Ok found) refused (m, v, t) = (leads_after o c d before (moved_same c m d v t.0), told found (m, v, t), tt)
+  told_files (Err fault) refused (m, v, t) =
+      (leads_after o c d before (moved_same c m d v t.0), tt, λ missing. let is : fault ≡ Refused = refused in absurd cc)
 
 -- ---- the names of one folder
 
@@ -275,11 +276,11 @@ theirs {A} names files each = λ k d inside. each (base (string_bytes (get_or na
 
 pub told_one : {A B T : Type 0} (folder : Folder) (b0 b1 b2 : Directories) (names : Vec (String A) B) (done : T)
     → Then (ListsIn folder All (Ok names)) b0 b1 → Then (FlushesNamesIn folder (Ok done)) b1 b2 → TellsOne b0 folder (Ok names) b2
-told_one {A} folder b0 b1 b2 names done (m1, v1, (there, (order, same, are), kept, e1)) (m2, v2, e2) = (
-  leads_after b0 b1 b2 (lists_learns folder All b0 b1 (Ok names) (m1, v1, (there, (order, same, are), kept, e1)))
+told_one {A} folder b0 b1 b2 names done (m1, v1, (there, (order, same, are), e1)) (m2, v2, e2) = (
+  leads_after b0 b1 b2 (lists_learns folder All b0 b1 (Ok names) (m1, v1, (there, (order, same, are), e1)))
       (flushes_leads folder b1 b2 (Ok done) (m2, v2, e2)),
   (
-    rw (e2, v2.there, ap (λ (d : Directories). d.there) e1, (listed_is folder m1 b1.odd).1) there,
+    rw (e2, v2.there, ap (λ (d : Directories). d.there) e1, (listed_is folder (odd_names_in folder b1) m1).1) there,
     theirs names.items (files_at b2.entries) (λ name c. some_named b2.entries name (stay name c)),
   ),
   tt,
@@ -293,7 +294,7 @@ told_one {A} folder b0 b1 b2 names done (m1, v1, (there, (order, same, are), kep
         (IsPermutation-sym after_listing (bases_told names.items) (told_part (entries_in folder m1.entries) names.items
         (subst (IsPermutation (map name_at (entries_in folder m1.entries))) (sym are) same))) c) in
         let still = some_kept {Will = Touch folder name} (filter is_left m1.entries) m2.entries
-        (rw (ap (λ (d : Directories). d.entries) e1, (listed_is folder m1 b1.odd).0) at v2.moves) touched
+        (rw (ap (λ (d : Directories). d.entries) e1, (listed_is folder (odd_names_in folder b1) m1).0) at v2.moves) touched
         (λ s t m is. (m.keeps.title ∙ is.0, still_touches folder s t m is.1)) in
         rw e2 (some_map _ (named_by folder) m2.entries still (λ s is. named_touch folder s name is.0 is.1))
 
@@ -303,61 +304,70 @@ abbrev IsCountAfter : {T : Type 0} → Result T StoreFault → ℕ → ℕ → T
 IsCountAfter r n m = m ≡ (if refuses is_refusal r then n + 1 else n)
 
 -- the same with the files that are left
-abbrev left_in : Directories → Directories → Option Draft → ℕ → Maildir
-left_in a b begun n = record (maildir_in a begun n) { files = files_at b.entries; taken = b.taken; odd = b.odd }
+abbrev left_in : Directories → Directories → Option Draft → List (List ℕ) → ℕ → Maildir
+left_in a b begun odd n = record (maildir_in a begun odd n) { files = files_at b.entries; taken = b.taken }
 
 -- this holds of what readers left
-seen : {Does : Maildir → Type 0} (a b : Directories) (begun : Option Draft) (n : ℕ) → Learns a b
-    → Does (left_in a b begun n) → AfterTaking (maildir_in a begun n) Does
-seen a b begun n l does = (left_in a b begun n, record { gone = l.gone; files = l.left; odd = l.odd; is = rw l.taken refl }, does)
+seen : {Does : Maildir → Type 0} (a b : Directories) (begun : Option Draft) (was odd : List (List ℕ)) (n : ℕ) → Learns a b
+    → (a.there.new ≡ false → odd ≡ was) → Does (left_in a b begun odd n) → AfterTaking (maildir_in a begun was n) Does
+seen a b begun was odd n l same does =
+    (left_in a b begun odd n, record { gone = l.gone; files = l.left; odd = same; is = rw l.taken refl }, does)
 
-left_as : (a b : Directories) (begun : Option Draft) (m k n : ℕ) → Learns a b → m ≡ k
-    → maildir_in b begun m ≡ record (left_in a b begun n) { failures = k }
-left_as a b begun m k n l e = rw (l.there, e) refl
+left_as : (a b : Directories) (begun : Option Draft) (odd : List (List ℕ)) (m k n : ℕ) → Learns a b → m ≡ k
+    → maildir_in b begun odd m ≡ record (left_in a b begun odd n) { failures = k }
+left_as a b begun odd m k n l e = rw (l.there, e) refl
 
 one_lacks : (there : Folders) (folder : Folder) → is_there there folder ≡ false → (there.new ≡ false) ⊎ (there.cur ≡ false)
 one_lacks there New e = inl e
 one_lacks there Cur e = inr e
 
 -- what was told
-pub told_names : {A B C : Type 0} (stems : List (String C)) (sought : Sought)
-    → ((names told : List (List ℕ)) → AreSought sought names told → AreAmong stems names told)
-    → (a b : Directories) (begun : Option Draft) (n m : ℕ) (r : Result (Vec (String A) B) StoreFault)
-    → TellsOfBoth a r b (λ names. ToldBoth sought names.items)
-    → IfErr r IsDeviceFault → IsCountAfter r n m
-    → AfterTaking (maildir_in a begun n) (λ left. ListsAmong left stems r (maildir_in b begun m))
-told_names stems sought is a b begun n m (Ok names) (l, told, _) device k =
-    seen a b begun n l (
-      rw (sym l.there) told.new_is_there,
+pub told_names : {C : Type 0} (stems : List (String C)) (a b : Directories) (begun : Option Draft) (was : List (List ℕ)) (n m : ℕ)
+    (found : FoundNames) → TellsOfBoth {T = FoundNames} a (Ok found) b (λ found. ToldBoth stems found.files.items) → m ≡ n
+    → AfterTaking (maildir_in a begun was n)
+    (λ left. ListsAmong left stems (Ok found.files) (maildir_in b begun (map string_bytes found.odd.items) m))
+told_names stems a b begun was n m found (l, told, _) k =
+    let odd = map string_bytes found.odd.items in
+    let new : a.there.new ≡ true = rw (sym l.there) told.new_is_there in
+    seen a b begun was odd n l (λ none. absurd (true≢false (sym new ∙ none))) (
+      new,
       rw (sym l.there) told.cur_is_there,
-      is _ _ told.lists,
+      told.lists,
       told.named,
-      left_as a b begun m n n l k,
+      left_as a b begun odd m n n l k,
     )
-told_names stems sought is a b begun n m (Err Missing) (l, _, missing) device k =
+
+pub none_told : {C : Type 0} {odd : List (List ℕ)} (stems : List (String C)) (a b : Directories) (begun : Option Draft) (n m : ℕ)
+    (fault : StoreFault) → Learns a b → (fault ≡ Missing → LacksOne b) → IsDeviceFault fault
+    → IsCountAfter {T = FoundNames} (Err fault) n m → AfterTaking (maildir_in a begun odd n)
+    (λ left. ListsAmong {B = Global} {C = Global} left stems (Err fault) (maildir_in b begun odd m))
+none_told {odd} stems a b begun n m Missing l missing device k =
     let lacks = missing refl in
-    seen a b begun n l (rw (sym l.there) (one_lacks b.there lacks.0 lacks.1), left_as a b begun m n n l k)
-told_names stems sought is a b begun n m (Err Refused) (l, _, missing) device k = seen a b begun n l (left_as a b begun m (n + 1) n l k)
-told_names stems sought is a b begun n m (Err _) t device k = absurd (⊎_elim (λ e. cc) (λ e. cc) device)
+    seen a b begun odd odd n l (λ _. refl) (rw (sym l.there) (one_lacks b.there lacks.0 lacks.1), left_as a b begun odd m n n l k)
+none_told {odd} stems a b begun n m Refused l missing device k =
+    seen a b begun odd odd n l (λ _. refl) (left_as a b begun odd m (n + 1) n l k)
+none_told {odd} stems a b begun n m _ l missing device k = absurd (⊎_elim (λ e. cc) (λ e. cc) device)
 
-pub told_those : {A B : Type 0} (a b : Directories) (folder : Folder) (begun : Option Draft) (n m : ℕ)
-    (r : Result (Vec (String A) B) StoreFault) → TellsOne a folder r b
-    → IfErr r IsDeviceFault → IsCountAfter r n m → AfterTaking (maildir_in a begun n) (λ left. Lists left folder r (maildir_in b begun m))
-told_those a b folder begun n m (Ok names) (l, (there, theirs), _) device k =
-    seen a b begun n l (rw (sym l.there) there, theirs, left_as a b begun m n n l k)
-told_those a b folder begun n m (Err Missing) (l, _, missing) device k =
-    seen a b begun n l (rw (sym l.there) (missing refl), left_as a b begun m n n l k)
-told_those a b folder begun n m (Err Refused) (l, _, _) device k = seen a b begun n l (left_as a b begun m (n + 1) n l k)
-told_those a b folder begun n m (Err _) t device k = absurd (⊎_elim (λ e. cc) (λ e. cc) device)
+pub told_those : {A B : Type 0} {odd : List (List ℕ)} (a b : Directories) (folder : Folder) (begun : Option Draft) (n m : ℕ)
+    (r : Result (Vec (String A) B) StoreFault) → TellsOne a folder r b → IfErr r IsDeviceFault → IsCountAfter r n m
+    → AfterTaking (maildir_in a begun odd n) (λ left. Lists left folder r (maildir_in b begun odd m))
+told_those {odd} a b folder begun n m (Ok names) (l, (there, theirs), _) device k =
+    seen a b begun odd odd n l (λ _. refl) (rw (sym l.there) there, theirs, left_as a b begun odd m n n l k)
+told_those {odd} a b folder begun n m (Err Missing) (l, _, missing) device k =
+    seen a b begun odd odd n l (λ _. refl) (rw (sym l.there) (missing refl), left_as a b begun odd m n n l k)
+told_those {odd} a b folder begun n m (Err Refused) (l, _, _) device k =
+    seen a b begun odd odd n l (λ _. refl) (left_as a b begun odd m (n + 1) n l k)
+told_those {odd} a b folder begun n m (Err _) t device k = absurd (⊎_elim (λ e. cc) (λ e. cc) device)
 
-pub checked : {T : Type 0} (a b : Directories) (folder : Folder) (begun : Option Draft) (n m : ℕ)
+pub checked : {T : Type 0} (a b : Directories) (folder : Folder) (begun : Option Draft) (odd : List (List ℕ)) (n m : ℕ)
     (r : Result T StoreFault) → Then (ChecksIn folder r) a b
-    → IfErr r IsDeviceFault → IsCountAfter r n m → Checks (maildir_in a begun n) folder r (maildir_in b begun m)
-checked a b folder begun n m (Ok done) (mid, v, (e, there, _)) device k = (rw (sym v.there) there, rw k (moved_maildir a mid b begun n v e))
-checked a b folder begun n m (Err Missing) (mid, v, (e, _, missing)) device k =
+    → IfErr r IsDeviceFault → IsCountAfter r n m → Checks (maildir_in a begun odd n) folder r (maildir_in b begun odd m)
+checked a b folder begun odd n m (Ok done) (mid, v, (e, there, _)) device k =
+    (rw (sym v.there) there, rw k (moved_maildir a mid b begun n v e))
+checked a b folder begun odd n m (Err Missing) (mid, v, (e, _, missing)) device k =
     (rw (sym v.there) (missing refl), rw k (moved_maildir a mid b begun n v e))
-checked a b folder begun n m (Err Refused) (mid, v, (e, _, _)) device k = rw k (moved_maildir a mid b begun (n + 1) v e)
-checked a b folder begun n m (Err _) t device k = absurd (⊎_elim (λ e. cc) (λ e. cc) device)
+checked a b folder begun odd n m (Err Refused) (mid, v, (e, _, _)) device k = rw k (moved_maildir a mid b begun (n + 1) v e)
+checked a b folder begun odd n m (Err _) t device k = absurd (⊎_elim (λ e. cc) (λ e. cc) device)
 
 -- ---- files that come to the folders, while others are moved
 
@@ -406,7 +416,6 @@ module _ (b0 b1 b2 : Directories) (content name : List ℕ) (file : MadeFile)
     rw (put_is unknown) (record {
       there = before.there;
       taken = before.taken;
-      odd = before.odd;
       risen = files_at p.0.entries;
       reached = rw before.files (named_same (files_at b0.entries));
       files = map-append mail_at p.0.entries (put_as name file ∷ [])
@@ -431,7 +440,6 @@ module _ (b0 b1 b2 : Directories) (content name : List ℕ) (file : MadeFile)
       rw e (record {
         there = v.there ∙ ap (λ (d : Directories). d.there) (put_is unknown) ∙ before.there;
         taken = v.taken ∙ ap (λ (d : Directories). d.taken) (put_is unknown) ∙ before.taken;
-        odd = v.odd ∙ ap (λ (d : Directories). d.odd) (put_is unknown) ∙ before.odd;
         risen = risen;
         reached = subst (λ (fs : List File). AllZip MayBeNamed fs risen) (files_moved p.0.entries last.0 last.3
             ∙ before.files) (named_files last.0);
@@ -450,7 +458,6 @@ module _ (b0 b1 b2 : Directories) (content name : List ℕ) (file : MadeFile)
         record {
           there = same.there ∙ stands.1.there;
           taken = same.taken ∙ stands.1.taken;
-          odd = same.odd ∙ stands.1.odd;
           risen = stands.1.risen;
           reached = stands.1.reached;
           files = same.files ∙ stands.1.files;
@@ -470,43 +477,46 @@ pub none_begun : {T : Type 0} (begun : Option T) (P : T → Type 0) → is_some 
 none_begun None P none = tt
 none_begun (Some x) P none = absurd cc
 
-pub begun_anew : {N : Type 0} (made : N → MadeFile) (a b : Directories) (begun : Option Draft) (title : String Global)
+pub begun_anew : {N : Type 0} {odd : List (List ℕ)} (made : N → MadeFile) (a b : Directories) (begun : Option Draft) (title : String Global)
     (file : N) (name : List ℕ) (n : ℕ) → string_bytes title ≡ name → Then (MakesDraft made (Ok file)) a b → (a.there.tmp ≡ true)
-    × (maildir_in b (Some (draft_begun made (title, file))) n ≡ record (maildir_in a begun n) { begun = Some (draft name []) })
+    × (maildir_in b (Some (draft_begun made (title, file))) odd n ≡ record (maildir_in a begun odd n) { begun = Some (draft name []) })
 begun_anew made a b begun title file name n same (m, v, (e, (there, empty))) =
     let h = same_rests_at a m b v e in
-    (rw (sym v.there) there, rw (h.there, h.taken, h.odd, h.files, same, empty) refl)
+    (rw (sym v.there) there, rw (h.there, h.taken, h.files, same, empty) refl)
 
-pub begin_missing : {N : Type 0} (made : N → MadeFile) (a b : Directories) (begun : Option Draft) (n : ℕ) (fault : StoreFault)
-    → fault ≡ Missing → Then (MakesDraft made (Err fault)) a b → (a.there.tmp ≡ false) × (maildir_in b begun n ≡ maildir_in a begun n)
+pub begin_missing : {N : Type 0} {odd : List (List ℕ)} (made : N → MadeFile) (a b : Directories) (begun : Option Draft) (n : ℕ)
+    (fault : StoreFault) → fault ≡ Missing → Then (MakesDraft made (Err fault)) a b
+    → (a.there.tmp ≡ false) × (maildir_in b begun odd n ≡ maildir_in a begun odd n)
 begin_missing made a b begun n fault is (m, v, (e, missing)) = (rw (sym v.there) (missing is), moved_maildir a m b begun n v e)
 
-pub begin_refused : {N : Type 0} (made : N → MadeFile) (a b : Directories) (begun : Option Draft) (n k : ℕ) (fault : StoreFault)
-    → k ≡ n + 1 → Then (MakesDraft made (Err fault)) a b → maildir_in b begun k ≡ maildir_refused (maildir_in a begun n)
+pub begin_refused : {N : Type 0} {odd : List (List ℕ)} (made : N → MadeFile) (a b : Directories) (begun : Option Draft) (n k : ℕ)
+    (fault : StoreFault) → k ≡ n + 1 → Then (MakesDraft made (Err fault)) a b
+    → maildir_in b begun odd k ≡ maildir_refused (maildir_in a begun odd n)
 begin_refused made a b begun n k fault up (m, v, (e, missing)) = rw up (moved_maildir a m b begun (n + 1) v e)
 
 -- ---- add
 
-pub not_added : {N : Type 0} (made : N → MadeFile) (d : Directories) (title : String Global) (file new : N) (n k : ℕ) (f : Draft)
-    → k ≡ n + 1 → Some (draft_begun made (title, file)) ≡ Some f
-    → (content : List ℕ) × (maildir_in d (Some (draft_begun made (title, new))) k
-    ≡ maildir_refused (record (maildir_in d (Some (draft_begun made (title, file))) n) { begun = Some (draft f.name content) }))
+pub not_added : {N : Type 0} {odd : List (List ℕ)} (made : N → MadeFile) (d : Directories) (title : String Global) (file new : N)
+    (n k : ℕ) (f : Draft) → k ≡ n + 1 → Some (draft_begun made (title, file)) ≡ Some f
+    → (content : List ℕ) × (maildir_in d (Some (draft_begun made (title, new))) odd k
+    ≡ maildir_refused (record (maildir_in d (Some (draft_begun made (title, file))) odd n) { begun = Some (draft f.name content) }))
 not_added made d title file new n k f up h = ((made new).content, rw (sym (same_Some (draft_begun made (title, file)) f h), up) refl)
 
 -- ---- abandon and settle
 
-pub maildir_same : (a b : Directories) (begun : Option Draft) (n : ℕ) → SameFiles a b → maildir_in b begun n ≡ maildir_in a begun n
-maildir_same a b begun n h = rw (h.there, h.taken, h.odd, h.files) refl
+pub maildir_same : {odd : List (List ℕ)} (a b : Directories) (begun : Option Draft) (n : ℕ) → SameFiles a b
+    → maildir_in b begun odd n ≡ maildir_in a begun odd n
+maildir_same a b begun n h = rw (h.there, h.taken, h.files) refl
 
-pub not_settled : (a b : Directories) (d f : Draft) (name : List ℕ) (n k : ℕ) (fault : StoreFault) → k ≡ n + 1 → IsUnknown name a
-    → Some d ≡ Some f → PutsDurably {T = Unit {0}} a d.content name (Err fault) b
-    → (maildir_in b None k ≡ maildir_refused (dropped (maildir_in a (Some d) n)))
-    ⊎ AfterFlushing (maildir_in a (Some d) n) (λ risen. MayHave risen (mail name f.content) (maildir_in b None k))
-not_settled a b d f name n k fault up unknown h (inl none) = inl (rw (none.there, none.taken, none.odd, none.files, up) refl)
+pub not_settled : {odd : List (List ℕ)} (a b : Directories) (d f : Draft) (name : List ℕ) (n k : ℕ) (fault : StoreFault) → k ≡ n + 1
+    → IsUnknown name a → Some d ≡ Some f → PutsDurably {T = Unit {0}} a d.content name (Err fault) b
+    → (maildir_in b None odd k ≡ maildir_refused (dropped (maildir_in a (Some d) odd n)))
+    ⊎ AfterFlushing (maildir_in a (Some d) odd n) (λ risen. MayHave risen (mail name f.content) (maildir_in b None odd k))
+not_settled a b d f name n k fault up unknown h (inl none) = inl (rw (none.there, none.taken, none.files, up) refl)
 not_settled a b d f name n k fault up unknown h (inr put) =
     let came = put unknown in
     let same : d.content ≡ f.content = ap (λ (x : Draft). x.content) (same_Some d f h) in
-    inr (came.1.risen, came.1.reached, (came.0, rw (came.1.there, came.1.taken, came.1.odd, came.1.files, up, same) refl))
+    inr (came.1.risen, came.1.reached, (came.0, rw (came.1.there, came.1.taken, came.1.files, up, same) refl))
 
 -- ---- what a flush of files does to the folders of a Maildir
 
@@ -515,13 +525,13 @@ module _ {A : Type 0} (stems : List (String A)) where
   flushed_at [] = refl
   flushed_at (s ∷ ss) = rw (stem_base s.name, flushed_at ss) refl
 
-  pub files_flush : (a b : Directories) (begun : Option Draft) (n : ℕ) (done : Bool) → Then (FlushesFiles stems (Ok done)) a b
-      → Flushes (maildir_in a begun n) stems (Ok done) (maildir_in b begun n)
-  files_flush a b begun n true (m, v, e) =
-      rw (e, v.there, v.taken, v.odd) (rw (flushed_at m.entries, files_moved a.entries m.entries v.moves) refl)
-  files_flush a b begun n false (m, v, e) = moved_maildir a m b begun n v e
+  pub files_flush : (a b : Directories) (begun : Option Draft) (odd : List (List ℕ)) (n : ℕ) (done : Bool)
+      → Then (FlushesFiles stems (Ok done)) a b → Flushes (maildir_in a begun odd n) stems (Ok done) (maildir_in b begun odd n)
+  files_flush a b begun odd n true (m, v, e) =
+      rw (e, v.there, v.taken) (rw (flushed_at m.entries, files_moved a.entries m.entries v.moves) refl)
+  files_flush a b begun odd n false (m, v, e) = moved_maildir a m b begun n v e
 
-pub files_refused : {A : Type 0} (stems : List (String A)) (a b : Directories) (begun : Option Draft) (n k : ℕ)
+pub files_refused : {A : Type 0} {odd : List (List ℕ)} (stems : List (String A)) (a b : Directories) (begun : Option Draft) (n k : ℕ)
     (fault : StoreFault) → k ≡ n + 1
-    → Then (FlushesFiles stems (Err fault)) a b → maildir_in b begun k ≡ maildir_refused (maildir_in a begun n)
+    → Then (FlushesFiles stems (Err fault)) a b → maildir_in b begun odd k ≡ maildir_refused (maildir_in a begun odd n)
 files_refused stems a b begun n k fault up (m, v, e) = rw up (moved_maildir a m b begun (n + 1) v e)

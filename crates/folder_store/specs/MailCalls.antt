@@ -1,8 +1,8 @@
 -- What each call does to the folders of a Maildir, once others have moved files.
 use Rattle.std.specs.{
-  Prelude.{◌≡◌, ◌≢◌, ◌⊎◌, ◌||◌, ◌↔◌, ℕ, Bool, true, false, IsTrue, List, [], ◌∷◌, ◌++◌, map, Result, Ok, Err, IfErr},
-  Prelude.{IfOk, OnOk, Vec, String, string_bytes, IsPermutation, Contains},
-  List.{AllByRecursion, AllZip, filter},
+  Prelude.{◌≡◌, ◌≢◌, ◌⊎◌, ◌||◌, ◌↔◌, ℕ, Bool, true, false, not, IsTrue, List, [], ◌∷◌, ◌++◌, map, Result, Ok, Err, Vec},
+  Prelude.{IfErr, IfOk, OnOk, String, string_bytes, IsPermutation, Contains, bytes_eq},
+  List.{AllByRecursion, AllZip, filter, list_any},
 }
 use Rattle.mail_terms.specs.MaildirName.{base}
 use Rattle.mail_store.specs.{
@@ -10,14 +10,14 @@ use Rattle.mail_store.specs.{
   declared.maildir.disk.Folder.{Folder, TheVariants.{New, Cur}},
   FileName.stem,
   Maildir.{AllNamed, AreTheirs, File, IsWithout, MayBeNamed, bases_told, is_there, mail, names_of},
-  Held.is_sought,
+  Held.{AreAmong, is_sought},
   Loss.is_among,
 }
 use Rattle.folder_store.specs.{
-  declared.mail_folders.Sought.{Sought, TheVariants.{All, Stems}},
+  declared.mail_folders.{FoundNames.FoundNames, Sought.{Sought, TheVariants.{All, Stems}}},
   FileFolder.{MadeFile, Makes},
   MailFolders.{Directories, MailFile, KeepsFile, Moved, files_at, is_left, is_taken, name_at, entries_in, rests_in},
-  MailFolders.{touches_new, touches_cur},
+  MailFolders.{odd_names_in, touches_new, touches_cur},
 }
 
 -- others moved files, and then the call did this
@@ -39,10 +39,10 @@ without_taken d = record d {
   taken = d.taken ++ files_at (filter is_taken d.entries);
 }
 
--- a folder was listed, and has rested since
-abbrev pub after_listing : Folder → Directories → Directories
-after_listing New d = record (without_taken d) { new_rests = true }
-after_listing Cur d = record (without_taken d) { cur_rests = true }
+-- a folder was listed, and has rested since; what can't be opened bears these names there
+abbrev pub after_listing : Folder → List (List ℕ) → Directories → Directories
+after_listing New odd d = record (without_taken d) { new_rests = true; odd_new = odd }
+after_listing Cur odd d = record (without_taken d) { cur_rests = true; odd_cur = odd }
 
 -- `check`: the folder is there
 abbrev pub ChecksIn : {T : Type 0} → Folder → Result T StoreFault → Directories → Directories → Type 0
@@ -58,14 +58,40 @@ names_sought (Stems stems) names = filter (is_sought stems.now) names
 abbrev pub AreSought : Sought → List (List ℕ) → List (List ℕ) → Type 0
 AreSought sought names told = (order : List (List ℕ)) × IsPermutation names order × (told ≡ names_sought sought order)
 
--- `list`: the names of the files of a folder that are sought, in any order; other names may be odd by now
+-- whether a name is one of these
+abbrev pub has_name : List (List ℕ) → List ℕ → Bool
+has_name names name = list_any (bytes_eq name) names
+
+-- the odd ones among names that were listed, and those of files: the others
+abbrev pub odd_names : List (List ℕ) → List (List ℕ) → List (List ℕ)
+odd_names odd names = filter (has_name odd) names
+
+abbrev pub file_names : List (List ℕ) → List (List ℕ) → List (List ℕ)
+file_names odd names = filter (λ name. not (has_name odd name)) names
+
+-- the same, but if all are sought each counts as that of a file
+abbrev pub names_told : Sought → List (List ℕ) → List (List ℕ) → List (List ℕ)
+names_told All odd names = names
+names_told (Stems stems) odd names = file_names odd names
+
+-- `list`: the names of the files of a folder that are sought, in any order, and others that what can't be opened bears
 abbrev pub ListsIn : {A B : Type 0} → Folder → Sought → Result (Vec (String A) B) StoreFault → Directories
     → Directories → Type 0
 ListsIn folder sought (Ok names) old new = (is_there old.there folder ≡ true)
-    × AreSought sought (map name_at (entries_in folder old.entries)) (map string_bytes names.items)
-    × (old.there.new ≡ false → new.odd ≡ old.odd)
-    × (new ≡ record (after_listing folder old) { odd = new.odd })
+    × AreSought sought (map name_at (entries_in folder old.entries))
+    (names_told sought (odd_names_in folder new) (map string_bytes names.items))
+    × (new ≡ after_listing folder (odd_names_in folder new) old)
 ListsIn folder sought (Err fault) old new = Lacks old folder fault new
+
+-- `files_among`: of these names of `new` and `cur` those of files, in order; and of the odd ones all of `new`, and some
+-- of `cur`: no delivery needs the name of a folder there
+abbrev pub TellsFiles : List (List ℕ) → List (List ℕ) → Result FoundNames StoreFault → Directories → Directories
+    → Type 0
+TellsFiles in_new in_cur r old new = (new ≡ old) × IfOk r (λ found.
+    (map string_bytes found.files.items ≡ file_names old.odd_new in_new ++ file_names old.odd_cur in_cur)
+    × (noted : List ℕ → Bool)
+    × (map string_bytes found.odd.items
+    ≡ odd_names old.odd_new in_new ++ filter noted (odd_names old.odd_cur in_cur)))
 
 -- `rests`: if the answer is true, the folder has rested since it was last listed
 abbrev pub TellsRest : Folder → Result Bool StoreFault → Directories → Directories → Type 0
@@ -142,14 +168,12 @@ FlushesFiles stems answer old new = new ≡ old
 pub record SameFiles (old new : Directories) : Type 0 where
   pub there : new.there ≡ old.there
   pub taken : new.taken ≡ old.taken
-  pub odd : new.odd ≡ old.odd
   pub files : files_at new.entries ≡ files_at old.entries
 
 -- these files came after the others, whose names may be durable by now
 pub record BringsFiles (old : Directories) (added : List File) (new : Directories) : Type 0 where
   pub there : new.there ≡ old.there
   pub taken : new.taken ≡ old.taken
-  pub odd : new.odd ≡ old.odd
   pub risen : List File
   pub reached : AllZip MayBeNamed (files_at old.entries) risen
   pub files : files_at new.entries ≡ risen ++ added
@@ -158,13 +182,11 @@ pub record BringsFiles (old : Directories) (added : List File) (new : Directorie
 pub record Leads (old new : Directories) : Type 0 where
   pub there : new.there ≡ old.there
   pub taken : new.taken ≡ old.taken
-  pub odd : new.odd ≡ old.odd
   pub keeps : AllZip KeepsFile old.entries new.entries
 
--- the same, but files that readers took away may be known no longer, except as taken, and other names may be odd
+-- the same, but files that readers took away may be known no longer, except as taken
 pub record Learns (old new : Directories) : Type 0 where
   pub there : new.there ≡ old.there
-  pub odd : old.there.new ≡ false → new.odd ≡ old.odd
   pub gone : List File
   pub taken : new.taken ≡ old.taken ++ gone
   pub left : IsWithout (files_at old.entries) gone (files_at new.entries)
@@ -172,14 +194,15 @@ pub record Learns (old new : Directories) : Type 0 where
 -- at one moment these were the names of `new` and of `cur` that are sought, and since then others only moved files
 abbrev pub ListedBoth : {A B : Type 0} → Sought → Vec (String A) B × Vec (String A) B → Directories → Type 0
 ListedBoth sought names d =
-    (moment : Directories) × ListsIn New sought (Ok names.0) moment (after_listing New moment)
-    × ListsIn Cur sought (Ok names.1) moment (after_listing Cur moment) × Moved (without_taken moment) d
+    (moment : Directories) × ListsIn New sought (Ok names.0) moment (after_listing New moment.odd_new moment)
+    × ListsIn Cur sought (Ok names.1) moment (after_listing Cur moment.odd_cur moment)
+    × Moved (without_taken moment) d
 
--- the names of both folders at one moment that are sought; and each file has a durable name
-pub record ToldBoth {A : Type 0} (sought : Sought) (names : List (String A)) (d : Directories) : Type 0 where
+-- the names of both folders at one moment that have one of these stems; and each file has a durable name
+pub record ToldBoth {A B : Type 0} (stems : List (String A)) (names : List (String B)) (d : Directories) : Type 0 where
   pub new_is_there : d.there.new ≡ true
   pub cur_is_there : d.there.cur ≡ true
-  pub lists : AreSought sought (names_of (files_at d.entries)) (bases_told names)
+  pub lists : AreAmong stems (names_of (files_at d.entries)) (bases_told names)
   pub named : AllNamed (files_at d.entries)
 
 -- one of the folders isn't there

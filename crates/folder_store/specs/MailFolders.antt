@@ -27,14 +27,16 @@ pub record MailFile : Type 0 where
 
 -- which of the folders are there; the files of `new` and `cur` in the order in which they came; whether `new`, and
 -- `cur`, have rested since they were last listed: no file came, went or got another name there; the files that readers
--- took away, in the order in which that was seen; and names that were last found to be borne by what can't be opened
+-- took away, in the order in which that was seen; and which names of `new`, and of `cur`, what can't be opened bore
+-- when that folder was last listed
 pub record Directories : Type 0 where
   pub there : Folders
   pub entries : List MailFile
   pub new_rests : Bool
   pub cur_rests : Bool
   pub taken : List File
-  pub odd : List (List ℕ)
+  pub odd_new : List (List ℕ)
+  pub odd_cur : List (List ℕ)
 
 -- what a flush of the names of `new`, or of `cur`, makes durable
 abbrev pub touches_new : MailFile → Bool
@@ -76,6 +78,11 @@ abbrev pub rests_in : Folder → Directories → Bool
 rests_in New d = d.new_rests
 rests_in Cur d = d.cur_rests
 
+-- which names of a folder what can't be opened bore when that was last listed
+abbrev pub odd_names_in : Folder → Directories → List (List ℕ)
+odd_names_in New d = d.odd_new
+odd_names_in Cur d = d.odd_cur
+
 -- ---- what readers do
 
 -- a file keeps its name up to the first colon, its bytes, and what of it is durable
@@ -103,7 +110,8 @@ pub record RestsFile (folder : Folder) (s t : MailFile) : Type 0 where
 pub record Moved (old new : Directories) : Type 0 where
   pub there : new.there ≡ old.there
   pub taken : new.taken ≡ old.taken
-  pub odd : new.odd ≡ old.odd
+  pub odd_new : new.odd_new ≡ old.odd_new
+  pub odd_cur : new.odd_cur ≡ old.odd_cur
   pub moves : AllZip MovesFile old.entries new.entries
   pub rests : (folder : Folder) → rests_in folder new ≡ true
       → (rests_in folder old ≡ true) × AllZip (RestsFile folder) old.entries new.entries
@@ -112,7 +120,8 @@ pub record Moved (old new : Directories) : Type 0 where
 pub record OneMoves (old : Directories) (front back : List MailFile) (s t : MailFile) (new : Directories) : Type 0 where
   pub there : new.there ≡ old.there
   pub taken : new.taken ≡ old.taken
-  pub odd : new.odd ≡ old.odd
+  pub odd_new : new.odd_new ≡ old.odd_new
+  pub odd_cur : new.odd_cur ≡ old.odd_cur
   pub before : old.entries ≡ front ++ s ∷ back
   pub after : new.entries ≡ front ++ t ∷ back
   pub moves : MovesFile s t
@@ -130,14 +139,14 @@ files_at entries = map mail_at entries
 abbrev pub draft_begun : {N A : Type 0} → (N → MadeFile) → String A × N → Draft
 draft_begun made begun = draft (string_bytes begun.0) (made begun.1).content
 
-abbrev pub maildir_in : Directories → Option Draft → ℕ → Maildir
-maildir_in d begun failures = record {
+abbrev pub maildir_in : Directories → Option Draft → List (List ℕ) → ℕ → Maildir
+maildir_in d begun odd failures = record {
   there = d.there;
   files = files_at d.entries;
   begun = begun;
   failures = failures;
   taken = d.taken;
-  odd = d.odd;
+  odd = odd;
 }
 
 -- folders of which nothing is known
@@ -148,9 +157,10 @@ unknown_directories = record {
   new_rests = false;
   cur_rests = false;
   taken = [];
-  odd = [];
+  odd_new = [];
+  odd_cur = [];
 }
 
 -- a Maildir of which nothing is known; no file is being written and no call was refused
 abbrev pub unknown_maildir : Maildir
-unknown_maildir = maildir_in unknown_directories None 0
+unknown_maildir = maildir_in unknown_directories None [] 0

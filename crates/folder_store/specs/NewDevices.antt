@@ -22,8 +22,8 @@ pub record FoundAgain (old new : Directories) : Type 0 where
 
 -- a law: a loss of power of the folders is one of the Maildir
 abbrev pub LossesMayLeave : {D : Type 0} → DiskGhosts D → (D → Directories) → Type 0
-LossesMayLeave {D} disk folders = (device : D) (left : Directories) → LosesMail (folders device) left
-    → LosesPower (disk.maildir device) (maildir_in left None 0)
+LossesMayLeave {D} disk folders = (device : D) (left : Directories) (odd : List (List ℕ))
+    → LosesMail (folders device) left → LosesPower (disk.maildir device) (maildir_in left None odd 0)
 
 -- a law: over folders as another device left them, a device sees the same files, and the same of them is durable
 abbrev pub NewMaildirsKeepMail : {D : Type 0} → DiskGhosts D → (D → Directories) → Type 0

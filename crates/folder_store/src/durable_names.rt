@@ -5,17 +5,19 @@ ghost use Rattle.mail_store.specs.Fault.{IsDeviceFault};
 ghost use Rattle.folder_store.specs.MailCalls.{ListedBoth, PutsDurably, SameFiles, TellsOfBoth, TellsOne, ToldBoth};
 
 use crate::file_folder::NewFile;
-use crate::mail_folders::{MailFolders, Sought};
+use crate::mail_folders::{FoundNames, MailFolders, Sought};
 use mail_store::{Folder, StoreFault};
 
 /// How many times the folders are listed for one answer.
 const MOST_LISTINGS: u32 = 100;
 
-/// The names of `new` and of `cur` that are sought. None if `new` changed meanwhile: a reader may then have moved a
-/// file from the folder that wasn't listed yet to the one that was.
+/// The names of `new` and of `cur` that are sought, whatever they lead to. None if `new` changed meanwhile, as it did
+/// this many times before: a reader may then have moved a file from the folder that wasn't listed yet to the one that
+/// was.
 fn look_at_both<F: MailFolders>(
     folders: &mut F,
     sought: Sought<'_>,
+    times: u32,
 ) -> Result<Option<(Vec<String>, Vec<String>)>, StoreFault>
     ensures looks { F.sound folders.new → F.sound folders.old
         × TellsOfBoth (F.directories folders.old) result (F.directories folders.new)
@@ -24,14 +26,14 @@ fn look_at_both<F: MailFolders>(
 {
     let in_new = folders.list(Folder::New, sought)?;
     let in_cur = folders.list(Folder::Cur, sought)?;
-    if !folders.rests(Folder::New)? {
+    if !folders.rests(Folder::New, times)? {
         return Ok(None);
     }
     Ok(Some((in_new, in_cur)))
 }
 
-/// Of the names of the files of `new` and of `cur` at one moment those that are sought. Refused if readers change
-/// `new` all the time.
+/// Of the names of `new` and of `cur` at one moment those that are sought, whatever they lead to. Refused if readers
+/// change `new` all the time.
 pub fn list_both<F: MailFolders>(
     folders: &mut F,
     sought: Sought<'_>,
@@ -41,34 +43,27 @@ pub fn list_both<F: MailFolders>(
     ensures fault { IfErr result IsDeviceFault }
 {
     for times in 0..MOST_LISTINGS {
-        if !folders.may_list_again(times) {
-            break;
-        }
-        if let Some(names) = look_at_both(folders, sought)? {
+        if let Some(names) = look_at_both(folders, sought, times)? {
             return Ok(names);
         }
     }
     Err(StoreFault::Refused)
 }
 
-/// The same names, once all are durable.
+/// What the names of `new` and of `cur` at one moment that have one of these stems lead to, once all are durable.
 pub fn told_names<F: MailFolders>(
     folders: &mut F,
-    sought: Sought<'_>,
-) -> Result<Vec<String>, StoreFault>
+    stems: &[String],
+) -> Result<FoundNames, StoreFault>
     ensures tells { F.sound folders.new → F.sound folders.old
         × TellsOfBoth (F.directories folders.old) result (F.directories folders.new)
-        (λ names. ToldBoth sought.entry names.items) }
+        (λ found. ToldBoth stems.now found.files.items) }
     ensures fault { IfErr result IsDeviceFault }
 {
-    let both = list_both(folders, sought)?;
+    let (in_new, in_cur) = list_both(folders, Sought::Stems(stems))?;
     folders.flush_names(Folder::New)?;
     folders.flush_names(Folder::Cur)?;
-    let (mut names, mut in_cur) = both;
-    match names.append(&mut in_cur) {
-        Ok(()) => Ok(names),
-        Err(_) => Err(StoreFault::Refused),
-    }
+    folders.files_among(in_new, in_cur)
 }
 
 /// The names of a folder's files, once they are durable.

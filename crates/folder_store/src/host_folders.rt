@@ -7,7 +7,7 @@ use crate::exact_listing::ChangeTime;
 use crate::file_folder::FileFolder;
 use crate::flush_pass::{Found, unsettled};
 use crate::host::{HostFolder, HostNewFile, answer_of};
-use crate::mail_folders::{MailFolders, Sought};
+use crate::mail_folders::{FoundNames, MailFolders, Sought};
 use crate::process_mark::ProcessMark;
 use mail_store::{Folder, StoreFault, stem};
 use std::alloc::{AllocError, Global};
@@ -38,10 +38,9 @@ pub struct HostFolders<'a, R: Files> {
     system: &'a System<'a, R>,
     new_folder: ListedFolder<'a, R>,
     cur_folder: ListedFolder<'a, R>,
-    /// When the folders were first listed for the present answer, by the clock that never goes back.
+    /// When a folder was first seen to change during the present answer, by the clock that never goes back.
     start: Duration,
-    /// The names that were last found to be borne by what can't be opened; and of each the path, and why.
-    odd: Vec<String>,
+    /// The path of each name that was last found to be odd, and why it is.
     obstructions: Vec<Vec<u8>>,
     /// Whether the name that was looked up last is one of what is no file.
     is_name_taken: bool,
@@ -75,7 +74,6 @@ impl<'a, R: Files + Clock + AllocGlobal + Clone + Drop> HostFolders<'a, R> {
             new_folder: ListedFolder::of_maildir(system, path, "new", mark),
             cur_folder: ListedFolder::of_maildir(system, path, "cur", mark),
             start: Duration::ZERO,
-            odd: Vec::new(system.alloc()),
             obstructions: Vec::new(system.alloc()),
             is_name_taken: false,
         }
@@ -146,27 +144,49 @@ impl<'a, R: Files + Clock + AllocGlobal + Clone + Drop> HostFolders<'a, R> {
         Ok(false)
     }
 
-    // Those of a folder's names that lead to files. What can't be opened is noted, but for a folder in `cur`, whose
-    // name no delivery needs. `new` is listed before `cur`.
-    fn without_odd(&mut self, folder: Folder, names: Vec<String>) -> io::Result<Vec<String>> {
-        if folder == Folder::New {
-            self.odd.clear();
-            self.obstructions.clear();
-        }
-        let mut files = Vec::with_capacity(self.system.alloc(), names.len())?;
+    // What these names lead to. The path of each that is odd is noted, and why.
+    fn look_up(&mut self, in_new: Vec<String>, in_cur: Vec<String>) -> io::Result<FoundNames> {
+        self.obstructions.clear();
+        let mut found = FoundNames {
+            files: Vec::new(self.system.alloc()),
+            odd: Vec::new(self.system.alloc()),
+        };
+        self.add_found(Folder::New, in_new, &mut found)?;
+        self.add_found(Folder::Cur, in_cur, &mut found)?;
+        Ok(found)
+    }
+
+    // The same of one folder. The name of a folder in `cur` is left out: no delivery needs it.
+    fn add_found(
+        &mut self,
+        folder: Folder,
+        names: Vec<String>,
+        found: &mut FoundNames,
+    ) -> io::Result<()> {
         for name in names {
             let obstruction = self.folder_mut(folder).host.obstruction(name.as_str())?;
             match obstruction {
-                None => files.push(name)?,
+                None => found.files.push(name)?,
                 Some(_) if folder == Folder::Cur && self.cur_folder.host.is_folder(name.as_str()) =>
                     {}
                 Some(text) => {
-                    self.odd.push(name)?;
+                    found.odd.push(name)?;
                     self.obstructions.push(text)?;
                 }
             }
         }
-        Ok(files)
+        Ok(())
+    }
+
+    // Whether the folders are listed once more, after they changed this many times before. Not if the clock fails.
+    fn may_list_again(&mut self, times: u32) -> bool {
+        let Ok(now) = self.system.rt.monotonic() else {
+            return false;
+        };
+        if times == 0 {
+            self.start = now;
+        }
+        may_list_both(now.saturating_sub(self.start))
     }
 
     fn folder_mut(&mut self, folder: Folder) -> &mut ListedFolder<'a, R> {
@@ -251,39 +271,36 @@ impl<'a, R: Files + Clock + AllocGlobal + Clone + Drop> MailFolders for HostFold
         let listed = self.folder_mut(folder);
         let found = answer_of(refusals, listed.host.read_names(sought))?;
         listed.change = Some(ChangeTime::of(&found.folder));
-        match sought {
-            Sought::All => Ok(found.names),
-            Sought::Stems(_) => answer_of(refusals, self.without_odd(folder, found.names)),
-        }
+        Ok(found.names)
     }
 
-    fn odd(&self) -> &[String] {
-        &self.odd
+    fn files_among(
+        &mut self,
+        in_new: Vec<String>,
+        in_cur: Vec<String>,
+    ) -> Result<FoundNames, StoreFault> {
+        match answer_of(self.system.refusals, self.look_up(in_new, in_cur)) {
+            Ok(found) => Ok(found),
+            Err(_) => Err(StoreFault::Refused),
+        }
     }
 
     // The time of change that a listing gives had rested for a step of the clock, so that each later
     // change gives the folder another one.
-    fn rests(&mut self, folder: Folder) -> Result<bool, StoreFault> {
+    fn rests(&mut self, folder: Folder, times: u32) -> Result<bool, StoreFault> {
         let refusals = self.system.refusals;
         let listed = self.folder_mut(folder);
         let found = answer_of(refusals, listed.host.look_at_folder())?;
-        Ok(has_rested(listed.change, ChangeTime::of(&found)))
-    }
-
-    fn may_list_again(&mut self, times: u32) -> bool {
-        let may = match self.system.rt.monotonic() {
-            Ok(now) => {
-                if times == 0 {
-                    self.start = now;
-                }
-                may_list_both(now.saturating_sub(self.start))
-            }
-            Err(_) => times == 0,
-        };
-        if !may {
-            self.new_folder.host.refuse_folder("changes all the time");
+        if has_rested(listed.change, ChangeTime::of(&found)) {
+            return Ok(true);
         }
-        may
+        if self.may_list_again(times) {
+            return Ok(false);
+        }
+        self.folder_mut(folder)
+            .host
+            .refuse_folder("changes all the time");
+        Err(StoreFault::Refused)
     }
 
     fn has(&mut self, name: &str) -> Result<bool, StoreFault> {

@@ -28,6 +28,6 @@ pub use file_folder::{FileFolder, FolderState, NewFile};
 pub use host::{HostFolder, HostNewFile};
 pub use host_folders::HostFolders;
 pub use laws::{mail_can_lose_power, power_leaves, readers_move};
-pub use mail_folders::{MailFolders, Sought};
+pub use mail_folders::{FoundNames, MailFolders, Sought};
 pub use maildir::{FolderMaildir, HostMaildir, new_maildirs_keep_mail};
 pub use process_mark::ProcessMark;

@@ -6,10 +6,19 @@ use mail_store::{Folder, StoreFault};
 /// Which names a listing tells.
 #[derive(Clone, Copy)]
 pub enum Sought<'a> {
-    /// All, whatever they lead to: each counts as that of a file, and nothing is opened.
+    /// All, whatever they lead to: each counts as that of a file.
     All,
-    /// Those with one of these stems that lead to files: what can't be opened is none (see `MailFolders::odd`).
+    /// Those with one of these stems. What can't be opened is no file (see `MailFolders::files_among`).
     Stems(&'a [String]),
+}
+
+/// What names that were listed lead to.
+#[derive(Drop)]
+pub struct FoundNames {
+    /// The names of files.
+    pub files: Vec<String>,
+    /// The names that what can't be opened bears.
+    pub odd: Vec<String>,
 }
 
 /// The folders `new` and `cur` of a Maildir, any of whose calls may be refused. Mail readers may move
@@ -23,7 +32,7 @@ pub trait MailFolders {
     ghost use Rattle.mail_store.specs.Fault.{IsDeviceFault};
     ghost use Rattle.folder_store.specs.MailFolders.{Directories, Moved};
     ghost use Rattle.folder_store.specs.MailCalls.{ChecksIn, FlushesFiles, FlushesNamesIn, ListsIn, LooksUpNew, Then};
-    ghost use Rattle.folder_store.specs.MailCalls.{MakesDraft, PutsDraft, TellsRest};
+    ghost use Rattle.folder_store.specs.MailCalls.{MakesDraft, PutsDraft, TellsFiles, TellsRest};
 
     // Whoever makes one puts it or gives it up: only that shows that it was sound, which `make` asks.
     type File: NewFile;
@@ -41,27 +50,31 @@ pub trait MailFolders {
             × Then (ChecksIn folder result) (directories self.old) (directories self.new) }
         ensures fault { IfErr result IsDeviceFault };
 
-    /// Of the names of a folder's files at one moment those that are sought, in any order. Missing if the folder isn't
-    /// there.
+    /// Of the names of a folder at one moment those that are sought, whatever they lead to, in any order. Missing if
+    /// the folder isn't there.
     fn list(&mut self, folder: Folder, sought: Sought<'_>) -> Result<Vec<String>, StoreFault>
         ensures lists { sound self.new → sound self.old
             × Then (ListsIn folder sought.entry result) (directories self.old) (directories self.new) }
         ensures fault { IfErr result IsDeviceFault };
 
-    /// The names that the last listing by stems found to be borne by what can't be opened, of those that it sought.
-    fn odd(&self) -> &[String]
-        ensures { sound self.now → map string_bytes result.now ≡ (directories self.now).odd };
+    /// What these names lead to, which the last listings of `new` and of `cur` told.
+    fn files_among(
+        &mut self,
+        in_new: Vec<String>,
+        in_cur: Vec<String>,
+    ) -> Result<FoundNames, StoreFault>
+        ensures tells { sound self.new → sound self.old
+            × Then (TellsFiles (map string_bytes in_new.items) (map string_bytes in_cur.items) result)
+            (directories self.old) (directories self.new) }
+        ensures fault { IfErr result (λ fault. fault ≡ StoreFault.Refused) };
 
-    /// Whether a folder has rested since it was last listed: no file came, went or got another name
-    /// there. False if that isn't known.
-    fn rests(&mut self, folder: Folder) -> Result<bool, StoreFault>
+    /// Whether a folder has rested since it was last listed: no file came, went or got another name there. False if
+    /// that isn't known. It was asked so many times before for the same answer: Refused if the folder changes all the
+    /// time.
+    fn rests(&mut self, folder: Folder, times: u32) -> Result<bool, StoreFault>
         ensures tells { sound self.new → sound self.old
             × Then (TellsRest folder result) (directories self.old) (directories self.new) }
         ensures fault { IfErr result IsDeviceFault };
-
-    /// Whether the folders may be listed once more for one answer, after this many times.
-    fn may_list_again(&mut self, times: u32) -> bool
-        ensures { sound self.new → sound self.old × (directories self.new ≡ directories self.old) };
 
     /// Whether a name leads to a file of `new`.
     fn has(&mut self, name: &str) -> Result<bool, StoreFault>

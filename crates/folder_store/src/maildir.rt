@@ -1,6 +1,6 @@
 //! A Maildir in folders of a file system.
 
-ghost use Rattle.std.specs.Prelude.{◌≡◌, ◌<◌, ◌+◌, option_map, IfSome};
+ghost use Rattle.std.specs.Prelude.{◌≡◌, ◌<◌, ◌+◌, [], IfSome, map, option_map, string_bytes};
 ghost use Rattle.mail_terms.specs.FailureCount.{greatest_count};
 ghost use Rattle.folder_store.specs.{
   MailFolders.{draft_begun, maildir_in, unknown_maildir},
@@ -11,7 +11,7 @@ use crate::durable_names::{put_durably, told_names, told_names_of};
 use crate::file_folder::NewFile;
 use crate::host::HostNewFile;
 use crate::host_folders::HostFolders;
-use crate::mail_folders::{MailFolders, Sought};
+use crate::mail_folders::MailFolders;
 use crate::process_mark::ProcessMark;
 use crate::tally::tally;
 use mail_store::{AccountId, Folder, MaildirDisk, StoreFault, admit, refuse};
@@ -33,6 +33,8 @@ pub struct FolderMaildir<F, N> {
     folders: F,
     /// The name and the file that is being written.
     begun: Option<(String, N)>,
+    /// The names that the last listing of both folders found to be borne by what can't be opened.
+    odd: Vec<String>,
     failures: FailureCount,
 }
 
@@ -42,12 +44,13 @@ pub type HostMaildir<'a, R> = FolderMaildir<HostFolders<'a, R>, HostNewFile<'a, 
 impl<N: NewFile + Drop, F: MailFolders<File = N> + Drop> FolderMaildir<F, N> {
     /// The Maildir of these folders.
     pub fn over(alloc: Global, folders: F) -> FolderMaildir<F, N>
-        ensures { ⟦<FolderMaildir<F, N> as MaildirDisk>⟧.maildir result ≡ maildir_in (F.directories folders) None 0 }
+        ensures { ⟦<FolderMaildir<F, N> as MaildirDisk>⟧.maildir result ≡ maildir_in (F.directories folders) None [] 0 }
     {
         FolderMaildir {
             alloc,
             folders,
             begun: None,
+            odd: Vec::new(alloc),
             failures: FailureCount::new(),
         }
     }
@@ -60,6 +63,7 @@ impl<N: NewFile + Drop, F: MailFolders<File = N> + Drop> FolderMaildir<F, N> {
             alloc: _,
             folders,
             begun: _,
+            odd: _,
             failures: _,
         } = self;
         folders
@@ -110,7 +114,7 @@ fn is_file_name(name: &str) -> bool {
 
 impl<N: NewFile + Drop, F: MailFolders<File = N> + Drop> MaildirDisk for FolderMaildir<F, N> {
     ghost maildir = { λ d. maildir_in (F.directories d.folders) (option_map (draft_begun N.made) d.begun)
-        d.failures };
+        (map string_bytes d.odd.items) d.failures };
 
     ghost sound = { λ d. F.sound d.folders × IfSome d.begun (λ begun. N.sound begun.1)
         × (d.failures < greatest_count) };
@@ -122,14 +126,13 @@ impl<N: NewFile + Drop, F: MailFolders<File = N> + Drop> MaildirDisk for FolderM
 
     fn names_among(&mut self, stems: &[String]) -> Result<Vec<String>, StoreFault> {
         admit(&self.failures)?;
-        tally(
-            &mut self.failures,
-            told_names(&mut self.folders, Sought::Stems(stems)),
-        )
+        let found = tally(&mut self.failures, told_names(&mut self.folders, stems))?;
+        self.odd = found.odd;
+        Ok(found.files)
     }
 
     fn odd(&self) -> &[String] {
-        self.folders.odd()
+        &self.odd
     }
 
     fn check(&mut self, folder: Folder) -> Result<(), StoreFault> {

@@ -1,3 +1,4 @@
 mod MemoryFiles
 mod MemoryMail
+mod OddNames
 mod PartLemmas

@@ -1,11 +1,11 @@
 -- The folders of a Maildir in memory.
-use Rattle.std.{
-  proofs.Common.{◌≡◌, ◌↔◌, ◌&&◌, ◌||◌, IsTrue, bytes_eq, inl, inr, ℕ, zero, suc, ◌<◌, Bool, true, false, not, List, [], ◌∷◌, ◌++◌, length},
-  proofs.Common.{map, get_or, set, Contains, Option, Some, None, if◌then◌else◌, refl, sym, ap, ◌∙◌, arith, String, Global, string_bytes},
-  proofs.Common.{append-nil, true≢false, filter},
-  proofs.lemmas.{Bool.not-false, List.Folds.list_any_at, Map.Views.Contains-from_any, Slice.Eq.bytes_eq-Decides},
-  specs.List.list_any,
+use Rattle.std.proofs.{
+  Common.{◌≡◌, ◌↔◌, ◌&&◌, IsTrue, bytes_eq, inl, inr, ℕ, zero, suc, ◌<◌, Bool, true, false, not, List, [], ◌∷◌, ◌++◌, length, map, get_or},
+  Common.{set, Contains, Option, Some, None, if◌then◌else◌, refl, sym, ap, ◌∙◌, arith, String, Global, string_bytes, append-nil, filter},
+  Common.true≢false,
+  lemmas.{Bool.not-false, List.Folds.list_any_at, Map.Views.Contains-from_any, Slice.Eq.bytes_eq-Decides},
 }
+use Rattle.mail_terms.proofs.ListLemmas.{any_map}
 use Rattle.mail_store.specs.{Loss.is_among, declared.maildir.disk.Folder.{Folder, TheVariants.{New, Cur}}, Maildir.{File, all_there}}
 use Rattle.test_devices.specs.{declared.memory_folders.StoredMail.StoredMail, MemoryFolders.{MayBeLeftAs, list_of, stored_file}}
 use Rattle.folder_store.specs.{
@@ -13,14 +13,10 @@ use Rattle.folder_store.specs.{
   MailPower.EntriesLeftAs,
 }
 
-any_of_bytes : (names : List (String Global)) (name : List ℕ) → list_any (bytes_eq name) (map string_bytes names) ≡ is_among names name
-any_of_bytes [] name = refl
-any_of_bytes (x ∷ names) name = ap (λ (b : Bool). bytes_eq name (string_bytes x) || b) (any_of_bytes names name)
-
 pub among_has : (names : List (String Global)) (name : List ℕ) → IsTrue (is_among names name) ↔ Contains (map string_bytes names) name
 among_has names name = (
-  λ is. Contains-from_any (λ x y. (bytes_eq-Decides x y).0) name (map string_bytes names) (any_of_bytes names name ∙ is),
-  λ c. sym (any_of_bytes names name)
+  λ is. Contains-from_any (λ x y. (bytes_eq-Decides x y).0) name (map string_bytes names) (any_map (bytes_eq name) string_bytes names ∙ is),
+  λ c. sym (any_map (bytes_eq name) string_bytes names)
       ∙ list_any_at (bytes_eq name) (map string_bytes names) c.0 name c.1 ((bytes_eq-Decides name _).1 (sym c.2)),
 )
 
@@ -54,14 +50,15 @@ around (f ∷ files) (suc i) x y below is =
     let (front, back, was, now) = around files i x y (omega (arith, below)) is in
     (stored_file f ∷ front, back, ap (λ (ss : List MailFile). stored_file f ∷ ss) was, ap (λ (ss : List MailFile). stored_file f ∷ ss) now)
 
-abbrev pub memory_dirs : List StoredMail → Bool → Bool → List File → Directories
-memory_dirs files new_rests cur_rests taken = record {
+abbrev pub memory_dirs : List StoredMail → Bool → Bool → List File → List (List ℕ) → List (List ℕ) → Directories
+memory_dirs files new_rests cur_rests taken odd_new odd_cur = record {
   there = all_there;
   entries = map stored_file files;
   new_rests = new_rests;
   cur_rests = cur_rests;
   taken = taken;
-  odd = [];
+  odd_new = odd_new;
+  odd_cur = odd_cur;
 }
 
 -- the folder rests only if it did, and the file wasn't and isn't there
@@ -81,24 +78,26 @@ not_in folder s t was is = record {
 
 pub file_moves : ((old : Directories) (front back : List MailFile) (s t : MailFile) (new : Directories)
     → OneMoves old front back s t new → Moved old new)
-    → (files : List StoredMail) (i : ℕ) (x y : StoredMail) (new new' cur cur' : Bool) (taken : List File) → i < length files
+    → (files : List StoredMail) (i : ℕ) (x y : StoredMail) (new new' cur cur' : Bool) (taken : List File)
+    (odd_new odd_cur : List (List ℕ)) → i < length files
     → x ≡ get_or files i x
     → MovesFile (stored_file x) (stored_file y) → Rested new' new x.is_new y.is_new → Rested cur' cur (not x.is_new) (not y.is_new)
-    → Moved (memory_dirs files new cur taken) (memory_dirs (set files i y) new' cur' taken)
-file_moves one files i x y new new' cur cur' taken below is moves in_new in_cur =
+    → Moved (memory_dirs files new cur taken odd_new odd_cur) (memory_dirs (set files i y) new' cur' taken odd_new odd_cur)
+file_moves one files i x y new new' cur cur' taken odd_new odd_cur below is moves in_new in_cur =
     let (front, back, before, after) = around files i x y below is in
     one _ front back (stored_file x) (stored_file y) _ (record {
       there = refl;
       taken = refl;
-      odd = refl;
+      odd_new = refl;
+      odd_cur = refl;
       before = before;
       after = after;
       moves = moves;
       rests = rests_of;
     })
   where
-    rests_of : (folder : Folder) → rests_in folder (memory_dirs (set files i y) new' cur' taken) ≡ true
-        → (rests_in folder (memory_dirs files new cur taken) ≡ true) × RestsFile folder (stored_file x) (stored_file y)
+    rests_of : (folder : Folder) → rests_in folder (memory_dirs (set files i y) new' cur' taken odd_new odd_cur) ≡ true
+        → (rests_in folder (memory_dirs files new cur taken odd_new odd_cur) ≡ true) × RestsFile folder (stored_file x) (stored_file y)
     rests_of New quiet = let r = in_new quiet in (r.0, not_in New (stored_file x) (stored_file y) r.1 r.2)
     rests_of Cur quiet = let r = in_cur quiet in (r.0, not_in Cur (stored_file x) (stored_file y) r.1 r.2)
 

@@ -8,14 +8,14 @@ ghost use Rattle.std.specs.{
 ghost use Rattle.mail_terms.specs.MaildirName.{base};
 ghost use Rattle.mail_store.specs.{Maildir.all_there, Loss.is_among};
 ghost use Rattle.folder_store.specs.{
-  MailCalls.{entry_flushed_by, named_by, names_sought, without_taken},
+  MailCalls.{entry_flushed_by, file_names, named_by, names_sought, names_told, odd_names, without_taken},
   MailFolders.{Moved, MovesFile, entries_in, is_in, is_taken, is_told, name_at, touches},
   MailPower.{EntriesLeftAs, LosesMail},
 };
 ghost use Rattle.test_devices.specs.MemoryFolders.{list_of, stored_file};
 
 use crate::new_file::MemoryNewFile;
-use folder_store::{FolderMaildir, MailFolders, Sought, readers_move};
+use folder_store::{FolderMaildir, FoundNames, MailFolders, Sought, readers_move};
 use mail_store::{Folder, StoreFault, sought_names, stem};
 use mail_terms::base;
 use std::alloc::{AllocError, Global};
@@ -61,7 +61,8 @@ pub enum MailLeft {
 }
 
 /// The folders of a Maildir in memory, and a reader that moves files, or takes them away, before each call. A call is
-/// refused only if memory runs out.
+/// refused only if memory runs out. What can't be opened is told beside the files, if names with some stems are sought,
+/// unless a file has its name.
 #[derive(Drop)]
 pub struct MemoryFolders {
     alloc: Global,
@@ -69,6 +70,11 @@ pub struct MemoryFolders {
     new_rests: bool,
     cur_rests: bool,
     taken: Vec<StoredMail>,
+    /// The names that what can't be opened has in each folder.
+    obstacles: Vec<String>,
+    /// Those of them that the last listing of `new`, and of `cur`, told.
+    odd_new: Vec<String>,
+    odd_cur: Vec<String>,
     steps: Vec<ReaderStep>,
     next: usize,
 }
@@ -77,7 +83,7 @@ pub struct MemoryFolders {
 pub type MemoryFolderMaildir = FolderMaildir<MemoryFolders, MemoryNewFile>;
 
 impl Model for MemoryFolders {
-    ghost use Rattle.std.specs.Prelude.{[], map};
+    ghost use Rattle.std.specs.Prelude.{map, string_bytes};
     ghost use Rattle.mail_store.specs.Maildir.{all_there};
     ghost use Rattle.folder_store.specs.MailFolders.{Directories, files_at};
     ghost use Rattle.test_devices.specs.MemoryFolders.{stored_file};
@@ -90,7 +96,8 @@ impl Model for MemoryFolders {
       new_rests = m.new_rests;
       cur_rests = m.cur_rests;
       taken = files_at (map stored_file m.taken.items);
-      odd = [];
+      odd_new = map string_bytes m.odd_new.items;
+      odd_cur = map string_bytes m.odd_cur.items;
     } };
 }
 
@@ -105,21 +112,6 @@ fn add_name(names: &mut Vec<String>, file: &StoredMail, folder: Folder) -> Resul
     Ok(())
 }
 
-/// Those of some names that are sought.
-fn those_sought(
-    alloc: Global,
-    names: Vec<String>,
-    sought: Sought<'_>,
-) -> Result<Vec<String>, AllocError>
-    ensures { IfOk result (λ kept. map string_bytes kept.items
-        ≡ names_sought sought.entry (map string_bytes names.items)) }
-{
-    match sought {
-        Sought::All => Ok(names),
-        Sought::Stems(stems) => sought_names(alloc, &names, stems),
-    }
-}
-
 /// The names of the files of a folder.
 fn names_in(alloc: Global, files: &[StoredMail], folder: Folder) -> Result<Vec<String>, AllocError>
     ensures { IfOk result (λ names. map string_bytes names.items
@@ -130,6 +122,22 @@ fn names_in(alloc: Global, files: &[StoredMail], folder: Folder) -> Result<Vec<S
         add_name(&mut names, file, folder)?;
     }
     Ok(names)
+}
+
+/// Those of some names that are among the others, and those that aren't.
+fn parted(
+    alloc: Global,
+    names: Vec<String>,
+    others: &[String],
+) -> Result<(Vec<String>, Vec<String>), AllocError>
+    ensures { IfOk result (λ parts. (map string_bytes parts.0.items
+        ≡ odd_names (map string_bytes others.now) (map string_bytes names.items))
+        × (map string_bytes parts.1.items
+        ≡ file_names (map string_bytes others.now) (map string_bytes names.items))) }
+{
+    names
+        .into_iter()
+        .partition(alloc, |name| is_one_of(others, name.as_str()))
 }
 
 /// The files once the names of a folder were flushed.
@@ -397,7 +405,8 @@ impl MemoryFolders {
           new_rests = false;
           cur_rests = false;
           taken = [];
-          odd = [];
+          odd_new = [];
+          odd_cur = [];
         } }
     {
         MemoryFolders {
@@ -406,6 +415,9 @@ impl MemoryFolders {
             new_rests: false,
             cur_rests: false,
             taken: Vec::new(alloc),
+            obstacles: Vec::new(alloc),
+            odd_new: Vec::new(alloc),
+            odd_cur: Vec::new(alloc),
             steps,
             next: 0,
         }
@@ -436,6 +448,52 @@ impl MemoryFolders {
             }
             Err(_) => Err(StoreFault::Refused),
         }
+    }
+
+    /// Puts what can't be opened into both folders, under this name.
+    pub fn obstruct(&mut self, name: &str) -> Result<(), AllocError>
+        ensures { self.new ≡ self.old }
+    {
+        let name = String::from_str(self.alloc, name)?;
+        self.obstacles.push(name)?;
+        Ok(())
+    }
+
+    // The names of a folder that are sought, and which of them are odd.
+    fn listed(
+        &self,
+        folder: Folder,
+        sought: Sought<'_>,
+    ) -> Result<(Vec<String>, Vec<String>), AllocError>
+        ensures { IfOk result (λ listed. names_told sought.entry (map string_bytes listed.1.items)
+            (map string_bytes listed.0.items)
+            ≡ names_sought sought.entry (map name_at (entries_in folder self.now.entries))) }
+    {
+        let names = names_in(self.alloc, &self.files, folder)?;
+        let Sought::Stems(stems) = sought else {
+            return Ok((names, Vec::new(self.alloc)));
+        };
+        let mut names = sought_names(self.alloc, &names, stems)?;
+        let obstacles = sought_names(self.alloc, &self.obstacles, stems)?;
+        let (_, odd) = parted(self.alloc, obstacles, &names)?;
+        names.append(&mut odd.clone()?)?;
+        Ok((names, odd))
+    }
+
+    // The names of files among these, and the odd ones.
+    fn told(&self, in_new: Vec<String>, in_cur: Vec<String>) -> Result<FoundNames, AllocError>
+        ensures odd { IfOk result (λ found. map string_bytes found.odd.items
+            ≡ odd_names self.now.odd_new (map string_bytes in_new.items)
+            ++ odd_names self.now.odd_cur (map string_bytes in_cur.items)) }
+        ensures files { IfOk result (λ found. map string_bytes found.files.items
+            ≡ file_names self.now.odd_new (map string_bytes in_new.items)
+            ++ file_names self.now.odd_cur (map string_bytes in_cur.items)) }
+    {
+        let (mut odd, mut files) = parted(self.alloc, in_new, &self.odd_new)?;
+        let (mut odd_cur, mut in_cur) = parted(self.alloc, in_cur, &self.odd_cur)?;
+        odd.append(&mut odd_cur)?;
+        files.append(&mut in_cur)?;
+        Ok(FoundNames { files, odd })
     }
 
     // What the reader does before a call.
@@ -518,37 +576,43 @@ impl MailFolders for MemoryFolders {
 
     fn list(&mut self, folder: Folder, sought: Sought<'_>) -> Result<Vec<String>, StoreFault> {
         self.let_reader_move();
-        let Ok(names) = names_in(self.alloc, &self.files, folder) else {
-            return Err(StoreFault::Refused);
-        };
-        let Ok(names) = those_sought(self.alloc, names, sought) else {
+        let Ok((names, odd)) = self.listed(folder, sought) else {
             return Err(StoreFault::Refused);
         };
         if let Err(_) = self.forget_taken() {
             return Err(StoreFault::Refused);
         }
         match folder {
-            Folder::New => self.new_rests = true,
-            Folder::Cur => self.cur_rests = true,
+            Folder::New => {
+                self.new_rests = true;
+                self.odd_new = odd;
+            }
+            Folder::Cur => {
+                self.cur_rests = true;
+                self.odd_cur = odd;
+            }
         }
         Ok(names)
     }
 
-    fn odd(&self) -> &[String] {
-        let _ = self.files.len();
-        &[]
+    fn files_among(
+        &mut self,
+        in_new: Vec<String>,
+        in_cur: Vec<String>,
+    ) -> Result<FoundNames, StoreFault> {
+        self.let_reader_move();
+        match self.told(in_new, in_cur) {
+            Ok(found) => Ok(found),
+            Err(_) => Err(StoreFault::Refused),
+        }
     }
 
-    fn rests(&mut self, folder: Folder) -> Result<bool, StoreFault> {
+    fn rests(&mut self, folder: Folder, _times: u32) -> Result<bool, StoreFault> {
         self.let_reader_move();
         match folder {
             Folder::New => Ok(self.new_rests),
             Folder::Cur => Ok(self.cur_rests),
         }
-    }
-
-    fn may_list_again(&mut self, _times: u32) -> bool {
-        true
     }
 
     fn has(&mut self, name: &str) -> Result<bool, StoreFault> {

@@ -32,8 +32,8 @@ fn told_of_one(alloc: Global, number: usize, step: ReaderStep) -> Result<(usize,
     let mut folders = MemoryFolders::new(alloc, steps);
     let file = folders.make("one")?;
     folders.put(file, "one")?;
-    folders.rests(Folder::New)?;
-    folders.rests(Folder::New)?;
+    folders.rests(Folder::New, 0)?;
+    folders.rests(Folder::New, 0)?;
     let mut disk = FolderMaildir::over(alloc, folders);
     let names = disk.names_among(&[String::from_str(alloc, "one")?])?;
     let mut folders = disk.into_folders();

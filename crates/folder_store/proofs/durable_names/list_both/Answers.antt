@@ -9,21 +9,18 @@ pub returns-in_err-names-clause-lists : goal.returns-in_err-names-clause-lists
 returns-in_err-names-clause-lists g c =
     rw (is_err c.from_residual.result c.from_residual.ensures.1) (λ s.
     let look = c.in_err-names.ensures.looks s in
-    let may = c.may_list_again.ensures look.0 in
-    let so_far = c.loop-times.invariant may.0 in
-    (so_far.0, (learns_on _ _ _ (rw (← may.1) at so_far.1) look.1.0, tt, look.1.2)))
+    let so_far = c.loop-times.invariant look.0 in
+    (so_far.0, (learns_on _ _ _ so_far.1 look.1.0, tt, look.1.2)))
 
 pub returns-in-Some-clause-lists : goal.returns-in-Some-clause-lists
 returns-in-Some-clause-lists g c = λ s.
     let look = c.in_ok-names.ensures.looks s in
-    let may = c.may_list_again.ensures look.0 in
-    let so_far = c.loop-times.invariant may.0 in
+    let so_far = c.loop-times.invariant look.0 in
     let told = rw c.in-Some.is at look.1 in
-    (so_far.0, (learns_on _ _ _ (rw (← may.1) at so_far.1) told.0, told.1, tt))
+    (so_far.0, (learns_on _ _ _ so_far.1 told.0, told.1, tt))
 
 pub loop-times-preserved : goal.loop-times-preserved
 loop-times-preserved g c = λ s.
     let look = c.in_ok-names.ensures.looks s in
-    let may = c.may_list_again.ensures look.0 in
-    let so_far = c.loop-times.invariant may.0 in
-    (so_far.0, learns_on _ _ _ (rw (← may.1) at so_far.1) look.1.0)
+    let so_far = c.loop-times.invariant look.0 in
+    (so_far.0, learns_on _ _ _ so_far.1 look.1.0)

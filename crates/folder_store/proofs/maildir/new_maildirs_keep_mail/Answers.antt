@@ -4,7 +4,7 @@ use Rattle.mail_store.proofs.LossLemmas.{left_durable}
 use Rattle.folder_store.proofs.maildir.new_maildirs_keep_mail.Goals as goal
 
 pub returns-clause-losses : goal.returns-clause-losses
-returns-clause-losses g c = λ device left loses. record {
+returns-clause-losses g c = λ device left odd loses. record {
   there = loses.there;
   files = left_as (g.F.MailFolders.directories device.folders).entries left.entries loses.each;
   begun = refl;

@@ -6,7 +6,7 @@ pub returns-in-Ok-clause-flushes : goal.returns-in-Ok-clause-flushes
 returns-in-Ok-clause-flushes g c = λ s.
     let t = c.in-Ok.ensures.flushes s.0 in (
       (t.0, s.1, s.2),
-      files_flush c.args.stems.now _ _ (option_map (draft_begun g.N.NewFile.made) c.args.self.now.begun) _ c.in-Ok.are_flushed t.1,
+      files_flush c.args.stems.now _ _ (option_map (draft_begun g.N.NewFile.made) c.args.self.now.begun) _ _ c.in-Ok.are_flushed t.1,
     )
 
 pub returns-in-Err-clause-flushes : goal.returns-in-Err-clause-flushes

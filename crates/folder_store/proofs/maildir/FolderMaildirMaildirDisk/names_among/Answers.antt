@@ -1,12 +1,25 @@
-use Rattle.std.proofs.Common.{option_map}
-use Rattle.folder_store.{specs.{MailFolders.draft_begun, declared.mail_folders.Sought.TheVariants.Stems}, proofs.MailCalls.told_names}
+use Rattle.std.proofs.Common.{option_map, sym}
+use Rattle.mail_terms.proofs.ErrLemmas.{is_err}
+use Rattle.folder_store.{specs.MailFolders.draft_begun, proofs.MailCalls.{none_told, told_names}}
 use Rattle.folder_store.proofs.maildir.FolderMaildirMaildirDisk.names_among.Goals as goal
 
-pub returns-clause-lists : goal.returns-clause-lists
-returns-clause-lists g c = rw c.tally.ensures.same (λ s.
+pub returns-in_err-found-clause-lists : goal.returns-in_err-found-clause-lists
+returns-in_err-found-clause-lists g c =
+    rw (is_err c.from_residual-in_err-found.result c.from_residual-in_err-found.ensures.1) (λ s.
     let begun = option_map (draft_begun g.N.NewFile.made) c.args.self.now.begun in
+    let is = sym c.in_err-found.ensures.same in
     let t = c.told_names.ensures.tells s.0 in (
       (t.0, s.1, c.in_ok-admit.ensures.admitted),
-      told_names c.args.stems.now (Stems c.args.stems) (λ names told t. t) _ _ begun _ c.tally.new.failures
-          c.told_names.result t.1 c.told_names.ensures.fault c.tally.ensures.counted,
+      none_told c.args.stems.now _ _ begun _ c.tally.new.failures c.in_err-found.field-0.0 t.1.0 (rw is at t.1.2)
+          (rw is at c.told_names.ensures.fault) (rw is at c.in_err-found.ensures.counted),
     ))
+
+pub returns-clause-lists : goal.returns-clause-lists
+returns-clause-lists g c = λ s.
+    let begun = option_map (draft_begun g.N.NewFile.made) c.args.self.now.begun in
+    let is = sym c.in_ok-found.ensures.same in
+    let t = c.told_names.ensures.tells s.0 in (
+      (t.0, s.1, c.in_ok-admit.ensures.admitted),
+      told_names c.args.stems.now _ _ begun _ _ c.tally.new.failures c.in_ok-found.found (rw is at t.1)
+          (rw is at c.in_ok-found.ensures.counted),
+    )

@@ -1,0 +1,53 @@
+-- Names of what can't be opened beside those of files.
+use Rattle.std.{
+  proofs.Common.{◌≡◌, ◌++◌, ℕ, Bool, true, false, not, List, [], ◌∷◌, ap, ap₂, refl, subst, bytes_eq, filter, map, Option, Global, String},
+  proofs.Common.string_bytes,
+  proofs.lemmas.{Iterator.YieldsList, List.map-append, Bool.{or_left, or_right}, Slice.Eq.bytes_eq-Decides, Map.Views.any-filter_same},
+  specs.{Iterator.AlwaysYields, List.AllZip},
+}
+use Rattle.folder_store.specs.MailCalls.{file_names, has_name}
+
+-- the names in front pass the test, and the others don't
+front_passes : (p : List ℕ → Bool) (xs ys : List (List ℕ)) → ((x : List ℕ) → has_name xs x ≡ true → p x ≡ true)
+    → ((y : List ℕ) → has_name ys y ≡ true → p y ≡ false) → filter p (xs ++ ys) ≡ xs
+front_passes p [] [] pass fail = refl
+front_passes p [] (y ∷ ys) pass fail = rw (fail y (or_left (bytes_eq y y) (has_name ys y) ((bytes_eq-Decides y y).1 refl)))
+    (front_passes p [] ys pass (λ z is. fail z (or_right (bytes_eq z y) (has_name ys z) is)))
+front_passes p (x ∷ xs) ys pass fail = rw (pass x (or_left (bytes_eq x x) (has_name xs x) ((bytes_eq-Decides x x).1 refl)))
+    (ap (λ (zs : List (List ℕ)). x ∷ zs) (front_passes p xs ys (λ z is. pass z (or_right (bytes_eq z x) (has_name xs z) is)) fail))
+
+beside : (files obstacles : List (List ℕ)) → file_names (file_names files obstacles) (files ++ file_names files obstacles) ≡ files
+beside files obstacles = front_passes (λ x. not (has_name (file_names files obstacles) x)) files (file_names files obstacles)
+    (λ x is. ap not (any-filter_same (bytes_eq x) (λ y. not (has_name files y)) false
+    (λ y same. subst (λ z. not (has_name files z) ≡ false) ((bytes_eq-Decides x y).0 same) (ap not is)) obstacles))
+    (λ x is. ap not is)
+
+pub all_pass : (names : List (List ℕ)) → filter (λ _. true) names ≡ names
+all_pass [] = refl
+all_pass (x ∷ names) = ap (λ (xs : List (List ℕ)). x ∷ xs) (all_pass names)
+
+cloned : (xs ys : List (String Global)) → AllZip (λ x y. string_bytes y ≡ string_bytes x) xs ys → map string_bytes ys ≡ map string_bytes xs
+cloned [] [] same = refl
+cloned [] (y ∷ ys) same = absurd same
+cloned (x ∷ xs) [] same = absurd same
+cloned (x ∷ xs) (y ∷ ys) same = ap₂ (λ (z : List ℕ) zs. z ∷ zs) same.0 (cloned xs ys same.1)
+
+-- the names of files, once copies of the others were put behind them
+pub told_beside : (files odd copies told : List (String Global)) (obstacles : List (List ℕ))
+    → map string_bytes odd ≡ file_names (map string_bytes files) obstacles → AllZip (λ x y. string_bytes y ≡ string_bytes x) odd copies
+    → told ≡ files ++ copies → file_names (map string_bytes odd) (map string_bytes told) ≡ map string_bytes files
+told_beside files odd copies told obstacles others same all = rw (
+  all,
+  map-append (string_bytes {Z = Global}) files copies,
+  cloned odd copies same,
+  others,
+) (beside (map string_bytes files) obstacles)
+
+-- a chain gives what is read of each item
+pub read_each : {S A B : Type 0} {steps : S → Option A → S → Type 0} (read : A → B) {s : S} {xs : List A}
+    → YieldsList steps (λ x. x) s xs → YieldsList steps read s (map read xs)
+read_each {S} {A} {B} {steps} read {s} {xs} gives = record { runs = each s xs gives.runs }
+  where
+    each : (s : S) (xs : List A) → AlwaysYields steps (λ x. x) s xs → AlwaysYields steps read s (map read xs)
+    each s [] none = none
+    each s (x ∷ xs) one = (one.0, λ y t step. let next = one.1 y t step in (ap read next.0, each t xs next.1))
