@@ -65,9 +65,9 @@ def put(path, content):
     flush(os.path.dirname(path))
 
 
-def flush(folder):
-    """The names of a folder are on the disk after it."""
-    opened = os.open(folder, os.O_RDONLY)
+def flush(path):
+    """What is in a file, or the names of a folder, are on the disk after it."""
+    opened = os.open(path, os.O_RDONLY)
     try:
         os.fsync(opened)
     finally:
@@ -95,13 +95,25 @@ def named(maildir, digest):
                 yield folder, name, bytes.fromhex(rest.partition(":")[0].partition(",")[0])
 
 
-def is_held(path):
-    """Whether there is a file, or a link to one, that can be read; then it is on the disk. Nobody knows what else is."""
+def flush_names(maildir):
+    for part in ("new", "cur"):
+        flush(os.path.join(maildir, part))
+
+
+def is_file(path):
+    """Whether there is a file, or a link to one, that can be read; then what is in it is on the disk."""
     with contextlib.suppress(OSError):
         if stat.S_ISREG(os.stat(path).st_mode):
             flush(path)
             return True
     return False
+
+
+def held(maildir, digest):
+    """The unique-ids of messages whose files can be read, flushed with their names. Nobody knows what else holds."""
+    uids = [uid for folder, name, uid in named(maildir, digest) if is_file(os.path.join(folder, name))]
+    flush_names(maildir)
+    return uids
 
 
 def carry_record(old, new, uids, now):
@@ -124,8 +136,7 @@ def carry_files(maildir, old, new):
     names = list(named(maildir, old))
     for folder, name, _ in names:
         os.rename(os.path.join(folder, name), os.path.join(folder, new + name.removeprefix(old)))
-    for part in ("new", "cur"):
-        flush(os.path.join(maildir, part))
+    flush_names(maildir)
     return len(names)
 
 
@@ -134,7 +145,7 @@ def carry(folder, old, new, maildir, now):
     record, other = (os.path.join(folder, f"seen-{digest}") for digest in (old, new))
     if not os.path.lexists(record) and not os.path.lexists(other):
         raise Refused(f"{record} isn't there: getmail hasn't run for the old account in this folder")
-    uids = [uid for part, name, uid in named(maildir, old) if is_held(os.path.join(part, name))] if maildir else []
+    uids = held(maildir, old) if maildir else []
     if os.path.lexists(record):
         carry_record(record, other, uids, now)
     count = carry_files(maildir, old, new) if maildir else 0
